@@ -1,0 +1,13 @@
+pub mod Days
+pub mod KindFacts
+pub mod Lefts
+pub mod Outcomes
+pub mod Pieces
+pub mod Qualities
+pub mod Ranges
+pub mod Rests
+pub mod Rules
+pub mod Seeks
+pub mod Splits
+pub mod StreamFacts
+pub mod Tallies

@@ -1,0 +1,114 @@
+-- What values say together, one value after the other.
+use Rattle.std.proofs.Common.{◌≡◌, ℕ, zero, suc, ◌+◌, ◌-◌, ◌<◌, ◌≤◌, Bool, true, false, cond, not, ◌||◌, eqb, List, [], ◌∷◌, ◌++◌, length, take, drop, map, get_or, Option, Some, None, is_some, refl, sym, ◌∙◌, ap, arith, rules, if◌then◌else◌, ◌+ℤ◌, pos, ℤ, Result, is_ok, add-zero, ◌⊎◌, inl, inr, length-drop, length-append}
+use Rattle.std.specs.List.{position_or_len, before_first, slice_split, onto_first}
+use Rattle.std.proofs.lemmas.List.{take_more, take_at, take-append-drop, drop_more, take_all, map-append, length-map, length-take-le, drop-drop, get_or-drop}
+use Rattle.std.proofs.lemmas.List.Sums.{fold_push, prefix_len-le-length, passes_at_first}
+use Rattle.std.proofs.lemmas.List.Splits.{slice_split-cons_yes, slice_split-cons_no, length-slice_split}
+use Rattle.std.proofs.lemmas.Bool.{cases_lt}
+use Rattle.std.proofs.lemmas.Bool.Decides.{nat_tests}
+use Rattle.mds_quantity.specs.declared.quantity.QuantityFault.{QuantityFault}
+use Rattle.mds_quantity.specs.Quantity.{denoted}
+use Rattle.mds_records.specs.Lines.{is_comma, fields_of}
+use Rattle.mds_records.specs.Records.{sum_of, amount_of}
+use Rattle.mds_records.specs.Rest.{first_of, first_false}
+use Rattle.mds_records.specs.Values.{is_empty_or_quantity, is_there}
+use Rattle.mds_records.proofs.Rests.{one_field, more_fields, taken_at}
+
+-- with one test more
+pub first_false_push : (n : ℕ) (tests : List Bool) (test : Bool) → first_false n (tests ++ test ∷ []) ≡ (if is_some (first_false n tests) || test then first_false n tests else Some (n + length tests))
+first_false_push n [] true = refl
+first_false_push n [] false = ap Some (sym (add-zero n))
+first_false_push n (true ∷ tests) test = first_false_push (n + 1) tests test ∙ ap (λ m. if is_some (first_false (n + 1) tests) || test then first_false (n + 1) tests else Some m) (omega arith)
+first_false_push n (false ∷ tests) test = refl
+
+-- the same of the first k + 1 fields
+pub first_false_more : (p : List ℕ → Bool) (fields : List (List ℕ)) (k : ℕ) → k < length fields → first_false 3 (map p (take (k + 1) fields))
+    ≡ (if is_some (first_false 3 (map p (take k fields))) || p (get_or fields k []) then first_false 3 (map p (take k fields)) else Some (k + 3))
+first_false_more p fields k lt =
+    let taken : length (map p (take k fields)) ≡ k = length-map (take k fields) p ∙ length-take-le k fields (omega arith) in
+    ap (λ xs. first_false 3 (map p xs)) (take_more fields k [] lt) ∙ ap (first_false 3) (map-append p (take k fields) (get_or fields k [] ∷ []))
+    ∙ first_false_push 3 (map p (take k fields)) (p (get_or fields k []))
+    ∙ ap (λ m. if is_some (first_false 3 (map p (take k fields))) || p (get_or fields k []) then first_false 3 (map p (take k fields)) else Some m) (omega arith)
+
+-- the sum of the first k + 1 fields
+pub sum_of_more : (fields : List (List ℕ)) (k : ℕ) → k < length fields → sum_of (take (k + 1) fields) ≡ sum_of (take k fields) +ℤ amount_of (denoted (get_or fields k []))
+sum_of_more fields k lt = ap sum_of (take_more fields k [] lt) ∙ fold_push (λ sum text. sum +ℤ amount_of (denoted text)) (pos 0) (take k fields) (get_or fields k [])
+
+first_by : (text : List ℕ) (n : ℕ) → n ≡ position_or_len is_comma text → (n ≡ length text) ⊎ (n < length text) → first_of (fields_of text) ≡ take n text
+first_by text n e (inl l) = ap first_of (one_field text n e l) ∙ sym (take_all n text (omega arith))
+first_by text n e (inr lt) = ap first_of (more_fields text n e lt)
+
+first_field : (text : List ℕ) (n : ℕ) → n ≡ position_or_len is_comma text → first_of (fields_of text) ≡ take n text
+first_field text n e =
+    let le : position_or_len is_comma text ≤ length text = prefix_len-le-length (λ c. not (is_comma c)) text in
+    elim (cases_lt n (length text)) [ inl lt ↦ first_by text n e (inr lt) | inr past ↦ first_by text n e (inl (omega arith)) ]
+
+-- what the field at a place says of the fields of a text
+pub record FieldAt (text : List ℕ) (fields : List (List ℕ)) (at k n : ℕ) : Type 0 where
+  pub there : k < length fields
+  pub within : at + n ≤ length text
+  pub field : take n (drop at text) ≡ get_or fields k []
+  pub size : length (get_or fields k []) ≡ n
+  pub last : at + n ≡ length text → length fields ≡ k + 1
+  pub more : at + n < length text → (fields_of (drop (at + n + 1) text) ≡ drop (k + 1) fields) × (get_or text (at + n) 0 ≡ 44)
+
+is_comma_44 : (c : ℕ) → is_comma c ≡ true → c ≡ 44
+is_comma_44 c h = search (rules, nat_tests)
+
+pub field_at : (text : List ℕ) (fields : List (List ℕ)) (at k n : ℕ) → at ≤ length text → fields_of (drop at text) ≡ drop k fields → n ≡ position_or_len is_comma (drop at text) → FieldAt text fields at k n
+field_at text fields at k n within left e =
+    let some : 0 < length (fields_of (drop at text)) = omega (arith, length-slice_split is_comma (drop at text)) in
+    let counted : length (fields_of (drop at text)) ≡ length fields - k = ap length left ∙ length-drop k fields in
+    let rest : length (drop at text) ≡ length text - at = length-drop at text in
+    let le : position_or_len is_comma (drop at text) ≤ length (drop at text) = prefix_len-le-length (λ c. not (is_comma c)) (drop at text) in
+    let there : k < length fields = omega arith in
+    let field : take n (drop at text) ≡ get_or fields k [] = sym (first_field (drop at text) n e) ∙ taken_at fields (fields_of (drop at text)) k left in
+    record {
+      there = there;
+      within = omega arith;
+      field = field;
+      size = ap length (sym field) ∙ length-take-le n (drop at text) (omega arith);
+      last = λ l. let one : length (fields_of (drop at text)) ≡ 1 = ap length (one_field (drop at text) n e (omega arith)) in omega arith;
+      more = λ lt.
+        let cut : fields_of (drop at text) ≡ take n (drop at text) ∷ fields_of (drop (n + 1) (drop at text)) = more_fields (drop at text) n e (omega arith) in
+        (ap fields_of (sym (drop-drop (n + 1) at text ∙ ap (λ m. drop m text) (omega arith))) ∙ ap (drop 1) (sym cut) ∙ ap (drop 1) left ∙ drop-drop 1 k fields,
+         sym (get_or-drop at text n 0) ∙ ap (λ m. get_or (drop at text) m 0) e ∙ is_comma_44 _ (passes_at_first is_comma (drop at text) 0 (omega arith)));
+    }
+
+-- the test of a field, from what was read of it
+pub tested : (t : List ℕ) (n : ℕ) (value : Result ℤ QuantityFault) → length t ≡ n → value ≡ denoted t → (eqb n 0 || is_ok value) ≡ is_empty_or_quantity t
+tested t n value e h = rw (h, ← e) refl
+
+onto_first-append : (x : ℕ) (parts more : List (List ℕ)) → 0 < length parts → onto_first x (parts ++ more) ≡ onto_first x parts ++ more
+onto_first-append x [] more some = absurd (omega arith)
+onto_first-append x (part ∷ parts) more some = refl
+
+split_more : (x : ℕ) (xs ys : List ℕ) (b : Bool) → is_comma x ≡ b → fields_of (xs ++ 44 ∷ ys) ≡ fields_of xs ++ fields_of ys → fields_of (x ∷ (xs ++ 44 ∷ ys)) ≡ fields_of (x ∷ xs) ++ fields_of ys
+split_more x xs ys true e h = slice_split-cons_yes is_comma x (xs ++ 44 ∷ ys) e ∙ ap (λ ps. [] ∷ ps) h ∙ ap (λ ps. ps ++ fields_of ys) (sym (slice_split-cons_yes is_comma x xs e))
+split_more x xs ys false e h =
+    slice_split-cons_no is_comma x (xs ++ 44 ∷ ys) e ∙ ap (onto_first x) h
+    ∙ onto_first-append x (fields_of xs) (fields_of ys) (omega (arith, length-slice_split is_comma xs))
+    ∙ ap (λ ps. ps ++ fields_of ys) (sym (slice_split-cons_no is_comma x xs e))
+
+-- the fields before a comma and those behind it
+split_at_comma : (xs ys : List ℕ) → fields_of (xs ++ 44 ∷ ys) ≡ fields_of xs ++ fields_of ys
+split_at_comma [] ys = refl
+split_at_comma (x ∷ xs) ys = split_more x xs ys (is_comma x) refl (split_at_comma xs ys)
+
+-- what stands before a comma behind which all but k fields are left is the first k fields
+pub front_fields : (text : List ℕ) (end at k : ℕ) → at ≡ end + 1 → get_or text end 0 ≡ 44 → at ≤ length text → fields_of (drop at text) ≡ drop k (fields_of text) → fields_of (take end text) ≡ take k (fields_of text)
+front_fields text end at k e comma within left =
+    let cut : text ≡ take end text ++ 44 ∷ drop at text =
+        sym (take-append-drop end text) ∙ ap (λ d. take end text ++ d) (drop_more text end 0 (omega arith) ∙ ap (λ c. c ∷ drop (end + 1) text) comma ∙ ap (λ m. 44 ∷ drop m text) (sym e)) in
+    let parts : fields_of text ≡ fields_of (take end text) ++ fields_of (drop at text) = ap fields_of cut ∙ split_at_comma (take end text) (drop at text) in
+    let some : 0 < length (fields_of (drop at text)) = omega (arith, length-slice_split is_comma (drop at text)) in
+    let counted : length (fields_of (drop at text)) ≡ length (fields_of text) - k = ap length left ∙ length-drop k (fields_of text) in
+    let all : length (fields_of text) ≡ length (fields_of (take end text)) + length (fields_of (drop at text)) = ap length parts ∙ length-append (fields_of (take end text)) (fields_of (drop at text)) in
+    sym (ap (take k) parts ∙ take_at (fields_of (take end text)) (fields_of (drop at text)) k (omega arith))
+
+-- there is always a field left, so there are more than were taken
+pub left_means_more : (text : List ℕ) (at k : ℕ) → fields_of (drop at text) ≡ drop k (fields_of text) → k < length (fields_of text)
+left_means_more text at k left =
+    let some : 0 < length (fields_of (drop at text)) = omega (arith, length-slice_split is_comma (drop at text)) in
+    let counted : length (fields_of (drop at text)) ≡ length (fields_of text) - k = ap length left ∙ length-drop k (fields_of text) in
+    omega arith

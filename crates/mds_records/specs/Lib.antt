@@ -1,0 +1,11 @@
+pub mod Buffered
+pub mod Faults
+pub mod Kinds
+pub mod Layouts
+pub mod Lines
+pub mod Numbered
+pub mod Readers
+pub mod Records
+pub mod Rest
+pub mod Streams
+pub mod Values

@@ -1,0 +1,65 @@
+//! The kinds of files, and the faults that a file can have.
+
+use std::fmt;
+
+/// The kinds of MDFF files.
+#[derive(Clone, Copy, Debug, PartialEq, Eq)]
+pub enum FileKind {
+    /// Interval data.
+    Nem12,
+}
+
+/// What is wrong with a line of a file. Each is printed as its code.
+#[derive(Clone, Copy, Debug, PartialEq, Eq)]
+pub enum FaultCode {
+    /// L1: the line isn't UTF-8.
+    NotText,
+    /// L2: its first field is no record indicator.
+    UnknownRecord,
+    /// L3: its record isn't in place.
+    OutOfPlace,
+    /// L4: it has too few fields, or a field past the last that isn't empty.
+    FieldCount,
+    /// L5: a field isn't what the record's layout says.
+    BadField,
+    /// L9: the file ends without its end of data.
+    MissingEnd,
+    /// L10: the line has too many bytes, or the file too many lines.
+    TooLarge,
+    /// L11: the header is that of the other kind of file.
+    WrongFile,
+}
+
+impl fmt::Display for FaultCode {
+    fn fmt<W: fmt::Write>(&self, f: &mut fmt::Formatter<W>) -> fmt::Result {
+        f.write_str(match self {
+            FaultCode::NotText => "L1",
+            FaultCode::UnknownRecord => "L2",
+            FaultCode::OutOfPlace => "L3",
+            FaultCode::FieldCount => "L4",
+            FaultCode::BadField => "L5",
+            FaultCode::MissingEnd => "L9",
+            FaultCode::TooLarge => "L10",
+            FaultCode::WrongFile => "L11",
+        })
+    }
+}
+
+/// The fault of a file: what is wrong, the number of the line, from 1, and that of the field, from 1, or 0 where no
+/// field is at fault.
+#[derive(Clone, Copy, Debug, PartialEq, Eq)]
+pub struct FileFault {
+    pub code: FaultCode,
+    pub line: u64,
+    pub field: usize,
+}
+
+impl fmt::Display for FileFault {
+    fn fmt<W: fmt::Write>(&self, f: &mut fmt::Formatter<W>) -> fmt::Result {
+        write!(f, "{} line {}", self.code, self.line)?;
+        if self.field != 0 {
+            write!(f, " field {}", self.field)?;
+        }
+        Ok(())
+    }
+}

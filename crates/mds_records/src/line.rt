@@ -1,0 +1,125 @@
+//! A line of a file, and the kind of record that it is.
+
+ghost use Rattle.std.specs.Prelude.{◌≡◌, ◌↔◌, ℕ, List, [], IsTrue};
+ghost use Rattle.mds_records.specs.Lines.{line_text, fields_of, IsSplit, split};
+ghost use Rattle.mds_records.specs.Kinds.{kind_named as named};
+
+use crate::fields::Fields;
+use std::marker::Model;
+
+/// The kinds of records.
+#[derive(Clone, Copy, Debug, PartialEq, Eq)]
+pub enum Kind {
+    /// 100, the header.
+    Header,
+    /// 200, the NMI data details.
+    NmiDataDetails,
+    /// 300, the interval data of a day.
+    IntervalData,
+    /// 900, the end of data.
+    EndOfData,
+}
+
+/// Why a line is no record of a known kind.
+#[derive(Clone, Copy, Debug, PartialEq, Eq)]
+pub enum KindFault {
+    /// It isn't UTF-8.
+    NotText,
+    /// Its first field is no record indicator.
+    Unknown,
+}
+
+/// A line of a file with its number.
+#[derive(Drop)]
+pub struct Line<'a> {
+    number: u64,
+    text: &'a [u8],
+}
+
+impl<'a> Model for Line<'a> {
+    ghost use Rattle.mds_records.specs.Numbered.{Numbered};
+
+    ghost Value = { Numbered };
+
+    ghost view = { λ line. record { number = line.number; text = line.text.now } };
+}
+
+impl<'a> Line<'a> {
+    ghost use Rattle.mds_records.specs.Kinds.{kind_of};
+
+    /// The line of a piece of a file between line feeds, and its number, from 1. One carriage return at the piece's
+    /// end is no part of the line.
+    pub fn new(number: u64, piece: &'a [u8]) -> Line<'a>
+        ensures number { result.number ≡ number }
+        ensures text { result.text ≡ line_text piece.now }
+    {
+        let text = match piece {
+            [text @ .., b'\r'] => text,
+            _ => piece,
+        };
+        Line { number, text }
+    }
+
+    /// Its number, from 1.
+    pub fn number(&self) -> u64
+        ensures { result ≡ self.now.number }
+    {
+        self.number
+    }
+
+    /// Whether it has no bytes.
+    pub fn is_empty(&self) -> bool
+        ensures { IsTrue result ↔ (self.now.text ≡ []) }
+    {
+        self.text.is_empty()
+    }
+
+    /// Its bytes.
+    pub fn text(&self) -> &'a [u8]
+        ensures { result.now ≡ self.now.text }
+    {
+        self.text
+    }
+
+    /// Its fields.
+    pub fn fields(&self) -> Fields<'a>
+        ensures { result ≡ fields_of self.now.text }
+    {
+        Fields::new(self.text)
+    }
+
+    /// The kind of record that it is.
+    pub fn kind(&self) -> Result<Kind, KindFault>
+        ensures { result ≡ kind_of self.now.text }
+    {
+        if !simdutf8::is_utf8(self.text) {
+            return Err(KindFault::NotText);
+        }
+        let indicator = self.fields().get(1).unwrap_or(&[]);
+        kind_named(indicator).ok_or(KindFault::Unknown)
+    }
+}
+
+/// The kind that a record indicator names.
+fn kind_named(indicator: &[u8]) -> Option<Kind>
+    ensures { result ≡ named indicator.now }
+{
+    if indicator == b"100".as_slice() {
+        Some(Kind::Header)
+    } else if indicator == b"200".as_slice() {
+        Some(Kind::NmiDataDetails)
+    } else if indicator == b"300".as_slice() {
+        Some(Kind::IntervalData)
+    } else if indicator == b"900".as_slice() {
+        Some(Kind::EndOfData)
+    } else {
+        None
+    }
+}
+
+/// A law: a text is split at a separator in just one way.
+pub fn one_split()
+    ensures is_split { (separator : ℕ) (text : List ℕ) → IsSplit separator text (split separator text) }
+    ensures only { (separator : ℕ) (text : List ℕ) (parts : List (List ℕ)) →
+        IsSplit separator text parts → parts ≡ split separator text }
+{}

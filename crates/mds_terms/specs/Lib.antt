@@ -1,0 +1,4 @@
+pub mod Append
+pub mod Calendar
+pub mod Length
+pub mod Names

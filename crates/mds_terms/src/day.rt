@@ -1,0 +1,152 @@
+//! A day of market time.
+
+ghost use Rattle.std.specs.Prelude.{codes, ◌≡◌, ℕ, ◌+◌, ◌/◌, ◌%◌, ◌<◌, ◌≤◌, if◌then◌else◌, IfSome, List, set, length, pos, unsigned_abs, ◌≤ℤ◌, SomeIff, OnOk, OnErr, Some, None, string_bytes};
+ghost use Rattle.mds_terms.specs.Append.{Appends};
+ghost use Rattle.mds_terms.specs.Calendar.{is_date, day_number, day_of, last_day};
+ghost use Rattle.std.specs.Char.{is_ascii_digit};
+ghost use Rattle.std.specs.List.{list_all};
+ghost use Rattle.std.specs.Str.Parse.{digits_value};
+
+use jiff_core::civil::Date;
+use std::alloc::AllocError;
+use std::marker::Model;
+use std::str;
+
+/// A day from 1 January 1970 to 31 December 9999, by its number from 0.
+#[derive(Clone, Copy, Debug, PartialEq, Eq, PartialOrd, Ord)]
+pub struct Day {
+    number: u32,
+}
+
+impl Model for Day {
+    ghost use Rattle.std.specs.Prelude.{codes, ℕ, ◌≤◌};
+    ghost use Rattle.mds_terms.specs.Calendar.{last_day};
+
+    ghost Value = { ℕ };
+
+    ghost view = { λ day. day.number };
+
+    ghost invariant = { λ day. day.number ≤ last_day };
+
+    ghost inverse = { λ number. record { number = number } };
+}
+
+/// The number of 31 December 9999.
+const LAST: i64 = 2_932_896;
+
+/// The year of the first day.
+const FIRST_YEAR: u32 = 1970;
+
+/// The days from the calendar's first, 1 January -9999, to 1 January 1970.
+const BEFORE_1970: u32 = 4_371_587;
+
+impl Day {
+    /// The day of a number from 0, 1 January 1970, to 2,932,896, 31 December 9999.
+    pub fn from_number(number: i64) -> Option<Day>
+        ensures { SomeIff result ((pos 0 ≤ℤ number) × (number ≤ℤ pos last_day)) (unsigned_abs number) }
+    {
+        if (0..=LAST).contains(&number) {
+            Some(Day {
+                number: number as u32,
+            })
+        } else {
+            None
+        }
+    }
+
+    /// Its number: the days from 1 January 1970.
+    pub fn number(self) -> i64
+        ensures value { result ≡ pos self }
+        ensures last { self ≤ last_day }
+    {
+        i64::from(self.number)
+    }
+
+    /// Reads a day from its text, CCYYMMDD.
+    pub fn read(text: &[u8]) -> Option<Day>
+        ensures { result ≡ day_of text.now }
+    {
+        if text.len() != 8 {
+            return None;
+        }
+        let year = number_in(&text[..4])?;
+        let month = number_in(&text[4..6])?;
+        let day = number_in(&text[6..8])?;
+        let number = number_of(year, month, day)?;
+        Some(Day { number })
+    }
+
+    /// Appends its one text, CCYYMMDD, which reads back. After an error nothing is appended.
+    pub fn write_to(self, out: &mut String) -> Result<(), AllocError>
+        ensures done { OnOk result ((text : List ℕ) × (day_of text ≡ Some self)
+            × Appends (string_bytes out.old) (string_bytes out.new) text) }
+        ensures kept { OnErr result (string_bytes out.new ≡ string_bytes out.old) }
+        ensures one_text { (a b : List ℕ) → day_of a ≡ Some self → day_of b ≡ Some self → a ≡ b }
+    {
+        out.push_str(str::from_utf8(&self.digits()).unwrap())
+    }
+
+    /// The digits of its text, CCYYMMDD.
+    pub(crate) fn digits(self) -> [u8; 8]
+        ensures { day_of result ≡ Some self }
+    {
+        let date = Date::from_days_since_min(self.number + BEFORE_1970);
+        let year = date.year.unsigned_abs();
+        let mut digits = [b'0'; 8];
+        write_pair(&mut digits, 0, (year / 100) as u8);
+        write_pair(&mut digits, 2, (year % 100) as u8);
+        write_pair(&mut digits, 4, date.month);
+        write_pair(&mut digits, 6, date.day);
+        digits
+    }
+}
+
+/// The numbers of the first and the last day: 1 January 1970 and 31 December 9999.
+pub fn first_and_last_day()
+    ensures first { day_of (codes "19700101") ≡ Some 0 }
+    ensures last { day_of (codes "99991231") ≡ Some last_day }
+{}
+
+/// The number of a day, if the calendar has it, in 1970 or later.
+fn number_of(year: u32, month: u32, day: u32) -> Option<u32>
+    requires year { year < 10_000 }
+    requires month { month < 100 }
+    requires day { day < 100 }
+    ensures value { result ≡ (if is_date year month day then Some (day_number year month day) else None) }
+    ensures last { IfSome result (λ n. n ≤ last_day) }
+{
+    if year < FIRST_YEAR {
+        return None;
+    }
+    let Ok(date) = Date::new(year as i16, month as i8, day as i8) else {
+        return None;
+    };
+    Some(date.to_unix_epoch_day().unsigned_abs())
+}
+
+/// The number that digits say, or `None` where some byte is no digit.
+pub(crate) fn number_in(text: &[u8]) -> Option<u32>
+    requires { length text.now ≤ 4 }
+    ensures value { result ≡ (if list_all is_ascii_digit text.now then Some (digits_value 10 text.now) else None) }
+    ensures two { length text.now ≡ 2 → IfSome result (λ n. n < 100) }
+    ensures four { IfSome result (λ n. n < 10_000) }
+{
+    let mut number = 0;
+    for byte in text {
+        if !byte.is_ascii_digit() {
+            return None;
+        }
+        number = number * 10 + u32::from(*byte - b'0');
+    }
+    Some(number)
+}
+
+/// Writes a number below 100 as two digits at a place.
+pub(crate) fn write_pair(digits: &mut [u8], at: usize, number: u8)
+    requires fits { at + 2 ≤ length digits.old }
+    requires below { number < 100 }
+    ensures { digits.new ≡ set (set digits.old at (48 + number / 10)) (at + 1) (48 + number % 10) }
+{
+    digits[at] = b'0' + number / 10;
+    digits[at + 1] = b'0' + number % 10;
+}
