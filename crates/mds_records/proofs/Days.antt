@@ -47,10 +47,10 @@ tests_from : (file : FileKind) (rules : List Rule) (all : List (List ℕ)) (a : 
 tests_from file [] all a low = refl
 tests_from file (rule ∷ rules) all a low =
     same_parts (rw (sub_self a) (ap (λ t. not (is_bad file rule t)) (first_at all (a - 1))))
-        (same_on (a + 1) (length rules) (λ k. not (is_bad file (get_or (rule ∷ rules) (k - a) (may Nothing)) (get_or all (k - 1) [])))
-            (λ k. not (is_bad file (get_or rules (k - (a + 1)) (may Nothing)) (get_or all (k - 1) [])))
-            (λ k above. ap (λ (r : Rule). not (is_bad file r (get_or all (k - 1) []))) (rule_behind rule rules a k above))
-        ∙ tests_from file rules all (a + 1) (omega arith) ∙ ap (tests_of file rules) (one_behind all a low))
+    (same_on (a + 1) (length rules) (λ k. not (is_bad file (get_or (rule ∷ rules) (k - a) (may Nothing)) (get_or all (k - 1) [])))
+    (λ k. not (is_bad file (get_or rules (k - (a + 1)) (may Nothing)) (get_or all (k - 1) [])))
+    (λ k above. ap (λ (r : Rule). not (is_bad file r (get_or all (k - 1) []))) (rule_behind rule rules a k above))
+    ∙ tests_from file rules all (a + 1) (omega arith) ∙ ap (tests_of file rules) (one_behind all a low))
 
 -- the tests of a line's fields
 pub good_tests-is : (file : FileKind) (rules : List Rule) (line : List ℕ) → good_tests file rules line ≡ tests_of file rules (drop 1 (fields_of line))
@@ -163,7 +163,7 @@ interval_tests : (file : FileKind) (n : ℕ) (line : List ℕ) (d a b c e g : Bo
     → b ≡ not (is_bad file (may Nothing) (field line (n + 4))) → c ≡ not (is_bad file (may Nothing) (field line (n + 5)))
     → e ≡ not (is_bad file (may MomentTime) (field line (n + 6))) → g ≡ not (is_bad file (may MomentTime) (field line (n + 7)))
     → d ∷ (map (λ t. not (is_bad file (value_rule (means_values (field line (n + 3)))) t)) (take n (drop 2 (fields_of line))) ++ a ∷ b ∷ c ∷ e ∷ g ∷ [])
-        ≡ good_tests file (layout_of IntervalData n line) line
+    ≡ good_tests file (layout_of IntervalData n line) line
 interval_tests file n line d a b c e g long ed ea eb ec ee eg =
     let fs = fields_of line in
     let there = means_values (field line (n + 3)) in
@@ -171,14 +171,14 @@ interval_tests file n line d a b c e g long ed ea eb ec ee eg =
     let two : drop 1 (drop 1 fs) ≡ drop 2 fs = drop-drop 1 1 fs in
     let counted : length (drop 1 (drop 1 fs)) ≡ length fs - 2 = ap length two ∙ length-drop 2 fs in
     let behind : drop (length values) (drop 1 (drop 1 fs)) ≡ drop (n + 2) fs =
-        ap (drop (length values)) two ∙ drop-drop (length values) 2 fs ∙ cong_drop fs (2 + length values) (n + 2) (ap (λ m. 2 + m) (length-replicate n (value_rule there)) ∙ omega arith) in
+    ap (drop (length values)) two ∙ drop-drop (length values) 2 fs ∙ cong_drop fs (2 + length values) (n + 2) (ap (λ m. 2 + m) (length-replicate n (value_rule there)) ∙ omega arith) in
     let taken : tests_of file values (drop 1 (drop 1 fs)) ≡ map (λ t. not (is_bad file (value_rule there) t)) (take n (drop 2 fs)) =
-        tests_of-replicate file (value_rule there) n (drop 1 (drop 1 fs)) (omega arith) ∙ ap (λ left. map (λ t. not (is_bad file (value_rule there) t)) (take n left)) two in
+    tests_of-replicate file (value_rule there) n (drop 1 (drop 1 fs)) (omega arith) ∙ ap (λ left. map (λ t. not (is_bad file (value_rule there) t)) (take n left)) two in
     sym (good_tests-is file (must DayDate ∷ (values ++ last_rules)) line
-        ∙ same_parts (ap (λ t. not (is_bad file (must DayDate) t)) (field_by line (drop 1 fs) 1 2 refl refl) ∙ sym ed)
-            (tests_of-append file values last_rules (drop 1 (drop 1 fs))
-                ∙ ap (λ ts. ts ++ tests_of file last_rules (drop (length values) (drop 1 (drop 1 fs)))) taken
-                ∙ ap (λ ts. map (λ t. not (is_bad file (value_rule there) t)) (take n (drop 2 fs)) ++ ts) (last_tests file n line (drop (length values) (drop 1 (drop 1 fs))) a b c e g behind ea eb ec ee eg)))
+    ∙ same_parts (ap (λ t. not (is_bad file (must DayDate) t)) (field_by line (drop 1 fs) 1 2 refl refl) ∙ sym ed)
+    (tests_of-append file values last_rules (drop 1 (drop 1 fs))
+    ∙ ap (λ ts. ts ++ tests_of file last_rules (drop (length values) (drop 1 (drop 1 fs)))) taken
+    ∙ ap (λ ts. map (λ t. not (is_bad file (value_rule there) t)) (take n (drop 2 fs)) ++ ts) (last_tests file n line (drop (length values) (drop 1 (drop 1 fs))) a b c e g behind ea eb ec ee eg)))
 
 -- the outcome of the tests of a day
 day_outcome : (d : Bool) (n : ℕ) (values more : List Bool) → length values ≡ n → first_false 2 (d ∷ (values ++ more)) ≡ (if d then or_else (first_false 3 values) (first_false (n + 3) more) else Some 2)
@@ -211,19 +211,18 @@ interval_is file n line date quality reason_code reason_text update load left is
     let enough : true ≡ not (ltb (length fs) (n + 3)) = rw (le-ltb (length fs) (n + 3) long) refl in
     let same : m ≡ there = em ∙ ap means_values f3 in
     field_fault-is file IntervalData n line false is_whole (d ∷ (values ++ a ∷ b ∷ c ∷ e ∷ g ∷ []))
-        refl
-        (w ∙ right_count true left fs (n + 3) (length (layout_of IntervalData n line) + 1) enough (l ∙ cong_drop fs (n + 7) (length (layout_of IntervalData n line) + 1) (sym last)))
-        (interval_tests file n line d a b c e g long
-            (ed ∙ ap (λ t. is_some (day_of t)) f2 ∙ good_must file DayDate (field line 2) no_day)
-            (ea ∙ ap (λ t. bytes_eq t (codes "A")) f3 ∙ good_must file QualityMethod (field line (n + 3)) refl)
-            (eb ∙ ap (λ t. eqb (length t) 0) f4 ∙ or_nothing (eqb (length (field line (n + 4))) 0) ∙ good_may file Nothing (field line (n + 4)))
-            (ec ∙ ap (λ t. eqb (length t) 0) f5 ∙ or_nothing (eqb (length (field line (n + 5))) 0) ∙ good_may file Nothing (field line (n + 5)))
-            (ee ∙ ap (λ t. eqb (length t) 0 || is_some (moment_of t)) f6 ∙ good_may file MomentTime (field line (n + 6)))
-            (eg ∙ ap (λ t. eqb (length t) 0 || is_some (moment_of t)) f7 ∙ good_may file MomentTime (field line (n + 7))))
+    refl
+    (w ∙ right_count true left fs (n + 3) (length (layout_of IntervalData n line) + 1) enough (l ∙ cong_drop fs (n + 7) (length (layout_of IntervalData n line) + 1) (sym last)))
+    (interval_tests file n line d a b c e g long
+    (ed ∙ ap (λ t. is_some (day_of t)) f2 ∙ good_must file DayDate (field line 2) no_day)
+    (ea ∙ ap (λ t. bytes_eq t (codes "A")) f3 ∙ good_must file QualityMethod (field line (n + 3)) refl)
+    (eb ∙ ap (λ t. eqb (length t) 0) f4 ∙ or_nothing (eqb (length (field line (n + 4))) 0) ∙ good_may file Nothing (field line (n + 4)))
+    (ec ∙ ap (λ t. eqb (length t) 0) f5 ∙ or_nothing (eqb (length (field line (n + 5))) 0) ∙ good_may file Nothing (field line (n + 5)))
+    (ee ∙ ap (λ t. eqb (length t) 0 || is_some (moment_of t)) f6 ∙ good_may file MomentTime (field line (n + 6)))
+    (eg ∙ ap (λ t. eqb (length t) 0 || is_some (moment_of t)) f7 ∙ good_may file MomentTime (field line (n + 7))))
     ∙ ap (outcome false is_whole) (day_outcome d n values (a ∷ b ∷ c ∷ e ∷ g ∷ []) size
-        ∙ ap (λ (v : Option ℕ). if d then or_else v (first_false (n + 3) (a ∷ b ∷ c ∷ e ∷ g ∷ [])) else Some 2)
-            (values_fault file there (take n (drop 2 fs)) ∙ sym (rw (ebad, eempty, same) refl)))
-
+    ∙ ap (λ (v : Option ℕ). if d then or_else v (first_false (n + 3) (a ∷ b ∷ c ∷ e ∷ g ∷ [])) else Some 2)
+    (values_fault file there (take n (drop 2 fs)) ∙ sym (rw (ebad, eempty, same) refl)))
 
 -- the fault of a line with something behind its last field
 pub wrong_end : (file : FileKind) (n : ℕ) (line : List ℕ) (left : List (List ℕ)) → n + 3 ≤ length (fields_of line) → left ≡ drop (n + 7) (fields_of line) → false ≡ are_blank left → field_fault file IntervalData n line ≡ Some Count
@@ -232,8 +231,8 @@ wrong_end file n line left long l w =
     let last : length (layout_of IntervalData n line) + 1 ≡ n + 7 = layout_length n (means_values (field line (n + 3))) in
     let enough : true ≡ not (ltb (length fs) (n + 3)) = rw (le-ltb (length fs) (n + 3) long) refl in
     field_fault-is file IntervalData n line false false (good_tests file (layout_of IntervalData n line) line) refl
-        (w ∙ right_count true left fs (n + 3) (length (layout_of IntervalData n line) + 1) enough (l ∙ cong_drop fs (n + 7) (length (layout_of IntervalData n line) + 1) (sym last)))
-        refl
+    (w ∙ right_count true left fs (n + 3) (length (layout_of IntervalData n line) + 1) enough (l ∙ cong_drop fs (n + 7) (length (layout_of IntervalData n line) + 1) (sym last)))
+    refl
 
 -- where nothing or little is left behind the date
 pub few_left : (file : FileKind) (n : ℕ) (line : List ℕ) (left : List (List ℕ)) → left ≡ drop 2 (fields_of line) → length left ≤ n → field_fault file IntervalData n line ≡ Some Count

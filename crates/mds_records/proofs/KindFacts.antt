@@ -1,22 +1,20 @@
 -- The kind of a line, from what the calls say of its text and of its first field.
-use Rattle.std.proofs.Common.{◌≡◌, ◌≢◌, ℕ, zero, suc, ◌+◌, ◌<◌, ◌≤◌, Bool, true, false, cond, not, eqb, List, [], ◌∷◌, length, take, get_or, Option, Some, None, Result, Ok, Err, IsUtf8, refl, sym, ◌∙◌, ap, arith, ◌⊎◌, inl, inr, ◌-◌, MatchOption, unwrap_or}
+use Rattle.std.proofs.Common.{◌≡◌, ◌≢◌, ℕ, zero, suc, ◌<◌, ◌≤◌, Bool, true, false, cond, not, eqb, List, [], ◌∷◌, length, take, get_or, Option, Some, None, Err, IsUtf8, refl, sym, ◌∙◌, ap, arith, ◌⊎◌, inl, inr, ◌-◌, MatchOption, unwrap_or}
 use denote.Ref.{Bor}
 use Rattle.std.specs.List.{slice_get}
 use Rattle.std.proofs.lemmas.List.{take_all}
 use Rattle.std.proofs.lemmas.List.Splits.{length-slice_split}
 use Rattle.std.proofs.lemmas.Option.{get_or_from_slice_get}
-use Rattle.std.proofs.lemmas.Grind.{common_steps}
 use Rattle.std.proofs.lemmas.Bool.Decides.{nat_tests}
 use Rattle.std.proofs.lemmas.Str.{IsUtf8-from_is_utf8, utf8_valid_len-IsUtf8}
 use Rattle.std.specs.Str.{is_utf8}
 use Rattle.std.specs.Str.Lossy.{utf8_valid_len, valid_len_up_to}
 use Rattle.std.specs.Prelude.{ok_or}
-use Rattle.mds_records.specs.declared.line.Kind.{Kind}
-use Rattle.mds_records.specs.declared.line.KindFault.{KindFault}
 use Rattle.mds_records.specs.declared.line.KindFault.TheVariants.{NotText, Unknown}
 use Rattle.mds_records.specs.Kinds.{is_text, kind_named, kind_of}
 use Rattle.mds_records.specs.Lines.{field, fields_of}
 
+-- a front is no longer than where the search began
 valid_len_below : (bs : List ℕ) (m : ℕ) → valid_len_up_to bs m ≤ m
 valid_len_below bs zero = omega arith
 valid_len_below bs (suc m) = at (is_utf8 (take (suc m) bs)) (valid_len_below bs m) where
@@ -41,21 +39,24 @@ full_is_utf8 (x ∷ xs) e =
     let passes = valid_len_full (x ∷ xs) (length (x ∷ xs)) (omega arith) e in
     IsUtf8-from_is_utf8 (x ∷ xs) (ap is_utf8 (sym whole) ∙ passes)
 
--- a test that fails, and one that holds
+-- a test that fails
 is_text_false : (line : List ℕ) → ¬ IsUtf8 line → is_text line ≡ false
 is_text_false line h =
     let ne : utf8_valid_len line ≢ length line = λ e. h (full_is_utf8 line e) in
     grind (arith, nat_tests)
 
+-- a test that holds
 is_text_true : (line : List ℕ) → IsUtf8 line → is_text line ≡ true
 is_text_true line h =
     let e = utf8_valid_len-IsUtf8 line h in
     grind (arith, nat_tests)
 
+-- a line that isn't UTF-8
 pub kind_not_text : (line : List ℕ) → ¬ IsUtf8 line → kind_of line ≡ Err NotText
 unfolding kind_of
 kind_not_text line h = ap (λ b. cond (not b) (Err NotText) (ok_or (kind_named (field line 1)) Unknown)) (is_text_false line h)
 
+-- a line that is
 pub kind_text : (line : List ℕ) → IsUtf8 line → kind_of line ≡ ok_or (kind_named (field line 1)) Unknown
 unfolding kind_of
 kind_text line h = ap (λ b. cond (not b) (Err NotText) (ok_or (kind_named (field line 1)) Unknown)) (is_text_true line h)

@@ -1,5 +1,5 @@
 -- The text that is still to come.
-use Rattle.std.proofs.Common.{◌≡◌, ◌≢◌, ℕ, suc, ◌+◌, ◌-◌, ◌<◌, ◌≤◌, Bool, true, false, List, [], ◌∷◌, ◌++◌, length, take, drop, get_or, Option, Some, None, IfSome, refl, sym, ◌∙◌, ap, subst, arith, append_assoc, ◌⊎◌, inl, inr, eqb, ltb, zero, Result, Ok, Err, IfErr, IfOk, MatchBool}
+use Rattle.std.proofs.Common.{◌≡◌, ◌≢◌, ℕ, suc, ◌+◌, ◌<◌, ◌≤◌, Bool, true, false, List, [], ◌∷◌, ◌++◌, length, take, drop, get_or, Option, Some, None, IfSome, refl, sym, ◌∙◌, ap, subst, arith, append_assoc, ◌⊎◌, inl, inr, eqb, ltb, zero, Result, Ok, Err, IfErr, IfOk, MatchBool}
 use Rattle.std.proofs.lemmas.Bool.Decides.{nat_tests}
 use Rattle.std.specs.Option.{option_map}
 use Rattle.std.specs.List.{All}
@@ -13,7 +13,7 @@ use Rattle.mds_records.specs.declared.reader.LineFault.{LineFault}
 use Rattle.mds_records.specs.declared.reader.LineFault.TheVariants.{TooLarge}
 use Rattle.mds_records.specs.Lines.{line_pieces, longest_line, most_lines}
 use Rattle.mds_records.specs.Buffered.{Buffered, BothKnown, text_left, Reaches, Takes, FindsLine, FindsEnd, IsOverLimit}
-use Rattle.mds_records.proofs.Pieces.{pieces_none, pieces_at, pieces_last, pieces_long, HasFirst}
+use Rattle.mds_records.proofs.Pieces.{pieces_at, pieces_last, pieces_long, HasFirst}
 
 -- the text that is still to come, of the parts of a buffer
 abbrev pub coming : Bool → List ℕ → Option (List ℕ) → Option (List ℕ)
@@ -36,15 +36,17 @@ pub some_or_none : (n : ℕ) (bytes : List ℕ) → n ≡ length (take n bytes) 
 some_or_none zero bytes e = inr refl
 some_or_none (suc n) bytes e = inl (omega arith)
 
+-- the test that none was read
 pub zero_from_test : (n : ℕ) → eqb n 0 ≡ true → n ≡ 0
 zero_from_test n e = grind (arith, nat_tests)
 
--- Known texts that are kept, and what follows.
+-- a relation of a known text, which was kept before
 pub known_after : (a b c : Option (List ℕ)) (R : List ℕ → List ℕ → Type 0) → Keeps a b → BothKnown b c R → BothKnown a c R
 known_after None b c R k h = tt
 known_after (Some xs) None c R k h = absurd k
 known_after (Some xs) (Some ys) c R k h = (h.0, h.1, subst (λ (t : List ℕ). R t h.0) k h.2)
 
+-- a fact of a known text, which was kept before
 pub some_after : (a b : Option (List ℕ)) (P : List ℕ → Type 0) → Keeps a b → IfSome b P → IfSome a P
 some_after None b P k h = tt
 some_after (Some xs) None P k h = absurd k

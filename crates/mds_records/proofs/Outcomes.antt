@@ -33,12 +33,12 @@ pub header_is : (file : FileKind) (n : ℕ) (line name date_time sender receiver
     → field_fault file Header n line ≡ outcome is_other is_whole (first_false 2 (a ∷ b ∷ c ∷ d ∷ []))
 header_is file n line name date_time sender receiver has left is_other is_whole a b c d f2 f3 f4 f5 h l o w ea eb ec ed =
     field_fault-is file Header n line is_other is_whole (a ∷ b ∷ c ∷ d ∷ [])
-        (o ∙ ap (λ t. bytes_eq t (other_file_name file)) f2)
-        (w ∙ right_count has left (fields_of line) 3 5 h l)
-        (same_parts (ea ∙ ap (λ t. bytes_eq t (file_name file)) f2 ∙ good_must file FileName (field line 2) (named file))
-        (same_parts (eb ∙ ap (λ t. is_some (date_time_of t)) f3 ∙ good_must file DateTime (field line 3) no_date_time)
-        (same_parts (ec ∙ ap is_printable f4 ∙ good_printable file (field line 4))
-        (same_parts (ed ∙ ap is_printable f5 ∙ good_printable file (field line 5)) refl))))
+    (o ∙ ap (λ t. bytes_eq t (other_file_name file)) f2)
+    (w ∙ right_count has left (fields_of line) 3 5 h l)
+    (same_parts (ea ∙ ap (λ t. bytes_eq t (file_name file)) f2 ∙ good_must file FileName (field line 2) (named file))
+    (same_parts (eb ∙ ap (λ t. is_some (date_time_of t)) f3 ∙ good_must file DateTime (field line 3) no_date_time)
+    (same_parts (ec ∙ ap is_printable f4 ∙ good_printable file (field line 4))
+    (same_parts (ed ∙ ap is_printable f5 ∙ good_printable file (field line 5)) refl))))
 
 pub details_is : (file : FileKind) (n : ℕ) (line nmi configuration register suffix datastream meter unit length_text next_read : List ℕ) (has : Bool) (left : List (List ℕ))
     (is_whole a b c d e f g h i : Bool) → nmi ≡ field line 2 → configuration ≡ field line 3 → register ≡ field line 4 → suffix ≡ field line 5
@@ -50,17 +50,17 @@ pub details_is : (file : FileKind) (n : ℕ) (line nmi configuration register su
     → field_fault file NmiDataDetails n line ≡ outcome false is_whole (first_false 2 (a ∷ b ∷ c ∷ d ∷ e ∷ f ∷ g ∷ h ∷ i ∷ []))
 details_is file n line nmi configuration register suffix datastream meter unit length_text next_read has left is_whole a b c d e f g h i f2 f3 f4 f5 f6 f7 f8 f9 f10 hs l w ea eb ec ed ee ef eg eh ei =
     field_fault-is file NmiDataDetails n line false is_whole (a ∷ b ∷ c ∷ d ∷ e ∷ f ∷ g ∷ h ∷ i ∷ [])
-        refl
-        (w ∙ right_count has left (fields_of line) 9 10 hs l)
-        (same_parts (ea ∙ ap (λ t. is_some (nmi_of t)) f2 ∙ good_must file NmiName (field line 2) refl)
-        (same_parts (eb ∙ ap is_printable f3 ∙ good_printable file (field line 3))
-        (same_parts (ec ∙ ap is_printable f4 ∙ good_printable file (field line 4))
-        (same_parts (ed ∙ ap (λ t. is_some (suffix_of t)) f5 ∙ good_must file SuffixName (field line 5) refl)
-        (same_parts (ee ∙ ap is_printable f6 ∙ good_printable file (field line 6))
-        (same_parts (ef ∙ ap is_printable f7 ∙ good_printable file (field line 7))
-        (same_parts (eg ∙ ap (λ t. is_some (unit_of t)) f8 ∙ good_must file UnitName (field line 8) no_unit)
-        (same_parts (eh ∙ ap (λ t. bytes_eq t (codes "30")) f9 ∙ good_must file LengthInMinutes (field line 9) refl)
-        (same_parts (ei ∙ ap (λ t. eqb (length t) 0 || is_some (day_of t)) f10 ∙ good_may file DayDate (field line 10)) refl)))))))))
+    refl
+    (w ∙ right_count has left (fields_of line) 9 10 hs l)
+    (same_parts (ea ∙ ap (λ t. is_some (nmi_of t)) f2 ∙ good_must file NmiName (field line 2) refl)
+    (same_parts (eb ∙ ap is_printable f3 ∙ good_printable file (field line 3))
+    (same_parts (ec ∙ ap is_printable f4 ∙ good_printable file (field line 4))
+    (same_parts (ed ∙ ap (λ t. is_some (suffix_of t)) f5 ∙ good_must file SuffixName (field line 5) refl)
+    (same_parts (ee ∙ ap is_printable f6 ∙ good_printable file (field line 6))
+    (same_parts (ef ∙ ap is_printable f7 ∙ good_printable file (field line 7))
+    (same_parts (eg ∙ ap (λ t. is_some (unit_of t)) f8 ∙ good_must file UnitName (field line 8) no_unit)
+    (same_parts (eh ∙ ap (λ t. bytes_eq t (codes "30")) f9 ∙ good_must file LengthInMinutes (field line 9) refl)
+    (same_parts (ei ∙ ap (λ t. eqb (length t) 0 || is_some (day_of t)) f10 ∙ good_may file DayDate (field line 10)) refl)))))))))
 
 some_field : (line : List ℕ) → not (ltb (length (fields_of line)) 1) ≡ true
 some_field line = let h = length-slice_split is_comma line in search (rules, nat_tests)

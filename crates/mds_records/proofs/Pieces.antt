@@ -1,21 +1,22 @@
 -- The pieces of a text between its line feeds.
-use Rattle.std.proofs.Common.{◌≡◌, ◌≢◌, ℕ, suc, zero, ◌+◌, ◌-◌, ◌<◌, ◌≤◌, Bool, true, false, cond, eqb, List, [], ◌∷◌, ◌++◌, length, take, drop, get_or, refl, sym, ◌∙◌, ap, subst, arith, append_assoc, length-append}
-use Rattle.std.specs.List.{slice_split, onto_first, All}
+use Rattle.std.proofs.Common.{◌≡◌, ◌≢◌, ℕ, suc, ◌-◌, ◌<◌, ◌≤◌, Bool, true, false, cond, eqb, List, [], ◌∷◌, ◌++◌, length, take, get_or, refl, ◌∙◌, ap, arith, length-append}
+use Rattle.std.specs.List.{onto_first, All}
 use Rattle.std.proofs.lemmas.Bool.Decides.{nat_tests}
-use Rattle.std.proofs.lemmas.List.{append-nil}
 use Rattle.std.proofs.lemmas.List.Elements.{All-head, All-tail}
 use Rattle.std.proofs.lemmas.List.Splits.{slice_split_none, slice_split_at, length-slice_split, slice_split-cons_no}
-use Rattle.mds_records.specs.Lines.{line_pieces, without_empty_last, split, longest_line}
+use Rattle.mds_records.specs.Lines.{line_pieces, without_empty_last, split}
 use Rattle.mds_records.proofs.Splits.{apart_false}
 
 -- without_empty_last, at the place of the last part
 abbrev without_at : ℕ → List (List ℕ) → List (List ℕ)
 without_at n parts = cond (eqb (length (get_or parts n [])) 0) (take n parts) parts
 
+-- a front that both choices have
 cond_front : (b : Bool) (p : List ℕ) (x y : List (List ℕ)) → cond b (p ∷ x) (p ∷ y) ≡ p ∷ cond b x y
 cond_front true p x y = refl
 cond_front false p x y = refl
 
+-- the place counts from the front
 without_at_more : (n : ℕ) (p : List ℕ) (parts : List (List ℕ)) → without_at (suc n) (p ∷ parts) ≡ p ∷ without_at n parts
 without_at_more n p parts = cond_front (eqb (length (get_or parts n [])) 0) p (take n parts) parts
 
@@ -65,6 +66,7 @@ pub record HasFirst (n : ℕ) (text : List ℕ) : Type 0 where
   pub is : line_pieces text ≡ piece ∷ rest
   pub long : n ≤ length piece
 
+-- the first piece from the first part
 first_from_split : (xs : List ℕ) (text first : List ℕ) (rest : List (List ℕ)) → 0 < length xs → split 10 text ≡ (xs ++ first) ∷ rest → HasFirst (length xs) text
 first_from_split xs text first [] some e = record {
   piece = xs ++ first;
@@ -79,10 +81,11 @@ first_from_split xs text first (q ∷ qs) some e = record {
   long = simp length-append (omega arith);
 }
 
--- bytes without a line feed, whatever is behind them
+-- the same, of the parts of what is behind them
 first_of : (xs ys : List ℕ) (parts : List (List ℕ)) → split 10 ys ≡ parts → 0 < length xs → All (λ x. x ≢ 10) xs → HasFirst (length xs) (xs ++ ys)
 first_of xs ys [] e some apart = let one = length-slice_split (λ c. eqb c 10) ys in let none = ap length e in absurd (omega arith)
 first_of xs ys (first ∷ rest) e some apart = first_from_split xs (xs ++ ys) first rest some (split_behind xs ys first rest apart e)
 
+-- bytes without a line feed are at the front of the first piece
 pub pieces_long : (xs ys : List ℕ) → 0 < length xs → All (λ x. x ≢ 10) xs → HasFirst (length xs) (xs ++ ys)
 pieces_long xs ys some apart = first_of xs ys (split 10 ys) refl some apart

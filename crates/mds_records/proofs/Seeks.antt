@@ -1,15 +1,16 @@
 -- How far the pending bytes have no line feed.
-use Rattle.std.proofs.Common.{◌≡◌, ◌≢◌, ℕ, suc, zero, ◌+◌, ◌-◌, ◌<◌, ◌≤◌, Bool, true, false, ltb, eqb, List, [], ◌∷◌, ◌++◌, length, take, drop, get_or, Option, Some, None, refl, sym, ◌∙◌, ap, subst, arith}
+use Rattle.std.proofs.Common.{◌≡◌, ◌≢◌, ℕ, ◌+◌, ◌-◌, ◌<◌, ◌≤◌, Bool, true, false, ltb, List, ◌++◌, length, take, drop, get_or, Option, Some, None, refl, sym, ◌∙◌, ap, subst, arith}
 use Rattle.std.specs.List.{All}
 use Rattle.std.proofs.lemmas.Bool.Decides.{nat_tests}
 use Rattle.std.proofs.lemmas.List.{take_at, get_or-take, get_or-drop, length-take-le, length-drop, take_all, take_rest}
-use Rattle.std.proofs.lemmas.List.Elements.{All-from_get_or, All-get_or, All-same}
+use Rattle.std.proofs.lemmas.List.Elements.{All-from_get_or, All-same}
 use Rattle.memchr.specs.Find.{IsFirstByte, Nowhere, Passes, is_byte}
 
 -- a byte that fails the search's test
 fails : (x : ℕ) → ¬ (is_byte 10 x ≡ true) → x ≢ 10
 fails x h = λ e. h (ap (is_byte 10) e)
 
+-- a byte that passes it
 passes : (x : ℕ) → is_byte 10 x ≡ true → x ≡ 10
 passes x h = grind (arith, nat_tests)
 

@@ -70,9 +70,10 @@ field_at text fields at k n within left e =
       size = ap length (sym field) ∙ length-take-le n (drop at text) (omega arith);
       last = λ l. let one : length (fields_of (drop at text)) ≡ 1 = ap length (one_field (drop at text) n e (omega arith)) in omega arith;
       more = λ lt.
-        let cut : fields_of (drop at text) ≡ take n (drop at text) ∷ fields_of (drop (n + 1) (drop at text)) = more_fields (drop at text) n e (omega arith) in
-        (ap fields_of (sym (drop-drop (n + 1) at text ∙ ap (λ m. drop m text) (omega arith))) ∙ ap (drop 1) (sym cut) ∙ ap (drop 1) left ∙ drop-drop 1 k fields,
-         sym (get_or-drop at text n 0) ∙ ap (λ m. get_or (drop at text) m 0) e ∙ is_comma_44 _ (passes_at_first is_comma (drop at text) 0 (omega arith)));
+          let cut : fields_of (drop at text) ≡ take n (drop at text) ∷ fields_of (drop (n + 1) (drop at text)) = more_fields (drop at text) n e (omega arith) in (
+            ap fields_of (sym (drop-drop (n + 1) at text ∙ ap (λ m. drop m text) (omega arith))) ∙ ap (drop 1) (sym cut) ∙ ap (drop 1) left ∙ drop-drop 1 k fields,
+            sym (get_or-drop at text n 0) ∙ ap (λ m. get_or (drop at text) m 0) e ∙ is_comma_44 _ (passes_at_first is_comma (drop at text) 0 (omega arith)),
+          );
     }
 
 -- the test of a field, from what was read of it
@@ -99,7 +100,7 @@ split_at_comma (x ∷ xs) ys = split_more x xs ys (is_comma x) refl (split_at_co
 pub front_fields : (text : List ℕ) (end at k : ℕ) → at ≡ end + 1 → get_or text end 0 ≡ 44 → at ≤ length text → fields_of (drop at text) ≡ drop k (fields_of text) → fields_of (take end text) ≡ take k (fields_of text)
 front_fields text end at k e comma within left =
     let cut : text ≡ take end text ++ 44 ∷ drop at text =
-        sym (take-append-drop end text) ∙ ap (λ d. take end text ++ d) (drop_more text end 0 (omega arith) ∙ ap (λ c. c ∷ drop (end + 1) text) comma ∙ ap (λ m. 44 ∷ drop m text) (sym e)) in
+    sym (take-append-drop end text) ∙ ap (λ d. take end text ++ d) (drop_more text end 0 (omega arith) ∙ ap (λ c. c ∷ drop (end + 1) text) comma ∙ ap (λ m. 44 ∷ drop m text) (sym e)) in
     let parts : fields_of text ≡ fields_of (take end text) ++ fields_of (drop at text) = ap fields_of cut ∙ split_at_comma (take end text) (drop at text) in
     let some : 0 < length (fields_of (drop at text)) = omega (arith, length-slice_split is_comma (drop at text)) in
     let counted : length (fields_of (drop at text)) ≡ length (fields_of text) - k = ap length left ∙ length-drop k (fields_of text) in

@@ -35,7 +35,7 @@ is_bad file rule text = if length text == 0 then not rule.may_be_empty else not 
 abbrev pub least_bad : FileKind → List Rule → List ℕ → Option ℕ
 least_bad file rules line =
     find (λ number. is_bad file (slice_index_or rules (number - 2) (may Nothing)) (field line number))
-        (range_with_len 2 (length rules))
+    (range_with_len 2 (length rules))
 
 -- the first fault that stands
 unfoldable pub field_fault : FileKind → Kind → ℕ → List ℕ → Option FieldFault

@@ -1,5 +1,5 @@
 -- The kinds of records. MDFF Specification: the RecordIndicator is the first field of each record.
-use Rattle.std.specs.Prelude.{ℕ, Bool, not, ◌==◌, if◌then◌else◌, List, length, codes, bytes_eq, Option, Some, None, Result, Ok, Err, ok_or}
+use Rattle.std.specs.Prelude.{ℕ, Bool, not, ◌==◌, if◌then◌else◌, List, length, codes, bytes_eq, Option, Some, None, Result, Err, ok_or}
 use Rattle.std.specs.Str.Lossy.{utf8_valid_len}
 use Rattle.mds_records.specs.declared.line.Kind.{Kind}
 use Rattle.mds_records.specs.declared.line.Kind.TheVariants.{Header, NmiDataDetails, IntervalData, EndOfData}

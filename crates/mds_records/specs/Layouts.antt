@@ -90,4 +90,4 @@ abbrev pub means_values : List ℕ → Bool
 means_values quality =
     bytes_eq quality (codes "A")
     || ((length quality == 3) && list_all is_ascii_digit (drop 1 quality)
-        && ((slice_index quality 0 == 69) || (slice_index quality 0 == 70) || (slice_index quality 0 == 83)))
+    && ((slice_index quality 0 == 69) || (slice_index quality 0 == 70) || (slice_index quality 0 == 83)))

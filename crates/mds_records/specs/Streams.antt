@@ -1,5 +1,5 @@
 -- A reader or writer that counts its failed calls.
-use Rattle.std.specs.Prelude.{ℕ, List, ◌^◌, ◌-◌}
+use Rattle.std.specs.Prelude.{ℕ}
 use Rattle.mds_records.specs.declared.stream.Counted.{Counted}
 
 -- what it counts the calls of

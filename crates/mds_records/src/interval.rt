@@ -9,10 +9,10 @@ ghost use Rattle.mds_records.specs.Faults.{field_fault};
 ghost use Rattle.mds_records.specs.Records.{IsIntervalData, amount_of};
 ghost use Rattle.mds_records.specs.Values.{AreValues, lesser, or_else};
 
-use crate::rest::{field_length, has_right_count, next_field};
 use crate::file::FileKind;
 use crate::line::Kind;
 use crate::record::{FieldFault, IntervalDataRecord, is_moment_or_empty, least_bad};
+use crate::rest::{field_length, has_right_count, next_field};
 use mds_quantity::{Quantity, QuantityFault};
 use mds_terms::Day;
 

@@ -18,3 +18,6 @@ pub use record::{
     FieldFault, HeaderRecord, IntervalDataRecord, NmiDataDetailsRecord, Record, read_record,
 };
 pub use stream::{Counted, Sink, Source};
+
+#[cfg(test)]
+mod tests;

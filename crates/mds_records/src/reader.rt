@@ -1,7 +1,6 @@
 //! The lines of a source, one after the other, out of one buffer.
 
-ghost use Rattle.std.specs.Prelude.{◌≢◌, Err, IfSome, MatchBool, ◌≡◌, ◌+◌, ◌-◌, ◌^◌, ◌<◌, ◌≤◌, ℕ, List, [], length, Option, Some, None, true, false, IfOk, IfErr, OnErr, MatchResult};
-ghost use Rattle.std.specs.Prelude.{◌⊎◌, MatchOption, if◌then◌else◌, is_ok, slice_range};
+ghost use Rattle.std.specs.Prelude.{◌≢◌, Err, IfSome, MatchBool, ◌≡◌, ◌+◌, ◌-◌, ◌^◌, ◌<◌, ◌≤◌, ℕ, List, [], length, Option, Some, None, true, false, IfOk, IfErr, MatchOption, ◌⊎◌, if◌then◌else◌, is_ok, slice_range};
 ghost use Rattle.std.specs.Io.KnownBytes.{Keeps};
 ghost use Rattle.mds_records.specs.Lines.{line_text, longest_line, most_lines};
 

@@ -8,10 +8,10 @@ ghost use Rattle.mds_records.specs.Faults.{field_fault};
 ghost use Rattle.mds_records.specs.Layouts.{file_name, other_file_name, is_printable as printable};
 ghost use Rattle.mds_records.specs.Records.{Spells, IsHeader, IsNmiDataDetails, value_count};
 
-use crate::rest::{has_right_count, next_field};
 use crate::file::FileKind;
 use crate::interval::read_interval_data;
 use crate::line::{Kind, Line};
+use crate::rest::{has_right_count, next_field};
 use mds_quantity::Unit;
 use mds_terms::{Day, Length, Moment, Nmi, Suffix};
 
@@ -85,7 +85,7 @@ pub fn read_record<'a>(
     requires length { kind ≡ Kind.IntervalData → IsSome length }
     ensures { MatchResult result
         (λ r. (field_fault file kind (value_count length) line.now.text ≡ None)
-            × Spells kind (value_count length) line.now.text r)
+        × Spells kind (value_count length) line.now.text r)
         (λ fault. field_fault file kind (value_count length) line.now.text ≡ Some fault) }
 {
     let text = line.text();
@@ -135,7 +135,10 @@ fn read_header(text: &[u8], file: FileKind) -> Result<HeaderRecord<'_>, FieldFau
     })
 }
 
-fn read_nmi_data_details(text: &[u8], file: FileKind) -> Result<NmiDataDetailsRecord<'_>, FieldFault>
+fn read_nmi_data_details(
+    text: &[u8],
+    file: FileKind,
+) -> Result<NmiDataDetailsRecord<'_>, FieldFault>
     ensures { (n : ℕ) → MatchResult result
         (λ r. (field_fault file Kind.NmiDataDetails n text.now ≡ None) × IsNmiDataDetails text.now r)
         (λ fault. field_fault file Kind.NmiDataDetails n text.now ≡ Some fault) }

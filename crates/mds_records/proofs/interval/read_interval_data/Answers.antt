@@ -79,14 +79,14 @@ returns-in-Some-least_of c =
     let update = c.next_field-6.ensures.taken ∙ field_by line _ (n + 2 + 1 + 1 + 1) (n + 6) at5 (omega arith) in
     let load = c.next_field-7.ensures.taken ∙ field_by line _ (n + 2 + 1 + 1 + 1 + 1) (n + 7) at6 (omega arith) in
     let is = interval_is c.args.file n line _ _ _ _ _ _ _ _ _ _ _ _ _ _ _ _ _ long date quality reason_code reason_text update load end c.has_right_count.ensures
-        (c.is_some-is_day.ensures ∙ ap (λ (o : Option ℕ). is_some o) c.read.ensures) c.means_values.ensures c.is_actual.ensures c.is_empty.ensures c.is_empty-2.ensures
-        c.is_moment_or_empty.ensures c.is_moment_or_empty-2.ensures
-        (v.bad ∙ ap (λ vs. first_false 3 (map is_empty_or_quantity (take n vs))) text2) (v.empty ∙ ap (λ vs. first_false 3 (map is_there (take n vs))) text2) in
+    (c.is_some-is_day.ensures ∙ ap (λ (o : Option ℕ). is_some o) c.read.ensures) c.means_values.ensures c.is_actual.ensures c.is_empty.ensures c.is_empty-2.ensures
+    c.is_moment_or_empty.ensures c.is_moment_or_empty-2.ensures
+    (v.bad ∙ ap (λ vs. first_false 3 (map is_empty_or_quantity (take n vs))) text2) (v.empty ∙ ap (λ vs. first_false 3 (map is_there (take n vs))) text2) in
     let least : (if c.is_some-is_day.result then or_else (lesser c.in-Some-read_values.values.tally.bad (if c.means_values.result then c.in-Some-read_values.values.tally.empty else None))
-            (first_false (n + 3) (c.is_actual.result ∷ c.is_empty.result ∷ c.is_empty-2.result ∷ c.is_moment_or_empty.result ∷ c.is_moment_or_empty-2.result ∷ [])) else Some 2) ≡ c.least_of.result =
-        sym (c.least_of.ensures ∙ rw (c.first_bad-in_values.ensures, c.least_bad.ensures) refl) in
+    (first_false (n + 3) (c.is_actual.result ∷ c.is_empty.result ∷ c.is_empty-2.result ∷ c.is_moment_or_empty.result ∷ c.is_moment_or_empty-2.result ∷ [])) else Some 2) ≡ c.least_of.result =
+    sym (c.least_of.ensures ∙ rw (c.first_bad-in_values.ensures, c.least_bad.ensures) refl) in
     let whole = is ∙ ap (λ w. outcome false w (if c.is_some-is_day.result then or_else (lesser c.in-Some-read_values.values.tally.bad (if c.means_values.result then c.in-Some-read_values.values.tally.empty else None))
-            (first_false (n + 3) (c.is_actual.result ∷ c.is_empty.result ∷ c.is_empty-2.result ∷ c.is_moment_or_empty.result ∷ c.is_moment_or_empty-2.result ∷ [])) else Some 2)) c.if-not-has_right_count.false in
+    (first_false (n + 3) (c.is_actual.result ∷ c.is_empty.result ∷ c.is_empty-2.result ∷ c.is_moment_or_empty.result ∷ c.is_moment_or_empty-2.result ∷ [])) else Some 2)) c.if-not-has_right_count.false in
     whole ∙ ap (outcome false true) (least ∙ c.in-Some-least_of.is)
 
 pub returns : goal.returns
@@ -114,23 +114,25 @@ returns c =
     let update = c.next_field-6.ensures.taken ∙ field_by line _ (n + 2 + 1 + 1 + 1) (n + 6) at5 (omega arith) in
     let load = c.next_field-7.ensures.taken ∙ field_by line _ (n + 2 + 1 + 1 + 1 + 1) (n + 7) at6 (omega arith) in
     let is = interval_is c.args.file n line _ _ _ _ _ _ _ _ _ _ _ _ _ _ _ _ _ long date quality reason_code reason_text update load end c.has_right_count.ensures
-        (c.is_some-is_day.ensures ∙ ap (λ (o : Option ℕ). is_some o) c.read.ensures) c.means_values.ensures c.is_actual.ensures c.is_empty.ensures c.is_empty-2.ensures
-        c.is_moment_or_empty.ensures c.is_moment_or_empty-2.ensures
-        (v.bad ∙ ap (λ vs. first_false 3 (map is_empty_or_quantity (take n vs))) text2) (v.empty ∙ ap (λ vs. first_false 3 (map is_there (take n vs))) text2) in
+    (c.is_some-is_day.ensures ∙ ap (λ (o : Option ℕ). is_some o) c.read.ensures) c.means_values.ensures c.is_actual.ensures c.is_empty.ensures c.is_empty-2.ensures
+    c.is_moment_or_empty.ensures c.is_moment_or_empty-2.ensures
+    (v.bad ∙ ap (λ vs. first_false 3 (map is_empty_or_quantity (take n vs))) text2) (v.empty ∙ ap (λ vs. first_false 3 (map is_there (take n vs))) text2) in
     let least : (if c.is_some-is_day.result then or_else (lesser c.in-Some-read_values.values.tally.bad (if c.means_values.result then c.in-Some-read_values.values.tally.empty else None))
-            (first_false (n + 3) (c.is_actual.result ∷ c.is_empty.result ∷ c.is_empty-2.result ∷ c.is_moment_or_empty.result ∷ c.is_moment_or_empty-2.result ∷ [])) else Some 2) ≡ c.least_of.result =
-        sym (c.least_of.ensures ∙ rw (c.first_bad-in_values.ensures, c.least_bad.ensures) refl) in
+    (first_false (n + 3) (c.is_actual.result ∷ c.is_empty.result ∷ c.is_empty-2.result ∷ c.is_moment_or_empty.result ∷ c.is_moment_or_empty-2.result ∷ [])) else Some 2) ≡ c.least_of.result =
+    sym (c.least_of.ensures ∙ rw (c.first_bad-in_values.ensures, c.least_bad.ensures) refl) in
     let whole = is ∙ ap (λ w. outcome false w (if c.is_some-is_day.result then or_else (lesser c.in-Some-read_values.values.tally.bad (if c.means_values.result then c.in-Some-read_values.values.tally.empty else None))
-            (first_false (n + 3) (c.is_actual.result ∷ c.is_empty.result ∷ c.is_empty-2.result ∷ c.is_moment_or_empty.result ∷ c.is_moment_or_empty-2.result ∷ [])) else Some 2)) c.if-not-has_right_count.false in
-    let passed : c.is_some-is_day.result ≡ true = day_passed _ _ (least ∙ c.in_default-least_of.is) in
-    (whole ∙ ap (outcome false true) (least ∙ c.in_default-least_of.is), record {
-      date = date;
-      values = v.text ∙ ap (take n) text2;
-      sum = to_z-of_z w128 c.in-Some-read_values.values.tally.sum (fits_signed_from_abs w128 c.in-Some-read_values.values.tally.sum (omega (arith, v.small))) ∙ v.sum ∙ ap (λ vs. sum_of (take n vs)) text2;
-      quality = quality;
-      reason_code = reason_code;
-      reason_text = reason_text;
-      update = update;
-      load = load;
-      good_date = sym (ap (λ (o : Option ℕ). is_some o) c.read.ensures) ∙ sym c.is_some-is_day.ensures ∙ passed;
-    })
+    (first_false (n + 3) (c.is_actual.result ∷ c.is_empty.result ∷ c.is_empty-2.result ∷ c.is_moment_or_empty.result ∷ c.is_moment_or_empty-2.result ∷ [])) else Some 2)) c.if-not-has_right_count.false in
+    let passed : c.is_some-is_day.result ≡ true = day_passed _ _ (least ∙ c.in_default-least_of.is) in (
+      whole ∙ ap (outcome false true) (least ∙ c.in_default-least_of.is),
+      record {
+        date = date;
+        values = v.text ∙ ap (take n) text2;
+        sum = to_z-of_z w128 c.in-Some-read_values.values.tally.sum (fits_signed_from_abs w128 c.in-Some-read_values.values.tally.sum (omega (arith, v.small))) ∙ v.sum ∙ ap (λ vs. sum_of (take n vs)) text2;
+        quality = quality;
+        reason_code = reason_code;
+        reason_text = reason_text;
+        update = update;
+        load = load;
+        good_date = sym (ap (λ (o : Option ℕ). is_some o) c.read.ensures) ∙ sym c.is_some-is_day.ensures ∙ passed;
+      },
+    )

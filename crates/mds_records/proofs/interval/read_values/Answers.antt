@@ -20,7 +20,7 @@ loop-k-preserved c =
     let n = c.read_value-value.result.1 in
     let f = field_at text fs c.loop-k.at c.loop-k.k n c.loop-k.invariant.within c.loop-k.invariant.left (rw (← c.split_at.ensures.back) c.read_value-value.ensures.length) in
     let value : c.read_value-value.result.0 ≡ denoted (get_or fs c.loop-k.k []) =
-        c.read_value-value.ensures.value ∙ ap denoted (ap (λ m. take m c.split_at.result.1.now) (sym c.read_value-value.ensures.length) ∙ ap (take n) c.split_at.ensures.back ∙ f.field) in
+    c.read_value-value.ensures.value ∙ ap denoted (ap (λ m. take m c.split_at.result.1.now) (sym c.read_value-value.ensures.length) ∙ ap (take n) c.split_at.ensures.back ∙ f.field) in
     let more = f.more (omega (arith, f.within)) in
     let test = tested (get_or fs c.loop-k.k []) n c.read_value-value.result.0 f.size value in
     record {
@@ -28,14 +28,14 @@ loop-k-preserved c =
       left = more.0;
       comma = λ _. (refl, more.1);
       sum = c.with-tally.ensures.sum ∙ ap (λ s. s +ℤ amount_of c.read_value-value.result.0) c.loop-k.invariant.sum
-        ∙ ap (λ v. sum_of (take c.loop-k.k fs) +ℤ amount_of v) value ∙ sym (sum_of_more fs c.loop-k.k f.there);
+          ∙ ap (λ v. sum_of (take c.loop-k.k fs) +ℤ amount_of v) value ∙ sym (sum_of_more fs c.loop-k.k f.there);
       small = omega (arith, c.with-tally.ensures.small, c.loop-k.invariant.small);
       bad = c.with-tally.ensures.bad ∙ ap (λ (x : Bool). if is_some c.loop-k.tally.bad || x then c.loop-k.tally.bad else Some (c.loop-k.k + 3)) test
-        ∙ ap (λ (b : Option ℕ). if is_some b || is_empty_or_quantity (get_or fs c.loop-k.k []) then b else Some (c.loop-k.k + 3)) c.loop-k.invariant.bad
-        ∙ sym (first_false_more is_empty_or_quantity fs c.loop-k.k f.there);
+          ∙ ap (λ (b : Option ℕ). if is_some b || is_empty_or_quantity (get_or fs c.loop-k.k []) then b else Some (c.loop-k.k + 3)) c.loop-k.invariant.bad
+          ∙ sym (first_false_more is_empty_or_quantity fs c.loop-k.k f.there);
       empty = c.with-tally.ensures.empty ∙ ap (λ m. if is_some c.loop-k.tally.empty || not (eqb m 0) then c.loop-k.tally.empty else Some (c.loop-k.k + 3)) (sym f.size)
-        ∙ ap (λ (b : Option ℕ). if is_some b || is_there (get_or fs c.loop-k.k []) then b else Some (c.loop-k.k + 3)) c.loop-k.invariant.empty
-        ∙ sym (first_false_more is_there fs c.loop-k.k f.there);
+          ∙ ap (λ (b : Option ℕ). if is_some b || is_there (get_or fs c.loop-k.k []) then b else Some (c.loop-k.k + 3)) c.loop-k.invariant.empty
+          ∙ sym (first_false_more is_there fs c.loop-k.k f.there);
     }
 
 pub returns-clause-some : goal.returns-clause-some

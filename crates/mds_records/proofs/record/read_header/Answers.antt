@@ -14,11 +14,11 @@ returns-in_err-first_fault c = λ n.
     let at4 = left_at fs _ _ 3 at3 c.next_field-4.ensures.left in
     let at5 = left_at fs _ _ 4 at4 c.next_field-5.ensures.left in
     let is = header_is c.args.file n c.args.text.now _ _ _ _ _ _ _ _ _ _ _ _
-        (c.next_field-2.ensures.taken ∙ taken_at fs _ 1 at1) (c.next_field-3.ensures.taken ∙ taken_at fs _ 2 at2)
-        (c.next_field-4.ensures.taken ∙ taken_at fs _ 3 at3) (c.next_field-5.ensures.taken ∙ taken_at fs _ 4 at4)
-        (c.is_some-has_least.ensures ∙ enough _ fs 2 at2) at5
-        c.is_other_name-is_other.ensures c.has_right_count-is_whole.ensures
-        c.is_name.ensures (c.is_some.ensures ∙ ap (λ (o : Option ℕ). is_some o) c.read_date_time.ensures) c.is_printable.ensures c.is_printable-2.ensures in
+    (c.next_field-2.ensures.taken ∙ taken_at fs _ 1 at1) (c.next_field-3.ensures.taken ∙ taken_at fs _ 2 at2)
+    (c.next_field-4.ensures.taken ∙ taken_at fs _ 3 at3) (c.next_field-5.ensures.taken ∙ taken_at fs _ 4 at4)
+    (c.is_some-has_least.ensures ∙ enough _ fs 2 at2) at5
+    c.is_other_name-is_other.ensures c.has_right_count-is_whole.ensures
+    c.is_name.ensures (c.is_some.ensures ∙ ap (λ (o : Option ℕ). is_some o) c.read_date_time.ensures) c.is_printable.ensures c.is_printable-2.ensures in
     let p = err_from_is_err_and c.from_residual.result c.from_residual.ensures.1 in
     rw (p.1, p.2) (is ∙ c.in_err-first_fault.ensures)
 
@@ -31,14 +31,16 @@ returns c = λ n.
     let at4 = left_at fs _ _ 3 at3 c.next_field-4.ensures.left in
     let at5 = left_at fs _ _ 4 at4 c.next_field-5.ensures.left in
     let is = header_is c.args.file n c.args.text.now _ _ _ _ _ _ _ _ _ _ _ _
-        (c.next_field-2.ensures.taken ∙ taken_at fs _ 1 at1) (c.next_field-3.ensures.taken ∙ taken_at fs _ 2 at2)
-        (c.next_field-4.ensures.taken ∙ taken_at fs _ 3 at3) (c.next_field-5.ensures.taken ∙ taken_at fs _ 4 at4)
-        (c.is_some-has_least.ensures ∙ enough _ fs 2 at2) at5
-        c.is_other_name-is_other.ensures c.has_right_count-is_whole.ensures
-        c.is_name.ensures (c.is_some.ensures ∙ ap (λ (o : Option ℕ). is_some o) c.read_date_time.ensures) c.is_printable.ensures c.is_printable-2.ensures in
-    (is ∙ c.in_ok-first_fault.ensures, record {
-      file = c.next_field-2.ensures.taken ∙ taken_at fs _ 1 at1;
-      date_time = c.next_field-3.ensures.taken ∙ taken_at fs _ 2 at2;
-      sender = c.next_field-4.ensures.taken ∙ taken_at fs _ 3 at3;
-      receiver = c.next_field-5.ensures.taken ∙ taken_at fs _ 4 at4;
-    })
+    (c.next_field-2.ensures.taken ∙ taken_at fs _ 1 at1) (c.next_field-3.ensures.taken ∙ taken_at fs _ 2 at2)
+    (c.next_field-4.ensures.taken ∙ taken_at fs _ 3 at3) (c.next_field-5.ensures.taken ∙ taken_at fs _ 4 at4)
+    (c.is_some-has_least.ensures ∙ enough _ fs 2 at2) at5
+    c.is_other_name-is_other.ensures c.has_right_count-is_whole.ensures
+    c.is_name.ensures (c.is_some.ensures ∙ ap (λ (o : Option ℕ). is_some o) c.read_date_time.ensures) c.is_printable.ensures c.is_printable-2.ensures in (
+      is ∙ c.in_ok-first_fault.ensures,
+      record {
+        file = c.next_field-2.ensures.taken ∙ taken_at fs _ 1 at1;
+        date_time = c.next_field-3.ensures.taken ∙ taken_at fs _ 2 at2;
+        sender = c.next_field-4.ensures.taken ∙ taken_at fs _ 3 at3;
+        receiver = c.next_field-5.ensures.taken ∙ taken_at fs _ 4 at4;
+      },
+    )

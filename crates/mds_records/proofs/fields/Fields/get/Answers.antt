@@ -1,4 +1,4 @@
-use Rattle.std.proofs.Common.{◌≡◌, ℕ, suc, eqb, List, ◌⊎◌, ◌<◌, ◌+◌, ◌-◌, length, Option, Some, None, MatchOption, ap, refl, sym, ◌∙◌, arith, rules, inl, inr, tests}
+use Rattle.std.proofs.Common.{◌≡◌, ℕ, eqb, List, ◌⊎◌, ◌<◌, ◌+◌, ◌-◌, length, Option, Some, None, MatchOption, arith, rules, inr, tests}
 use Rattle.std.specs.List.{slice_get}
 use Rattle.std.specs.Option.{option_map}
 use Rattle.std.proofs.lemmas.Grind.{common_steps}

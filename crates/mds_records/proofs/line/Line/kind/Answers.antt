@@ -1,7 +1,6 @@
-use Rattle.std.proofs.Common.{ℕ, List, ◌≡◌, sym, ◌∙◌, ap, subst, IsUtf8, arith}
+use Rattle.std.proofs.Common.{ℕ, List, sym, ◌∙◌, ap, subst, IsUtf8, arith}
 use Rattle.std.specs.Prelude.{ok_or}
 use Rattle.mds_records.specs.Kinds.{kind_named, kind_of}
-use Rattle.mds_records.specs.Lines.{field, fields_of}
 use Rattle.mds_records.specs.declared.line.KindFault.TheVariants.{Unknown}
 use Rattle.mds_records.proofs.KindFacts.{kind_not_text, kind_text, first_field}
 use Rattle.mds_records.proofs.line.Line.kind.Goals as goal

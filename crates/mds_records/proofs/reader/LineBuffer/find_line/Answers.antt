@@ -1,4 +1,4 @@
-use Rattle.std.proofs.Common.{◌≡◌, ℕ, List, ◌<◌, ◌+◌, length, sym, ◌∙◌, ap, arith, subst, ◌⊎◌}
+use Rattle.std.proofs.Common.{ℕ, ◌<◌, ◌+◌, length, sym, ◌∙◌, ap, arith, subst, ◌⊎◌}
 use Rattle.mds_records.specs.Lines.{longest_line, most_lines}
 use Rattle.std.proofs.lemmas.List.{length-take, length-drop}
 use Rattle.mds_records.proofs.Lefts.{finds_line, over_limit, named_fault, found_line}

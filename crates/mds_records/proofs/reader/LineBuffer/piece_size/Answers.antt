@@ -1,4 +1,4 @@
-use Rattle.std.proofs.Common.{◌≡◌, ℕ, List, ◌+◌, ◌<◌, ◌≤◌, length, sym, ◌∙◌, ap, inl, inr, arith, refl, length-append, Some, None}
+use Rattle.std.proofs.Common.{length, sym, ◌∙◌, ap, inl, inr, arith, length-append, Some, None}
 use Rattle.mds_records.proofs.Seeks.{seen_found, seen_all, seen_before, searched, apart_at}
 use Rattle.mds_records.proofs.StreamFacts.{Keeps_keeps}
 use Rattle.mds_records.proofs.reader.LineBuffer.piece_size.Goals as goal

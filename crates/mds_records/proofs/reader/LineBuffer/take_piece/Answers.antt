@@ -1,5 +1,4 @@
-use Rattle.std.proofs.Common.{ap, sym, ◌∙◌, take, drop, ◌+◌, length, length-take, length-drop, ◌≤◌, ◌-◌, min, add_assoc, arith, refl}
-use Rattle.std.specs.List.{slice_range}
+use Rattle.std.proofs.Common.{ap, ◌∙◌, take, drop, ◌+◌, length, length-take, length-drop, ◌≤◌, ◌-◌, min, add_assoc, arith, refl}
 use Rattle.mds_records.proofs.Ranges.{range_front, range_behind, least}
 use Rattle.mds_records.proofs.reader.LineBuffer.take_piece.Goals as goal
 

@@ -1,0 +1,122 @@
+//! Measures the libraries, and makes the file that the program is measured on.
+//!
+//! `mds_bench file PATH MEGABYTES` writes a well formed NEM12 file of about that size: days of 48 values with three
+//! decimals. `mds_bench values` reads ten million values and prints the time for one. `mds_bench lines PATH` reads a
+//! file's lines alone and prints how fast.
+#![tactic(auto)]
+
+use mds_quantity::Quantity;
+use mds_records::{Counted, LineReader};
+use mds_terms::Day;
+use std::io::{BufWriter, Write};
+use std::process::ExitCode;
+use std::time::Instant;
+use std::{env, fs, io};
+
+fn main(rt: HostRuntime) -> ExitCode {
+    match run(&rt) {
+        Ok(true) => ExitCode::from(0),
+        Ok(false) => ExitCode::from(2),
+        Err(_) => ExitCode::from(3),
+    }
+}
+
+/// Does what the words say, and answers whether it understood them.
+fn run(rt: &HostRuntime) -> io::Result<bool> {
+    let words: Vec<String> = env::args(rt)?.skip(1).collect(rt.alloc())?;
+    match words.as_slice() {
+        [what] if what.as_str() == "values" => time_values(rt)?,
+        [what, path] if what.as_str() == "lines" => time_lines(rt, path.as_str())?,
+        [what, path, size] if what.as_str() == "file" => match size.as_str().parse::<u32>() {
+            Ok(size) => make_file(rt, path.as_str(), u64::from(size))?,
+            Err(_) => return usage(rt),
+        },
+        _ => return usage(rt),
+    }
+    Ok(true)
+}
+
+fn usage(rt: &HostRuntime) -> io::Result<bool> {
+    println!(rt; "usage: mds_bench values | lines PATH | file PATH MEGABYTES")?;
+    Ok(false)
+}
+
+/// Reads ten million values, and prints the time for one.
+fn time_values(rt: &HostRuntime) -> io::Result<()> {
+    let texts: [&[u8]; 8] = [
+        b"0.125", b"1.5", b"12.345", b"0", b"3.007", b"0.042", b"101.250", b"7.999",
+    ];
+    let start = Instant::now(rt)?;
+    let mut sum = 0u64;
+    for i in 0..10_000_000usize {
+        if let Ok(quantity) = Quantity::read(texts[i % 8]) {
+            sum = sum.wrapping_add(quantity.millionths().unsigned_abs());
+        }
+    }
+    let time = start.elapsed(rt)?.as_nanos() / 10_000_000;
+    println!(rt; "Quantity::read: {time} ns for a value (sum {sum})")
+}
+
+/// Reads the lines of a file, and prints how fast.
+fn time_lines(rt: &HostRuntime, path: &str) -> io::Result<()> {
+    let file = fs::open(rt, path)?;
+    let start = Instant::now(rt)?;
+    let mut lines = LineReader::new(rt.alloc(), Counted::new(file))?;
+    let mut bytes = 0u64;
+    for _ in 0..1_000_001u64 {
+        match lines.advance() {
+            Ok(true) => bytes = bytes.wrapping_add(lines.line().text().len() as u64),
+            _ => break,
+        }
+    }
+    let micros = start.elapsed(rt)?.as_micros();
+    println!(rt; "LineReader: {} MB/s ({bytes} bytes in lines)", u128::from(bytes) / micros.max(1))
+}
+
+/// Writes a file of about so many megabytes.
+fn make_file(rt: &HostRuntime, path: &str, megabytes: u64) -> io::Result<()> {
+    let mut out = BufWriter::new(rt.alloc(), fs::create(rt, path)?)?;
+    out.write_all(b"100,NEM12,202401030000,MDP1,RETAILER\n")?;
+    let mut state = 1u64;
+    let days = megabytes.saturating_mul(1_000_000) / 325;
+    for i in 0..days {
+        if i % 365 == 0 {
+            let nmi = 1_000_000 + i / 365 % 1_000_000;
+            writeln!(out, "200,NEM{nmi},E1,1,E1,N1,01009,kWh,30,")?;
+        }
+        write_day(rt, &mut out, i % 365, &mut state)?;
+    }
+    out.write_all(b"900\n")?;
+    out.flush()
+}
+
+/// Writes a 300 record of the day of a number in 2024, with values from a simple generator.
+fn write_day<W: Write>(
+    rt: &HostRuntime,
+    out: &mut W,
+    number: u64,
+    state: &mut u64,
+) -> io::Result<()> {
+    let mut date = String::new(rt.alloc());
+    if let Some(day) = Day::from_number(19_723 + (number % 365) as i64) {
+        day.write_to(&mut date)?;
+    }
+    out.write_all(b"300,")?;
+    out.write_all(date.as_bytes())?;
+    for _ in 0..48 {
+        *state = state
+            .wrapping_mul(6_364_136_223_846_793_005)
+            .wrapping_add(1_442_695_040_888_963_407);
+        let value = *state >> 33;
+        let digit = |place: u64| b'0' + (value / place % 10) as u8;
+        out.write_all(&[
+            b',',
+            digit(1000),
+            b'.',
+            digit(100),
+            digit(10),
+            digit(1),
+        ])?;
+    }
+    out.write_all(b",A,,,20240102010203,\n")
+}

@@ -1,0 +1,37 @@
+use Rattle.std.proofs.Common.{◌≡◌, ◌++◌, List, ℕ, string_bytes, codes, ap, ◌∙◌, arith, rules, decimal}
+use Rattle.mds_terms.specs.Length.{count_of}
+use Rattle.mds_quantity.specs.Quantity.{written}
+use Rattle.mds_quantity.specs.Unit.{unit_text}
+use Rattle.std.specs.Int.{w128}
+use Rattle.std.proofs.lemmas.Int.{to_z-of_z}
+use Rattle.std.proofs.lemmas.Result.{MatchResult-at_ok}
+use Rattle.mds_desk.proofs.Dates.{ok_from, date_utf8}
+use Rattle.mds_desk.proofs.Governs.{more, more_char, grown}
+use Rattle.mds_desk.proofs.file.write_day.Goals as goal
+
+pub unwrap-requires : goal.unwrap-requires
+unwrap-requires c = ok_from c.from_utf8.result _ _ c.from_utf8.ensures.cases (λ e q. q.0 (date_utf8 c.args.record.now.date.now c.requires))
+
+pub returns : goal.returns
+returns c =
+    let old = string_bytes c.args.text.now in
+    let d = c.args.details.now in
+    let r = c.args.record.now in
+    let n = decimal (count_of d.length) in
+    let a : string_bytes c.write_to.new.out ≡ old ++ d.stream.nmi = c.in_ok-write_to.ensures.done ∙ ap (λ t. old ++ t) c.nmi.ensures in
+    let a1 = more_char old _ (string_bytes c.push.new.self) d.stream.nmi _ (codes " ") a c.in_ok-push.ensures.bytes (c.in_ok-push.ensures.ascii (omega arith)) in
+    let t1 = d.stream.nmi ++ codes " " in
+    let b = more_char old _ (string_bytes c.write_to-2.new.out) t1 _ d.stream.suffix a1 c.in_ok-write_to-2.ensures.done c.suffix.ensures in
+    let b1 = more_char old _ (string_bytes c.push-2.new.self) (t1 ++ d.stream.suffix) _ (codes " ") b c.in_ok-push-2.ensures.bytes (c.in_ok-push-2.ensures.ascii (omega arith)) in
+    let t2 = t1 ++ d.stream.suffix ++ codes " " in
+    let e = more_char old _ (string_bytes c.push_str.new.self) t2 _ r.date.now b1 c.in_ok-push_str.ensures.bytes (MatchResult-at_ok _ _ _ c.unwrap.ensures c.from_utf8.ensures.cases).0 in
+    let e1 = more_char old _ (string_bytes c.push-3.new.self) (t2 ++ r.date.now) _ (codes " ") e c.in_ok-push-3.ensures.bytes (c.in_ok-push-3.ensures.ascii (omega arith)) in
+    let t3 = t2 ++ r.date.now ++ codes " " in
+    let f = more_char old _ (string_bytes c.push_str-2.new.self) t3 _ n e1 c.in_ok-push_str-2.ensures.bytes (c.format.ensures.text ∙ ap decimal c.count.ensures.value) in
+    let f1 = more_char old _ (string_bytes c.push-4.new.self) (t3 ++ n) _ (codes " ") f c.in_ok-push-4.ensures.bytes (c.in_ok-push-4.ensures.ascii (omega arith)) in
+    let t4 = t3 ++ n ++ codes " " in
+    let g = more_char old _ (string_bytes c.write_millionths.new.out) t4 _ (written r.sum) f1 c.in_ok-write_millionths.ensures.done (ap written (to_z-of_z w128 r.sum (search rules))) in
+    let g1 = more_char old _ (string_bytes c.push-5.new.self) (t4 ++ written r.sum) _ (codes " ") g c.in_ok-push-5.ensures.bytes (c.in_ok-push-5.ensures.ascii (omega arith)) in
+    let t5 = t4 ++ written r.sum ++ codes " " in
+    let h = more_char old _ (string_bytes c.push_str-3.new.self) t5 _ (unit_text d.unit) g1 c.in_ok-push_str-3.ensures.bytes c.text.ensures.value in
+    grown c.push-6.result _ _ _ c.push-6.ensures.bytes (λ done. more_char old _ (string_bytes c.push-6.new.self) (t5 ++ unit_text d.unit) _ (codes "\n") h done (c.push-6.ensures.ascii (omega arith)))
