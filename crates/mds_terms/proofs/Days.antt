@@ -26,7 +26,7 @@ parts_hold y m d k h =
 hold_parts : (y m d k : ℕ) → 1970 ≤ y → 1 ≤ m → m ≤ 12 → 1 ≤ d → d ≤ k → (nat_le 1970 y && nat_le 1 m && nat_le m 12 && nat_le 1 d && nat_le d k) ≡ true
 hold_parts y m d k a b c e f = grind (arith, nat_tests)
 
--- a date from 1970 to 9999 is one that the calendar has
+-- a date from 1970 to 9999 is one that the calendar has, in the words of either kind of numbers
 pub civil_date : (y m d : ℕ) → is_date y m d ≡ true → y < 10_000 → IsCivilDate (pos y) m d
 civil_date y m d h small =
     let p = parts_hold y m d (days_in_month (pos y) m) h in
@@ -36,9 +36,6 @@ pub date_is : (y m d : ℕ) → is_date y m d ≡ true → y < 10_000 → IsDate
 date_is y m d h small =
     let p = parts_hold y m d (days_in_month (pos y) m) h in
     ((omega (arith, signed_arith), omega (arith, signed_arith)), (omega (arith, signed_arith), omega (arith, signed_arith)), (omega (arith, signed_arith), omega (arith, signed_arith)))
-
-pub is_date_from : (y m d : ℕ) → 1970 ≤ y → IsDate (pos y) (pos m) (pos d) → is_date y m d ≡ true
-is_date_from y m d low h = hold_parts y m d (days_in_month (pos y) m) low (omega (arith, signed_arith)) (omega (arith, signed_arith)) (omega (arith, signed_arith)) (omega (arith, signed_arith))
 
 -- the days of 1970 and later are those whose count is no less than that of 1 January 1970
 pub count_from_1970 : (y : ℤ) (m d : ℕ) → IsCivilDate y m d → pos 1970 ≤ℤ y → 4_371_953 ≤ day_count y m d
@@ -66,12 +63,13 @@ day_number_is y m d h small =
     let low = count_from_1970 (pos y) m d (civil_date y m d h small) (omega (arith, signed_arith)) in
     magnitude_is (days_from_civil (pos y) m d) (omega (arith, signed_arith, days_from_civil-day_count (pos y) m d))
 
+-- such a date as jiff's
 date_of : (y m d : ℕ) → is_date y m d ≡ true → y < 10_000 → Date
 date_of y m d h small =
     let c = civil_date y m d h small in
     record { year = pos y; month = m; day = d; year_in = c.0; month_in = c.1; day_in = c.2 }
 
--- it is a number of a day
+-- its number is no more than the last
 pub day_number_last : (y m d : ℕ) → is_date y m d ≡ true → y < 10_000 → day_number y m d ≤ last_day
 unfolding date_of
 day_number_last y m d h small =
@@ -92,6 +90,7 @@ day_number_injective y m d y₂ m₂ d₂ h small h₂ small₂ e =
 abbrev pub two_digits : ℕ → List ℕ → List ℕ
 two_digits n rest = (48 + n / 10) ∷ (48 + n % 10) ∷ rest
 
+-- the digits of a year, a month and a day
 abbrev pub date_text : ℕ → ℕ → ℕ → List ℕ
 date_text y m d = two_digits (y / 100) (two_digits (y % 100) (two_digits m (two_digits d [])))
 
@@ -120,11 +119,12 @@ day_of_date_text y m d h small =
     let day : (0 * 10 + d / 10) * 10 + d % 10 ≡ d = omega arith in
     e ∙ rw (year, month, day, h)
 
--- what is known of a text that is a day
+-- what is known where a choice made a value
 if_some : (b : Bool) (x n : ℕ) → cond b (Some x) None ≡ Some n → (b ≡ true) × (x ≡ n)
 if_some true x n e = (refl, cc)
 if_some false x n e = absurd (cc)
 
+-- what is known of a text that is a day
 pub day_of_parts : (text : List ℕ) (n : ℕ) → day_of text ≡ Some n → (are_digits 8 text ≡ true) × (is_date (number_at 0 4 text) (number_at 4 2 text) (number_at 6 2 text) ≡ true) × (day_number (number_at 0 4 text) (number_at 4 2 text) (number_at 6 2 text) ≡ n)
 unfolding day_of
 day_of_parts text n e =
@@ -165,6 +165,7 @@ day_from (Some y) (Some m) None = None
 day_from (Some y) None d = None
 day_from None m d = None
 
+-- the tests of the parts, one at a time or at once
 joined : (p q r : Bool) (y m d : ℕ) → cond ((p && (q && r)) && is_date y m d) (Some (day_number y m d)) None ≡ day_from (cond p (Some y) None) (cond q (Some m) None) (cond r (Some d) None)
 joined true true true y m d = refl
 joined true true false y m d = refl
@@ -178,6 +179,7 @@ day_of_parts_is text len =
     let e = joined (list_all is_ascii_digit (take 4 text)) (list_all is_ascii_digit (take 2 (drop 4 text))) (list_all is_ascii_digit (take 2 (drop 6 text))) (number_at 0 4 text) (number_at 4 2 text) (number_at 6 2 text) in
     ap (λ b. cond (b && is_date (number_at 0 4 text) (number_at 4 2 text) (number_at 6 2 text)) (Some (day_number (number_at 0 4 text) (number_at 4 2 text) (number_at 6 2 text))) None) (are_digits_cut text len) ∙ e
 
+-- so it is none where a part is none
 pub no_year : (text : List ℕ) → length text ≡ 8 → None ≡ number_of (take 4 text) → None ≡ day_of text
 no_year text len n = rw (day_of_parts_is text len, sym n)
 
@@ -187,16 +189,11 @@ no_month text y len e n = rw (day_of_parts_is text len, sym e, sym n)
 pub no_day : (text : List ℕ) (y m : ℕ) → length text ≡ 8 → Some y ≡ number_of (take 4 text) → Some m ≡ number_of (take 2 (drop 4 text)) → None ≡ number_of (take 2 (drop 6 text)) → None ≡ day_of text
 no_day text y m len e k n = rw (day_of_parts_is text len, sym e, sym k, sym n)
 
+-- and else the day of the parts' numbers
 pub day_is : (text : List ℕ) (y m d : ℕ) → length text ≡ 8 → Some y ≡ number_of (take 4 text) → Some m ≡ number_of (take 2 (drop 4 text)) → Some d ≡ number_of (take 2 (drop 6 text)) → day_of text ≡ cond (is_date y m d) (Some (day_number y m d)) None
 day_is text y m d len e k n = rw (day_of_parts_is text len, sym e, sym k, sym n)
 
--- no date is before 1970, or one that the calendar has not
-early_not : (y m d k : ℕ) → y < 1970 → (nat_le 1970 y && nat_le 1 m && nat_le m 12 && nat_le 1 d && nat_le d k) ≡ false
-early_not y m d k h = grind (arith, nat_tests)
-
-pub is_date_early : (y m d : ℕ) → y < 1970 → is_date y m d ≡ false
-is_date_early y m d h = early_not y m d (days_in_month (pos y) m) h
-
+-- what the calendar has not is no date
 pub is_date_not : (y m d : ℕ) → y < 10_000 → (IsDate (pos y) (pos m) (pos d) → ⊥) → is_date y m d ≡ false
 is_date_not y m d small h = false_from_ne_true (is_date y m d) (λ e. h (date_is y m d e small))
 

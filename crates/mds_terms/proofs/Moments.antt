@@ -31,11 +31,12 @@ digits_cut text len =
     let c = list_all-append is_ascii_digit (take 2 (drop 10 text)) (take 2 (drop 12 text)) in
     rw len (ap (list_all is_ascii_digit) cuts ∙ (a ∙ ap (λ x. list_all is_ascii_digit (take 8 text) && x) (b ∙ ap (λ x. list_all is_ascii_digit (take 2 (drop 8 text)) && x) c)))
 
--- a text of another length is no moment
+-- nothing follows from anything
 and_then_none : (o : Option ℕ) → option_and_then {T = ℕ} {U = ℕ} (λ d. None) o ≡ None
 and_then_none None = refl
 and_then_none (Some x) = refl
 
+-- a text of another length is no moment
 pub moment_of_other : (text : List ℕ) → (length text ≡ 14 → ⊥) → moment_of text ≡ None
 unfolding moment_of
 moment_of_other text h =
@@ -50,6 +51,7 @@ moment_from (Some day) (Some h) None s = None
 moment_from (Some day) None m s = None
 moment_from None h m s = None
 
+-- the tests of the parts, one at a time or at once
 joined : (o : Option ℕ) (p q r t : Bool) (h m s : ℕ) → ((d : ℕ) → o ≡ Some d → p ≡ true) → option_and_then (λ day. cond ((p && (q && (r && t))) && is_time h m s) (Some (day * day_seconds + h * 3_600 + m * 60 + s)) None) o ≡ moment_from o (cond q (Some h) None) (cond r (Some m) None) (cond t (Some s) None)
 joined None p q r t h m s known = refl
 joined (Some d) p true true true h m s known = rw (known d refl)
@@ -65,6 +67,7 @@ moment_of_parts_is text len =
     (λ d k. (both (length (take 8 text) == 8) (list_all is_ascii_digit (take 8 text)) (day_of_parts (take 8 text) d k).0).1) in
     ap (λ b. option_and_then (λ day. cond (b && is_time (number_at 8 2 text) (number_at 10 2 text) (number_at 12 2 text)) (Some (day * day_seconds + number_at 8 2 text * 3_600 + number_at 10 2 text * 60 + number_at 12 2 text)) None) (day_of (take 8 text))) (digits_cut text len) ∙ e
 
+-- so it is none where a part is none
 pub no_day_of : (text : List ℕ) → length text ≡ 14 → None ≡ day_of (take 8 text) → None ≡ moment_of text
 no_day_of text len e = rw (moment_of_parts_is text len, sym e)
 
@@ -77,6 +80,7 @@ no_minute text d h len e k n = rw (moment_of_parts_is text len, sym e, sym k, sy
 pub no_second : (text : List ℕ) (d h m : ℕ) → length text ≡ 14 → Some d ≡ day_of (take 8 text) → Some h ≡ number_of (take 2 (drop 8 text)) → Some m ≡ number_of (take 2 (drop 10 text)) → None ≡ number_of (take 2 (drop 12 text)) → None ≡ moment_of text
 no_second text d h m len e k l n = rw (moment_of_parts_is text len, sym e, sym k, sym l, sym n)
 
+-- and else the moment of the parts' numbers
 pub moment_is : (text : List ℕ) (d h m s : ℕ) → length text ≡ 14 → Some d ≡ day_of (take 8 text) → Some h ≡ number_of (take 2 (drop 8 text)) → Some m ≡ number_of (take 2 (drop 10 text)) → Some s ≡ number_of (take 2 (drop 12 text)) → moment_of text ≡ cond (is_time h m s) (Some (d * day_seconds + h * 3_600 + m * 60 + s)) None
 moment_is text d h m s len e k l n = rw (moment_of_parts_is text len, sym e, sym k, sym l, sym n)
 
@@ -90,12 +94,13 @@ time_parts h m s e = (grind (arith, nat_tests), grind (arith, nat_tests), grind 
 pub time_not : (h m s : ℕ) → (h < 24 → m < 60 → s < 60 → ⊥) → is_time h m s ≡ false
 time_not h m s a = false_from_ne_true (is_time h m s) (λ e. let p = time_parts h m s e in a p.0 p.1 p.2)
 
--- what is known of a text that is a moment
+-- what is known where a day and a choice made a value
 some_moment : (o : Option ℕ) (b : Bool) (h m s n : ℕ) → option_and_then (λ day. cond b (Some (day * day_seconds + h * 3_600 + m * 60 + s)) None) o ≡ Some n → (d : ℕ) × ((o ≡ Some d) × (b ≡ true) × (d * day_seconds + h * 3_600 + m * 60 + s ≡ n))
 some_moment None b h m s n e = absurd (cc)
 some_moment (Some d) true h m s n e = (d, (refl, refl, cc))
 some_moment (Some d) false h m s n e = absurd (cc)
 
+-- what is known of a text that is a moment
 pub moment_parts : (text : List ℕ) (n : ℕ) → moment_of text ≡ Some n → (d : ℕ) × ((day_of (take 8 text) ≡ Some d) × (are_digits 14 text ≡ true) × (is_time (number_at 8 2 text) (number_at 10 2 text) (number_at 12 2 text) ≡ true) × (d * day_seconds + number_at 8 2 text * 3_600 + number_at 10 2 text * 60 + number_at 12 2 text ≡ n))
 unfolding moment_of
 moment_parts text n e =

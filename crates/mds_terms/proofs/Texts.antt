@@ -10,7 +10,7 @@ use Rattle.std.proofs.Math.Seq.{take-append_seam}
 use Rattle.std.specs.Char.{is_ascii_digit}
 use Rattle.std.specs.List.{All, list_all, slice_split}
 use Rattle.std.specs.Str.{IsUtf8}
-use Rattle.mds_terms.specs.Append.{AppendsPart}
+use Rattle.mds_quantity.specs.Append.{AppendsPart}
 use Rattle.mds_terms.specs.Calendar.{are_digits}
 use Rattle.mds_terms.specs.Names.{is_name_char, is_name, nmi_of, suffix_of, stream_text}
 use Rattle.mds_terms.proofs.Digits.{both}

@@ -1,4 +1,3 @@
-pub mod Append
 pub mod Calendar
 pub mod Length
 pub mod Names

@@ -1,7 +1,7 @@
 //! A day of market time.
 
 ghost use Rattle.std.specs.Prelude.{codes, ◌≡◌, ℕ, ◌+◌, ◌/◌, ◌%◌, ◌<◌, ◌≤◌, if◌then◌else◌, IfSome, List, set, length, pos, unsigned_abs, ◌≤ℤ◌, SomeIff, OnOk, OnErr, Some, None, string_bytes};
-ghost use Rattle.mds_terms.specs.Append.{Appends};
+ghost use Rattle.mds_quantity.specs.Append.{Appends};
 ghost use Rattle.mds_terms.specs.Calendar.{is_date, day_number, day_of, last_day};
 ghost use Rattle.std.specs.Char.{is_ascii_digit};
 ghost use Rattle.std.specs.List.{list_all};
@@ -19,7 +19,7 @@ pub struct Day {
 }
 
 impl Model for Day {
-    ghost use Rattle.std.specs.Prelude.{codes, ℕ, ◌≤◌};
+    ghost use Rattle.std.specs.Prelude.{ℕ, ◌≤◌};
     ghost use Rattle.mds_terms.specs.Calendar.{last_day};
 
     ghost Value = { ℕ };

@@ -1,7 +1,7 @@
 //! The length of an interval.
 
 ghost use Rattle.std.specs.Prelude.{◌≡◌, ◌*◌, pos, unsigned_abs, SomeIff, OnOk, OnErr, Some, None, IsTrue, string_bytes, decimal, ◌≤ℤ◌};
-ghost use Rattle.mds_terms.specs.Append.{Appends};
+ghost use Rattle.mds_quantity.specs.Append.{Appends};
 ghost use Rattle.mds_terms.specs.Length.{is_length, length_of, count_of};
 
 use std::alloc::AllocError;

@@ -1,7 +1,7 @@
 //! A moment of market time.
 
 ghost use Rattle.std.specs.Prelude.{◌≡◌, ℕ, ◌*◌, ◌+◌, ◌<◌, List, pos, unsigned_abs, ◌≤ℤ◌, ◌<ℤ◌, SomeIff, OnOk, OnErr, Some, None, string_bytes};
-ghost use Rattle.mds_terms.specs.Append.{Appends};
+ghost use Rattle.mds_quantity.specs.Append.{Appends};
 ghost use Rattle.mds_terms.specs.Calendar.{moment_of, date_time_of, last_day, day_seconds};
 
 use crate::day::{Day, number_in, write_pair};

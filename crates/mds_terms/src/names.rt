@@ -2,7 +2,7 @@
 
 ghost use Rattle.std.specs.Prelude.{◌≡◌, IfSome, IfNone, OnOk, OnErr, Some, None, string_bytes, ◌⊎◌, ◌==◌, [], ◌∷◌};
 ghost use Rattle.std.specs.List.{slice_split, list_all};
-ghost use Rattle.mds_terms.specs.Append.{Appends, AppendsPart};
+ghost use Rattle.mds_quantity.specs.Append.{Appends, AppendsPart};
 ghost use Rattle.mds_terms.specs.Names.{is_name_char, nmi_of, suffix_of, stream_text};
 
 use std::alloc::AllocError;
