@@ -70,7 +70,10 @@ fn time_lines(rt: &HostRuntime, path: &str) -> io::Result<()> {
         }
     }
     let micros = start.elapsed(rt)?.as_micros();
-    println!(rt; "LineReader: {} MB/s ({bytes} bytes in lines)", u128::from(bytes) / micros.max(1))
+    println!(rt;
+        "LineReader: {} MB/s ({bytes} bytes in lines)",
+        u128::from(bytes) / micros.max(1)
+    )
 }
 
 /// Writes a file of about so many megabytes.
@@ -109,14 +112,7 @@ fn write_day<W: Write>(
             .wrapping_add(1_442_695_040_888_963_407);
         let value = *state >> 33;
         let digit = |place: u64| b'0' + (value / place % 10) as u8;
-        out.write_all(&[
-            b',',
-            digit(1000),
-            b'.',
-            digit(100),
-            digit(10),
-            digit(1),
-        ])?;
+        out.write_all(&[b',', digit(1000), b'.', digit(100), digit(10), digit(1)])?;
     }
     out.write_all(b",A,,,20240102010203,\n")
 }

@@ -1,9 +1,9 @@
 -- Lines none of which has a fault, and the fault of a text that begins with them.
-use Rattle.std.proofs.Common.{◌≡◌, ℕ, suc, zero, ◌+◌, ◌<◌, ◌≤◌, ◌⊎◌, inl, inr, Bool, true, false, ◌||◌, ltb, cond, List, [], ◌∷◌, ◌++◌, length, take, get_or, map, Option, Some, None, refl, sym, ◌∙◌, ap, subst, arith}
+use Rattle.std.proofs.Common.{◌≡◌, ℕ, suc, zero, ◌+◌, ◌<◌, ◌≤◌, ◌⊎◌, inl, inr, Bool, true, false, ◌||◌, ltb, cond, List, [], ◌∷◌, ◌++◌, length, take, get_or, map, Option, Some, None, refl, ◌∙◌, ap, arith}
 use Rattle.std.specs.List.{range_with_len}
 use Rattle.std.proofs.lemmas.Bool.{cases_lt}
 use Rattle.std.proofs.lemmas.Bool.Decides.{nat_tests}
-use Rattle.std.proofs.lemmas.List.{append-nil, length_push, length-append, length-map, take_at, take_all, take-append-le, get_or_at, get_or_append_left, get_or_push}
+use Rattle.std.proofs.lemmas.List.{length_push, length-append, take_at, take-append-le, get_or_at, get_or_append_left}
 use Rattle.mds_records.specs.declared.file.FaultCode.TheVariants as code
 use Rattle.mds_records.specs.declared.file.FileFault.{FileFault}
 use Rattle.mds_records.specs.declared.file.FileKind.{FileKind}
@@ -35,9 +35,11 @@ fault_here file done piece more =
     ∙ ap (line_fault file (map line_text done)) (get_or_at done piece more [] (length done) refl)
 
 pub faultless_push : (file : FileKind) (done : List (List ℕ)) (piece : List ℕ) → Faultless file done → line_fault file (map line_text done) piece ≡ None → Faultless file (done ++ piece ∷ [])
-faultless_push file done piece before here = record { none = λ k h.
-    let size = length_push done piece in
-    at k (cases_lt k (length done)) (omega arith) } where
+faultless_push file done piece before here = record {
+  none = λ k h.
+      let size = length_push done piece in
+      at k (cases_lt k (length done)) (omega arith);
+} where
   at : (k : ℕ) → (k < length done) ⊎ (length done ≤ k) → k < length done + 1 → fault_at file (done ++ piece ∷ []) k ≡ None
   at k (inl lt) h = fault_front file done (piece ∷ []) k lt ∙ before.none k lt
   at k (inr ge) h =
@@ -56,12 +58,12 @@ first_some : (f : ℕ → Option FileFault) (more : List (Option FileFault)) (fa
 first_some f more fault a zero j none low high here = absurd (omega arith)
 first_some f more fault a (suc n) j none low high here =
     elim (cases_lt a j) [
-    | inl lt ↦
-        ap (λ o. first_fault (o ∷ (map f (range_with_len (a + 1) n) ++ more))) (none a (omega arith) lt)
-        ∙ first_some f more fault (a + 1) n j (λ k h l. none k (omega arith) l) (omega arith) (omega arith) here
-    | inr ge ↦
-        let same : a ≡ j = omega arith in
-        ap (λ o. first_fault (o ∷ (map f (range_with_len (a + 1) n) ++ more))) (ap f same ∙ here)
+      | inl lt ↦
+          ap (λ o. first_fault (o ∷ (map f (range_with_len (a + 1) n) ++ more))) (none a (omega arith) lt)
+          ∙ first_some f more fault (a + 1) n j (λ k h l. none k (omega arith) l) (omega arith) (omega arith) here
+      | inr ge ↦
+          let same : a ≡ j = omega arith in
+          ap (λ o. first_fault (o ∷ (map f (range_with_len (a + 1) n) ++ more))) (ap f same ∙ here)
     ]
 
 -- the line behind lines without a fault has the fault of the text, if it has one
@@ -73,7 +75,7 @@ fault_stops file text done piece more fault e before here =
     let size = length-append done (piece ∷ more) in
     ap (λ t. first_fault (faults_of file t)) e
     ∙ first_some (fault_at file all) (end_fault (map line_text all) ∷ []) fault 0 (length all) (length done)
-        (λ k h l. fault_front file done (piece ∷ more) k l ∙ before.none k l) (omega arith) (omega arith) (fault_here file done piece more ∙ here)
+    (λ k h l. fault_front file done (piece ∷ more) k l ∙ before.none k l) (omega arith) (omega arith) (fault_here file done piece more ∙ here)
 
 -- a text whose lines have no fault has that of the line after the last, if it has one
 first_last : (o : Option FileFault) → first_fault (o ∷ []) ≡ o

@@ -1,5 +1,5 @@
 -- What is known of lines, one line more.
-use Rattle.std.proofs.Common.{◌≡◌, ◌≢◌, ℕ, ◌+◌, ◌<◌, ◌≤◌, Bool, true, false, not, cond, eqb, ltb, List, [], ◌∷◌, ◌++◌, length, codes, decimal, Option, Some, None, IsSome, IfSome, Result, Ok, Err, unwrap_or, string_bytes, refl, sym, ◌∙◌, ap, subst, arith, append_assoc, is_ok, OnOk}
+use Rattle.std.proofs.Common.{◌≡◌, ◌≢◌, ℕ, ◌+◌, Bool, true, false, not, cond, ltb, List, [], ◌∷◌, ◌++◌, length, codes, decimal, Option, Some, None, IsSome, IfSome, Ok, Err, unwrap_or, refl, sym, ◌∙◌, ap, subst, arith}
 use Rattle.std.specs.Option.{option_and_then, option_map}
 use Rattle.std.specs.Result.{result_ok}
 use Rattle.std.specs.List.{filter, last_or}
@@ -25,13 +25,13 @@ use Rattle.mds_records.specs.declared.record.Record.{Record}
 use Rattle.mds_records.specs.declared.record.Record.TheVariants as of
 use Rattle.mds_desk.specs.Faults.{at_line, at_field, record_fault}
 use Rattle.mds_desk.specs.Governing.{is_this_kind, last_that, previous_kind, governing_details, governing_length}
-use Rattle.mds_desk.specs.Place.{indicator, is_in_place}
-use Rattle.mds_desk.specs.Report.{unit_name, day_line, line_report, reports}
+use Rattle.mds_desk.specs.Place.{is_in_place}
+use Rattle.mds_desk.specs.Report.{unit_name, day_line, reports}
 use Rattle.mds_desk.specs.declared.file.Behind.{Behind}
 use Rattle.mds_desk.specs.declared.file.Behind.TheVariants as behind
 use Rattle.mds_desk.specs.declared.file.Details.{Details}
 use Rattle.mds_desk.specs.declared.file.FileReader.{FileReader}
-use Rattle.mds_desk.specs.Knows.{kind_behind, details_behind, length_behind, Says, IsGoverned, KnowsDetails, Knows, day_text, Reads, Follows}
+use Rattle.mds_desk.specs.Knows.{kind_behind, details_behind, length_behind, IsGoverned, KnowsDetails, Knows, day_text, Follows}
 use Rattle.mds_desk.proofs.Reported.{reports_push}
 
 last_or_push : (o : Option (List ℕ)) (xs : List (List ℕ)) (x : List ℕ) → last_or o (xs ++ x ∷ []) ≡ Some x
@@ -42,9 +42,9 @@ last_or_push o (y ∷ ys) x = last_or_push (Some y) ys x
 last_that_push : (test : List ℕ → Bool) (lines : List (List ℕ)) (line : List ℕ) (b : Bool) → test line ≡ b → last_that test (lines ++ line ∷ []) ≡ cond b (Some line) (last_that test lines)
 last_that_push test lines line b e =
     ap (last_or None) (filter-append test lines (line ∷ []) ∙ ap (λ t. filter test lines ++ cond t (line ∷ []) []) e) ∙ at b where
-  at : (t : Bool) → last_or None (filter test lines ++ cond t (line ∷ []) []) ≡ cond t (Some line) (last_that test lines)
-  at true = last_or_push None (filter test lines) line
-  at false = ap (last_or None) (append-nil (filter test lines))
+      at : (t : Bool) → last_or None (filter test lines ++ cond t (line ∷ []) []) ≡ cond t (Some line) (last_that test lines)
+      at true = last_or_push None (filter test lines) line
+      at false = ap (last_or None) (append-nil (filter test lines))
 
 not_empty : (line : List ℕ) → line ≢ [] → ltb 0 (length line) ≡ true
 not_empty [] some = absurd (some refl)
@@ -179,13 +179,16 @@ knows_record file before line NmiDataDetails n (of.NmiDataDetails r) old new h s
     let reads = follows.2 in
     record {
       previous = ap kind_behind follows.1 ∙ sym (previous_kind_push before line NmiDataDetails some e);
-      details = subst (λ (last : Behind). KnowsDetails last all) (sym follows.1)
-          (line, governing_push before line (ap (is_this_kind NmiDataDetails) e), record {
-            nmi = reads.nmi ∙ spells.nmi;
-            suffix = reads.suffix ∙ spells.suffix;
-            unit = ap unit_of (sym spells.unit) ∙ reads.unit;
-            length = ap length_of (sym spells.length) ∙ reads.length;
-          });
+      details = subst (λ (last : Behind). KnowsDetails last all) (sym follows.1) (
+        line,
+        governing_push before line (ap (is_this_kind NmiDataDetails) e),
+        record {
+          nmi = reads.nmi ∙ spells.nmi;
+          suffix = reads.suffix ∙ spells.suffix;
+          unit = ap unit_of (sym spells.unit) ∙ reads.unit;
+          length = ap length_of (sym spells.length) ∙ reads.length;
+        },
+      );
       text = follows.3 ∙ h.text ∙ sym (reports_kept before line (ap (is_this_kind IntervalData) e));
     }
 knows_record file before line IntervalData n (of.IntervalData r) old new h some e place count spells follows =
@@ -215,14 +218,3 @@ fault_in_place file before line kind last previous details place =
     ap (λ o. cond (not (is_in_place file o kind)) (Some (at_line code.OutOfPlace (length before + 1))) (option_map (at_field (length before + 1)) (field_fault file kind (value_count (governing_length before)) line))) (sym previous)
     ∙ ap (λ b. cond (not b) (Some (at_line code.OutOfPlace (length before + 1))) (option_map (at_field (length before + 1)) (field_fault file kind (value_count (governing_length before)) line))) place
     ∙ ap (λ n. option_map (at_field (length before + 1)) (field_fault file kind n line)) (sym (count_known file last kind before place details))
-
--- A text that grows.
-pub more : (old text new front part : List ℕ) → text ≡ old ++ front → new ≡ text ++ part → new ≡ old ++ (front ++ part)
-more old text new front part e h = h ∙ ap (λ t. t ++ part) e ∙ append_assoc old front part
-
-pub more_char : (old text new front char part : List ℕ) → text ≡ old ++ front → new ≡ text ++ char → char ≡ part → new ≡ old ++ (front ++ part)
-more_char old text new front char part e h same = more old text new front part e (h ∙ ap (λ t. text ++ t) same)
-
-pub grown : {T E P : Type 0} (r : Result T E) (new done kept : List ℕ) → new ≡ cond (is_ok r) done kept → (new ≡ done → P) → OnOk r P
-grown (Ok x) new done kept e h = h e
-grown (Err x) new done kept e h = tt

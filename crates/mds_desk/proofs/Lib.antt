@@ -1,5 +1,5 @@
-pub mod Dates
 pub mod Faultless
 pub mod Governs
 pub mod Reported
 pub mod Steps
+pub mod Texts

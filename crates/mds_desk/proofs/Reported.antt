@@ -25,9 +25,9 @@ reports_push lines line =
     let g = λ (k : ℕ). line_report (take k lines) (get_or lines k []) in
     let size : length all ≡ suc n = length_push lines line ∙ add-one n in
     let last : f n ≡ line_report lines line =
-        ap (λ t. line_report t (get_or all n [])) (take_at lines (line ∷ []) n refl) ∙ ap (line_report lines) (get_or_push lines line [] n refl) in
+    ap (λ t. line_report t (get_or all n [])) (take_at lines (line ∷ []) n refl) ∙ ap (line_report lines) (get_or_push lines line [] n refl) in
     let front = flat_map_same f g 0 n (λ k h l.
-        ap (λ t. line_report t (get_or all k [])) (take-append-le k lines (line ∷ []) (omega arith))
-        ∙ ap (line_report (take k lines)) (get_or_append_left lines (line ∷ []) [] k (omega arith))) in
+    ap (λ t. line_report t (get_or all k [])) (take-append-le k lines (line ∷ []) (omega arith))
+    ∙ ap (line_report (take k lines)) (get_or_append_left lines (line ∷ []) [] k (omega arith))) in
     ap (λ m. flat_map f (range_with_len 0 m)) size ∙ flat_map_push f 0 n n (omega arith)
     ∙ ap (λ t. t ++ f n) front ∙ ap (λ t. reports lines ++ t) last

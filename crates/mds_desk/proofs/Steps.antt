@@ -2,7 +2,7 @@
 use Rattle.std.proofs.Common.{◌≡◌, ℕ, ◌+◌, ◌-◌, ◌<◌, ◌≤◌, ◌⊎◌, Bool, true, false, MatchBool, List, [], ◌∷◌, ◌++◌, length, take, drop, map, Option, Some, None, IfSome, Result, Ok, Err, IfOk, MatchResult, refl, sym, ◌∙◌, ap, subst, arith, append_assoc}
 use Rattle.std.specs.Io.KnownBytes.{Appends as AppendsKnown}
 use Rattle.std.proofs.lemmas.List.{append-nil, length-map, map_push, length_push, take-take, take-append-drop, drop-take, drop-drop, take_rest, length-drop}
-use Rattle.mds_records.specs.Buffered.{Buffered, BothKnown, text_left, FindsLine, FindsEnd, IsOverLimit}
+use Rattle.mds_records.specs.Buffered.{Buffered, text_left, FindsLine, FindsEnd, IsOverLimit}
 use Rattle.mds_records.specs.Lines.{line_pieces, line_text, longest_line, most_lines}
 use Rattle.mds_records.specs.declared.file.FaultCode.TheVariants as code
 use Rattle.mds_records.specs.declared.file.FileFault.{FileFault}
@@ -10,7 +10,7 @@ use Rattle.mds_records.specs.declared.file.FileKind.{FileKind}
 use Rattle.mds_records.specs.declared.reader.LineFault.{LineFault}
 use Rattle.mds_records.specs.declared.reader.LineFault.TheVariants as line
 use Rattle.mds_desk.specs.declared.checking.CheckFault.{CheckFault}
-use Rattle.mds_desk.specs.declared.checking.CheckFault.TheVariants.{File, Read, Write, Memory}
+use Rattle.mds_desk.specs.declared.checking.CheckFault.TheVariants.{File}
 use Rattle.mds_desk.specs.declared.file.FileReader.{FileReader}
 use Rattle.mds_desk.specs.declared.file.TakeFault.{TakeFault}
 use Rattle.mds_desk.specs.declared.file.TakeFault.TheVariants as take
@@ -117,7 +117,7 @@ reading_over kind old file a number text r next over =
     let same : number ≡ length before + 1 = omega (arith, next, r.number, length-map r.done line_text) in
     let limit = subst (λ (n : ℕ). (longest_line < length h.0) ⊎ (most_lines < n)) same h.3 in
     fault_stops kind text r.done h.0 h.1 (at_line code.TooLarge number) (r.pieces ∙ ap (λ t. r.done ++ t) h.2) r.faultless
-        (fault_over kind before h.0 limit ∙ ap (λ n. Some (at_line code.TooLarge n)) (sym same))
+    (fault_over kind before h.0 limit ∙ ap (λ n. Some (at_line code.TooLarge n)) (sym same))
 
 -- or none at all: the lines that were read are the whole text
 pub record Ended (kind : FileKind) (lines : ℕ) (file : FileReader) (text : List ℕ) : Type 0 where
@@ -188,9 +188,12 @@ pub wrote_more : (text rest : List ℕ) (count : ℕ) (a b c : Option (List ℕ)
     → Wrote text (take (length rest - count) (drop count rest)) a c
 wrote_more text rest count a b c h within k =
     let size = ap length h.2 in
-    let left = length-drop h.0 text in
-    (h.0 + count, omega arith, take_rest rest count ∙ ap (drop count) h.2 ∙ drop-drop count h.0 text,
-    appends_both a b c (take h.0 text) (take count rest) _ (ap (λ t. take h.0 text ++ take count t) h.2 ∙ take_add h.0 count text) h.3 k)
+    let left = length-drop h.0 text in (
+      h.0 + count,
+      omega arith,
+      take_rest rest count ∙ ap (drop count) h.2 ∙ drop-drop count h.0 text,
+      appends_both a b c (take h.0 text) (take count rest) _ (ap (λ t. take h.0 text ++ take count t) h.2 ∙ take_add h.0 count text) h.3 k,
+    )
 
 -- what a test chose
 pub at_true : (b : Bool) (P Q : Type 0) → b ≡ true → MatchBool b P Q → P

@@ -1,7 +1,7 @@
 -- The answers of `check` (profile).
 use Rattle.std.specs.Prelude.{Bool, true, false, Result, Ok, Err}
 use Rattle.mds_desk.specs.declared.checking.CheckFault.{CheckFault}
-use Rattle.mds_desk.specs.declared.checking.CheckFault.TheVariants.{File, Read, Write, Memory}
+use Rattle.mds_desk.specs.declared.checking.CheckFault.TheVariants.{Read, Write}
 
 -- it answers that the reader failed, and that the writer did
 abbrev pub is_read_fault : {T : Type 0} → Result T CheckFault → Bool

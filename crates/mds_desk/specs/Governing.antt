@@ -1,5 +1,5 @@
 -- The lines that a line is judged by. MDFF Specification: a 300 record belongs to the last 200 record before it.
-use Rattle.std.specs.Prelude.{ℕ, Bool, false, nat_lt, ◌==◌, List, [], length, filter, Option, None, option_and_then, option_map, unwrap_or, Result, Ok, Err}
+use Rattle.std.specs.Prelude.{ℕ, Bool, false, nat_lt, ◌==◌, List, length, filter, Option, None, option_and_then, Result, Ok, Err}
 use Rattle.std.specs.List.{last_or}
 use Rattle.std.specs.Result.{result_ok}
 use Rattle.mds_terms.specs.Length.{length_of}

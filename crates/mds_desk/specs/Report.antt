@@ -1,6 +1,6 @@
 -- What `check` prints of a well formed file (profile): for each 300 record in order the NMI, the suffix, the date, how
 -- many values it has, their sum, and the unit.
-use Rattle.std.specs.Prelude.{ℕ, List, [], ◌∷◌, ◌++◌, length, take, map, flat_map, slice_index_or, codes, decimal, if◌then◌else◌, Option, Some, None, option_map, unwrap_or}
+use Rattle.std.specs.Prelude.{ℕ, List, [], ◌++◌, length, take, map, flat_map, slice_index_or, codes, decimal, if◌then◌else◌, Option, Some, None, unwrap_or}
 use Rattle.std.specs.List.{range_with_len}
 use Rattle.mds_quantity.specs.Quantity.{written}
 use Rattle.mds_quantity.specs.Unit.{unit_of, unit_text}

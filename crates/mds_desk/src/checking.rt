@@ -60,11 +60,7 @@ pub fn check<R: Source, W: Sink>(
 }
 
 /// What is to be printed of a file.
-fn report<R: Source>(
-    alloc: Global,
-    kind: FileKind,
-    reader: &mut R,
-) -> Result<String, CheckFault>
+fn report<R: Source>(alloc: Global, kind: FileKind, reader: &mut R) -> Result<String, CheckFault>
     requires { R.failures reader.old < 2 ^ 64 - 1 }
     ensures done { IfOk result (λ out. IfSome (R.remaining reader.old) (λ text. (fault_of kind text ≡ None)
         × (string_bytes out ≡ report_of text))) }
@@ -100,8 +96,8 @@ fn finish(file: FileReader, lines: u64) -> Result<String, CheckFault>
     requires { lines ≤ most_lines }
     ensures ended { (before : List (List ℕ)) → Knows before file → lines ≡ length before
         → MatchResult result
-            (λ text. (end_fault before ≡ None) × (string_bytes text ≡ reports before))
-            (IsAnswer (end_fault before)) }
+        (λ text. (end_fault before ≡ None) × (string_bytes text ≡ reports before))
+        (IsAnswer (end_fault before)) }
     ensures file { IfErr result IsFileFault }
 {
     match file.finish(lines) {

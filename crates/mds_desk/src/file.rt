@@ -121,8 +121,8 @@ impl FileReader {
         ensures kind { self.new.kind ≡ self.old.kind }
         ensures taken { (before : List (List ℕ)) → Knows before self.old → line.now.number ≡ length before + 1
             → MatchResult result
-                (λ _. (text_fault self.old.kind before line.now.text ≡ None) × Knows (before ++ line.now.text ∷ []) self.new)
-                (IsRefusal (text_fault self.old.kind before line.now.text)) }
+            (λ _. (text_fault self.old.kind before line.now.text ≡ None) × Knows (before ++ line.now.text ∷ []) self.new)
+            (IsRefusal (text_fault self.old.kind before line.now.text)) }
     {
         if line.is_empty() {
             return Ok(());
@@ -141,8 +141,8 @@ impl FileReader {
         ensures kind { self.new.kind ≡ self.old.kind }
         ensures taken { (before : List (List ℕ)) → Knows before self.old → line.now.number ≡ length before + 1
             → MatchResult result
-                (λ _. (record_fault self.old.kind before line.now.text (Ok kind) ≡ None) × Knows (before ++ line.now.text ∷ []) self.new)
-                (IsRefusal (record_fault self.old.kind before line.now.text (Ok kind))) }
+            (λ _. (record_fault self.old.kind before line.now.text (Ok kind) ≡ None) × Knows (before ++ line.now.text ∷ []) self.new)
+            (IsRefusal (record_fault self.old.kind before line.now.text (Ok kind))) }
     {
         if !self.behind.allows(self.kind, kind) {
             return Err(at_line(FaultCode::OutOfPlace, line));
@@ -190,8 +190,8 @@ impl FileReader {
         requires { lines ≤ most_lines }
         ensures { (before : List (List ℕ)) → Knows before self → lines ≡ length before
             → MatchResult result
-                (λ text. (end_fault before ≡ None) × (string_bytes text ≡ reports before))
-                (λ fault. end_fault before ≡ Some fault) }
+            (λ text. (end_fault before ≡ None) × (string_bytes text ≡ reports before))
+            (λ fault. end_fault before ≡ Some fault) }
     {
         let FileReader { behind, text, .. } = self;
         match behind {

@@ -3,5 +3,7 @@
 
 mod checking;
 mod file;
+#[cfg(test)]
+mod tests;
 
 pub use checking::{CheckFault, check};

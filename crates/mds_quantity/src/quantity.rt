@@ -1,6 +1,6 @@
 //! A quantity: a whole number of millionths, read from a decimal text and written as one.
 
-ghost use Rattle.std.specs.Prelude.{◌≡◌, ◌+◌, ◌^◌, ◌<◌, ◌≤◌, length, take, Ok, OnOk, OnErr, SomeIff, string_bytes, unsigned_abs, pos};
+ghost use Rattle.std.specs.Prelude.{◌≡◌, ◌==◌, ◌+◌, ◌^◌, ◌<◌, ◌≤◌, length, take, Ok, OnOk, OnErr, SomeIff, string_bytes, unsigned_abs, pos};
 ghost use Rattle.mds_quantity.specs.Append.{Appends, AppendsPart};
 
 use itoa::Buffer;
@@ -44,6 +44,7 @@ const TOO_MANY: u64 = 1_000_000_000_000;
 
 impl Quantity {
     ghost use Rattle.mds_quantity.specs.Quantity.{denoted, written, limit};
+    ghost use Rattle.std.specs.List.{before_first, position_or_len};
 
     /// The quantity of this many millionths, or `None` where there are 10^18 or more either way.
     pub fn from_millionths(millionths: i64) -> Option<Quantity>
@@ -85,6 +86,22 @@ impl Quantity {
         })
     }
 
+    /// The quantity that the field at the front of a text denotes, and the field's length: it ends before the first
+    /// comma, or with the text. It looks at the bytes of a plain number once, and takes no memory.
+    #[inline]
+    pub fn read_field(text: &[u8]) -> (Result<Quantity, QuantityFault>, usize)
+        ensures value { result.0 ≡ denoted (before_first (λ c. c == 44) text.now) }
+        ensures length { result.1 ≡ position_or_len (λ c. c == 44) text.now }
+    {
+        match plain_number(text) {
+            Some((millionths, length)) => (Ok(Quantity { millionths }), length),
+            None => {
+                let length = field_length(text);
+                (Quantity::read(&text[..length]), length)
+            }
+        }
+    }
+
     /// Appends the one written text, as `-1.5`, which reads back. After an error a front of it may be appended.
     pub fn write_to(self, out: &mut String) -> Result<(), AllocError>
         ensures done { OnOk result (Appends (string_bytes out.old) (string_bytes out.new) (written self)) }
@@ -95,9 +112,9 @@ impl Quantity {
     }
 }
 
-ghost use Rattle.std.specs.Prelude.{◌==◌, ◌≢◌, ◌⊎◌, true, drop, min, slice_index, ℤ, ◌<ℤ◌, ◌↔◌, ◌-◌, IsTrue, not, if◌then◌else◌, IfOk, IfErr, Err};
+ghost use Rattle.std.specs.Prelude.{◌≢◌, ◌⊎◌, true, ℕ, IfSome, drop, min, slice_index, ℤ, ◌<ℤ◌, ◌↔◌, ◌-◌, IsTrue, not, if◌then◌else◌, IfOk, IfErr, Err};
 ghost use Rattle.std.specs.Char.{is_ascii_digit};
-ghost use Rattle.std.specs.List.{prefix_len, list_all};
+ghost use Rattle.std.specs.List.{prefix_len, list_all, before_first, position_or_len};
 ghost use Rattle.mds_quantity.specs.Quantity.{ones, decimals, written, point_and_decimals, is_negative, unsigned, denoted, limit, whole_of, fraction_of, is_point};
 
 /// Appends the written text of a sum of quantities, in millionths. After an error a front of it may be appended.
@@ -210,6 +227,68 @@ fn fraction_part(text: &[u8]) -> Result<u64, QuantityFault>
     } else {
         Err(QuantityFault::Decimals)
     }
+}
+
+/// How many bytes stand before the first comma, or in all where there is none.
+fn field_length(text: &[u8]) -> usize
+    ensures { result ≡ position_or_len (λ c. c == 44) text.now }
+{
+    for (i, byte) in text.iter().enumerate() {
+        if *byte == b',' {
+            return i;
+        }
+    }
+    text.len()
+}
+
+/// What a number of so many decimals is multiplied by to give millionths.
+const SCALES: [u64; 7] = [1_000_000, 100_000, 10_000, 1_000, 100, 10, 1];
+
+/// The millionths of a plain number at the front of a text, and its length: one to nine digits, and behind a point up
+/// to six, and then a comma or the end. `None` says nothing.
+#[inline]
+fn plain_number(text: &[u8]) -> Option<(i64, usize)>
+    ensures field { IfSome result (λ r. (r.1 ≡ position_or_len (λ c. c == 44) text.now)
+        × (Ok r.0 ≡ denoted (before_first (λ c. c == 44) text.now))) }
+    ensures small { IfSome result (λ r. unsigned_abs r.0 < 10 ^ 18) }
+{
+    let (units, length) = front_number(text);
+    if length == 0 {
+        return None;
+    }
+    if length == text.len() || text[length] == b',' {
+        return Some(((units * ONE) as i64, length));
+    }
+    if text[length] != b'.' {
+        return None;
+    }
+    let (part, places) = front_number(&text[length + 1..]);
+    if places > 6 {
+        return None;
+    }
+    let end = length + 1 + places;
+    if end < text.len() && text[end] != b',' {
+        return None;
+    }
+    Some(((units * ONE + part * SCALES[places]) as i64, end))
+}
+
+/// The number that the digits at the front say, of which nine are read at most, and how many were read.
+#[inline]
+fn front_number(text: &[u8]) -> (u64, usize)
+    ensures number { result.0 ≡ ones (take result.1 text.now) }
+    ensures small { result.0 < 10 ^ result.1 }
+    ensures within { result.1 ≤ min 9 (length text.now) }
+    ensures digits { (k : ℕ) → k < result.1 → is_ascii_digit (slice_index text.now k) ≡ true }
+{
+    let mut number = 0;
+    for (i, byte) in text.iter().enumerate() {
+        if !byte.is_ascii_digit() || i == 9 {
+            return (number, i);
+        }
+        number = number * 10 + u64::from(*byte - b'0');
+    }
+    (number, text.len())
 }
 
 /// The laws of the one written text. It denotes its number. It has a minus sign only where the number is negative, a

@@ -1,9 +1,7 @@
 //! The 300 record: a day's values, which are looked at once.
 
 ghost use Rattle.std.specs.Prelude.{◌≡◌, ◌+◌, ◌+ℤ◌, ◌^◌, ◌<◌, ◌≤◌, ◌||◌, not, ℕ, length, if◌then◌else◌, is_some, is_ok, unsigned_abs, Some, None, IfSome, IfNone, MatchResult, bytes_eq, codes};
-ghost use Rattle.std.specs.List.{before_first, position_or_len};
-ghost use Rattle.mds_quantity.specs.Quantity.{denoted};
-ghost use Rattle.mds_records.specs.Lines.{fields_of, is_comma};
+ghost use Rattle.mds_records.specs.Lines.{fields_of};
 ghost use Rattle.mds_records.specs.Layouts.{means_values as mean_values};
 ghost use Rattle.mds_records.specs.Faults.{field_fault};
 ghost use Rattle.mds_records.specs.Records.{IsIntervalData, amount_of};
@@ -12,7 +10,7 @@ ghost use Rattle.mds_records.specs.Values.{AreValues, lesser, or_else};
 use crate::file::FileKind;
 use crate::line::Kind;
 use crate::record::{FieldFault, IntervalDataRecord, is_moment_or_empty, least_bad};
-use crate::rest::{field_length, has_right_count, next_field};
+use crate::rest::{has_right_count, next_field};
 use mds_quantity::{Quantity, QuantityFault};
 use mds_terms::Day;
 
@@ -131,7 +129,7 @@ fn read_values(text: &[u8], count: usize) -> Option<Values<'_>>
     };
     for k in 0..count {
         let (_, left) = text.split_at(at);
-        let (value, length) = read_value(left);
+        let (value, length) = Quantity::read_field(left);
         tally = tally.with(value, k + 3, length == 0);
         end = at + length;
         if end == text.len() {
@@ -145,15 +143,6 @@ fn read_values(text: &[u8], count: usize) -> Option<Values<'_>>
         rest,
         tally,
     })
-}
-
-/// The quantity that the field at the front of a text denotes, and the field's length.
-fn read_value(text: &[u8]) -> (Result<Quantity, QuantityFault>, usize)
-    ensures value { result.0 ≡ denoted (before_first is_comma text.now) }
-    ensures length { result.1 ≡ position_or_len is_comma text.now }
-{
-    let length = field_length(text);
-    (Quantity::read(&text[..length]), length)
 }
 
 /// The number of the first bad field: the day, one of the values, or one behind them.

@@ -6,7 +6,7 @@ ghost use Rattle.mds_records.specs.Lines.{fields_of, is_comma};
 ghost use Rattle.mds_records.specs.Rest.{fields_left, first_of, are_blank};
 
 /// The length of the field at the front of a text: what stands before the first comma, or all where there is none.
-pub(crate) fn field_length(text: &[u8]) -> usize
+fn field_length(text: &[u8]) -> usize
     ensures value { result ≡ position_or_len is_comma text.now }
     ensures within { result ≤ length text.now }
 {

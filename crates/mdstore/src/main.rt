@@ -9,8 +9,11 @@ use std::{env, fs, io};
 
 /// What a run ends with: done, a file fault, a wrong call, and what couldn't be done.
 const DONE: u8 = 0;
+
 const FAULT: u8 = 1;
+
 const USAGE: u8 = 2;
+
 const UNAVAILABLE: u8 = 3;
 
 fn main(rt: HostRuntime) -> ExitCode {

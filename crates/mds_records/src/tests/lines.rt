@@ -1,7 +1,8 @@
 //! Tests of the lines, of their fields and kinds, and of the readers and writers.
 
 use crate::{
-    Counted, Kind, KindFault, Line, LineBuffer, LineFault, LineReader, Sink, Source, one_split,
+    Counted, Fields, Kind, KindFault, Line, LineBuffer, LineFault, LineReader, Sink, Source,
+    one_split,
 };
 use std::alloc::{AllocError, Global};
 use std::io;

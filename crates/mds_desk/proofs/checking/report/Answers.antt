@@ -1,6 +1,5 @@
-use Rattle.std.proofs.Common.{◌≡◌, List, ℕ, Some, IfSome, arith, ap, ◌∙◌, sym, string_bytes, refl}
+use Rattle.std.proofs.Common.{◌≡◌, Some, arith, ap, ◌∙◌, sym, string_bytes, refl}
 use Rattle.std.proofs.lemmas.Option.{IfSome_then}
-use Rattle.mds_records.specs.Lines.{line_text}
 use Rattle.mds_desk.specs.Faults.{fault_of}
 use Rattle.mds_desk.proofs.Steps.{at_true, at_false, reading_none, reading_more, reading_stops, reading_over, reading_ends, ends_done, ends_fault, over_fault}
 use Rattle.mds_desk.proofs.checking.report.Goals as goal
@@ -20,21 +19,21 @@ returns-in-Ok-false-clause-done g c =
     let known = c.loop-file.invariant in
     let end = at_false c.in-Ok-false.field-0 _ _ c.in-Ok-false.field-0-test c.in-Ok-false.ensures.next in
     ends_done string_bytes c.args.kind c.loop-file.count c.loop-file.file _ c.finish.result
-        (IfSome_then _ known.read (λ text r. reading_ends c.args.kind _ _ c.loop-file.file _ _ c.loop-file.count text r end known.count)) c.finish.ensures.ended
+    (IfSome_then _ known.read (λ text r. reading_ends c.args.kind _ _ c.loop-file.file _ _ c.loop-file.count text r end known.count)) c.finish.ensures.ended
 
 pub returns-in-Ok-false-clause-fault : goal.returns-in-Ok-false-clause-fault
 returns-in-Ok-false-clause-fault g c = λ fault e.
     let known = c.loop-file.invariant in
     let end = at_false c.in-Ok-false.field-0 _ _ c.in-Ok-false.field-0-test c.in-Ok-false.ensures.next in
     ends_fault string_bytes c.args.kind c.loop-file.count c.loop-file.file _ c.finish.result fault
-        (IfSome_then _ known.read (λ text r. reading_ends c.args.kind _ _ c.loop-file.file _ _ c.loop-file.count text r end known.count)) c.finish.ensures.ended e
+    (IfSome_then _ known.read (λ text r. reading_ends c.args.kind _ _ c.loop-file.file _ _ c.loop-file.count text r end known.count)) c.finish.ensures.ended e
 
 pub returns-in-Err-advance-clause-fault : goal.returns-in-Err-advance-clause-fault
 returns-in-Err-advance-clause-fault g c = λ fault e.
     let known = c.loop-file.invariant in
     IfSome_then _ known.read (λ text r. over_fault c.in-Err-advance.fault fault (λ found. fault_of c.args.kind text ≡ Some found) (cc) (λ number is.
-        let over = c.advance.ensures.too_large number (cc) known.fault in
-        reading_over c.args.kind c.loop-file.lines c.loop-file.file _ number text r over.next over.pieces))
+    let over = c.advance.ensures.too_large number (cc) known.fault in
+    reading_over c.args.kind c.loop-file.lines c.loop-file.file _ number text r over.next over.pieces))
 
 pub loop-file-preserved : goal.loop-file-preserved
 loop-file-preserved g c =
@@ -57,4 +56,4 @@ returns-in-Err-File-clause-fault g c = λ fault e.
     let next = at_true c.in-Ok-true.field-0 _ _ c.in-Ok-true.field-0-test c.in-Ok-true.ensures.next in
     let found : c.in-Err-File.fault ≡ fault = cc in
     IfSome_then _ known.read (λ text r. reading_stops c.args.kind c.loop-file.file.kind c.loop-file.lines c.advance.new.self c.loop-file.file _ _
-        c.line-line.result.number c.line-line.result.text c.in-Err-File.field-0 c.in-Err-File.fault text known.kind r next c.line-line.ensures.number c.line-line.ensures.text c.in-Err-File.ensures.taken c.in-Err-File.field-0-is ∙ ap Some found)
+    c.line-line.result.number c.line-line.result.text c.in-Err-File.field-0 c.in-Err-File.fault text known.kind r next c.line-line.ensures.number c.line-line.ensures.text c.in-Err-File.ensures.taken c.in-Err-File.field-0-is ∙ ap Some found)

@@ -1,8 +1,6 @@
-use Rattle.std.proofs.Common.{◌≡◌, ℕ, ◌-◌, ◌≤◌, List, ◌++◌, map, length, Some, None, IfSome}
+use Rattle.std.proofs.Common.{◌≡◌, ◌-◌, ◌≤◌, None, IfSome}
 use Rattle.mds_records.specs.Buffered.{text_left}
-use Rattle.mds_records.specs.Lines.{line_pieces, line_text, most_lines}
-use Rattle.mds_desk.specs.Knows.{Knows}
-use Rattle.mds_desk.proofs.Faultless.{Faultless}
+use Rattle.mds_records.specs.Lines.{most_lines}
 use Rattle.mds_desk.proofs.Steps.{Reading}
 use Rattle.mds_desk.proofs.checking.report.Given as goal
 

@@ -1,12 +1,11 @@
-use Rattle.std.proofs.Common.{◌≡◌, ◌++◌, List, ℕ, string_bytes, codes, ap, ◌∙◌, arith, rules, decimal}
+use Rattle.std.proofs.Common.{◌≡◌, ◌++◌, string_bytes, codes, ap, ◌∙◌, arith, rules, decimal}
 use Rattle.mds_terms.specs.Length.{count_of}
 use Rattle.mds_quantity.specs.Quantity.{written}
 use Rattle.mds_quantity.specs.Unit.{unit_text}
 use Rattle.std.specs.Int.{w128}
 use Rattle.std.proofs.lemmas.Int.{to_z-of_z}
 use Rattle.std.proofs.lemmas.Result.{MatchResult-at_ok}
-use Rattle.mds_desk.proofs.Dates.{ok_from, date_utf8}
-use Rattle.mds_desk.proofs.Governs.{more, more_char, grown}
+use Rattle.mds_desk.proofs.Texts.{ok_from, date_utf8, more_char, grown}
 use Rattle.mds_desk.proofs.file.write_day.Goals as goal
 
 pub unwrap-requires : goal.unwrap-requires

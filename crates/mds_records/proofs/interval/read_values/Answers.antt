@@ -10,24 +10,24 @@ use Rattle.mds_records.proofs.interval.read_values.Goals as goal
 pub returns-then-end-text-clause-none : goal.returns-then-end-text-clause-none
 returns-then-end-text-clause-none c =
     let fs = fields_of c.args.text.now in
-    let f = field_at c.args.text.now fs c.loop-k.at c.loop-k.k c.read_value-value.result.1 c.loop-k.invariant.within c.loop-k.invariant.left (rw (← c.split_at.ensures.back) c.read_value-value.ensures.length) in
+    let f = field_at c.args.text.now fs c.loop-k.at c.loop-k.k c.read_field-value.result.1 c.loop-k.invariant.within c.loop-k.invariant.left (rw (← c.split_at.ensures.back) c.read_field-value.ensures.length) in
     omega (arith, f.last c.if-end-text.true)
 
 pub loop-k-preserved : goal.loop-k-preserved
 loop-k-preserved c =
     let text = c.args.text.now in
     let fs = fields_of text in
-    let n = c.read_value-value.result.1 in
-    let f = field_at text fs c.loop-k.at c.loop-k.k n c.loop-k.invariant.within c.loop-k.invariant.left (rw (← c.split_at.ensures.back) c.read_value-value.ensures.length) in
-    let value : c.read_value-value.result.0 ≡ denoted (get_or fs c.loop-k.k []) =
-    c.read_value-value.ensures.value ∙ ap denoted (ap (λ m. take m c.split_at.result.1.now) (sym c.read_value-value.ensures.length) ∙ ap (take n) c.split_at.ensures.back ∙ f.field) in
+    let n = c.read_field-value.result.1 in
+    let f = field_at text fs c.loop-k.at c.loop-k.k n c.loop-k.invariant.within c.loop-k.invariant.left (rw (← c.split_at.ensures.back) c.read_field-value.ensures.length) in
+    let value : c.read_field-value.result.0 ≡ denoted (get_or fs c.loop-k.k []) =
+    c.read_field-value.ensures.value ∙ ap denoted (ap (λ m. take m c.split_at.result.1.now) (sym c.read_field-value.ensures.length) ∙ ap (take n) c.split_at.ensures.back ∙ f.field) in
     let more = f.more (omega (arith, f.within)) in
-    let test = tested (get_or fs c.loop-k.k []) n c.read_value-value.result.0 f.size value in
+    let test = tested (get_or fs c.loop-k.k []) n c.read_field-value.result.0 f.size value in
     record {
       within = omega (arith, f.within);
       left = more.0;
       comma = λ _. (refl, more.1);
-      sum = c.with-tally.ensures.sum ∙ ap (λ s. s +ℤ amount_of c.read_value-value.result.0) c.loop-k.invariant.sum
+      sum = c.with-tally.ensures.sum ∙ ap (λ s. s +ℤ amount_of c.read_field-value.result.0) c.loop-k.invariant.sum
           ∙ ap (λ v. sum_of (take c.loop-k.k fs) +ℤ amount_of v) value ∙ sym (sum_of_more fs c.loop-k.k f.there);
       small = omega (arith, c.with-tally.ensures.small, c.loop-k.invariant.small);
       bad = c.with-tally.ensures.bad ∙ ap (λ (x : Bool). if is_some c.loop-k.tally.bad || x then c.loop-k.tally.bad else Some (c.loop-k.k + 3)) test

@@ -1,5 +1,5 @@
--- A date is text.
-use Rattle.std.proofs.Common.{◌≡◌, ℕ, ◌<◌, Bool, true, false, ◌&&◌, cond, eqb, List, length, Option, Some, None, IsSome, Result, Ok, Err, IsOk, MatchResult, IsUtf8, refl, arith}
+-- Texts: a date is one, and one that grows.
+use Rattle.std.proofs.Common.{◌≡◌, ℕ, ◌<◌, Bool, true, false, ◌&&◌, cond, eqb, List, length, Some, None, IsSome, Result, Ok, Err, IsOk, MatchResult, IsUtf8, ◌++◌, is_ok, OnOk, refl, ◌∙◌, ap, arith, append_assoc}
 use Rattle.std.specs.Char.{is_ascii_digit}
 use Rattle.std.specs.List.{list_all}
 use Rattle.std.proofs.lemmas.Bool.Decides.{nat_tests}
@@ -30,3 +30,16 @@ date_utf8 text h =
 pub ok_from : {T E : Type 0} (r : Result T E) (P : T → Type 0) (Q : E → Type 0) → MatchResult r P Q → ((e : E) → Q e → ⊥) → IsOk r
 ok_from (Ok x) P Q h none = refl
 ok_from (Err e) P Q h none = absurd (none e h)
+
+-- a text that grew by a front grows by a part
+pub more : (old text new front part : List ℕ) → text ≡ old ++ front → new ≡ text ++ part → new ≡ old ++ (front ++ part)
+more old text new front part e h = h ∙ ap (λ t. t ++ part) e ∙ append_assoc old front part
+
+-- whose bytes are equal to those that were appended
+pub more_char : (old text new front char part : List ℕ) → text ≡ old ++ front → new ≡ text ++ char → char ≡ part → new ≡ old ++ (front ++ part)
+more_char old text new front char part e h same = more old text new front part e (h ∙ ap (λ t. text ++ t) same)
+
+-- what holds where bytes were appended
+pub grown : {T E P : Type 0} (r : Result T E) (new done kept : List ℕ) → new ≡ cond (is_ok r) done kept → (new ≡ done → P) → OnOk r P
+grown (Ok x) new done kept e h = h e
+grown (Err x) new done kept e h = tt
