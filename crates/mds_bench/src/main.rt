@@ -64,8 +64,8 @@ fn time_lines(rt: &HostRuntime, path: &str) -> io::Result<()> {
     let mut lines = LineReader::new(rt.alloc(), Counted::new(file))?;
     let mut bytes = 0u64;
     for _ in 0..1_000_001u64 {
-        match lines.advance() {
-            Ok(true) => bytes = bytes.wrapping_add(lines.line().text().len() as u64),
+        match lines.next() {
+            Ok(Some(line)) => bytes = bytes.wrapping_add(line.text().len() as u64),
             _ => break,
         }
     }

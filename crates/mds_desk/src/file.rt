@@ -6,6 +6,7 @@ ghost use Rattle.mds_quantity.specs.Quantity.{written};
 ghost use Rattle.mds_terms.specs.Calendar.{day_of};
 ghost use Rattle.mds_records.specs.Kinds.{kind_of};
 ghost use Rattle.mds_records.specs.Lines.{most_lines};
+ghost use Rattle.mds_records.specs.Numbered.{number_of, text_of};
 ghost use Rattle.mds_desk.specs.Faults.{text_fault, record_fault, end_fault, at_line as fault_at, at_field as field_fault_at};
 ghost use Rattle.mds_desk.specs.Knows.{day_text, IsReadable, Reads};
 ghost use Rattle.mds_desk.specs.Place.{is_in_place};
@@ -119,10 +120,10 @@ impl FileReader {
     /// Takes the next line.
     pub(crate) fn take(&mut self, line: &Line<'_>) -> Result<(), TakeFault>
         ensures kind { self.new.kind ≡ self.old.kind }
-        ensures taken { (before : List (List ℕ)) → Knows before self.old → line.now.number ≡ length before + 1
+        ensures taken { (before : List (List ℕ)) → Knows before self.old → number_of line.now ≡ length before + 1
             → MatchResult result
-            (λ _. (text_fault self.old.kind before line.now.text ≡ None) × Knows (before ++ line.now.text ∷ []) self.new)
-            (IsRefusal (text_fault self.old.kind before line.now.text)) }
+            (λ _. (text_fault self.old.kind before (text_of line.now) ≡ None) × Knows (before ++ text_of line.now ∷ []) self.new)
+            (IsRefusal (text_fault self.old.kind before (text_of line.now))) }
     {
         if line.is_empty() {
             return Ok(());
@@ -136,13 +137,13 @@ impl FileReader {
 
     /// Takes the next line, which is a record of a kind.
     fn take_kind(&mut self, line: &Line<'_>, kind: Kind) -> Result<(), TakeFault>
-        requires known { kind_of line.now.text ≡ Ok kind }
-        requires some { line.now.text ≢ [] }
+        requires known { kind_of (text_of line.now) ≡ Ok kind }
+        requires some { text_of line.now ≢ [] }
         ensures kind { self.new.kind ≡ self.old.kind }
-        ensures taken { (before : List (List ℕ)) → Knows before self.old → line.now.number ≡ length before + 1
+        ensures taken { (before : List (List ℕ)) → Knows before self.old → number_of line.now ≡ length before + 1
             → MatchResult result
-            (λ _. (record_fault self.old.kind before line.now.text (Ok kind) ≡ None) × Knows (before ++ line.now.text ∷ []) self.new)
-            (IsRefusal (record_fault self.old.kind before line.now.text (Ok kind))) }
+            (λ _. (record_fault self.old.kind before (text_of line.now) (Ok kind) ≡ None) × Knows (before ++ text_of line.now ∷ []) self.new)
+            (IsRefusal (record_fault self.old.kind before (text_of line.now) (Ok kind))) }
     {
         if !self.behind.allows(self.kind, kind) {
             return Err(at_line(FaultCode::OutOfPlace, line));
@@ -243,7 +244,7 @@ fn write_day(
 
 /// A fault of a whole line.
 fn at_line(code: FaultCode, line: &Line<'_>) -> TakeFault
-    ensures { result ≡ TakeFault.File (fault_at code line.now.number) }
+    ensures { result ≡ TakeFault.File (fault_at code (number_of line.now)) }
 {
     TakeFault::File(FileFault {
         code,
@@ -254,7 +255,7 @@ fn at_line(code: FaultCode, line: &Line<'_>) -> TakeFault
 
 /// A fault of a line's fields.
 fn at_field(fault: FieldFault, line: &Line<'_>) -> TakeFault
-    ensures { result ≡ TakeFault.File (field_fault_at line.now.number fault) }
+    ensures { result ≡ TakeFault.File (field_fault_at (number_of line.now) fault) }
 {
     match fault {
         FieldFault::WrongFile => at_line(FaultCode::WrongFile, line),

@@ -74,13 +74,10 @@ plain text n units part f some within digits at ef all short eu su ep sp =
     accepted text n units part f parts all (omega arith) exact whole (omega arith) ep sp (pos (units * 1000000 + part)) value
 
 -- the length of a field of digits, and of what it denotes
-pub plain_whole : (text : List ℕ) (n units : ℕ) → 0 < n → n ≤ length text → ((k : ℕ) → k < n → is_ascii_digit (get_or text k 0) ≡ true) → (n ≡ length text) ⊎ (get_or text n 0 ≡ 44) → units ≡ ones (take n text) → units < 1000000000 → (position_or_len (λ c. c == 44) text ≡ n) × (Ok (pos (units * 1000000)) ≡ denoted (before_first (λ c. c == 44) text))
-plain_whole text n units some within digits at eu su =
+pub plain_whole : (text : List ℕ) (n units : ℕ) → 0 < n → n ≤ length text → ((k : ℕ) → k < n → is_ascii_digit (get_or text k 0) ≡ true) → get_or text n 0 ≡ 44 → units ≡ ones (take n text) → units < 1000000000 → (position_or_len (λ c. c == 44) text ≡ n) × (Ok (pos (units * 1000000)) ≡ denoted (before_first (λ c. c == 44) text))
+plain_whole text n units some within digits comma eu su =
     let ends : position_or_len (λ c. c == 44) text ≡ n =
-    position_or_len_is (λ c. c == 44) text n 0 within (λ k h. digit_no_comma (get_or text k 0) (digits k h)) (λ h. elim at [
-      | inl nil ↦ absurd (omega (arith, nil))
-      | inr comma ↦ eq-eqb (get_or text n 0) 44 comma
-    ]) in
+    position_or_len_is (λ c. c == 44) text n 0 within (λ k h. digit_no_comma (get_or text k 0) (digits k h)) (λ h. eq-eqb (get_or text n 0) 44 comma) in
     let field = take n text in
     let long : length field ≡ n = length-take-le n text within in
     let front : (k : ℕ) → k < n → is_ascii_digit (get_or field k 0) ≡ true = λ k h. ap is_ascii_digit (get_or-take n text k 0 h) ∙ digits k h in
@@ -106,15 +103,12 @@ no_comma text behind n m digits point eb more k h =
     ]
 
 -- the same of digits, a point and up to six more
-pub plain_point : (text behind : List ℕ) (n m units part : ℕ) → 0 < n → n < length text → ((k : ℕ) → k < n → is_ascii_digit (get_or text k 0) ≡ true) → get_or text n 0 ≡ 46 → behind ≡ drop (n + 1) text → m ≤ length behind → m ≤ 6 → ((k : ℕ) → k < m → is_ascii_digit (get_or behind k 0) ≡ true) → (n + 1 + m ≡ length text) ⊎ (get_or text (n + 1 + m) 0 ≡ 44) → units ≡ ones (take n text) → units < 1000000000 → part ≡ ones (take m behind) → part < 10 ^ m → (position_or_len (λ c. c == 44) text ≡ n + 1 + m) × (Ok (pos (units * 1000000 + part * scale m)) ≡ denoted (before_first (λ c. c == 44) text))
-plain_point text behind n m units part some within digits point eb fits few more at eu su ep sp =
+pub plain_point : (text behind : List ℕ) (n m units part : ℕ) → 0 < n → n < length text → ((k : ℕ) → k < n → is_ascii_digit (get_or text k 0) ≡ true) → get_or text n 0 ≡ 46 → behind ≡ drop (n + 1) text → m ≤ length behind → m ≤ 6 → ((k : ℕ) → k < m → is_ascii_digit (get_or behind k 0) ≡ true) → get_or text (n + 1 + m) 0 ≡ 44 → units ≡ ones (take n text) → units < 1000000000 → part ≡ ones (take m behind) → part < 10 ^ m → (position_or_len (λ c. c == 44) text ≡ n + 1 + m) × (Ok (pos (units * 1000000 + part * scale m)) ≡ denoted (before_first (λ c. c == 44) text))
+plain_point text behind n m units part some within digits point eb fits few more comma eu su ep sp =
     let e = n + 1 + m in
     let inside : e ≤ length text = omega (arith, length-drop (n + 1) text, ap length eb) in
     let ends : position_or_len (λ c. c == 44) text ≡ e =
-    position_or_len_is (λ c. c == 44) text e 0 inside (no_comma text behind n m digits point eb more) (λ h. elim at [
-      | inl nil ↦ absurd (omega (arith, nil))
-      | inr comma ↦ eq-eqb (get_or text e 0) 44 comma
-    ]) in
+    position_or_len_is (λ c. c == 44) text e 0 inside (no_comma text behind n m digits point eb more) (λ h. eq-eqb (get_or text e 0) 44 comma) in
     let field = take e text in
     let f = take m behind in
     let long : length field ≡ e = length-take-le e text inside in

@@ -93,13 +93,12 @@ impl Quantity {
         ensures value { result.0 ≡ denoted (before_first (λ c. c == 44) text.now) }
         ensures length { result.1 ≡ position_or_len (λ c. c == 44) text.now }
     {
-        match plain_number(text) {
-            Some((millionths, length)) => (Ok(Quantity { millionths }), length),
-            None => {
-                let length = field_length(text);
-                (Quantity::read(&text[..length]), length)
+        if text.len() >= PLAIN_FIELD {
+            if let Some((millionths, length)) = plain_number(text) {
+                return (Ok(Quantity { millionths }), length);
             }
         }
+        any_field(text)
     }
 
     /// Appends the one written text, as `-1.5`, which reads back. After an error a front of it may be appended.
@@ -229,6 +228,17 @@ fn fraction_part(text: &[u8]) -> Result<u64, QuantityFault>
     }
 }
 
+/// What `read_field` says, of a field of any form.
+#[cold]
+#[inline(never)]
+fn any_field(text: &[u8]) -> (Result<Quantity, QuantityFault>, usize)
+    ensures value { result.0 ≡ denoted (before_first (λ c. c == 44) text.now) }
+    ensures length { result.1 ≡ position_or_len (λ c. c == 44) text.now }
+{
+    let length = field_length(text);
+    (Quantity::read(&text[..length]), length)
+}
+
 /// How many bytes stand before the first comma, or in all where there is none.
 fn field_length(text: &[u8]) -> usize
     ensures { result ≡ position_or_len (λ c. c == 44) text.now }
@@ -244,51 +254,61 @@ fn field_length(text: &[u8]) -> usize
 /// What a number of so many decimals is multiplied by to give millionths.
 const SCALES: [u64; 7] = [1_000_000, 100_000, 10_000, 1_000, 100, 10, 1];
 
-/// The millionths of a plain number at the front of a text, and its length: one to nine digits, and behind a point up
-/// to six, and then a comma or the end. `None` says nothing.
+/// The most digits of a plain number before its point.
+const PLAIN_WHOLE: usize = 8;
+
+/// The most digits of a plain number behind its point.
+const PLAIN_DECIMALS: usize = 6;
+
+/// The most bytes of a plain number's field, its point and the comma behind it included.
+const PLAIN_FIELD: usize = 16;
+
+/// The millionths of a plain number at the front of a text, and its length: one to eight digits, and behind a point up
+/// to six, and then a comma. `None` says nothing.
 #[inline]
 fn plain_number(text: &[u8]) -> Option<(i64, usize)>
+    requires { 16 ≤ length text.now }
     ensures field { IfSome result (λ r. (r.1 ≡ position_or_len (λ c. c == 44) text.now)
         × (Ok r.0 ≡ denoted (before_first (λ c. c == 44) text.now))) }
     ensures small { IfSome result (λ r. unsigned_abs r.0 < 10 ^ 18) }
 {
-    let (units, length) = front_number(text);
+    let (units, length) = front_number(text, PLAIN_WHOLE);
     if length == 0 {
         return None;
     }
-    if length == text.len() || text[length] == b',' {
+    if text[length] == b',' {
         return Some(((units * ONE) as i64, length));
     }
     if text[length] != b'.' {
         return None;
     }
-    let (part, places) = front_number(&text[length + 1..]);
-    if places > 6 {
-        return None;
-    }
+    let (part, places) = front_number(&text[length + 1..], PLAIN_DECIMALS);
     let end = length + 1 + places;
-    if end < text.len() && text[end] != b',' {
+    if text[end] != b',' {
         return None;
     }
     Some(((units * ONE + part * SCALES[places]) as i64, end))
 }
 
-/// The number that the digits at the front say, of which nine are read at most, and how many were read.
+/// The number that the digits at the front say, of which so many are read at most, and how many were read.
 #[inline]
-fn front_number(text: &[u8]) -> (u64, usize)
+fn front_number(text: &[u8], most: usize) -> (u64, usize)
+    requires within { most ≤ length text.now }
+    requires few { most ≤ 9 }
     ensures number { result.0 ≡ ones (take result.1 text.now) }
     ensures small { result.0 < 10 ^ result.1 }
-    ensures within { result.1 ≤ min 9 (length text.now) }
+    ensures within { result.1 ≤ most }
     ensures digits { (k : ℕ) → k < result.1 → is_ascii_digit (slice_index text.now k) ≡ true }
 {
     let mut number = 0;
-    for (i, byte) in text.iter().enumerate() {
-        if !byte.is_ascii_digit() || i == 9 {
+    for i in 0..most {
+        let byte = text[i];
+        if !byte.is_ascii_digit() {
             return (number, i);
         }
-        number = number * 10 + u64::from(*byte - b'0');
+        number = number * 10 + u64::from(byte - b'0');
     }
-    (number, text.len())
+    (number, most)
 }
 
 /// The laws of the one written text. It denotes its number. It has a minus sign only where the number is negative, a

@@ -1,16 +1,15 @@
 -- The first fault of a 300 record.
-use Rattle.std.proofs.Common.{◌≡◌, ℕ, zero, suc, ◌+◌, ◌-◌, ◌<◌, ◌≤◌, min, Bool, true, false, cond, not, ◌&&◌, ◌||◌, eqb, ltb, List, [], ◌∷◌, ◌++◌, length, take, drop, map, replicate, get_or, Option, Some, None, is_some, is_ok, bytes_eq, codes, refl, sym, ◌∙◌, ap, arith, rules, tests, if◌then◌else◌, add-zero, lit<, length-append}
+use Rattle.std.proofs.Common.{◌≡◌, ℕ, zero, suc, ◌+◌, ◌-◌, ◌<◌, ◌≤◌, Bool, true, false, not, ◌&&◌, ◌||◌, eqb, ltb, List, [], ◌∷◌, ◌++◌, length, take, drop, map, replicate, get_or, Option, Some, None, is_some, is_ok, bytes_eq, codes, refl, sym, ◌∙◌, ap, arith, rules, tests, if◌then◌else◌, add-zero, lit<, length-append}
 use Rattle.std.specs.List.{range_with_len}
 use Rattle.std.proofs.lemmas.List.{length-drop, drop-drop, get_or-drop, length-replicate, length-map, length-take-le}
 use Rattle.std.proofs.lemmas.Bool.{lt-ltb, le-ltb}
-use Rattle.std.proofs.lemmas.Bool.Decides.{nat_tests}
 use Rattle.mds_quantity.specs.Quantity.{denoted}
 use Rattle.mds_terms.specs.Calendar.{day_of, moment_of}
 use Rattle.mds_records.specs.declared.file.FileKind.{FileKind}
 use Rattle.mds_records.specs.declared.line.Kind.TheVariants.{IntervalData}
 use Rattle.mds_records.specs.declared.record.FieldFault.TheVariants.{Count}
-use Rattle.mds_records.specs.Faults.{field_fault, is_bad, layout_of, has_wrong_count}
-use Rattle.mds_records.specs.Layouts.{Rule, Form, Value, DayDate, QualityMethod, Nothing, MomentTime, may, must, layout, means_values}
+use Rattle.mds_records.specs.Faults.{field_fault, is_bad, layout_of}
+use Rattle.mds_records.specs.Layouts.{Rule, Value, DayDate, QualityMethod, Nothing, MomentTime, may, must, layout, means_values}
 use Rattle.mds_records.specs.Lines.{field, fields_of}
 use Rattle.mds_records.specs.Rest.{first_of, first_false, are_blank, outcome}
 use Rattle.mds_records.specs.Values.{is_empty_or_quantity, is_there, lesser, or_else}

@@ -1,5 +1,5 @@
 -- The first fault of each kind of record, from the fields that were taken and the tests of them.
-use Rattle.std.proofs.Common.{◌≡◌, ℕ, ◌||◌, ◌&&◌, Bool, true, false, not, eqb, ltb, List, [], ◌∷◌, length, drop, Option, Some, None, is_some, IsSome, bytes_eq, codes, refl, sym, ◌∙◌, ap, rules}
+use Rattle.std.proofs.Common.{◌≡◌, ℕ, ◌||◌, ◌&&◌, Bool, true, false, not, eqb, ltb, List, [], ◌∷◌, length, drop, is_some, IsSome, bytes_eq, codes, refl, sym, ◌∙◌, ap, rules}
 use Rattle.std.proofs.lemmas.Bool.Decides.{nat_tests}
 use Rattle.std.proofs.lemmas.Slice.Eq.{bytes_eq-Decides}
 use Rattle.std.proofs.lemmas.List.Splits.{length-slice_split}
@@ -10,7 +10,7 @@ use Rattle.mds_terms.specs.Names.{nmi_of, suffix_of}
 use Rattle.mds_records.specs.declared.file.FileKind.{FileKind}
 use Rattle.mds_records.specs.declared.line.Kind.TheVariants.{Header, NmiDataDetails, EndOfData}
 use Rattle.mds_records.specs.Faults.{field_fault}
-use Rattle.mds_records.specs.Layouts.{FileName, DateTime, NmiName, SuffixName, UnitName, LengthInMinutes, DayDate, Printable, file_name, other_file_name, is_printable}
+use Rattle.mds_records.specs.Layouts.{FileName, DateTime, NmiName, SuffixName, UnitName, LengthInMinutes, DayDate, file_name, other_file_name, is_printable}
 use Rattle.mds_records.specs.Lines.{field, fields_of, is_comma}
 use Rattle.mds_records.specs.Rest.{are_blank, first_false, outcome}
 use Rattle.mds_records.proofs.Rests.{right_count}

@@ -1,6 +1,6 @@
 -- What is left of a line while its fields are taken.
-use Rattle.std.proofs.Common.{◌≡◌, ◌≢◌, ℕ, ◌+◌, ◌<◌, ◌≤◌, Bool, true, false, not, ◌&&◌, ◌||◌, eqb, ltb, List, [], ◌∷◌, length, take, drop, get_or, Option, Some, None, is_some, option_copied, add-zero, ◌-◌, length-drop, refl, sym, ◌∙◌, ap, arith, rules}
-use Rattle.std.specs.List.{slice_split, onto_first, position_or_len, before_first, after_first, list_any, list_all, All}
+use Rattle.std.proofs.Common.{◌≡◌, ℕ, ◌+◌, ◌<◌, Bool, true, false, not, ◌&&◌, ◌||◌, ltb, List, [], ◌∷◌, length, take, drop, get_or, Option, Some, None, is_some, option_copied, add-zero, ◌-◌, length-drop, refl, sym, ◌∙◌, ap, arith, rules}
+use Rattle.std.specs.List.{onto_first, position_or_len, list_any, list_all}
 use Rattle.std.proofs.lemmas.List.Sums.{fails_before_first}
 use Rattle.std.proofs.lemmas.List.Splits.{slice_split_none, slice_split_first, slice_split-cons_yes, slice_split-cons_no, length-slice_split}
 use Rattle.mds_records.specs.Lines.{is_comma, fields_of}

@@ -1,11 +1,10 @@
 -- The first fault of a record's fields, from tests of each field.
-use Rattle.std.proofs.Common.{◌≡◌, ℕ, zero, suc, ◌+◌, ◌-◌, ◌<◌, ◌≤◌, Bool, true, false, not, ◌&&◌, ◌||◌, cond, eqb, ltb, List, [], ◌∷◌, ◌++◌, length, take, drop, map, get_or, Option, Some, None, option_map, refl, sym, ◌∙◌, ap, arith, rules, tests, find, if◌then◌else◌, bytes_eq}
+use Rattle.std.proofs.Common.{◌≡◌, ℕ, zero, suc, ◌+◌, ◌-◌, ◌<◌, Bool, true, false, not, ◌||◌, eqb, List, [], ◌∷◌, length, map, get_or, Option, Some, None, option_map, refl, arith, rules, tests, find, if◌then◌else◌, bytes_eq}
 use Rattle.std.specs.List.{range_with_len}
 use Rattle.std.proofs.lemmas.Bool.Decides.{nat_tests}
 use Rattle.mds_records.specs.declared.file.FileKind.{FileKind}
 use Rattle.mds_records.specs.declared.file.FileKind.TheVariants.{Nem12}
 use Rattle.mds_records.specs.declared.line.Kind.{Kind}
-use Rattle.mds_records.specs.declared.record.FieldFault.{FieldFault}
 use Rattle.mds_records.specs.declared.record.FieldFault.TheVariants.{WrongFile, Count, Bad}
 use Rattle.mds_records.specs.Faults.{field_fault, is_of_other_file, has_wrong_count, layout_of, least_bad, is_bad}
 use Rattle.mds_records.specs.Layouts.{Form, Rule, Nothing, Printable, may, must, fits, file_name, is_printable}

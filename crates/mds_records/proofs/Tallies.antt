@@ -1,17 +1,18 @@
 -- What values say together, one value after the other.
-use Rattle.std.proofs.Common.{◌≡◌, ℕ, zero, suc, ◌+◌, ◌-◌, ◌<◌, ◌≤◌, Bool, true, false, cond, not, ◌||◌, eqb, List, [], ◌∷◌, ◌++◌, length, take, drop, map, get_or, Option, Some, None, is_some, refl, sym, ◌∙◌, ap, arith, rules, if◌then◌else◌, ◌+ℤ◌, pos, ℤ, Result, is_ok, add-zero, ◌⊎◌, inl, inr, length-drop, length-append}
-use Rattle.std.specs.List.{position_or_len, before_first, slice_split, onto_first}
+use Rattle.std.proofs.Common.{◌≡◌, ℕ, ◌+◌, ◌-◌, ◌<◌, ◌≤◌, Bool, true, false, not, ◌||◌, eqb, List, [], ◌∷◌, ◌++◌, length, take, drop, map, get_or, Option, Some, None, is_some, refl, sym, ◌∙◌, ap, arith, rules, if◌then◌else◌, ◌+ℤ◌, pos, ℤ, Result, Ok, Err, is_ok, add-zero, ◌⊎◌, inl, inr, length-drop, length-append}
+use Rattle.std.specs.List.{position_or_len, onto_first}
 use Rattle.std.proofs.lemmas.List.{take_more, take_at, take-append-drop, drop_more, take_all, map-append, length-map, length-take-le, drop-drop, get_or-drop}
 use Rattle.std.proofs.lemmas.List.Sums.{fold_push, prefix_len-le-length, passes_at_first}
 use Rattle.std.proofs.lemmas.List.Splits.{slice_split-cons_yes, slice_split-cons_no, length-slice_split}
-use Rattle.std.proofs.lemmas.Bool.{cases_lt}
+use Rattle.std.proofs.lemmas.Bool.{cases_lt, ne_eqb}
 use Rattle.std.proofs.lemmas.Bool.Decides.{nat_tests}
 use Rattle.mds_quantity.specs.declared.quantity.QuantityFault.{QuantityFault}
+use Rattle.mds_quantity.specs.declared.quantity.QuantityFault.TheVariants.{Form}
 use Rattle.mds_quantity.specs.Quantity.{denoted}
 use Rattle.mds_records.specs.Lines.{is_comma, fields_of}
 use Rattle.mds_records.specs.Records.{sum_of, amount_of}
 use Rattle.mds_records.specs.Rest.{first_of, first_false}
-use Rattle.mds_records.specs.Values.{is_empty_or_quantity, is_there}
+use Rattle.mds_records.specs.Values.{is_empty_or_quantity}
 use Rattle.mds_records.proofs.Rests.{one_field, more_fields, taken_at}
 
 -- with one test more
@@ -79,6 +80,30 @@ field_at text fields at k n within left e =
 -- the test of a field, from what was read of it
 pub tested : (t : List ℕ) (n : ℕ) (value : Result ℤ QuantityFault) → length t ≡ n → value ≡ denoted t → (eqb n 0 || is_ok value) ≡ is_empty_or_quantity t
 tested t n value e h = rw (h, ← e) refl
+
+empty_denotes : denoted [] ≡ Err Form
+unfolding denoted
+empty_denotes = refl
+
+-- a quantity is no empty field
+pub quantity_is_there : (t : List ℕ) (n : ℕ) (q : ℤ) → length t ≡ n → Ok q ≡ denoted t → eqb n 0 ≡ false
+quantity_is_there [] n q h e = let f = e ∙ empty_denotes in absurd (cc)
+quantity_is_there (x ∷ t) n q h e = ne_eqb n 0 (λ z. omega (arith, h, z))
+
+-- what is noted of a quantity: nothing
+pub no_bad : (bad : Option ℕ) (is_empty : Bool) (n : ℕ) → bad ≡ (if is_some bad || (is_empty || true) then bad else Some n)
+no_bad (Some m) is_empty n = refl
+no_bad None true n = refl
+no_bad None false n = refl
+
+pub no_empty : (empty : Option ℕ) (is_empty : Bool) (n : ℕ) → is_empty ≡ false → empty ≡ (if is_some empty || not is_empty then empty else Some n)
+no_empty (Some m) is_empty n h = refl
+no_empty None is_empty n h = rw h refl
+
+-- and of what is none
+pub bad_noted : (bad : Option ℕ) (is_empty : Bool) (n : ℕ) → (if is_some bad || is_empty then bad else Some n) ≡ (if is_some bad || (is_empty || false) then bad else Some n)
+bad_noted bad true n = refl
+bad_noted bad false n = refl
 
 onto_first-append : (x : ℕ) (parts more : List (List ℕ)) → 0 < length parts → onto_first x (parts ++ more) ≡ onto_first x parts ++ more
 onto_first-append x [] more some = absurd (omega arith)

@@ -1,7 +1,7 @@
 -- The layouts of the records, each as one row of a table: what its fields hold, from field 2 on. MDFF Specification, the
 -- tables of the 100, 200, 300 and 900 records. Which fields may be empty, how long a text may be and which fields may be
 -- left off is this project's profile.
-use Rattle.std.specs.Prelude.{ℕ, ◌+◌, Bool, true, false, ◌&&◌, ◌||◌, ◌==◌, nat_le, if◌then◌else◌, List, [], ◌∷◌, ◌++◌, length, drop, replicate, codes, bytes_eq, slice_index, is_some, is_ok}
+use Rattle.std.specs.Prelude.{ℕ, ◌+◌, Bool, true, false, ◌&&◌, ◌||◌, ◌==◌, nat_le, List, [], ◌∷◌, ◌++◌, length, drop, replicate, codes, bytes_eq, slice_index, is_some, is_ok}
 use Rattle.std.specs.Char.{is_ascii_digit}
 use Rattle.std.specs.List.{list_all}
 use Rattle.mds_quantity.specs.Quantity.{denoted}

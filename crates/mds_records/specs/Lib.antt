@@ -4,6 +4,7 @@ pub mod Kinds
 pub mod Layouts
 pub mod Lines
 pub mod Numbered
+pub mod Printed
 pub mod Readers
 pub mod Records
 pub mod Rest

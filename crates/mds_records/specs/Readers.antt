@@ -1,9 +1,12 @@
 -- A reader of lines that owns its source.
-use Rattle.std.specs.Prelude.{◌≡◌, ℕ, ◌+◌, ◌≤◌, List, ◌∷◌, length, Option, IfSome}
+use Rattle.std.specs.Prelude.{◌≡◌, ◌≢◌, ℕ, ◌+◌, List, Option, None, Some, IfSome, MatchOption, Result, Err, IfOk, IfErr}
+use Rattle.mds_records.specs.declared.line.Line.{Line}
+use Rattle.mds_records.specs.declared.reader.LineFault.{LineFault}
+use Rattle.mds_records.specs.declared.reader.LineFault.TheVariants.{Read, TooLarge}
 use Rattle.mds_records.specs.declared.reader.LineReader.{LineReader}
-use Rattle.mds_records.specs.Buffered.{Buffered, text_left}
-use Rattle.mds_records.specs.Lines.{line_pieces, line_text, longest_line, most_lines}
-use Rattle.mds_records.specs.Numbered.{Numbered}
+use Rattle.mds_records.specs.Buffered.{Buffered, text_left, FindsLine, FindsEnd, IsTooLarge}
+use Rattle.mds_records.specs.Lines.{line_text}
+use Rattle.mds_records.specs.Numbered.{number_of, text_of}
 
 -- what it reads from
 abbrev pub reader_source : {R : Type 0} → LineReader R → R
@@ -17,9 +20,20 @@ reader_lines reader = reader.lines
 abbrev pub reader_left : {R : Type 0} → (R → Option (List ℕ)) → LineReader R → Option (List ℕ)
 reader_left remaining reader = text_left (reader_lines reader) (remaining (reader_source reader))
 
--- a line is the first of the text that is still to come, and its number the next
-pub record IsNextLine (old : Buffered) (left_old : Option (List ℕ)) (line : Numbered) : Type 0 where
-  pub number : line.number ≡ old.number + 1
-  pub few : line.number ≤ most_lines
-  pub pieces : IfSome left_old (λ text. (piece : List ℕ) × (rest : List (List ℕ)) × (line_pieces text ≡ piece ∷ rest)
-      × (length piece ≤ longest_line) × (line.text ≡ line_text piece))
+-- What a call for the next line answers, and leaves of a reader: the line that it went on to, or why there is none.
+pub record GoesOn {R : Type 0} (remaining : R → Option (List ℕ)) (failures : R → ℕ) (old new : LineReader R)
+    (result : Result (Option Line) LineFault) : Type 0 where
+  pub next : IfOk result (λ found. MatchOption found
+      (FindsEnd (reader_lines old) (reader_lines new) (reader_left remaining old) (reader_left remaining new))
+      (λ line. FindsLine (reader_lines old) (reader_lines new) (reader_left remaining old) (reader_left remaining new)
+      × (number_of line ≡ (reader_lines new).number) × (text_of line ≡ line_text (reader_lines new).piece)))
+  -- a line is too large where that is answered, and the source fails where `Read` is
+  pub too_large : (number : ℕ) → result ≡ Err (TooLarge number) → (reader_lines old).fault ≡ None
+      → IsTooLarge (reader_lines old) (reader_lines new) (reader_left remaining old) number
+  pub read : result ≡ Err Read → (reader_lines old).fault ≡ None
+      → failures (reader_source new) ≡ failures (reader_source old) + 1
+  pub no_failure : result ≢ Err Read → failures (reader_source new) ≡ failures (reader_source old)
+  -- after a fault it answers the same
+  pub kept : IfErr result (λ fault. (reader_lines new).fault ≡ Some fault)
+  pub again : IfSome (reader_lines old).fault (λ fault. (result ≡ Err fault)
+      × (reader_lines new ≡ reader_lines old) × (reader_source new ≡ reader_source old))

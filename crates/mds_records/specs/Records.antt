@@ -1,6 +1,6 @@
 -- The record that a line spells: its fields by name, in the standard's order, each a slice of the line.
 -- MDFF Specification, the tables of the 100, 200, 300 and 900 records.
-use Rattle.std.specs.Prelude.{◌≡◌, ℕ, ◌+◌, ◌/◌, List, take, drop, fold, ℤ, pos, ◌+ℤ◌, Option, Some, None, IsSome, Result, Ok, Err}
+use Rattle.std.specs.Prelude.{◌≡◌, ℕ, ◌+◌, List, take, drop, fold, ℤ, pos, ◌+ℤ◌, Option, Some, None, IsSome, Result, Ok, Err}
 use Rattle.mds_quantity.specs.Quantity.{denoted}
 use Rattle.mds_quantity.specs.declared.quantity.QuantityFault.{QuantityFault}
 use Rattle.mds_quantity.specs.Unit.{unit_of}

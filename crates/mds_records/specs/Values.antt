@@ -30,7 +30,7 @@ pub record AreValues (n : ℕ) (fields : List (List ℕ)) (values : Values) : Ty
   pub more : n < length fields
   pub text : fields_of values.text.now ≡ take n fields
   pub rest : fields_of values.rest.now ≡ drop n fields
-  pub sum : values.tally.sum ≡ sum_of (take n fields)
-  pub small : unsigned_abs values.tally.sum ≤ n * 10 ^ 18
-  pub bad : values.tally.bad ≡ first_false 3 (map is_empty_or_quantity (take n fields))
-  pub empty : values.tally.empty ≡ first_false 3 (map is_there (take n fields))
+  pub sum : values.sum ≡ sum_of (take n fields)
+  pub small : unsigned_abs values.sum ≤ n * 10 ^ 18
+  pub bad : values.faults.bad ≡ first_false 3 (map is_empty_or_quantity (take n fields))
+  pub empty : values.faults.empty ≡ first_false 3 (map is_there (take n fields))

@@ -1,5 +1,8 @@
 //! The kinds of files, and the faults that a file can have.
 
+ghost use Rattle.std.specs.Prelude.{Some};
+ghost use Rattle.mds_records.specs.Printed.{code_text, fault_text};
+
 use std::fmt;
 
 /// The kinds of MDFF files.
@@ -31,6 +34,8 @@ pub enum FaultCode {
 }
 
 impl fmt::Display for FaultCode {
+    ghost output = { λ code. Some (code_text code) };
+
     fn fmt<W: fmt::Write>(&self, f: &mut fmt::Formatter<W>) -> fmt::Result {
         f.write_str(match self {
             FaultCode::NotText => "L1",
@@ -55,6 +60,8 @@ pub struct FileFault {
 }
 
 impl fmt::Display for FileFault {
+    ghost output = { λ fault. Some (fault_text fault) };
+
     fn fmt<W: fmt::Write>(&self, f: &mut fmt::Formatter<W>) -> fmt::Result {
         write!(f, "{} line {}", self.code, self.line)?;
         if self.field != 0 {

@@ -1,24 +1,22 @@
 //! The 300 record: a day's values, which are looked at once.
 
-ghost use Rattle.std.specs.Prelude.{◌≡◌, ◌+◌, ◌+ℤ◌, ◌^◌, ◌<◌, ◌≤◌, ◌||◌, not, ℕ, length, if◌then◌else◌, is_some, is_ok, unsigned_abs, Some, None, IfSome, IfNone, MatchResult, bytes_eq, codes};
+ghost use Rattle.std.specs.Prelude.{◌≡◌, ◌+◌, ◌^◌, ◌<◌, ◌≤◌, ◌||◌, not, ℕ, length, if◌then◌else◌, is_some, Some, None, IfSome, IfNone, MatchResult, bytes_eq, codes};
 ghost use Rattle.mds_records.specs.Lines.{fields_of};
 ghost use Rattle.mds_records.specs.Layouts.{means_values as mean_values};
 ghost use Rattle.mds_records.specs.Faults.{field_fault};
-ghost use Rattle.mds_records.specs.Records.{IsIntervalData, amount_of};
+ghost use Rattle.mds_records.specs.Records.{IsIntervalData};
 ghost use Rattle.mds_records.specs.Values.{AreValues, lesser, or_else};
 
 use crate::file::FileKind;
 use crate::line::Kind;
 use crate::record::{FieldFault, IntervalDataRecord, is_moment_or_empty, least_bad};
 use crate::rest::{has_right_count, next_field};
-use mds_quantity::{Quantity, QuantityFault};
+use mds_quantity::Quantity;
 use mds_terms::Day;
 
-/// What values say together.
+/// The first of the values that are no quantities.
 #[derive(Clone, Copy)]
-struct Tally {
-    /// Their sum, in millionths.
-    sum: i128,
+struct Faults {
     /// The field number of the first that is neither empty nor a quantity.
     bad: Option<usize>,
     /// The field number of the first that is empty.
@@ -32,34 +30,24 @@ struct Values<'a> {
     text: &'a [u8],
     /// What stands behind the comma behind them.
     rest: &'a [u8],
-    tally: Tally,
+    /// Their sum, in millionths.
+    sum: i128,
+    faults: Faults,
 }
 
-impl Tally {
-    /// With a value more, whose field has this number.
-    #[inline]
-    fn with(self, value: Result<Quantity, QuantityFault>, number: usize, is_empty: bool) -> Tally
-        requires { unsigned_abs self.sum < 2 ^ 126 }
-        ensures sum { result.sum ≡ self.sum +ℤ amount_of value }
-        ensures small { unsigned_abs result.sum ≤ unsigned_abs self.sum + 10 ^ 18 }
-        ensures bad { result.bad ≡ (if is_some self.bad || (is_empty || is_ok value) then self.bad else Some number) }
-        ensures empty { result.empty ≡ (if is_some self.empty || not is_empty then self.empty else Some number) }
+impl Faults {
+    /// Notes the number of a value's field that is no quantity.
+    #[cold]
+    #[inline(never)]
+    fn note(&mut self, number: usize, is_empty: bool)
+        ensures bad { self.new.bad ≡ (if is_some self.old.bad || is_empty then self.old.bad else Some number) }
+        ensures empty { self.new.empty ≡ (if is_some self.old.empty || not is_empty then self.old.empty else Some number) }
     {
-        let sum = match value {
-            Ok(quantity) => self.sum + i128::from(quantity.millionths()),
-            Err(_) => self.sum,
-        };
-        let bad = if self.bad.is_some() || is_empty || value.is_ok() {
-            self.bad
+        if is_empty {
+            self.empty = self.empty.or(Some(number));
         } else {
-            Some(number)
-        };
-        let empty = if self.empty.is_some() || !is_empty {
-            self.empty
-        } else {
-            Some(number)
-        };
-        Tally { sum, bad, empty }
+            self.bad = self.bad.or(Some(number));
+        }
     }
 }
 
@@ -98,14 +86,14 @@ pub(crate) fn read_interval_data(
         is_moment_or_empty(load),
     ];
     let is_day = Day::read(date).is_some();
-    let in_values = first_bad(values.tally, means_values(quality));
+    let in_values = first_bad(values.faults, means_values(quality));
     if let Some(number) = least_of(is_day, in_values, least_bad(count + 3, &good)) {
         return Err(FieldFault::Bad(number));
     }
     Ok(IntervalDataRecord {
         date,
         values: values.text,
-        sum: values.tally.sum,
+        sum: values.sum,
         quality,
         reason_code,
         reason_text,
@@ -114,24 +102,28 @@ pub(crate) fn read_interval_data(
     })
 }
 
-/// Reads so many values at the front of a text, or `None` where no field follows them.
+/// Reads so many values at the front of a text, or `None` where no field follows them. It stands apart from its caller,
+/// so that its loop keeps what it counts in registers.
+#[inline(never)]
 fn read_values(text: &[u8], count: usize) -> Option<Values<'_>>
     requires few { (0 < count) × (count ≤ 288) }
     ensures none { IfNone result (length (fields_of text.now) ≤ count) }
     ensures some { IfSome result (λ values. AreValues count (fields_of text.now) values) }
 {
     let mut at = 0;
-    let mut end = 0;
-    let mut tally = Tally {
-        sum: 0,
+    let mut sum: i128 = 0;
+    let mut faults = Faults {
         bad: None,
         empty: None,
     };
     for k in 0..count {
         let (_, left) = text.split_at(at);
         let (value, length) = Quantity::read_field(left);
-        tally = tally.with(value, k + 3, length == 0);
-        end = at + length;
+        match value {
+            Ok(quantity) => sum += i128::from(quantity.millionths()),
+            Err(_) => faults.note(k + 3, length == 0),
+        }
+        let end = at + length;
         if end == text.len() {
             return None;
         }
@@ -139,9 +131,10 @@ fn read_values(text: &[u8], count: usize) -> Option<Values<'_>>
     }
     let (_, rest) = text.split_at(at);
     Some(Values {
-        text: &text[..end],
+        text: &text[..at - 1],
         rest,
-        tally,
+        sum,
+        faults,
     })
 }
 
@@ -159,10 +152,10 @@ fn least_of(is_day: bool, in_values: Option<usize>, behind: Option<usize>) -> Op
 }
 
 /// The field number of the first bad value: one that is no quantity, or is empty where values have to be there.
-fn first_bad(tally: Tally, must_be_there: bool) -> Option<usize>
-    ensures { result ≡ lesser tally.bad (if must_be_there then tally.empty else None) }
+fn first_bad(faults: Faults, must_be_there: bool) -> Option<usize>
+    ensures { result ≡ lesser faults.bad (if must_be_there then faults.empty else None) }
 {
-    match (tally.bad, tally.empty) {
+    match (faults.bad, faults.empty) {
         (Some(bad), Some(empty)) if must_be_there => Some(bad.min(empty)),
         (None, Some(empty)) if must_be_there => Some(empty),
         (bad, _) => bad,

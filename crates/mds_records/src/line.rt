@@ -5,7 +5,6 @@ ghost use Rattle.mds_records.specs.Lines.{line_text, fields_of, IsSplit, split};
 ghost use Rattle.mds_records.specs.Kinds.{kind_named as named};
 
 use crate::fields::Fields;
-use std::marker::Model;
 
 /// The kinds of records.
 #[derive(Clone, Copy, Debug, PartialEq, Eq)]
@@ -36,22 +35,15 @@ pub struct Line<'a> {
     text: &'a [u8],
 }
 
-impl<'a> Model for Line<'a> {
-    ghost use Rattle.mds_records.specs.Numbered.{Numbered};
-
-    ghost Value = { Numbered };
-
-    ghost view = { λ line. record { number = line.number; text = line.text.now } };
-}
-
 impl<'a> Line<'a> {
     ghost use Rattle.mds_records.specs.Kinds.{kind_of};
+    ghost use Rattle.mds_records.specs.Numbered.{number_of, text_of};
 
     /// The line of a piece of a file between line feeds, and its number, from 1. One carriage return at the piece's
     /// end is no part of the line.
     pub fn new(number: u64, piece: &'a [u8]) -> Line<'a>
-        ensures number { result.number ≡ number }
-        ensures text { result.text ≡ line_text piece.now }
+        ensures number { number_of result ≡ number }
+        ensures text { text_of result ≡ line_text piece.now }
     {
         let text = match piece {
             [text @ .., b'\r'] => text,
@@ -62,35 +54,35 @@ impl<'a> Line<'a> {
 
     /// Its number, from 1.
     pub fn number(&self) -> u64
-        ensures { result ≡ self.now.number }
+        ensures { result ≡ number_of self.now }
     {
         self.number
     }
 
     /// Whether it has no bytes.
     pub fn is_empty(&self) -> bool
-        ensures { IsTrue result ↔ (self.now.text ≡ []) }
+        ensures { IsTrue result ↔ (text_of self.now ≡ []) }
     {
         self.text.is_empty()
     }
 
     /// Its bytes.
     pub fn text(&self) -> &'a [u8]
-        ensures { result.now ≡ self.now.text }
+        ensures { result.now ≡ text_of self.now }
     {
         self.text
     }
 
     /// Its fields.
     pub fn fields(&self) -> Fields<'a>
-        ensures { result ≡ fields_of self.now.text }
+        ensures { result ≡ fields_of (text_of self.now) }
     {
         Fields::new(self.text)
     }
 
     /// The kind of record that it is.
     pub fn kind(&self) -> Result<Kind, KindFault>
-        ensures { result ≡ kind_of self.now.text }
+        ensures { result ≡ kind_of (text_of self.now) }
     {
         if !simdutf8::is_utf8(self.text) {
             return Err(KindFault::NotText);

@@ -3,6 +3,7 @@
 ghost use Rattle.std.specs.Prelude.{◌≢◌, Err, IfSome, MatchBool, ◌≡◌, ◌+◌, ◌-◌, ◌^◌, ◌<◌, ◌≤◌, ℕ, List, [], length, Option, Some, None, true, false, IfOk, IfErr, MatchOption, ◌⊎◌, if◌then◌else◌, is_ok, slice_range};
 ghost use Rattle.std.specs.Io.KnownBytes.{Keeps};
 ghost use Rattle.mds_records.specs.Lines.{line_text, longest_line, most_lines};
+ghost use Rattle.mds_records.specs.Numbered.{number_of, text_of};
 
 use crate::line::Line;
 use crate::stream::Source;
@@ -110,8 +111,8 @@ impl LineBuffer {
 
     /// The line that it went on to last.
     pub fn line(&self) -> Line<'_>
-        ensures number { result.number ≡ self.now.number }
-        ensures text { result.text ≡ line_text self.now.piece }
+        ensures number { number_of result ≡ self.now.number }
+        ensures text { text_of result ≡ line_text self.now.piece }
     {
         Line::new(self.number, &self.bytes[self.piece_start..self.piece_end])
     }
@@ -230,8 +231,13 @@ pub struct LineReader<R> {
 }
 
 impl<R: Source> LineReader<R> {
+    ghost use Rattle.std.specs.Prelude.{⊤};
+    ghost use Rattle.std.specs.Borrow.{sem};
+    ghost use mathlib.Core.Option.{none};
+    ghost use denote.Follow.{follows_so};
+    ghost use Rattle.mds_records.specs.contracts.reader.LineReader.{the_row};
     ghost use Rattle.mds_records.specs.Buffered.{FindsLine, FindsEnd, IsTooLarge, IsOverLimit};
-    ghost use Rattle.mds_records.specs.Readers.{reader_source, reader_lines, reader_left, IsNextLine};
+    ghost use Rattle.mds_records.specs.Readers.{reader_source, reader_lines, reader_left, GoesOn};
 
     /// The lines of a source. All the memory that it needs is taken here.
     pub fn new(alloc: Global, source: R) -> Result<LineReader<R>, AllocError>
@@ -246,46 +252,14 @@ impl<R: Source> LineReader<R> {
         })
     }
 
-    /// Goes on to the next line, and says whether there is one. After a fault it answers the same fault.
-    pub fn advance(&mut self) -> Result<bool, LineFault>
-        requires { R.failures (reader_source self.old) < 2 ^ 64 - 1 }
-        ensures next { IfOk result (λ found. MatchBool found
-            (FindsLine (reader_lines self.old) (reader_lines self.new) (reader_left R.remaining self.old) (reader_left R.remaining self.new))
-            (FindsEnd (reader_lines self.old) (reader_lines self.new) (reader_left R.remaining self.old) (reader_left R.remaining self.new))) }
-        ensures too_large { (number : ℕ) → result ≡ Err (LineFault.TooLarge number) → (reader_lines self.old).fault ≡ None
-            → IsTooLarge (reader_lines self.old) (reader_lines self.new) (reader_left R.remaining self.old) number }
-        ensures read { result ≡ Err LineFault.Read → (reader_lines self.old).fault ≡ None
-            → R.failures (reader_source self.new) ≡ R.failures (reader_source self.old) + 1 }
-        ensures no_failure { result ≢ Err LineFault.Read
-            → R.failures (reader_source self.new) ≡ R.failures (reader_source self.old) }
-        ensures kept { IfErr result (λ fault. (reader_lines self.new).fault ≡ Some fault) }
-        ensures again { IfSome (reader_lines self.old).fault (λ fault. (result ≡ Err fault)
-            × (reader_lines self.new ≡ reader_lines self.old) × (reader_source self.new ≡ reader_source self.old)) }
-    {
-        self.lines.advance(&mut self.source)
-    }
-
-    /// The line that it went on to last.
-    pub fn line(&self) -> Line<'_>
-        ensures number { result.number ≡ (reader_lines self.now).number }
-        ensures text { result.text ≡ line_text (reader_lines self.now).piece }
-    {
-        self.lines.line()
-    }
-
-    /// The next line, or `None` where there is no further one. After a fault it answers the same fault. Its clauses
-    /// speak of what it answers: `advance` and `line` also say what is left.
+    /// The next line, or `None` where there is no further one. After a fault it answers the same fault.
     pub fn next(&mut self) -> Result<Option<Line<'_>>, LineFault>
         requires { R.failures (reader_source self.old) < 2 ^ 64 - 1 }
-        ensures next { (reader_lines self.old).fault ≡ None → IfOk result (λ found. MatchOption found
-            (IfSome (reader_left R.remaining self.old) (λ text. text ≡ []))
-            (λ line. IsNextLine (reader_lines self.old) (reader_left R.remaining self.old) line)) }
-        ensures too_large { (number : ℕ) → result ≡ Err (LineFault.TooLarge number) → (reader_lines self.old).fault ≡ None
-            → (number ≡ (reader_lines self.old).number + 1) × IfSome (reader_left R.remaining self.old) (IsOverLimit number) }
-        ensures again { IfSome (reader_lines self.old).fault (λ fault. result ≡ Err fault) }
+        ensures* { sem 𝓛 (follows_so (the_row R.row) (the_row R.row) self.entry.ghost_name none (λ _ _. ⊤)
+            (λ left. GoesOn R.remaining R.failures self.old left result)) }
     {
-        if self.advance()? {
-            Ok(Some(self.line()))
+        if self.lines.advance(&mut self.source)? {
+            Ok(Some(self.lines.line()))
         } else {
             Ok(None)
         }

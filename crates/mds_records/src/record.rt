@@ -4,6 +4,7 @@ ghost use Rattle.std.specs.Prelude.{◌≡◌, Ok, Some, None, IsSome, MatchResu
 ghost use Rattle.mds_terms.specs.Calendar.{day_of, moment_of};
 ghost use Rattle.mds_records.specs.Rest.{first_false, outcome};
 ghost use Rattle.mds_records.specs.Kinds.{kind_of};
+ghost use Rattle.mds_records.specs.Numbered.{text_of};
 ghost use Rattle.mds_records.specs.Faults.{field_fault};
 ghost use Rattle.mds_records.specs.Layouts.{file_name, other_file_name, is_printable as printable};
 ghost use Rattle.mds_records.specs.Records.{Spells, IsHeader, IsNmiDataDetails, value_count};
@@ -81,12 +82,12 @@ pub fn read_record<'a>(
     file: FileKind,
     length: Option<Length>,
 ) -> Result<Record<'a>, FieldFault>
-    requires known { kind_of line.now.text ≡ Ok kind }
+    requires known { kind_of (text_of line.now) ≡ Ok kind }
     requires length { kind ≡ Kind.IntervalData → IsSome length }
     ensures { MatchResult result
-        (λ r. (field_fault file kind (value_count length) line.now.text ≡ None)
-        × Spells kind (value_count length) line.now.text r)
-        (λ fault. field_fault file kind (value_count length) line.now.text ≡ Some fault) }
+        (λ r. (field_fault file kind (value_count length) (text_of line.now) ≡ None)
+        × Spells kind (value_count length) (text_of line.now) r)
+        (λ fault. field_fault file kind (value_count length) (text_of line.now) ≡ Some fault) }
 {
     let text = line.text();
     match kind {

@@ -42,7 +42,7 @@ loop-file-preserved g c =
     let same = c.line-line.ensures.number in
     record {
       read = IfSome_then _ known.read (λ text r. reading_more c.args.kind c.loop-file.file.kind c.loop-file.lines c.advance.new.self c.loop-file.file c.take.new.self _ _
-          c.line-line.result.number c.line-line.result.text text known.kind r next same c.line-line.ensures.text c.in-Ok-take.ensures.taken);
+          c.line-line.result.number c.line-line.result.text.now text known.kind r next same c.line-line.ensures.text c.in-Ok-take.ensures.taken);
       kind = c.take.ensures.kind ∙ known.kind;
       failures = c.advance.ensures.no_failure (λ e. absurd (cc)) ∙ known.failures;
       fault = next.faultless;
@@ -56,4 +56,4 @@ returns-in-Err-File-clause-fault g c = λ fault e.
     let next = at_true c.in-Ok-true.field-0 _ _ c.in-Ok-true.field-0-test c.in-Ok-true.ensures.next in
     let found : c.in-Err-File.fault ≡ fault = cc in
     IfSome_then _ known.read (λ text r. reading_stops c.args.kind c.loop-file.file.kind c.loop-file.lines c.advance.new.self c.loop-file.file _ _
-    c.line-line.result.number c.line-line.result.text c.in-Err-File.field-0 c.in-Err-File.fault text known.kind r next c.line-line.ensures.number c.line-line.ensures.text c.in-Err-File.ensures.taken c.in-Err-File.field-0-is ∙ ap Some found)
+    c.line-line.result.number c.line-line.result.text.now c.in-Err-File.field-0 c.in-Err-File.fault text known.kind r next c.line-line.ensures.number c.line-line.ensures.text c.in-Err-File.ensures.taken c.in-Err-File.field-0-is ∙ ap Some found)

@@ -10,6 +10,5 @@ loop-i-preserved c =
     record {
       number = omega (arith, more, digit);
       small = digit_small c.loop-i.number c.from.result c.loop-i.i (omega (arith, digit)) c.loop-i.invariant.small;
-      few = omega arith;
       digits = below_more _ _ c.loop-i.invariant.digits cc;
     }

@@ -1,10 +1,9 @@
-use Rattle.std.proofs.Common.{◌≡◌, ◌⊎◌, ℕ, ◌+◌, ◌-◌, ◌*◌, ◌<◌, List, length, take, drop, get_or, arith, sym, ap, ◌∙◌, Ok, pos, to_z, inl, inr}
+use Rattle.std.proofs.Common.{◌≡◌, ℕ, ◌+◌, ◌-◌, ◌*◌, ◌<◌, List, length, take, drop, arith, sym, ap, ◌∙◌, Ok, pos, to_z}
 use Rattle.std.specs.Int.{w64}
 use Rattle.std.proofs.lemmas.Int.{ints}
 use Rattle.std.proofs.lemmas.List.{take_all, length-drop}
 use Rattle.mds_quantity.proofs.Plain.{nine_digits, scaled_small, plain_whole, plain_point}
 use Rattle.mds_quantity.proofs.quantity.plain_number.Goals as goal
-use Rattle.mds_quantity.proofs.quantity.plain_number.Goals.{then-length-text-via-then-length-text, then-length-text-via-else-length-text+then-text-length-eq44, else-end-text-via-then-end-text+else-text-end-ne44, else-end-text-via-else-end-text}
 
 as_pos : (m : ℕ) → m < 1000000000000000000 → to_z w64 m ≡ pos m
 as_pos m h = omega (arith, ints)
@@ -13,18 +12,14 @@ as_pos m h = omega (arith, ints)
 rest : (text : List ℕ) (n : ℕ) → take (length text - n) (drop n text) ≡ drop n text
 rest text n = take_all (length text - n) (drop n text) (omega (arith, length-drop n text))
 
-pub returns-then-length-text-clause-field : goal.returns-then-length-text-clause-field
-returns-then-length-text-clause-field c =
+pub returns-then-text-length-eq44-clause-field : goal.returns-then-text-length-eq44-clause-field
+returns-then-text-length-eq44-clause-field c =
     let text = c.args.text.now in
     let n = c.front_number-units.result.1 in
     let units = c.front_number-units.result.0 in
     let front = c.front_number-units.ensures in
     let small : units < 1000000000 = nine_digits units n (omega arith) front.small in
-    let at : (n ≡ length text) ⊎ (get_or text n 0 ≡ 44) = elim c.then-length-text.branch [
-      | then-length-text-via-then-length-text w ↦ inl w.if-length-text.true
-      | then-length-text-via-else-length-text+then-text-length-eq44 w ↦ inr w.if-text-length-eq44.true
-    ] in
-    let known = plain_whole text n units (omega arith) (omega arith) front.digits at front.number small in
+    let known = plain_whole text n units (omega arith) (omega arith) front.digits c.if-text-length-eq44.true front.number small in
     (sym known.0, ap (λ z. Ok z) (as_pos (units * 1000000) (omega arith)) ∙ known.1)
 
 pub returns-clause-field : goal.returns-clause-field
@@ -37,11 +32,7 @@ returns-clause-field c =
     let part = c.front_number-part.result.0 in
     let back = c.front_number-part.ensures in
     let small : units < 1000000000 = nine_digits units n (omega arith) front.small in
-    let scaled = scaled_small part m c.if-places-gt6.false back.small in
+    let scaled = scaled_small part m back.within back.small in
     let behind = rest text (n + 1) in
-    let at : (n + 1 + m ≡ length text) ⊎ (get_or text (n + 1 + m) 0 ≡ 44) = elim c.else-end-text.branch [
-      | else-end-text-via-then-end-text+else-text-end-ne44 w ↦ inr w.if-text-end-ne44.false
-      | else-end-text-via-else-end-text w ↦ inl (omega (arith, length-drop (n + 1) text, ap length behind))
-    ] in
-    let known = plain_point text _ n m units part (omega arith) (omega arith) front.digits c.if-text-length-ne46.false behind (omega arith) c.if-places-gt6.false back.digits at front.number small back.number back.small in
+    let known = plain_point text _ n m units part (omega arith) (omega arith) front.digits c.if-text-length-ne46.false behind (omega (arith, length-drop (n + 1) text, ap length behind)) back.within back.digits c.if-text-end-ne44.false front.number small back.number back.small in
     (sym known.0, ap (λ z. Ok z) (as_pos _ (omega (arith, scaled))) ∙ known.1)

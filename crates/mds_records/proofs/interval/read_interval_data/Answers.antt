@@ -3,7 +3,7 @@ use Rattle.std.proofs.lemmas.List.{drop-drop}
 use Rattle.std.proofs.lemmas.Int.{to_z-of_z, fits_signed_from_abs}
 use mir.Syntax.{w128}
 use denote.Ref.{Bor}
-use Rattle.mds_records.specs.Lines.{fields_of, field}
+use Rattle.mds_records.specs.Lines.{fields_of}
 use Rattle.mds_records.specs.Records.{sum_of}
 use Rattle.mds_records.specs.Rest.{fields_left, first_false, outcome}
 use Rattle.mds_records.specs.Values.{is_empty_or_quantity, is_there, lesser, or_else}
@@ -82,10 +82,10 @@ returns-in-Some-least_of c =
     (c.is_some-is_day.ensures ∙ ap (λ (o : Option ℕ). is_some o) c.read.ensures) c.means_values.ensures c.is_actual.ensures c.is_empty.ensures c.is_empty-2.ensures
     c.is_moment_or_empty.ensures c.is_moment_or_empty-2.ensures
     (v.bad ∙ ap (λ vs. first_false 3 (map is_empty_or_quantity (take n vs))) text2) (v.empty ∙ ap (λ vs. first_false 3 (map is_there (take n vs))) text2) in
-    let least : (if c.is_some-is_day.result then or_else (lesser c.in-Some-read_values.values.tally.bad (if c.means_values.result then c.in-Some-read_values.values.tally.empty else None))
+    let least : (if c.is_some-is_day.result then or_else (lesser c.in-Some-read_values.values.faults.bad (if c.means_values.result then c.in-Some-read_values.values.faults.empty else None))
     (first_false (n + 3) (c.is_actual.result ∷ c.is_empty.result ∷ c.is_empty-2.result ∷ c.is_moment_or_empty.result ∷ c.is_moment_or_empty-2.result ∷ [])) else Some 2) ≡ c.least_of.result =
     sym (c.least_of.ensures ∙ rw (c.first_bad-in_values.ensures, c.least_bad.ensures) refl) in
-    let whole = is ∙ ap (λ w. outcome false w (if c.is_some-is_day.result then or_else (lesser c.in-Some-read_values.values.tally.bad (if c.means_values.result then c.in-Some-read_values.values.tally.empty else None))
+    let whole = is ∙ ap (λ w. outcome false w (if c.is_some-is_day.result then or_else (lesser c.in-Some-read_values.values.faults.bad (if c.means_values.result then c.in-Some-read_values.values.faults.empty else None))
     (first_false (n + 3) (c.is_actual.result ∷ c.is_empty.result ∷ c.is_empty-2.result ∷ c.is_moment_or_empty.result ∷ c.is_moment_or_empty-2.result ∷ [])) else Some 2)) c.if-not-has_right_count.false in
     whole ∙ ap (outcome false true) (least ∙ c.in-Some-least_of.is)
 
@@ -117,17 +117,17 @@ returns c =
     (c.is_some-is_day.ensures ∙ ap (λ (o : Option ℕ). is_some o) c.read.ensures) c.means_values.ensures c.is_actual.ensures c.is_empty.ensures c.is_empty-2.ensures
     c.is_moment_or_empty.ensures c.is_moment_or_empty-2.ensures
     (v.bad ∙ ap (λ vs. first_false 3 (map is_empty_or_quantity (take n vs))) text2) (v.empty ∙ ap (λ vs. first_false 3 (map is_there (take n vs))) text2) in
-    let least : (if c.is_some-is_day.result then or_else (lesser c.in-Some-read_values.values.tally.bad (if c.means_values.result then c.in-Some-read_values.values.tally.empty else None))
+    let least : (if c.is_some-is_day.result then or_else (lesser c.in-Some-read_values.values.faults.bad (if c.means_values.result then c.in-Some-read_values.values.faults.empty else None))
     (first_false (n + 3) (c.is_actual.result ∷ c.is_empty.result ∷ c.is_empty-2.result ∷ c.is_moment_or_empty.result ∷ c.is_moment_or_empty-2.result ∷ [])) else Some 2) ≡ c.least_of.result =
     sym (c.least_of.ensures ∙ rw (c.first_bad-in_values.ensures, c.least_bad.ensures) refl) in
-    let whole = is ∙ ap (λ w. outcome false w (if c.is_some-is_day.result then or_else (lesser c.in-Some-read_values.values.tally.bad (if c.means_values.result then c.in-Some-read_values.values.tally.empty else None))
+    let whole = is ∙ ap (λ w. outcome false w (if c.is_some-is_day.result then or_else (lesser c.in-Some-read_values.values.faults.bad (if c.means_values.result then c.in-Some-read_values.values.faults.empty else None))
     (first_false (n + 3) (c.is_actual.result ∷ c.is_empty.result ∷ c.is_empty-2.result ∷ c.is_moment_or_empty.result ∷ c.is_moment_or_empty-2.result ∷ [])) else Some 2)) c.if-not-has_right_count.false in
     let passed : c.is_some-is_day.result ≡ true = day_passed _ _ (least ∙ c.in_default-least_of.is) in (
       whole ∙ ap (outcome false true) (least ∙ c.in_default-least_of.is),
       record {
         date = date;
         values = v.text ∙ ap (take n) text2;
-        sum = to_z-of_z w128 c.in-Some-read_values.values.tally.sum (fits_signed_from_abs w128 c.in-Some-read_values.values.tally.sum (omega (arith, v.small))) ∙ v.sum ∙ ap (λ vs. sum_of (take n vs)) text2;
+        sum = to_z-of_z w128 c.in-Some-read_values.values.sum (fits_signed_from_abs w128 c.in-Some-read_values.values.sum (omega (arith, v.small))) ∙ v.sum ∙ ap (λ vs. sum_of (take n vs)) text2;
         quality = quality;
         reason_code = reason_code;
         reason_text = reason_text;

@@ -1,4 +1,4 @@
-use Rattle.std.proofs.Common.{◌≡◌, ℕ, ◌∙◌, ap, refl, sym, Option, Some, None, is_some}
+use Rattle.std.proofs.Common.{ℕ, ◌∙◌, ap, refl, Option, is_some}
 use Rattle.std.proofs.lemmas.Result.{err_from_is_err_and}
 use Rattle.mds_records.specs.Lines.{fields_of}
 use Rattle.mds_records.proofs.Outcomes.{header_is}

@@ -1,4 +1,4 @@
-use Rattle.std.proofs.Common.{◌≡◌, ℕ, ◌∙◌, ap, refl, sym, Option, Some, None, is_some, true, false, List, [], ◌∷◌, lit<}
+use Rattle.std.proofs.Common.{ℕ, ◌∙◌, ap, refl, sym, Option, is_some, false, List, [], ◌∷◌, lit<}
 use Rattle.std.proofs.lemmas.Result.{err_from_is_err_and}
 use Rattle.mds_quantity.specs.declared.unit.Unit.{Unit as MeasureUnit}
 use Rattle.mds_records.specs.Lines.{fields_of}

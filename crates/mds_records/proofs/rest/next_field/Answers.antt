@@ -1,6 +1,6 @@
-use Rattle.std.proofs.Common.{◌≡◌, ◌<◌, length, arith, sym, ap, ◌∙◌, drop, option_copied, rules}
+use Rattle.std.proofs.Common.{arith, sym, ap, ◌∙◌, drop}
 use Rattle.mds_records.specs.Lines.{fields_of}
-use Rattle.mds_records.specs.Rest.{first_of, fields_left}
+use Rattle.mds_records.specs.Rest.{first_of}
 use Rattle.mds_records.proofs.Rests.{one_field, more_fields}
 use Rattle.mds_records.proofs.rest.next_field.Goals as goal
 

@@ -11,7 +11,7 @@ use Rattle.mds_desk.proofs.file.FileReader.take_kind.Goals as goal
 pub returns-in-Ok-keep-clause-taken : goal.returns-in-Ok-keep-clause-taken
 returns-in-Ok-keep-clause-taken c = λ before knows number.
     let old = c.args.self.now in
-    let line = c.args.line.now.text in
+    let line = c.args.line.now.text.now in
     let place : is_in_place old.kind (kind_behind old.behind) c.args.kind ≡ true = cc in
     let fault = fault_in_place old.kind before line c.args.kind old.behind knows.previous knows.details place in
     let known = c.length.ensures in
