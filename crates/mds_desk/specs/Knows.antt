@@ -72,10 +72,10 @@ day_text details date sum =
     details.stream.nmi ++ codes " " ++ details.stream.suffix ++ codes " " ++ date ++ codes " "
     ++ decimal (count_of details.length) ++ codes " " ++ sum ++ codes " " ++ unit_text details.unit ++ codes "\n"
 
--- a line is refused for the fault that it has, or for want of memory
+-- a line is refused for the fault that it has, or, where it has none, for want of memory
 abbrev pub IsRefusal : Option FileFault → TakeFault → Type 0
 IsRefusal found (File fault) = found ≡ Some fault
-IsRefusal found Memory = Unit {0}
+IsRefusal found Memory = found ≡ None
 
 -- The private steps of the reader.
 

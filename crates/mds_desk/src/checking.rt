@@ -46,9 +46,9 @@ pub fn check<R: Source, W: Sink>(
     ensures fault { (fault : FileFault) → result ≡ Err (CheckFault.File fault)
         → IfSome (R.remaining reader.old) (λ text. fault_of kind text ≡ Some fault) }
 
-    // A failed write leaves a front of the lines of a well formed text, and any other fault leaves nothing.
+    // A failed write leaves a part of the lines of a well formed text, and any other fault leaves nothing.
     ensures part { result ≡ Err CheckFault.Write → IfSome (R.remaining reader.old) (λ text. (fault_of kind text ≡ None)
-        × (n : ℕ) × AppendsKnown (W.contents writer.old) (W.contents writer.new) (take n (report_of text))) }
+        × (n : ℕ) × (n < length (report_of text)) × AppendsKnown (W.contents writer.old) (W.contents writer.new) (take n (report_of text))) }
     ensures nothing { IfErr result (λ fault. fault ≢ CheckFault.Write → Keeps (W.contents writer.old) (W.contents writer.new)) }
 
     // `Read` is answered just where the reader failed, once, and `Write` just where the writer did.
@@ -125,7 +125,7 @@ fn write_whole<W: Sink>(text: &[u8], writer: &mut W) -> Result<(), CheckFault>
     requires { W.failures writer.old < 2 ^ 64 - 1 }
     ensures done { OnOk result (AppendsKnown (W.contents writer.old) (W.contents writer.new) text.now) }
     ensures part { IfErr result (λ fault. (fault ≡ CheckFault.Write)
-        × (n : ℕ) × AppendsKnown (W.contents writer.old) (W.contents writer.new) (take n text.now)) }
+        × (n : ℕ) × (n < length text.now) × AppendsKnown (W.contents writer.old) (W.contents writer.new) (take n text.now)) }
     ensures writer { W.failures writer.new ≡ W.failures writer.old + (if is_ok result then 0 else 1) }
 {
     let mut rest = text;

@@ -149,7 +149,7 @@ impl FileReader {
             return Err(at_line(FaultCode::OutOfPlace, line));
         }
         match read_record(line, kind, self.kind, self.behind.length()) {
-            Ok(record) => match self.keep(&record) {
+            Ok(next) => match self.keep(&next) {
                 Ok(()) => Ok(()),
                 Err(_) => Err(TakeFault::Memory),
             },
@@ -157,13 +157,13 @@ impl FileReader {
         }
     }
 
-    /// Keeps what a record says of the lines behind it, and prints its line.
-    fn keep(&mut self, record: &Record<'_>) -> Result<(), AllocError>
-        requires { CanFollow record.now self.old.behind }
+    /// Keeps what the next record says of the lines behind it, and prints its line.
+    fn keep(&mut self, next: &Record<'_>) -> Result<(), AllocError>
+        requires { CanFollow next.now self.old.behind }
         ensures kind { self.new.kind ≡ self.old.kind }
-        ensures follows { OnOk result (Follows record.now self.old self.new) }
+        ensures follows { OnOk result (Follows next.now self.old self.new) }
     {
-        match record {
+        match next {
             Record::Header(_) => self.behind = Behind::Header,
             Record::NmiDataDetails(details) => self.behind = Behind::Details(details_of(details)),
             Record::IntervalData(day) => return self.keep_day(day),
@@ -207,36 +207,36 @@ impl FileReader {
 }
 
 /// What a 200 record says, all of whose fields are good.
-fn details_of(record: &NmiDataDetailsRecord<'_>) -> Details
-    requires { IsReadable record.now }
-    ensures { Reads record.now result }
+fn details_of(details: &NmiDataDetailsRecord<'_>) -> Details
+    requires { IsReadable details.now }
+    ensures { Reads details.now result }
 {
     Details {
-        stream: Stream::read(record.nmi, record.suffix).unwrap(),
-        unit: Unit::read(record.unit).unwrap(),
-        length: Length::read(record.length).unwrap(),
+        stream: Stream::read(details.nmi, details.suffix).unwrap(),
+        unit: Unit::read(details.unit).unwrap(),
+        length: Length::read(details.length).unwrap(),
     }
 }
 
 /// Appends the line that is printed of a day: `NMI suffix date count total unit`.
 fn write_day(
     details: &Details,
-    record: &IntervalDataRecord<'_>,
+    day: &IntervalDataRecord<'_>,
     text: &mut String,
 ) -> Result<(), AllocError>
-    requires { IsSome (day_of record.now.date.now) }
+    requires { IsSome (day_of day.now.date.now) }
     ensures { OnOk result (Appends (string_bytes text.old) (string_bytes text.new)
-        (day_text details.now record.now.date.now (written record.now.sum))) }
+        (day_text details.now day.now.date.now (written day.now.sum))) }
 {
     details.stream.nmi().write_to(text)?;
     text.push(' ')?;
     details.stream.suffix().write_to(text)?;
     text.push(' ')?;
-    text.push_str(str::from_utf8(record.date).unwrap())?;
+    text.push_str(str::from_utf8(day.date).unwrap())?;
     text.push(' ')?;
     text.push_str(Buffer::new().format(details.length.count()))?;
     text.push(' ')?;
-    write_millionths(record.sum, text)?;
+    write_millionths(day.sum, text)?;
     text.push(' ')?;
     text.push_str(details.unit.text())?;
     text.push('\n')

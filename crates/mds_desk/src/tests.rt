@@ -1,3 +1,4 @@
+mod failing;
 mod slow;
 
 use crate::check;

@@ -243,12 +243,9 @@ fn any_field(text: &[u8]) -> (Result<Quantity, QuantityFault>, usize)
 fn field_length(text: &[u8]) -> usize
     ensures { result ≡ position_or_len (λ c. c == 44) text.now }
 {
-    for (i, byte) in text.iter().enumerate() {
-        if *byte == b',' {
-            return i;
-        }
-    }
-    text.len()
+    text.iter()
+        .position(|byte| *byte == b',')
+        .unwrap_or(text.len())
 }
 
 /// What a number of so many decimals is multiplied by to give millionths.

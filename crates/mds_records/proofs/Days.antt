@@ -1,18 +1,20 @@
 -- The first fault of a 300 record.
-use Rattle.std.proofs.Common.{◌≡◌, ℕ, zero, suc, ◌+◌, ◌-◌, ◌<◌, ◌≤◌, Bool, true, false, not, ◌&&◌, ◌||◌, eqb, ltb, List, [], ◌∷◌, ◌++◌, length, take, drop, map, replicate, get_or, Option, Some, None, is_some, is_ok, bytes_eq, codes, refl, sym, ◌∙◌, ap, arith, rules, tests, if◌then◌else◌, add-zero, lit<, length-append}
+use Rattle.std.proofs.Common.{◌≡◌, ℕ, zero, suc, ◌+◌, ◌-◌, ◌<◌, ◌≤◌, Bool, true, false, not, ◌&&◌, ◌||◌, eqb, ltb, List, [], ◌∷◌, ◌++◌, length, take, drop, map, replicate, get_or, Option, Some, None, is_some, is_ok, bytes_eq, codes, refl, sym, ◌∙◌, ap, arith, rules, tests, if◌then◌else◌, add-zero, lit<, length-append, option_map, inl, inr}
 use Rattle.std.specs.List.{range_with_len}
 use Rattle.std.proofs.lemmas.List.{length-drop, drop-drop, get_or-drop, length-replicate, length-map, length-take-le}
-use Rattle.std.proofs.lemmas.Bool.{lt-ltb, le-ltb}
+use Rattle.std.proofs.lemmas.Bool.{lt-ltb, le-ltb, cases_lt}
 use Rattle.mds_quantity.specs.Quantity.{denoted}
 use Rattle.mds_terms.specs.Calendar.{day_of, moment_of}
 use Rattle.mds_records.specs.declared.file.FileKind.{FileKind}
 use Rattle.mds_records.specs.declared.line.Kind.TheVariants.{IntervalData}
-use Rattle.mds_records.specs.declared.record.FieldFault.TheVariants.{Count}
+use Rattle.mds_records.specs.declared.interval.Faults.{Faults}
+use Rattle.mds_records.specs.declared.record.FieldFault.TheVariants.{Count, Bad}
+use Rattle.mds_records.specs.declared.record.IntervalDataRecord.{IntervalDataRecord}
 use Rattle.mds_records.specs.Faults.{field_fault, is_bad, layout_of}
 use Rattle.mds_records.specs.Layouts.{Rule, Value, DayDate, QualityMethod, Nothing, MomentTime, may, must, layout, means_values}
 use Rattle.mds_records.specs.Lines.{field, fields_of}
-use Rattle.mds_records.specs.Rest.{first_of, first_false, are_blank, outcome}
-use Rattle.mds_records.specs.Values.{is_empty_or_quantity, is_there, lesser, or_else}
+use Rattle.mds_records.specs.Rest.{first_of, first_false, are_blank}
+use Rattle.mds_records.specs.Values.{HasFields, HasWrongCount, is_empty_or_quantity, is_there, lesser, or_else}
 use Rattle.mds_records.proofs.Rests.{right_count, taken_at, left_at}
 use Rattle.mds_records.proofs.Rules.{field_fault-is, good_tests, good_must, good_may, same_parts, suc_is_not}
 
@@ -193,35 +195,36 @@ unfolding day_of
 no_day = refl
 
 -- the first fault of a 300 record, from its fields and the tests of them
-pub interval_is : (file : FileKind) (n : ℕ) (line date quality reason_code reason_text update load : List ℕ) (left : List (List ℕ)) (is_whole d m a b c e g : Bool) (bad empty : Option ℕ)
-    → n + 3 ≤ length (fields_of line) → date ≡ field line 2 → quality ≡ field line (n + 3) → reason_code ≡ field line (n + 4) → reason_text ≡ field line (n + 5)
-    → update ≡ field line (n + 6) → load ≡ field line (n + 7) → left ≡ drop (n + 7) (fields_of line) → is_whole ≡ are_blank left
-    → d ≡ is_some (day_of date) → m ≡ means_values quality → a ≡ bytes_eq quality (codes "A") → b ≡ eqb (length reason_code) 0 → c ≡ eqb (length reason_text) 0
-    → e ≡ (eqb (length update) 0 || is_some (moment_of update)) → g ≡ (eqb (length load) 0 || is_some (moment_of load))
-    → bad ≡ first_false 3 (map is_empty_or_quantity (take n (drop 2 (fields_of line)))) → empty ≡ first_false 3 (map is_there (take n (drop 2 (fields_of line))))
-    → field_fault file IntervalData n line ≡ outcome false is_whole (if d then or_else (lesser bad (if m then empty else None)) (first_false (n + 3) (a ∷ b ∷ c ∷ e ∷ g ∷ [])) else Some 2)
-interval_is file n line date quality reason_code reason_text update load left is_whole d m a b c e g bad empty long f2 f3 f4 f5 f6 f7 l w ed em ea eb ec ee eg ebad eempty =
+pub interval_is : (file : FileKind) (n : ℕ) (line : List ℕ) (day : IntervalDataRecord) (faults : Faults) (d m a b c e g : Bool) (least : Option ℕ) → HasFields n line day faults
+    → d ≡ is_some (day_of day.date.now) → m ≡ means_values day.quality.now → a ≡ bytes_eq day.quality.now (codes "A")
+    → b ≡ eqb (length day.reason_code.now) 0 → c ≡ eqb (length day.reason_text.now) 0
+    → e ≡ (eqb (length day.update.now) 0 || is_some (moment_of day.update.now)) → g ≡ (eqb (length day.load.now) 0 || is_some (moment_of day.load.now))
+    → least ≡ (if d then or_else (lesser faults.bad (if m then faults.empty else None)) (first_false (n + 3) (a ∷ b ∷ c ∷ e ∷ g ∷ [])) else Some 2)
+    → field_fault file IntervalData n line ≡ option_map Bad least
+interval_is file n line day faults d m a b c e g least f ed em ea eb ec ee eg is =
     let fs = fields_of line in
     let there = means_values (field line (n + 3)) in
     let values = map (λ t. not (is_bad file (value_rule there) t)) (take n (drop 2 fs)) in
     let last : length (layout_of IntervalData n line) + 1 ≡ n + 7 = layout_length n there in
     let counted : length (drop 2 fs) ≡ length fs - 2 = length-drop 2 fs in
+    let long = f.least in
     let size : length values ≡ n = length-map (take n (drop 2 fs)) (λ t. not (is_bad file (value_rule there) t)) ∙ length-take-le n (drop 2 fs) (omega arith) in
     let enough : true ≡ not (ltb (length fs) (n + 3)) = rw (le-ltb (length fs) (n + 3) long) refl in
-    let same : m ≡ there = em ∙ ap means_values f3 in
-    field_fault-is file IntervalData n line false is_whole (d ∷ (values ++ a ∷ b ∷ c ∷ e ∷ g ∷ []))
+    let same : m ≡ there = em ∙ ap means_values f.quality in
+    field_fault-is file IntervalData n line false true (d ∷ (values ++ a ∷ b ∷ c ∷ e ∷ g ∷ []))
     refl
-    (w ∙ right_count true left fs (n + 3) (length (layout_of IntervalData n line) + 1) enough (l ∙ cong_drop fs (n + 7) (length (layout_of IntervalData n line) + 1) (sym last)))
+    (sym f.blank ∙ right_count true (drop (n + 7) fs) fs (n + 3) (length (layout_of IntervalData n line) + 1) enough (cong_drop fs (n + 7) (length (layout_of IntervalData n line) + 1) (sym last)))
     (interval_tests file n line d a b c e g long
-    (ed ∙ ap (λ t. is_some (day_of t)) f2 ∙ good_must file DayDate (field line 2) no_day)
-    (ea ∙ ap (λ t. bytes_eq t (codes "A")) f3 ∙ good_must file QualityMethod (field line (n + 3)) refl)
-    (eb ∙ ap (λ t. eqb (length t) 0) f4 ∙ or_nothing (eqb (length (field line (n + 4))) 0) ∙ good_may file Nothing (field line (n + 4)))
-    (ec ∙ ap (λ t. eqb (length t) 0) f5 ∙ or_nothing (eqb (length (field line (n + 5))) 0) ∙ good_may file Nothing (field line (n + 5)))
-    (ee ∙ ap (λ t. eqb (length t) 0 || is_some (moment_of t)) f6 ∙ good_may file MomentTime (field line (n + 6)))
-    (eg ∙ ap (λ t. eqb (length t) 0 || is_some (moment_of t)) f7 ∙ good_may file MomentTime (field line (n + 7))))
-    ∙ ap (outcome false is_whole) (day_outcome d n values (a ∷ b ∷ c ∷ e ∷ g ∷ []) size
+    (ed ∙ ap (λ t. is_some (day_of t)) f.date ∙ good_must file DayDate (field line 2) no_day)
+    (ea ∙ ap (λ t. bytes_eq t (codes "A")) f.quality ∙ good_must file QualityMethod (field line (n + 3)) refl)
+    (eb ∙ ap (λ t. eqb (length t) 0) f.reason_code ∙ or_nothing (eqb (length (field line (n + 4))) 0) ∙ good_may file Nothing (field line (n + 4)))
+    (ec ∙ ap (λ t. eqb (length t) 0) f.reason_text ∙ or_nothing (eqb (length (field line (n + 5))) 0) ∙ good_may file Nothing (field line (n + 5)))
+    (ee ∙ ap (λ t. eqb (length t) 0 || is_some (moment_of t)) f.update ∙ good_may file MomentTime (field line (n + 6)))
+    (eg ∙ ap (λ t. eqb (length t) 0 || is_some (moment_of t)) f.load ∙ good_may file MomentTime (field line (n + 7))))
+    ∙ ap (option_map Bad) (day_outcome d n values (a ∷ b ∷ c ∷ e ∷ g ∷ []) size
     ∙ ap (λ (v : Option ℕ). if d then or_else v (first_false (n + 3) (a ∷ b ∷ c ∷ e ∷ g ∷ [])) else Some 2)
-    (values_fault file there (take n (drop 2 fs)) ∙ sym (rw (ebad, eempty, same) refl)))
+    (values_fault file there (take n (drop 2 fs)) ∙ sym (rw (f.bad, f.empty, same) refl))
+    ∙ sym is)
 
 -- the fault of a line with something behind its last field
 pub wrong_end : (file : FileKind) (n : ℕ) (line : List ℕ) (left : List (List ℕ)) → n + 3 ≤ length (fields_of line) → left ≡ drop (n + 7) (fields_of line) → false ≡ are_blank left → field_fault file IntervalData n line ≡ Some Count
@@ -233,6 +236,11 @@ wrong_end file n line left long l w =
     (w ∙ right_count true left fs (n + 3) (length (layout_of IntervalData n line) + 1) enough (l ∙ cong_drop fs (n + 7) (length (layout_of IntervalData n line) + 1) (sym last)))
     refl
 
--- where nothing or little is left behind the date
-pub few_left : (file : FileKind) (n : ℕ) (line : List ℕ) (left : List (List ℕ)) → left ≡ drop 2 (fields_of line) → length left ≤ n → field_fault file IntervalData n line ≡ Some Count
-few_left file n line left l few = let counted : length left ≡ length (fields_of line) - 2 = ap length l ∙ length-drop 2 (fields_of line) in too_few file n line (omega arith)
+-- the fault of a line with a wrong count of fields
+pub wrong_count : (file : FileKind) (n : ℕ) (line : List ℕ) → HasWrongCount n line → field_fault file IntervalData n line ≡ Some Count
+wrong_count file n line (inl few) = too_few file n line (omega arith)
+wrong_count file n line (inr more) =
+    elim (cases_lt (length (fields_of line)) (n + 3)) [
+      | inl few ↦ too_few file n line (omega arith)
+      | inr long ↦ wrong_end file n line (drop (n + 7) (fields_of line)) long refl (sym more)
+    ]

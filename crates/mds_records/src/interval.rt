@@ -5,7 +5,7 @@ ghost use Rattle.mds_records.specs.Lines.{fields_of};
 ghost use Rattle.mds_records.specs.Layouts.{means_values as mean_values};
 ghost use Rattle.mds_records.specs.Faults.{field_fault};
 ghost use Rattle.mds_records.specs.Records.{IsIntervalData};
-ghost use Rattle.mds_records.specs.Values.{AreValues, lesser, or_else};
+ghost use Rattle.mds_records.specs.Values.{AreValues, HasFields, HasWrongCount, lesser, or_else};
 
 use crate::file::FileKind;
 use crate::line::Kind;
@@ -62,13 +62,38 @@ pub(crate) fn read_interval_data(
         (λ r. (field_fault file Kind.IntervalData count text.now ≡ None) × IsIntervalData count text.now r)
         (λ fault. field_fault file Kind.IntervalData count text.now ≡ Some fault) }
 {
-    let (_, rest) = next_field(Some(text));
-    let (date, rest) = next_field(rest);
-    let Some(text) = rest else {
+    let Some((day, faults)) = split_interval_data(text, count) else {
         return Err(FieldFault::Count);
     };
-    let Some(values) = read_values(text, count) else {
-        return Err(FieldFault::Count);
+    let good = [
+        is_actual(day.quality),
+        day.reason_code.is_empty(),
+        day.reason_text.is_empty(),
+        is_moment_or_empty(day.update),
+        is_moment_or_empty(day.load),
+    ];
+    let is_day = Day::read(day.date).is_some();
+    let in_values = first_bad(faults, means_values(day.quality));
+    match least_of(is_day, in_values, least_bad(count + 3, &good)) {
+        Some(number) => Err(FieldFault::Bad(number)),
+        None => Ok(day),
+    }
+}
+
+/// The fields of a 300 record of so many values, good or bad, and the faults of its values; `None` where there are too
+/// few fields, or one past the last that isn't empty.
+fn split_interval_data(text: &[u8], count: usize) -> Option<(IntervalDataRecord<'_>, Faults)>
+    requires { (0 < count) × (count ≤ 288) }
+    ensures none { IfNone result (HasWrongCount count text.now) }
+    ensures some { IfSome result (λ day. HasFields count text.now day.0 day.1) }
+{
+    let (_, rest) = next_field(Some(text));
+    let (date, rest) = next_field(rest);
+    let Some(rest) = rest else {
+        return None;
+    };
+    let Some(values) = read_values(rest, count) else {
+        return None;
     };
     let (quality, rest) = next_field(Some(values.rest));
     let (reason_code, rest) = next_field(rest);
@@ -76,21 +101,9 @@ pub(crate) fn read_interval_data(
     let (update, rest) = next_field(rest);
     let (load, rest) = next_field(rest);
     if !has_right_count(true, rest) {
-        return Err(FieldFault::Count);
+        return None;
     }
-    let good = [
-        is_actual(quality),
-        reason_code.is_empty(),
-        reason_text.is_empty(),
-        is_moment_or_empty(update),
-        is_moment_or_empty(load),
-    ];
-    let is_day = Day::read(date).is_some();
-    let in_values = first_bad(values.faults, means_values(quality));
-    if let Some(number) = least_of(is_day, in_values, least_bad(count + 3, &good)) {
-        return Err(FieldFault::Bad(number));
-    }
-    Ok(IntervalDataRecord {
+    let day = IntervalDataRecord {
         date,
         values: values.text,
         sum: values.sum,
@@ -99,7 +112,8 @@ pub(crate) fn read_interval_data(
         reason_text,
         update,
         load,
-    })
+    };
+    Some((day, values.faults))
 }
 
 /// Reads so many values at the front of a text, or `None` where no field follows them. It stands apart from its caller,

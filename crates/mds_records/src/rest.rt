@@ -10,12 +10,9 @@ fn field_length(text: &[u8]) -> usize
     ensures value { result ≡ position_or_len is_comma text.now }
     ensures within { result ≤ length text.now }
 {
-    for (i, byte) in text.iter().enumerate() {
-        if *byte == b',' {
-            return i;
-        }
-    }
-    text.len()
+    text.iter()
+        .position(|byte| *byte == b',')
+        .unwrap_or(text.len())
 }
 
 /// The field at the front of what is left of a line, and what is left behind it. Where nothing is left, the field is

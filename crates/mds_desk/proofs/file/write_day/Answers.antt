@@ -9,13 +9,13 @@ use Rattle.mds_desk.proofs.Texts.{ok_from, date_utf8, more_char, grown}
 use Rattle.mds_desk.proofs.file.write_day.Goals as goal
 
 pub unwrap-requires : goal.unwrap-requires
-unwrap-requires c = ok_from c.from_utf8.result _ _ c.from_utf8.ensures.cases (λ e q. q.0 (date_utf8 c.args.record.now.date.now c.requires))
+unwrap-requires c = ok_from c.from_utf8.result _ _ c.from_utf8.ensures.cases (λ e q. q.0 (date_utf8 c.args.day.now.date.now c.requires))
 
 pub returns : goal.returns
 returns c =
     let old = string_bytes c.args.text.now in
     let d = c.args.details.now in
-    let r = c.args.record.now in
+    let r = c.args.day.now in
     let n = decimal (count_of d.length) in
     let a : string_bytes c.write_to.new.out ≡ old ++ d.stream.nmi = c.in_ok-write_to.ensures.done ∙ ap (λ t. old ++ t) c.nmi.ensures in
     let a1 = more_char old _ (string_bytes c.push.new.self) d.stream.nmi _ (codes " ") a c.in_ok-push.ensures.bytes (c.in_ok-push.ensures.ascii (omega arith)) in

@@ -1,14 +1,15 @@
-use Rattle.std.proofs.Common.{arith, rules, sym, tests}
-use Rattle.std.proofs.lemmas.List.Sums.{position_or_len_is}
+use Rattle.std.proofs.Common.{◌≡◌, ℕ, ◌≤◌, Some, None, cond, ltb, arith, rules, tests, not, ◌∙◌, ap, unwrap_or, length}
+use Rattle.std.proofs.lemmas.Iterator.{YieldsList-from_slice}
+use Rattle.std.proofs.lemmas.Iterator.Search.{position_from_yields_List}
+use Rattle.std.proofs.lemmas.List.Sums.{prefix_len-le-length}
 use Rattle.mds_records.specs.Lines.{is_comma}
 use Rattle.mds_records.proofs.rest.field_length.Goals as goal
 
-pub returns-then-byte-eq44-clause-value : goal.returns-then-byte-eq44-clause-value
-returns-then-byte-eq44-clause-value c =
-    sym (position_or_len_is is_comma c.args.text.now c.loop-i.i 0 (omega arith)
-    (λ k lt. let ne = c.loop-i.invariant k lt in search (rules, tests)) (λ _. search (rules, tests)))
+or_all : (p n : ℕ) → p ≤ n → unwrap_or (cond (ltb p n) (Some p) None) n ≡ p
+or_all p n le = grind (arith, tests)
 
 pub returns-clause-value : goal.returns-clause-value
 returns-clause-value c =
-    sym (position_or_len_is is_comma c.args.text.now _ 0 (omega arith)
-    (λ k lt. let ne = c.loop-i.invariant k (omega arith) in search (rules, tests)) (λ h. absurd (omega arith)))
+    let text = c.args.text.now in
+    let found = position_from_yields_List is_comma _ _ _ c.position.ensures.ran (YieldsList-from_slice text cc) (λ x b q k. search (rules, tests)) in
+    c.unwrap_or.ensures ∙ ap (λ o. unwrap_or o (length text)) found ∙ or_all _ (length text) (prefix_len-le-length (λ x. not (is_comma x)) text)

@@ -16,8 +16,8 @@ returns-in-Ok-keep-clause-taken c = λ before knows number.
     let fault = fault_in_place old.kind before line c.args.kind old.behind knows.previous knows.details place in
     let known = c.length.ensures in
     let none = ap (λ n. field_fault old.kind c.args.kind (value_count n) line) (sym known) ∙ c.in-Ok.ensures.0 in
-    let spells = subst (λ (n : Option ℕ). Spells c.args.kind (value_count n) line c.in-Ok.record) known c.in-Ok.ensures.1 in (
+    let spells = subst (λ (n : Option ℕ). Spells c.args.kind (value_count n) line c.in-Ok.next) known c.in-Ok.ensures.1 in (
       fault ∙ ap (option_map (at_field (length before + 1))) none,
-      knows_record old.kind before line c.args.kind _ c.in-Ok.record old c.keep.new.self knows c.requires.some c.requires.known place
+      knows_record old.kind before line c.args.kind _ c.in-Ok.next old c.keep.new.self knows c.requires.some c.requires.known place
           (count_known old.kind old.behind c.args.kind before place knows.details) spells c.in-Ok-keep.ensures.follows,
     )
