@@ -89,12 +89,7 @@ fn split_interval_data(text: &[u8], count: usize) -> Option<(IntervalDataRecord<
 {
     let (_, rest) = next_field(Some(text));
     let (date, rest) = next_field(rest);
-    let Some(rest) = rest else {
-        return None;
-    };
-    let Some(values) = read_values(rest, count) else {
-        return None;
-    };
+    let values = read_values(rest?, count)?;
     let (quality, rest) = next_field(Some(values.rest));
     let (reason_code, rest) = next_field(rest);
     let (reason_text, rest) = next_field(rest);
@@ -156,12 +151,10 @@ fn read_values(text: &[u8], count: usize) -> Option<Values<'_>>
 fn least_of(is_day: bool, in_values: Option<usize>, behind: Option<usize>) -> Option<usize>
     ensures { result ≡ (if is_day then or_else in_values behind else Some 2) }
 {
-    if !is_day {
-        return Some(2);
-    }
-    match in_values {
-        Some(number) => Some(number),
-        None => behind,
+    if is_day {
+        in_values.or(behind)
+    } else {
+        Some(2)
     }
 }
 

@@ -42,8 +42,8 @@ pub returns-then-not-has_right_count-clause-none : goal.returns-then-not-has_rig
 returns-then-not-has_right_count-clause-none c =
     let n = c.args.count in
     let fs = fields_of c.args.text.now in
-    let v = c.in-Some-read_values.ensures.some in
-    let values = ap (λ (r : Option (Bor (List ℕ))). fields_left (option_copied r)) c.in-Some.is in
+    let v = c.in_ok-values.ensures.some in
+    let values = ap (λ (r : Option (Bor (List ℕ))). fields_left (option_copied r)) c.in_ok-rest.was in
     let two = sym values ∙ behind_date fs _ _ c.next_field.ensures.left c.next_field-2.ensures.left in
     let behind = five_left fs _ _ _ _ _ _ (n + 2) (behind_values fs _ _ n two v.rest) c.next_field-3.ensures.left c.next_field-4.ensures.left c.next_field-5.ensures.left c.next_field-6.ensures.left c.next_field-7.ensures.left in
     inr (ap are_blank (sym (behind.five ∙ ap (λ m. drop m fs) (seven n))) ∙ sym c.if-not-has_right_count.ensures)
@@ -53,13 +53,13 @@ returns-clause-some c =
     let n = c.args.count in
     let line = c.args.text.now in
     let fs = fields_of line in
-    let v = c.in-Some-read_values.ensures.some in
-    let values = ap (λ (r : Option (Bor (List ℕ))). fields_left (option_copied r)) c.in-Some.is in
+    let v = c.in_ok-values.ensures.some in
+    let values = ap (λ (r : Option (Bor (List ℕ))). fields_left (option_copied r)) c.in_ok-rest.was in
     let two = sym values ∙ behind_date fs _ _ c.next_field.ensures.left c.next_field-2.ensures.left in
     let rest = behind_values fs _ _ n two v.rest in
     let behind = five_left fs _ _ _ _ _ _ (n + 2) rest c.next_field-3.ensures.left c.next_field-4.ensures.left c.next_field-5.ensures.left c.next_field-6.ensures.left c.next_field-7.ensures.left in
-    let counted : length (fields_of c.in-Some.rest.now) ≡ length fs - 2 = ap length two ∙ length-drop 2 fs in
-    let sum = c.in-Some-read_values.values.sum in
+    let counted : length (fields_of c.in_ok-rest.field-0.now) ≡ length fs - 2 = ap length two ∙ length-drop 2 fs in
+    let sum = c.in_ok-values.values.sum in
     record {
       least = omega (arith, v.more);
       blank = ap are_blank (sym (behind.five ∙ ap (λ m. drop m fs) (seven n))) ∙ sym c.if-not-has_right_count.ensures;
