@@ -134,6 +134,7 @@ finds_end old mid n r0 r1 faultless keeps number fault reach none =
     record {
       pieces = known_after _ _ _ _ keeps (at mid.is_ended mid.pending (nil_from_length mid.pending none) (elim (reach.ends (omega arith)) [ inl long ↦ absurd (omega arith) | inr ended ↦ ended ]));
       number = number;
+      ended = elim (reach.ends (omega arith)) [ inl long ↦ absurd (omega arith) | inr ended ↦ ended ];
       faultless = fault ∙ faultless;
     } where
       at : (ended : Bool) (pending : List ℕ) → pending ≡ [] → ended ≡ true → BothKnown (coming ended pending r1) (coming ended pending r1) (λ a b. (a ≡ []) × (b ≡ []))
@@ -147,6 +148,11 @@ over_limit old mid n number r0 r1 keeps reach some over =
     some_after _ _ _ keeps (IfSome_then (text_left mid r1) (reached mid.is_ended mid.pending n r1 reach.within some reach.apart reach.stops) (λ text first.
     let long = first.long in
     (first.piece, first.rest, first.is, elim over [ inl lt ↦ inl (omega arith) | inr lt ↦ inr lt ])))
+
+-- what holds after a fault
+pub err_gives : (r : Result Bool LineFault) (fault : LineFault) (P : Type 0) → IfErr r (λ _. P) → r ≡ Err fault → P
+err_gives (Ok b) fault P h e = absurd (cc)
+err_gives (Err f) fault P h e = h
 
 -- a fault that names its line
 pub named_fault : (r : Result Bool LineFault) (m number : ℕ) (Q : Type 0) → IfErr r (λ fault. (fault ≡ TooLarge m) × Q) → r ≡ Err (TooLarge number) → (number ≡ m) × Q

@@ -1,9 +1,10 @@
 -- How far the pending bytes have no line feed.
-use Rattle.std.proofs.Common.{◌≡◌, ◌≢◌, ℕ, ◌+◌, ◌-◌, ◌<◌, ◌≤◌, Bool, true, false, ltb, List, ◌++◌, length, take, drop, get_or, Option, Some, None, refl, sym, ◌∙◌, ap, subst, arith}
-use Rattle.std.specs.List.{All}
+use Rattle.std.proofs.Common.{◌≡◌, ◌≢◌, ℕ, ◌+◌, ◌-◌, ◌<◌, ◌≤◌, Bool, true, false, ltb, List, ◌++◌, length, take, drop, get_or, Option, Some, None, refl, sym, ◌∙◌, ap, subst, arith, ◌⊎◌, inl, inr}
+use Rattle.std.specs.List.{All, Contains}
+use Rattle.std.proofs.lemmas.Bool.{true≢false}
 use Rattle.std.proofs.lemmas.Bool.Decides.{nat_tests}
 use Rattle.std.proofs.lemmas.List.{take_at, get_or-take, get_or-drop, length-take-le, length-drop, take_all, take_rest}
-use Rattle.std.proofs.lemmas.List.Elements.{All-from_get_or, All-same}
+use Rattle.std.proofs.lemmas.List.Elements.{All-contains, All-from_get_or, All-same}
 use Rattle.memchr.specs.Find.{IsFirstByte, Nowhere, Passes, is_byte}
 
 -- a byte that fails the search's test
@@ -31,6 +32,12 @@ seen_more xs seen more within apart nowhere =
           let here : seen + (i - seen) ≡ i = omega arith in
           let same = get_or-drop seen xs (i - seen) 0 ∙ ap (λ k. get_or xs k 0) here ∙ sym (get_or-take (seen + more) xs i 0 lt) in
           λ e. fails _ (nowhere (i - seen) (omega arith) (omega arith)) (same ∙ e)
+
+-- where a source goes on and none of the bytes is a line feed, it has to be read
+pub has_to_read : (is_ended : Bool) (xs : List ℕ) → is_ended ≡ false → All (λ x. x ≢ 10) (take (length xs) xs) → (is_ended ≡ true) ⊎ Contains xs 10 → ⊥
+has_to_read is_ended xs goes_on apart (inl ended) = true≢false (sym ended ∙ goes_on)
+has_to_read is_ended xs goes_on apart (inr found) =
+    All-contains (λ x. x ≢ 10) xs 10 (subst (λ (ys : List ℕ). All (λ x. x ≢ 10) ys) (take_all (length xs) xs (omega arith)) apart) found refl
 
 -- the search found a line feed
 pub record IsFound (xs : List ℕ) (n : ℕ) : Type 0 where

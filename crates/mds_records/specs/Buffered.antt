@@ -1,5 +1,6 @@
 -- What a reader of lines has in hand (profile).
 use Rattle.std.specs.Prelude.{◌≡◌, ◌≢◌, ℕ, ◌+◌, ◌<◌, ◌≤◌, Bool, true, ◌⊎◌, if◌then◌else◌, List, [], ◌∷◌, ◌++◌, length, take, drop, slice_index, All, Option, Some, None, option_map, IfSome}
+use Rattle.std.specs.Io.KnownBytes.{Keeps}
 use Rattle.mds_records.specs.declared.reader.LineFault.{LineFault}
 use Rattle.mds_records.specs.declared.reader.LineFault.TheVariants.{TooLarge}
 use Rattle.mds_records.specs.Lines.{line_pieces, longest_line, most_lines}
@@ -37,6 +38,7 @@ pub record FindsLine (old new : Buffered) (left_old left_new : Option (List ℕ)
 pub record FindsEnd (old new : Buffered) (left_old left_new : Option (List ℕ)) : Type 0 where
   pub pieces : BothKnown left_old left_new (λ a b. (a ≡ []) × (b ≡ []))
   pub number : new.number ≡ old.number
+  pub ended : new.is_ended ≡ true
   pub faultless : new.fault ≡ None
 
 -- a text's first line has too many bytes, or too great a number
@@ -44,10 +46,11 @@ abbrev pub IsOverLimit : ℕ → List ℕ → Type 0
 IsOverLimit number text = (piece : List ℕ) × (rest : List (List ℕ)) × (line_pieces text ≡ piece ∷ rest)
     × ((longest_line < length piece) ⊎ (most_lines < number))
 
--- the next line has too many bytes, or too great a number, which is named
-pub record IsTooLarge (old new : Buffered) (left_old : Option (List ℕ)) (number : ℕ) : Type 0 where
+-- the next line has too many bytes, or too great a number, which is named; it is still to come
+pub record IsTooLarge (old new : Buffered) (left_old left_new : Option (List ℕ)) (number : ℕ) : Type 0 where
   pub next : number ≡ old.number + 1
   pub pieces : IfSome left_old (IsOverLimit number)
+  pub left : Keeps left_old left_new
   pub kept : new.fault ≡ Some (TooLarge number)
 
 -- The private steps of the reader.
@@ -72,5 +75,3 @@ pub record Takes (old new : Buffered) (n : ℕ) : Type 0 where
 -- a source's bytes were put behind the pending ones, or it has ended
 pub record Fills (old new : Buffered) : Type 0 where
   pub more : (bytes : List ℕ) × (new.pending ≡ old.pending ++ bytes) × ((0 < length bytes) ⊎ (new.is_ended ≡ true))
-  pub number : new.number ≡ old.number
-  pub fault : new.fault ≡ old.fault

@@ -1,5 +1,6 @@
 -- A reader of lines that owns its source.
-use Rattle.std.specs.Prelude.{◌≡◌, ◌≢◌, ℕ, ◌+◌, List, Option, None, Some, IfSome, MatchOption, Result, Err, IfOk, IfErr}
+use Rattle.std.specs.Prelude.{◌≡◌, ◌≢◌, ℕ, ◌+◌, List, true, Option, None, Some, IfSome, MatchOption, ◌⊎◌, Result, Err, IfOk, IfErr}
+use Rattle.std.specs.List.{Contains}
 use Rattle.mds_records.specs.declared.line.Line.{Line}
 use Rattle.mds_records.specs.declared.reader.LineFault.{LineFault}
 use Rattle.mds_records.specs.declared.reader.LineFault.TheVariants.{Read, TooLarge}
@@ -29,11 +30,13 @@ pub record GoesOn {R : Type 0} (remaining : R → Option (List ℕ)) (failures :
       × (number_of line ≡ (reader_lines new).number) × (text_of line ≡ line_text (reader_lines new).piece)))
   -- a line is too large where that is answered, and the source fails where `Read` is
   pub too_large : (number : ℕ) → result ≡ Err (TooLarge number) → (reader_lines old).fault ≡ None
-      → IsTooLarge (reader_lines old) (reader_lines new) (reader_left remaining old) number
+      → IsTooLarge (reader_lines old) (reader_lines new) (reader_left remaining old) (reader_left remaining new) number
   pub read : result ≡ Err Read → (reader_lines old).fault ≡ None
       → failures (reader_source new) ≡ failures (reader_source old) + 1
   pub no_failure : result ≢ Err Read → failures (reader_source new) ≡ failures (reader_source old)
-  -- after a fault it answers the same
-  pub kept : IfErr result (λ fault. (reader_lines new).fault ≡ Some fault)
+  -- a source that has ended is not read again, nor is one while a line is in hand
+  pub rests : ((reader_lines old).is_ended ≡ true) ⊎ Contains (reader_lines old).pending 10 → reader_source new ≡ reader_source old
+  -- a fault leaves the number, and is answered again
+  pub kept : IfErr result (λ fault. ((reader_lines new).fault ≡ Some fault) × ((reader_lines new).number ≡ (reader_lines old).number))
   pub again : IfSome (reader_lines old).fault (λ fault. (result ≡ Err fault)
       × (reader_lines new ≡ reader_lines old) × (reader_source new ≡ reader_source old))

@@ -25,7 +25,7 @@ value_count (Some minutes) = count_of minutes
 abbrev pub values_of : ℕ → List ℕ → List (List ℕ)
 values_of n line = take n (drop 2 (fields_of line))
 
--- what a value adds to a sum, in millionths: its quantity, and nothing where it is empty
+-- what a value adds to a sum, in millionths: its quantity, and nothing where it is none
 abbrev pub amount_of : Result ℤ QuantityFault → ℤ
 amount_of (Ok amount) = amount
 amount_of (Err fault) = pos 0

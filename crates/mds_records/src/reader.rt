@@ -2,6 +2,7 @@
 
 ghost use Rattle.std.specs.Prelude.{◌≢◌, Err, IfSome, MatchBool, ◌≡◌, ◌+◌, ◌-◌, ◌^◌, ◌<◌, ◌≤◌, ℕ, List, [], length, Option, Some, None, true, false, IfOk, IfErr, MatchOption, ◌⊎◌, if◌then◌else◌, is_ok, slice_range};
 ghost use Rattle.std.specs.Io.KnownBytes.{Keeps};
+ghost use Rattle.std.specs.List.{Contains};
 ghost use Rattle.mds_records.specs.Lines.{line_text, longest_line, most_lines};
 ghost use Rattle.mds_records.specs.Numbered.{number_of, text_of};
 
@@ -91,12 +92,15 @@ impl LineBuffer {
 
         // L10 stands where it is answered, and a source fails where `Read` is.
         ensures too_large { (number : ℕ) → result ≡ Err (LineFault.TooLarge number) → self.old.fault ≡ None
-            → IsTooLarge self.old self.new (text_left self.old (R.remaining source.old)) number }
+            → IsTooLarge self.old self.new (text_left self.old (R.remaining source.old)) (text_left self.new (R.remaining source.new)) number }
         ensures read { result ≡ Err LineFault.Read → self.old.fault ≡ None → R.failures source.new ≡ R.failures source.old + 1 }
         ensures no_failure { result ≢ Err LineFault.Read → R.failures source.new ≡ R.failures source.old }
 
-        // After a fault it answers the same.
-        ensures kept { IfErr result (λ fault. self.new.fault ≡ Some fault) }
+        // A source that has ended is not read again, nor is one while a line is in hand.
+        ensures rests { (self.old.is_ended ≡ true) ⊎ Contains self.old.pending 10 → source.new ≡ source.old }
+
+        // A fault leaves the number, and is answered again.
+        ensures kept { IfErr result (λ fault. (self.new.fault ≡ Some fault) × (self.new.number ≡ self.old.number)) }
         ensures again { IfSome self.old.fault (λ fault. (result ≡ Err fault) × (self.new ≡ self.old) × (source.new ≡ source.old)) }
     {
         if let Some(fault) = self.fault {
@@ -109,7 +113,7 @@ impl LineBuffer {
         found
     }
 
-    /// The line that it went on to last.
+    /// The line that it went on to last. Where it found none, this is no line of the source.
     pub fn line(&self) -> Line<'_>
         ensures number { number_of result ≡ self.now.number }
         ensures text { text_of result ≡ line_text self.now.piece }
@@ -124,9 +128,12 @@ impl LineBuffer {
             (FindsLine self.old self.new (text_left self.old (R.remaining source.old)) (text_left self.new (R.remaining source.new)))
             (FindsEnd self.old self.new (text_left self.old (R.remaining source.old)) (text_left self.new (R.remaining source.new)))) }
         ensures too_large { (number : ℕ) → result ≡ Err (LineFault.TooLarge number)
-            → (number ≡ self.old.number + 1) × IfSome (text_left self.old (R.remaining source.old)) (IsOverLimit number) }
+            → (number ≡ self.old.number + 1) × IfSome (text_left self.old (R.remaining source.old)) (IsOverLimit number)
+            × Keeps (text_left self.old (R.remaining source.old)) (text_left self.new (R.remaining source.new)) }
         ensures read { result ≡ Err LineFault.Read → R.failures source.new ≡ R.failures source.old + 1 }
         ensures no_failure { result ≢ Err LineFault.Read → R.failures source.new ≡ R.failures source.old }
+        ensures rests { (self.old.is_ended ≡ true) ⊎ Contains self.old.pending 10 → source.new ≡ source.old }
+        ensures kept { IfErr result (λ _. self.new.number ≡ self.old.number) }
     {
         let size = self.piece_size(source)?;
         if self.start == self.end {
@@ -140,7 +147,8 @@ impl LineBuffer {
         requires { R.failures source.old < 2 ^ 64 - 1 }
         ensures reaches { IfOk result (λ n. Reaches self.new n) }
         ensures left { IfOk result (λ _. Keeps (text_left self.old (R.remaining source.old)) (text_left self.new (R.remaining source.new))) }
-        ensures kept { IfOk result (λ _. (self.new.number ≡ self.old.number) × (self.new.fault ≡ self.old.fault)) }
+        ensures kept { (self.new.number ≡ self.old.number) × (self.new.fault ≡ self.old.fault) }
+        ensures rests { (self.old.is_ended ≡ true) ⊎ Contains self.old.pending 10 → source.new ≡ source.old }
         ensures err { IfErr result (λ fault. fault ≡ LineFault.Read) }
         ensures counted { R.failures source.new ≡ R.failures source.old + (if is_ok result then 0 else 1) }
     {
@@ -171,6 +179,7 @@ impl LineBuffer {
         ensures ok { IfOk result (λ found. (found ≡ true) × Takes self.old self.new size) }
         ensures err { IfErr result (λ fault. (fault ≡ LineFault.TooLarge (self.old.number + 1))
             × ((longest_line < size) ⊎ (most_lines < self.old.number + 1))) }
+        ensures kept { IfErr result (λ _. self.new ≡ self.old) }
     {
         let number = self.number + 1;
         if size > LONGEST_LINE || number > MOST_LINES {
@@ -189,6 +198,7 @@ impl LineBuffer {
         requires room { length self.old.pending ≤ longest_line }
         requires goes_on { self.old.is_ended ≡ false }
         ensures fills { IfOk result (λ _. Fills self.old self.new) }
+        ensures kept { (self.new.number ≡ self.old.number) × (self.new.fault ≡ self.old.fault) }
         ensures left { IfOk result (λ _. Keeps (text_left self.old (R.remaining source.old)) (text_left self.new (R.remaining source.new))) }
         ensures err { IfErr result (λ fault. fault ≡ LineFault.Read) }
         ensures counted { R.failures source.new ≡ R.failures source.old + (if is_ok result then 0 else 1) }

@@ -1,7 +1,8 @@
 //! Readers and writers as the calls above see them: with their bytes, and the number of their failed calls.
 
-ghost use Rattle.std.specs.Prelude.{◌≡◌, ◌+◌, ◌-◌, ◌^◌, ◌<◌, ℕ, List, length, Option, if◌then◌else◌, is_ok, IfOk};
+ghost use Rattle.std.specs.Prelude.{◌≡◌, ◌≢◌, ◌+◌, ◌-◌, ◌^◌, ◌<◌, ℕ, List, length, Option, if◌then◌else◌, is_ok, IfOk, IfErr};
 ghost use Rattle.std.specs.Io.{ReadsAtMost, WritesAtMost};
+ghost use Rattle.std.specs.IoError.{error_kind};
 ghost use Rattle.std.specs.Io.KnownBytes.{ReadConsumes, WriteAppends};
 
 use std::io;
@@ -16,11 +17,12 @@ pub trait Source {
     ghost failures: { Self → ℕ };
 
     /// Reads some bytes to the front of the buffer, and says how many: 0 only at the end, or where the buffer is
-    /// empty. A call that fails reads none.
+    /// empty. A call that fails reads none, and a call that is interrupted isn't one that fails.
     fn read(&mut self, buffer: &mut [u8]) -> io::Result<usize>
         requires { failures self.old < 2 ^ 64 - 1 }
         ensures bound { ReadsAtMost result buffer.new }
         ensures bytes { ReadConsumes (remaining self.old) (remaining self.new) result buffer.new }
+        ensures retried { IfErr result (λ error. error_kind error ≢ ErrorKind.Interrupted) }
         ensures counted { failures self.new ≡ failures self.old + (if is_ok result then 0 else 1) };
 }
 
@@ -33,16 +35,17 @@ pub trait Sink {
     ghost failures: { Self → ℕ };
 
     /// Writes some of the bytes, from their front, and says how many: none only where there are none. A call that
-    /// fails writes none.
+    /// fails writes none, and a call that is interrupted isn't one that fails.
     fn write(&mut self, bytes: &[u8]) -> io::Result<usize>
         requires { failures self.old < 2 ^ 64 - 1 }
         ensures bound { WritesAtMost result bytes.now }
         ensures takes { 0 < length bytes.now → IfOk result (λ n. 0 < n) }
         ensures bytes { WriteAppends (contents self.old) (contents self.new) result bytes.now }
+        ensures retried { IfErr result (λ error. error_kind error ≢ ErrorKind.Interrupted) }
         ensures counted { failures self.new ≡ failures self.old + (if is_ok result then 0 else 1) };
 }
 
-/// A `Source` of any reader, and a `Sink` of any writer. A call that was interrupted is made again.
+/// A `Source` of any reader, and a `Sink` of any writer. A call that is interrupted is made again, up to 2^64 - 1 times.
 #[derive(Drop)]
 pub struct Counted<T> {
     inner: T,
@@ -85,7 +88,7 @@ impl<T: Read> Source for Counted<T> {
             }
         }
         self.failures += 1;
-        Err(io::Error::from(ErrorKind::Interrupted))
+        Err(io::Error::from(ErrorKind::TimedOut))
     }
 }
 
@@ -110,6 +113,6 @@ impl<T: Write> Sink for Counted<T> {
             }
         }
         self.failures += 1;
-        Err(io::Error::from(ErrorKind::Interrupted))
+        Err(io::Error::from(ErrorKind::TimedOut))
     }
 }

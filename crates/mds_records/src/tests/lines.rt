@@ -46,22 +46,22 @@ impl Read for OneByOne<'_> {
     }
 }
 
-/// A writer whose call of a number fails, or takes no byte, and which takes one byte at each other.
+/// A writer whose call of a number fails in this way, or takes no byte, and which takes one byte at each other.
 #[derive(Drop)]
 struct Grudging {
     calls: u64,
     fails_at: u64,
-    takes_none: bool,
+    kind: Option<ErrorKind>,
 }
 
 impl Write for Grudging {
     fn write(&mut self, buf: &[u8]) -> io::Result<usize> {
         self.calls = self.calls.wrapping_add(1);
         if self.calls == self.fails_at {
-            if self.takes_none {
-                return Ok(0);
-            }
-            return Err(io::Error::from(ErrorKind::Other));
+            return match self.kind {
+                Some(kind) => Err(io::Error::from(kind)),
+                None => Ok(0),
+            };
         }
         Ok(buf.len().min(1))
     }
@@ -332,12 +332,12 @@ fn a_sink_writes(rt: HostRuntime) {
 
 #[test]
 fn a_sink_fails(rt: HostRuntime) {
-    for takes_none in [false, true] {
+    for kind in [Some(ErrorKind::Other), None] {
         for fails_at in 1..4 {
             let mut sink = Counted::new(Grudging {
                 calls: 0,
                 fails_at,
-                takes_none,
+                kind,
             });
             for call in 1..5 {
                 let wanted = u64::from(fails_at < call);
@@ -348,4 +348,15 @@ fn a_sink_fails(rt: HostRuntime) {
             assert!(rt; sink.write(b"").is_ok());
         }
     }
+}
+
+#[test]
+fn an_interrupted_write_is_made_again(rt: HostRuntime) {
+    let mut sink = Counted::new(Grudging {
+        calls: 0,
+        fails_at: 1,
+        kind: Some(ErrorKind::Interrupted),
+    });
+    assert!(rt; matches!(sink.write(b"ab"), Ok(1)));
+    assert_eq!(rt; sink.failures(), 0);
 }

@@ -23,8 +23,6 @@ returns-in-Ok-clause-fills g c =
     let grown = ap (λ xs. slice_range xs start (end + count)) items ∙ is ∙ ap (λ xs. xs ++ take count bytes) old in
     record {
       more = (take count bytes, grown, some_or_none count bytes c.in-Ok.ensures.bound.1);
-      number = ap (λ v. v.number) c.self.view_is;
-      fault = ap (λ v. v.fault) c.self.view_is;
     }
 
 pub returns-in-Ok-clause-left : goal.returns-in-Ok-clause-left

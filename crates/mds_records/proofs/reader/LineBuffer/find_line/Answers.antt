@@ -1,7 +1,9 @@
 use Rattle.std.proofs.Common.{ℕ, ◌<◌, ◌+◌, length, sym, ◌∙◌, ap, arith, subst, ◌⊎◌}
+use Rattle.std.specs.Io.KnownBytes.{Keeps}
+use Rattle.mds_records.specs.Buffered.{Buffered, text_left}
 use Rattle.mds_records.specs.Lines.{longest_line, most_lines}
 use Rattle.std.proofs.lemmas.List.{length-take, length-drop}
-use Rattle.mds_records.proofs.Lefts.{finds_line, over_limit, named_fault, found_line}
+use Rattle.mds_records.proofs.Lefts.{finds_line, over_limit, named_fault, found_line, err_gives}
 use Rattle.mds_records.proofs.reader.LineBuffer.find_line.Goals as goal
 
 pub returns-clause-next : goal.returns-clause-next
@@ -18,5 +20,9 @@ returns-clause-too_large g c = λ number e.
     let size = simp (length-take, length-drop) at (ap length (ap (λ v. v.pending) c.self.view_is)) in
     let items = c.self.inside.bytes.ok.0 in
     let some : 0 < length c.piece_size.new.self.pending = omega (arith, c.self.invariant) in
-    let named = named_fault c.take_piece.result _ number _ c.take_piece.ensures.err e in
-    (named.0 ∙ ap (λ k. k + 1) h.kept.0, over_limit c.args.self.now c.piece_size.new.self c.in_ok-size.size number _ _ h.left h.reaches some (subst (λ (k : ℕ). (longest_line < c.in_ok-size.size) ⊎ (most_lines < k)) (sym named.0) named.1))
+    let named = named_fault c.take_piece.result _ number _ c.take_piece.ensures.err e in (
+      named.0 ∙ ap (λ k. k + 1) h.kept.0,
+      over_limit c.args.self.now c.piece_size.new.self c.in_ok-size.size number _ _ h.left h.reaches some (subst (λ (k : ℕ). (longest_line < c.in_ok-size.size) ⊎ (most_lines < k)) (sym named.0) named.1),
+      subst (λ (b : Buffered). Keeps (text_left c.args.self.now (g.R.Source.remaining c.args.source.now)) (text_left b (g.R.Source.remaining c.piece_size.new.source)))
+          (sym (err_gives c.take_piece.result _ _ c.take_piece.ensures.kept e)) h.left,
+    )

@@ -1,5 +1,5 @@
 use Rattle.std.proofs.Common.{length, sym, ◌∙◌, ap, inl, inr, arith, length-append, Some, None}
-use Rattle.mds_records.proofs.Seeks.{seen_found, seen_all, seen_before, searched, apart_at}
+use Rattle.mds_records.proofs.Seeks.{has_to_read, seen_found, seen_all, seen_before, searched, apart_at}
 use Rattle.mds_records.proofs.StreamFacts.{Keeps_keeps}
 use Rattle.mds_records.proofs.reader.LineBuffer.piece_size.Goals as goal
 use Rattle.mds_records.proofs.reader.LineBuffer.piece_size.Goals.{then-seen-gt-LONGEST_LINE-via-then-seen-gt-LONGEST_LINE, then-seen-gt-LONGEST_LINE-via-else-seen-gt-LONGEST_LINE+then-self}
@@ -39,7 +39,15 @@ loop-more-preserved g c =
       omega arith,
       apart_at _ _ (length xs) size (seen_before xs _ f.more.0 more all),
       Keeps_keeps _ _ _ i.2 c.in_ok-fill.ensures.left,
-      f.number ∙ i.3,
-      f.fault ∙ i.4,
+      c.in_ok-fill.ensures.kept.0 ∙ i.3,
+      c.in_ok-fill.ensures.kept.1 ∙ i.4,
       omega (arith, c.in_ok-fill.ensures.counted, i.5),
+      λ rests. absurd (has_to_read _ xs (sym (ap (λ v. v.is_ended) c.self.view_is) ∙ c.if-self.false) all (i.6 rests).1),
     )
+
+pub returns-in_err-fill-clause-rests : goal.returns-in_err-fill-clause-rests
+returns-in_err-fill-clause-rests g c = λ rests.
+    let i = c.loop-more.invariant in
+    let xs = c.loop-more.self.pending in
+    let all = seen_all xs c.loop-more.seen i.0 i.1 (searched _ xs c.loop-more.seen None c.pending-pending.ensures c.in_default.ensures) in
+    absurd (has_to_read _ xs (sym (ap (λ v. v.is_ended) c.self.view_is) ∙ c.if-self.false) all (i.6 rests).1)

@@ -27,6 +27,7 @@ returns-in_err-advance g c =
           too_large = λ number e. a.too_large number (cc);
           read = λ e. a.read (cc);
           no_failure = λ other. a.no_failure (λ e. other (cc));
+          rests = a.rests;
           kept = a.kept;
           again = other_type Bool _ _ c.in_err-advance.field-0.0 kept_lines kept_source a.again;
         },
