@@ -61,6 +61,7 @@ impl Quantity {
     pub fn millionths(self) -> i64
         ensures value { result ≡ self }
         ensures small { unsigned_abs result < limit }
+        ensures equal { (other : ℤ) → IsTrue (⟦<Quantity as PartialEq>⟧.eq self other) ↔ (self ≡ other) }
     {
         self.millionths
     }

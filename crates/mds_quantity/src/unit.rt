@@ -1,6 +1,6 @@
 //! The units that quantities are measured in.
 
-ghost use Rattle.std.specs.Prelude.{◌≡◌, ◌≢◌, IfSome, IfNone, Some};
+ghost use Rattle.std.specs.Prelude.{◌≡◌, ◌≢◌, ◌↔◌, IfSome, IfNone, IsTrue, Some};
 ghost use Rattle.std.specs.Str.{str_to_ascii_lowercase};
 
 /// A unit of measure.
@@ -81,6 +81,7 @@ impl Unit {
     pub fn text(self) -> &'static str
         ensures value { result.now ≡ unit_text self }
         ensures reads_back { unit_of (unit_text self) ≡ Some self }
+        ensures equal { (other : UnitOfMeasure) → IsTrue (⟦<Unit as PartialEq>⟧.eq self other) ↔ (self ≡ other) }
     {
         match self {
             Unit::MWh => "MWh",

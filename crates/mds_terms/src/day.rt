@@ -1,6 +1,7 @@
 //! A day of market time.
 
-ghost use Rattle.std.specs.Prelude.{codes, ◌≡◌, ℕ, ◌+◌, ◌/◌, ◌%◌, ◌<◌, ◌≤◌, if◌then◌else◌, IfSome, List, set, length, pos, unsigned_abs, ◌≤ℤ◌, SomeIff, OnOk, OnErr, Some, None, string_bytes};
+ghost use Rattle.std.specs.Prelude.{codes, ◌≡◌, ℕ, ◌+◌, ◌/◌, ◌%◌, ◌<◌, ◌≤◌, if◌then◌else◌, IfSome, List, set, length, pos, unsigned_abs, ◌≤ℤ◌, SomeIff, OnOk, OnErr, Some, None, string_bytes, string_capacity, string_len};
+ghost use Rattle.std.specs.Ordering.{nat_cmp};
 ghost use Rattle.mds_quantity.specs.Append.{Appends};
 ghost use Rattle.mds_terms.specs.Calendar.{is_date, day_number, day_of, last_day};
 ghost use Rattle.std.specs.Char.{is_ascii_digit};
@@ -58,6 +59,7 @@ impl Day {
     pub fn number(self) -> i64
         ensures value { result ≡ pos self }
         ensures last { self ≤ last_day }
+        ensures order { (other : ℕ) → ⟦<Day as Ord>⟧.cmp self other ≡ nat_cmp self other }
     {
         i64::from(self.number)
     }
@@ -81,6 +83,7 @@ impl Day {
         ensures done { OnOk result ((text : List ℕ) × (day_of text ≡ Some self)
             × Appends (string_bytes out.old) (string_bytes out.new) text) }
         ensures kept { OnErr result (string_bytes out.new ≡ string_bytes out.old) }
+        ensures full { OnErr result (string_capacity out.old < string_len out.old + 8) }
         ensures one_text { (a b : List ℕ) → day_of a ≡ Some self → day_of b ≡ Some self → a ≡ b }
     {
         out.push_str(str::from_utf8(&self.digits()).unwrap())

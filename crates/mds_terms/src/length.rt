@@ -1,6 +1,7 @@
 //! The length of an interval.
 
-ghost use Rattle.std.specs.Prelude.{◌≡◌, ◌*◌, pos, unsigned_abs, SomeIff, OnOk, OnErr, Some, None, IsTrue, string_bytes, decimal, ◌≤ℤ◌};
+ghost use Rattle.std.specs.Ordering.{nat_cmp};
+ghost use Rattle.std.specs.Prelude.{◌≡◌, ℕ, ◌*◌, pos, unsigned_abs, SomeIff, OnOk, OnErr, Some, None, IsTrue, string_bytes, string_capacity, string_len, decimal, ◌+◌, ◌<◌, ◌≤ℤ◌};
 ghost use Rattle.mds_quantity.specs.Append.{Appends};
 ghost use Rattle.mds_terms.specs.Length.{is_length, length_of, count_of};
 
@@ -43,6 +44,7 @@ impl Length {
     pub fn minutes(self) -> i64
         ensures value { result ≡ pos self }
         ensures known { IsTrue (is_length self) }
+        ensures order { (other : ℕ) → ⟦<Length as Ord>⟧.cmp self other ≡ nat_cmp self other }
     {
         i64::from(self.minutes)
     }
@@ -71,6 +73,7 @@ impl Length {
     pub fn write_to(self, out: &mut String) -> Result<(), AllocError>
         ensures done { OnOk result (Appends (string_bytes out.old) (string_bytes out.new) (decimal self)) }
         ensures kept { OnErr result (string_bytes out.new ≡ string_bytes out.old) }
+        ensures full { OnErr result (string_capacity out.old < string_len out.old + 2) }
         ensures reads_back { length_of (decimal self) ≡ Some self }
     {
         out.push_str(match self.minutes {

@@ -1,6 +1,7 @@
 //! A moment of market time.
 
-ghost use Rattle.std.specs.Prelude.{◌≡◌, ℕ, ◌*◌, ◌+◌, ◌<◌, List, pos, unsigned_abs, ◌≤ℤ◌, ◌<ℤ◌, SomeIff, OnOk, OnErr, Some, None, string_bytes};
+ghost use Rattle.std.specs.Prelude.{◌≡◌, ℕ, ◌*◌, ◌+◌, ◌<◌, List, pos, unsigned_abs, ◌≤ℤ◌, ◌<ℤ◌, SomeIff, OnOk, OnErr, Some, None, string_bytes, string_capacity, string_len};
+ghost use Rattle.std.specs.Ordering.{nat_cmp};
 ghost use Rattle.mds_quantity.specs.Append.{Appends};
 ghost use Rattle.mds_terms.specs.Calendar.{moment_of, date_time_of, last_day, day_seconds};
 
@@ -53,6 +54,7 @@ impl Moment {
     pub fn seconds(self) -> i64
         ensures value { result ≡ pos self }
         ensures last { self < (last_day + 1) * day_seconds }
+        ensures order { (other : ℕ) → ⟦<Moment as Ord>⟧.cmp self other ≡ nat_cmp self other }
     {
         self.seconds as i64
     }
@@ -94,6 +96,7 @@ impl Moment {
         ensures done { OnOk result ((text : List ℕ) × (moment_of text ≡ Some self)
             × Appends (string_bytes out.old) (string_bytes out.new) text) }
         ensures kept { OnErr result (string_bytes out.new ≡ string_bytes out.old) }
+        ensures full { OnErr result (string_capacity out.old < string_len out.old + 14) }
         ensures one_text { (a b : List ℕ) → moment_of a ≡ Some self → moment_of b ≡ Some self → a ≡ b }
     {
         out.push_str(str::from_utf8(&self.digits()).unwrap())

@@ -1,6 +1,6 @@
 //! NMIs, suffixes and streams.
 
-ghost use Rattle.std.specs.Prelude.{◌≡◌, IfSome, IfNone, OnOk, OnErr, Some, None, string_bytes, ◌⊎◌, ◌==◌, [], ◌∷◌};
+ghost use Rattle.std.specs.Prelude.{◌≡◌, IfSome, IfNone, OnOk, OnErr, Some, None, string_bytes, string_capacity, string_len, ◌+◌, ◌<◌, ◌⊎◌, ◌↔◌, ◌==◌, ℕ, List, [], ◌∷◌, IsTrue};
 ghost use Rattle.std.specs.List.{slice_split, list_all};
 ghost use Rattle.mds_quantity.specs.Append.{Appends, AppendsPart};
 ghost use Rattle.mds_terms.specs.Names.{is_name_char, nmi_of, suffix_of, stream_text};
@@ -44,7 +44,9 @@ impl Nmi {
     pub fn write_to(self, out: &mut String) -> Result<(), AllocError>
         ensures done { OnOk result (Appends (string_bytes out.old) (string_bytes out.new) self) }
         ensures kept { OnErr result (string_bytes out.new ≡ string_bytes out.old) }
+        ensures full { OnErr result (string_capacity out.old < string_len out.old + 10) }
         ensures reads_back { nmi_of self ≡ Some self }
+        ensures equal { (other : List ℕ) → IsTrue (⟦<Nmi as PartialEq>⟧.eq self other) ↔ (self ≡ other) }
     {
         out.push_str(self.text())
     }
@@ -93,7 +95,9 @@ impl Suffix {
     pub fn write_to(self, out: &mut String) -> Result<(), AllocError>
         ensures done { OnOk result (Appends (string_bytes out.old) (string_bytes out.new) self) }
         ensures kept { OnErr result (string_bytes out.new ≡ string_bytes out.old) }
+        ensures full { OnErr result (string_capacity out.old < string_len out.old + 2) }
         ensures reads_back { suffix_of self ≡ Some self }
+        ensures equal { (other : List ℕ) → IsTrue (⟦<Suffix as PartialEq>⟧.eq self other) ↔ (self ≡ other) }
     {
         out.push_str(self.text())
     }
@@ -144,6 +148,7 @@ impl Stream {
     pub fn write_to(self, out: &mut String) -> Result<(), AllocError>
         ensures done { OnOk result (Appends (string_bytes out.old) (string_bytes out.new) (stream_text self.nmi self.suffix)) }
         ensures part { OnErr result (AppendsPart (string_bytes out.old) (string_bytes out.new) (stream_text self.nmi self.suffix)) }
+        ensures full { OnErr result (string_capacity out.old < string_len out.old + 13) }
         ensures reads_back { (slice_split (λ c. c == 44) (stream_text self.nmi self.suffix) ≡ self.nmi ∷ self.suffix ∷ [])
             × (nmi_of self.nmi ≡ Some self.nmi) × (suffix_of self.suffix ≡ Some self.suffix) }
     {
