@@ -1,6 +1,6 @@
 //! A quantity: a whole number of millionths, read from a decimal text and written as one.
 
-ghost use Rattle.std.specs.Prelude.{◌≡◌, ◌==◌, ◌+◌, ◌^◌, ◌<◌, ◌≤◌, length, take, Ok, OnOk, OnErr, SomeIff, string_bytes, unsigned_abs, pos};
+ghost use Rattle.std.specs.Prelude.{◌≡◌, ◌==◌, ◌+◌, ◌^◌, ◌<◌, ◌≤◌, length, take, Ok, OnOk, OnErr, SomeIff, string_bytes, string_capacity, string_len, decimal, ◌/◌, unsigned_abs, pos};
 ghost use Rattle.mds_quantity.specs.Append.{Appends, AppendsPart};
 
 use itoa::Buffer;
@@ -106,6 +106,7 @@ impl Quantity {
     pub fn write_to(self, out: &mut String) -> Result<(), AllocError>
         ensures done { OnOk result (Appends (string_bytes out.old) (string_bytes out.new) (written self)) }
         ensures part { OnErr result (AppendsPart (string_bytes out.old) (string_bytes out.new) (written self)) }
+        ensures full { OnErr result (string_capacity out.old < string_len out.old + 20) }
         ensures reads_back { denoted (written self) ≡ Ok self }
     {
         write_millionths(i128::from(self.millionths), out)
@@ -121,6 +122,8 @@ ghost use Rattle.mds_quantity.specs.Quantity.{ones, decimals, written, point_and
 pub fn write_millionths(total: i128, out: &mut String) -> Result<(), AllocError>
     ensures done { OnOk result (Appends (string_bytes out.old) (string_bytes out.new) (written total)) }
     ensures part { OnErr result (AppendsPart (string_bytes out.old) (string_bytes out.new) (written total)) }
+    // A sign, the whole units, a point and six decimals have to find room.
+    ensures full { OnErr result (string_capacity out.old < string_len out.old + length (decimal (unsigned_abs total / 10 ^ 6)) + 8) }
 {
     let has_minus = total < 0;
     if has_minus {
@@ -141,6 +144,7 @@ fn write_decimals(part: u32, out: &mut String) -> Result<(), AllocError>
     requires { part < 10 ^ 6 }
     ensures done { OnOk result (Appends (string_bytes out.old) (string_bytes out.new) (point_and_decimals part)) }
     ensures part { OnErr result (AppendsPart (string_bytes out.old) (string_bytes out.new) (point_and_decimals part)) }
+    ensures full { OnErr result (string_capacity out.old < string_len out.old + 7) }
 {
     if part == 0 {
         return Ok(());
