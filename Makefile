@@ -1,6 +1,5 @@
-# `make` builds the program and checks a sample file; `make test` runs the gate; `make bench` measures; `make accept` holds
-# the program against examples.
-.PHONY: all test bench accept
+# `make` builds the program and checks a sample file; `make test` runs the gate; `make bench` measures.
+.PHONY: all test bench
 
 all: bin/mdstore
 	bin/mdstore check examples/day.nem12
@@ -11,9 +10,6 @@ bin/mdstore: $(SOURCES)
 	cd crates/mdstore && rt run < stdin > /dev/null
 	mkdir -p bin
 	cp crates/mdstore/out/mdstore bin/mdstore
-
-accept: bin/mdstore
-	examples/accept
 
 test:
 	rt ci

@@ -1,17 +1,29 @@
 //! Measures the libraries, and makes the file that the program is measured on.
 //!
-//! `mds_bench file PATH MEGABYTES` writes a well formed NEM12 file of about that size: days of 48 values with three
-//! decimals. `mds_bench values` reads ten million values and prints the time for one. `mds_bench lines PATH` reads a
-//! file's lines alone and prints how fast.
+//! `mds_bench FORM PATH MEGABYTES` writes a well formed NEM12 file of about that size. `plain` has days of 48 values with
+//! three decimals; `wide` has values with a minus sign, with ten whole digits, and with twelve decimals of which the last
+//! six are zeros, in turn; `details` has 200 records alone. `mds_bench values` reads ten million values and prints
+//! the time for one. `mds_bench lines PATH` reads a file's lines alone and prints how fast.
 #![tactic(auto)]
 
+use mds_calendar::Day;
+use mds_lines::{Counted, LineBuffer, LineReader};
 use mds_quantity::Quantity;
-use mds_records::{Counted, LineReader};
-use mds_terms::Day;
 use std::io::{BufWriter, Write};
 use std::process::ExitCode;
 use std::time::Instant;
 use std::{env, fs, io};
+
+/// What the lines of a made file are.
+#[derive(Clone, Copy)]
+enum Form {
+    /// Days of values with three decimals.
+    Plain,
+    /// Days of values with a minus sign, many whole digits or many decimals.
+    Wide,
+    /// 200 records alone.
+    Details,
+}
 
 fn main(rt: HostRuntime) -> ExitCode {
     match run(&rt) {
@@ -27,17 +39,27 @@ fn run(rt: &HostRuntime) -> io::Result<bool> {
     match words.as_slice() {
         [what] if what.as_str() == "values" => time_values(rt)?,
         [what, path] if what.as_str() == "lines" => time_lines(rt, path.as_str())?,
-        [what, path, size] if what.as_str() == "file" => match size.as_str().parse::<u32>() {
-            Ok(size) => make_file(rt, path.as_str(), u64::from(size))?,
-            Err(_) => return usage(rt),
+        [form, path, size] => match (form_of(form.as_str()), size.as_str().parse::<u32>()) {
+            (Some(form), Ok(size)) => make_file(rt, form, path.as_str(), u64::from(size))?,
+            _ => return usage(rt),
         },
         _ => return usage(rt),
     }
     Ok(true)
 }
 
+/// The form of a name.
+fn form_of(name: &str) -> Option<Form> {
+    match name {
+        "plain" => Some(Form::Plain),
+        "wide" => Some(Form::Wide),
+        "details" => Some(Form::Details),
+        _ => None,
+    }
+}
+
 fn usage(rt: &HostRuntime) -> io::Result<bool> {
-    println!(rt; "usage: mds_bench values | lines PATH | file PATH MEGABYTES")?;
+    println!(rt; "usage: mds_bench values | lines PATH | plain, wide or details PATH MEGABYTES")?;
     Ok(false)
 }
 
@@ -61,7 +83,7 @@ fn time_values(rt: &HostRuntime) -> io::Result<()> {
 fn time_lines(rt: &HostRuntime, path: &str) -> io::Result<()> {
     let file = fs::open(rt, path)?;
     let start = Instant::now(rt)?;
-    let mut lines = LineReader::new(rt.alloc(), Counted::new(file))?;
+    let mut lines = LineReader::new(Counted::new(file), LineBuffer::new(rt.alloc())?);
     let mut bytes = 0u64;
     for _ in 0..1_000_001u64 {
         match lines.next() {
@@ -76,18 +98,24 @@ fn time_lines(rt: &HostRuntime, path: &str) -> io::Result<()> {
     )
 }
 
-/// Writes a file of about so many megabytes.
-fn make_file(rt: &HostRuntime, path: &str, megabytes: u64) -> io::Result<()> {
+/// Writes a file of a form of about so many megabytes.
+fn make_file(rt: &HostRuntime, form: Form, path: &str, megabytes: u64) -> io::Result<()> {
     let mut out = BufWriter::new(rt.alloc(), fs::create(rt, path)?)?;
     out.write_all(b"100,NEM12,202401030000,MDP1,RETAILER\n")?;
+    let line_length = match form {
+        Form::Plain => 325,
+        Form::Wide => 625,
+        Form::Details => 42,
+    };
     let mut state = 1u64;
-    let days = megabytes.saturating_mul(1_000_000) / 325;
-    for i in 0..days {
-        if i % 365 == 0 {
+    for i in 0..megabytes.saturating_mul(1_000_000) / line_length {
+        if i % 365 == 0 || matches!(form, Form::Details) {
             let nmi = 1_000_000 + i / 365 % 1_000_000;
             writeln!(out, "200,NEM{nmi},E1,1,E1,N1,01009,kWh,30,")?;
         }
-        write_day(rt, &mut out, i % 365, &mut state)?;
+        if !matches!(form, Form::Details) {
+            write_day(rt, form, &mut out, i % 365, &mut state)?;
+        }
     }
     out.write_all(b"900\n")?;
     out.flush()
@@ -96,6 +124,7 @@ fn make_file(rt: &HostRuntime, path: &str, megabytes: u64) -> io::Result<()> {
 /// Writes a 300 record of the day of a number in 2024, with values from a simple generator.
 fn write_day<W: Write>(
     rt: &HostRuntime,
+    form: Form,
     out: &mut W,
     number: u64,
     state: &mut u64,
@@ -106,13 +135,22 @@ fn write_day<W: Write>(
     }
     out.write_all(b"300,")?;
     out.write_all(date.as_bytes())?;
-    for _ in 0..48 {
+    for k in 0..48u64 {
         *state = state
             .wrapping_mul(6_364_136_223_846_793_005)
             .wrapping_add(1_442_695_040_888_963_407);
         let value = *state >> 33;
         let digit = |place: u64| b'0' + (value / place % 10) as u8;
-        out.write_all(&[b',', digit(1000), b'.', digit(100), digit(10), digit(1)])?;
+        let plain = [digit(1000), b'.', digit(100), digit(10), digit(1)];
+        let (front, back): (&[u8], &[u8]) = match form {
+            Form::Wide if k % 3 == 0 => (b",-", b""),
+            Form::Wide if k % 3 == 1 => (b",123456789", b""),
+            Form::Wide => (b",", b"250000000"),
+            Form::Plain | Form::Details => (b",", b""),
+        };
+        out.write_all(front)?;
+        out.write_all(&plain)?;
+        out.write_all(back)?;
     }
     out.write_all(b",A,,,20240102010203,\n")
 }

@@ -7,7 +7,7 @@ use Rattle.std.proofs.lemmas.List.{length_push, length-append, take_at, take-app
 use Rattle.mds_records.specs.declared.file.FaultCode.TheVariants as code
 use Rattle.mds_records.specs.declared.file.FileFault.{FileFault}
 use Rattle.mds_records.specs.declared.file.FileKind.{FileKind}
-use Rattle.mds_records.specs.Lines.{line_pieces, line_text, longest_line, most_lines}
+use Rattle.mds_lines.specs.Lines.{line_pieces, line_text, longest_line, most_lines}
 use Rattle.mds_desk.specs.Faults.{at_line, text_fault, line_fault, end_fault, first_fault, faults_of, fault_of}
 
 -- the fault of a line by its place
@@ -28,7 +28,7 @@ fault_front file done more k h =
     ap (λ t. line_fault file (map line_text t) (get_or (done ++ more) k [])) (take-append-le k done more (omega arith))
     ∙ ap (line_fault file (map line_text (take k done))) (get_or_append_left done more [] k h)
 
--- the line behind them is judged by them
+-- the line after them is judged by them
 fault_here : (file : FileKind) (done : List (List ℕ)) (piece : List ℕ) (more : List (List ℕ)) → fault_at file (done ++ piece ∷ more) (length done) ≡ line_fault file (map line_text done) piece
 fault_here file done piece more =
     ap (λ t. line_fault file (map line_text t) (get_or (done ++ piece ∷ more) (length done) [])) (take_at done (piece ∷ more) (length done) refl)
@@ -66,7 +66,7 @@ first_some f more fault a (suc n) j none low high here =
           ap (λ o. first_fault (o ∷ (map f (range_with_len (a + 1) n) ++ more))) (ap f same ∙ here)
     ]
 
--- the line behind lines without a fault has the fault of the text, if it has one
+-- the line after lines without a fault has the fault of the text, if it has one
 pub fault_stops : (file : FileKind) (text : List ℕ) (done : List (List ℕ)) (piece : List ℕ) (more : List (List ℕ)) (fault : FileFault)
     → line_pieces text ≡ done ++ piece ∷ more → Faultless file done → line_fault file (map line_text done) piece ≡ Some fault → fault_of file text ≡ Some fault
 unfolding fault_of

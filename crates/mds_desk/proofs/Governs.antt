@@ -10,28 +10,32 @@ use Rattle.std.proofs.lemmas.List.{append-nil}
 use Rattle.std.proofs.lemmas.List.Elements.{filter-append}
 use Rattle.mds_quantity.specs.Quantity.{written}
 use Rattle.mds_quantity.specs.Unit.{unit_of, unit_text}
-use Rattle.mds_terms.specs.Length.{length_of, count_of}
-use Rattle.mds_records.specs.Faults.{field_fault}
-use Rattle.mds_records.specs.Kinds.{kind_of}
-use Rattle.mds_records.specs.Lines.{field}
+use Rattle.mds_calendar.specs.Length.{length_of, count_of}
+use Rattle.mds_names.specs.Names.{is_name, nmi_length, suffix_length, nmi_of, suffix_of}
+use Rattle.mds_lines.specs.Kinds.{kind_of}
+use Rattle.mds_lines.specs.Lines.{field}
 use Rattle.mds_records.specs.Records.{Spells, value_count, values_of, sum_of}
 use Rattle.mds_records.specs.declared.file.FaultCode.TheVariants as code
 use Rattle.mds_records.specs.declared.file.FileKind.{FileKind}
 use Rattle.mds_records.specs.declared.file.FileKind.TheVariants.{Nem12}
-use Rattle.mds_records.specs.declared.line.Kind.{Kind}
-use Rattle.mds_records.specs.declared.line.Kind.TheVariants.{Header, NmiDataDetails, IntervalData, EndOfData}
-use Rattle.mds_records.specs.declared.line.KindFault.TheVariants.{Unknown}
+use Rattle.mds_lines.specs.declared.line.Kind.{Kind}
+use Rattle.mds_lines.specs.declared.line.Kind.TheVariants.{Header, NmiDataDetails, IntervalData, IntervalEvent, EndOfData}
+use Rattle.mds_lines.specs.declared.line.KindFault.TheVariants.{Unknown}
 use Rattle.mds_records.specs.declared.record.Record.{Record}
 use Rattle.mds_records.specs.declared.record.Record.TheVariants as of
 use Rattle.mds_desk.specs.Faults.{at_line, at_field, record_fault}
 use Rattle.mds_desk.specs.Governing.{is_this_kind, last_that, previous_kind, governing_details, governing_length}
+use Rattle.mds_desk.specs.Narrow.{is_unknown_for_now, narrow_fault}
 use Rattle.mds_desk.specs.Place.{is_in_place}
 use Rattle.mds_desk.specs.Report.{unit_name, day_line, reports}
-use Rattle.mds_desk.specs.declared.file.Behind.{Behind}
-use Rattle.mds_desk.specs.declared.file.Behind.TheVariants as behind
-use Rattle.mds_desk.specs.declared.file.Details.{Details}
-use Rattle.mds_desk.specs.declared.file.FileReader.{FileReader}
-use Rattle.mds_desk.specs.Knows.{kind_behind, details_behind, length_behind, IsGoverned, KnowsDetails, Knows, day_text, Follows}
+use Rattle.mds_desk.specs.declared.file_reader.LastRecord.{LastRecord}
+use Rattle.mds_desk.specs.declared.file_reader.LastRecord.TheVariants as last
+use Rattle.mds_desk.specs.declared.file_reader.Governing.{Governing}
+use Rattle.mds_desk.specs.declared.file_reader.FileReader.{FileReader}
+use Rattle.mds_desk.specs.declared.file_reader.TakeFault.{TakeFault}
+use Rattle.mds_desk.specs.declared.file_reader.TakeFault.TheVariants.{File}
+use Rattle.mds_records.specs.declared.file.FileFault.{FileFault}
+use Rattle.mds_desk.specs.KnowsLines.{last_kind, last_details, last_length, IsRefusal, IsGoverned, KnowsDetails, KnowsLines, day_text, Follows}
 use Rattle.mds_desk.proofs.Reported.{reports_push}
 
 last_or_push : (o : Option (List ℕ)) (xs : List (List ℕ)) (x : List ℕ) → last_or o (xs ++ x ∷ []) ≡ Some x
@@ -76,66 +80,66 @@ reports_kept before line e =
     reports_push before line ∙ ap (λ b. reports before ++ cond b (day_line before (unwrap_or (governing_details before) []) line) []) e ∙ append-nil (reports before)
 
 -- what is known of the last 200 record stays so
-governed_along : (details : Details) (xs ys : List (List ℕ)) → governing_details ys ≡ governing_details xs → IsGoverned details xs → IsGoverned details ys
+governed_along : (details : Governing) (xs ys : List (List ℕ)) → governing_details ys ≡ governing_details xs → IsGoverned details xs → IsGoverned details ys
 governed_along details xs ys e h = (h.0, e ∙ h.1, h.2)
 
-details_along : (last : Behind) (xs ys : List (List ℕ)) → governing_details ys ≡ governing_details xs → KnowsDetails last xs → KnowsDetails last ys
-details_along behind.Start xs ys e h = e ∙ h
-details_along behind.Header xs ys e h = e ∙ h
-details_along (behind.Details details) xs ys e h = governed_along details xs ys e h
-details_along (behind.Day details) xs ys e h = governed_along details xs ys e h
-details_along behind.End xs ys e h = tt
+details_along : (state : LastRecord) (xs ys : List (List ℕ)) → governing_details ys ≡ governing_details xs → KnowsDetails state xs → KnowsDetails state ys
+details_along last.Nothing xs ys e h = e ∙ h
+details_along last.Header xs ys e h = e ∙ h
+details_along (last.Details details) xs ys e h = governed_along details xs ys e h
+details_along (last.Day details) xs ys e h = governed_along details xs ys e h
+details_along last.End xs ys e h = tt
 
 -- an empty line changes nothing
-pub knows_empty : (before : List (List ℕ)) (line : List ℕ) (reader : FileReader) → line ≡ [] → Knows before reader → Knows (before ++ line ∷ []) reader
-knows_empty before line reader empty h = subst (λ (text : List ℕ). Knows (before ++ text ∷ []) reader) (sym empty) (record {
+pub knows_empty : (before : List (List ℕ)) (line : List ℕ) (reader : FileReader) → line ≡ [] → KnowsLines before reader → KnowsLines (before ++ line ∷ []) reader
+knows_empty before line reader empty h = subst (λ (text : List ℕ). KnowsLines (before ++ text ∷ []) reader) (sym empty) (record {
   previous = h.previous ∙ sym (previous_kind_empty before);
-  details = details_along reader.behind before (before ++ [] ∷ []) (governing_kept before [] (ap (is_this_kind NmiDataDetails) kind_empty)) h.details;
+  details = details_along reader.last before (before ++ [] ∷ []) (governing_kept before [] (ap (is_this_kind NmiDataDetails) kind_empty)) h.details;
   text = h.text ∙ sym (reports_kept before [] (ap (is_this_kind IntervalData) kind_empty));
 })
 
 -- A record.
 
 -- no 200 record is before a header in place
-none_at_header : (file : FileKind) (last : Behind) (before : List (List ℕ)) → is_in_place file (kind_behind last) Header ≡ true → KnowsDetails last before → governing_details before ≡ None
-none_at_header Nem12 behind.Start before place h = h
-none_at_header Nem12 behind.Header before place h = h
-none_at_header Nem12 (behind.Details details) before place h = absurd (false≢true place)
-none_at_header Nem12 (behind.Day details) before place h = absurd (false≢true place)
-none_at_header Nem12 behind.End before place h = absurd (false≢true place)
+none_at_header : (file : FileKind) (state : LastRecord) (before : List (List ℕ)) → is_in_place file (last_kind state) Header ≡ true → KnowsDetails state before → governing_details before ≡ None
+none_at_header Nem12 last.Nothing before place h = h
+none_at_header Nem12 last.Header before place h = h
+none_at_header Nem12 (last.Details details) before place h = absurd (false≢true place)
+none_at_header Nem12 (last.Day details) before place h = absurd (false≢true place)
+none_at_header Nem12 last.End before place h = absurd (false≢true place)
 
 -- the count of values that the reader knows is that of the last 200 record, where any record may follow
 count_none : (before : List (List ℕ)) → governing_details before ≡ None → 0 ≡ value_count (governing_length before)
 count_none before e = sym (ap (λ o. value_count (option_and_then (λ (line : List ℕ). length_of (field line 9)) o)) e)
 
-count_some : (details : Details) (before : List (List ℕ)) → IsGoverned details before → count_of details.length ≡ value_count (governing_length before)
+count_some : (details : Governing) (before : List (List ℕ)) → IsGoverned details before → count_of details.length ≡ value_count (governing_length before)
 count_some details before h =
     sym (ap (λ o. value_count (option_and_then (λ (line : List ℕ). length_of (field line 9)) o)) h.1 ∙ ap value_count h.2.length)
 
-pub count_known : (file : FileKind) (last : Behind) (kind : Kind) (before : List (List ℕ)) → is_in_place file (kind_behind last) kind ≡ true → KnowsDetails last before
-    → value_count (length_behind last) ≡ value_count (governing_length before)
-count_known Nem12 behind.Start kind before place h = count_none before h
-count_known Nem12 behind.Header kind before place h = count_none before h
-count_known Nem12 (behind.Details details) kind before place h = count_some details before h
-count_known Nem12 (behind.Day details) kind before place h = count_some details before h
-count_known Nem12 behind.End kind before place h = absurd (false≢true place)
+pub count_known : (file : FileKind) (state : LastRecord) (kind : Kind) (before : List (List ℕ)) → is_in_place file (last_kind state) kind ≡ true → KnowsDetails state before
+    → value_count (last_length state) ≡ value_count (governing_length before)
+count_known Nem12 last.Nothing kind before place h = count_none before h
+count_known Nem12 last.Header kind before place h = count_none before h
+count_known Nem12 (last.Details details) kind before place h = count_some details before h
+count_known Nem12 (last.Day details) kind before place h = count_some details before h
+count_known Nem12 last.End kind before place h = absurd (false≢true place)
 
 -- what governs a day
-day_governed : (last : Behind) (before : List (List ℕ)) (Q : Details → Type 0) → IsSome (details_behind last) → KnowsDetails last before → IfSome (details_behind last) Q
-    → (details : Details) × IsGoverned details before × Q details
-day_governed behind.Start before Q some h q = absurd (false≢true some)
-day_governed behind.Header before Q some h q = absurd (false≢true some)
-day_governed (behind.Details details) before Q some h q = (details, h, q)
-day_governed (behind.Day details) before Q some h q = (details, h, q)
-day_governed behind.End before Q some h q = absurd (false≢true some)
+day_governed : (state : LastRecord) (before : List (List ℕ)) (Q : Governing → Type 0) → IsSome (last_details state) → KnowsDetails state before → IfSome (last_details state) Q
+    → (details : Governing) × IsGoverned details before × Q details
+day_governed last.Nothing before Q some h q = absurd (false≢true some)
+day_governed last.Header before Q some h q = absurd (false≢true some)
+day_governed (last.Details details) before Q some h q = (details, h, q)
+day_governed (last.Day details) before Q some h q = (details, h, q)
+day_governed last.End before Q some h q = absurd (false≢true some)
 
 -- a day is governed where it is in place
-some_at_day : (file : FileKind) (last : Behind) → is_in_place file (kind_behind last) IntervalData ≡ true → IsSome (details_behind last)
-some_at_day Nem12 behind.Start place = absurd (false≢true place)
-some_at_day Nem12 behind.Header place = absurd (false≢true place)
-some_at_day Nem12 (behind.Details details) place = refl
-some_at_day Nem12 (behind.Day details) place = refl
-some_at_day Nem12 behind.End place = absurd (false≢true place)
+some_at_day : (file : FileKind) (state : LastRecord) → is_in_place file (last_kind state) IntervalData ≡ true → IsSome (last_details state)
+some_at_day Nem12 last.Nothing place = absurd (false≢true place)
+some_at_day Nem12 last.Header place = absurd (false≢true place)
+some_at_day Nem12 (last.Details details) place = refl
+some_at_day Nem12 (last.Day details) place = refl
+some_at_day Nem12 last.End place = absurd (false≢true place)
 
 -- a day's line, by its parts
 abbrev printed : List ℕ → List ℕ → List ℕ → ℕ → List ℕ → List ℕ → List ℕ
@@ -143,7 +147,7 @@ printed nmi suffix date n sum unit =
     nmi ++ codes " " ++ suffix ++ codes " " ++ date ++ codes " " ++ decimal n ++ codes " " ++ sum ++ codes " " ++ unit ++ codes "\n"
 
 -- the line that is printed of a day that is governed so
-day_line_is : (before : List (List ℕ)) (line : List ℕ) (details : Details) (n : ℕ) (date sum : List ℕ) (h : IsGoverned details before) → n ≡ value_count (governing_length before)
+day_line_is : (before : List (List ℕ)) (line : List ℕ) (details : Governing) (n : ℕ) (date sum : List ℕ) (h : IsGoverned details before) → n ≡ value_count (governing_length before)
     → date ≡ field line 2 → sum ≡ written (sum_of (values_of n line)) → day_line before (unwrap_or (governing_details before) []) line ≡ day_text details date sum
 day_line_is before line details n date sum h count day total =
     let same = count_some details before h in
@@ -162,59 +166,83 @@ reports_day : (before : List (List ℕ)) (line : List ℕ) → is_this_kind Inte
 reports_day before line e =
     reports_push before line ∙ ap (λ b. reports before ++ cond b (day_line before (unwrap_or (governing_details before) []) line) []) e
 
+-- a name that was read is its text
+name_is : (b : Bool) (text name : List ℕ) → cond b (Some text) None ≡ Some name → name ≡ text
+name_is true text name e = let same : text ≡ name = cc in sym same
+name_is false text name e = absurd (cc)
+
+nmi_is : (text name : List ℕ) → nmi_of text ≡ Some name → name ≡ text
+nmi_is text name e = name_is (is_name nmi_length text) text name e
+
+suffix_is : (text name : List ℕ) → suffix_of text ≡ Some name → name ≡ text
+suffix_is text name e = name_is (is_name suffix_length text) text name e
+
 -- a record was taken
 pub knows_record : (file : FileKind) (before : List (List ℕ)) (line : List ℕ) (kind : Kind) (n : ℕ) (r : Record) (old new : FileReader)
-    → Knows before old → line ≢ [] → kind_of line ≡ Ok kind → is_in_place file (kind_behind old.behind) kind ≡ true → n ≡ value_count (governing_length before)
-    → Spells kind n line r → Follows r old new → Knows (before ++ line ∷ []) new
+    → KnowsLines before old → line ≢ [] → kind_of line ≡ Ok kind → is_in_place file (last_kind old.last) kind ≡ true → n ≡ value_count (governing_length before)
+    → Spells kind n line r → Follows r old new → KnowsLines (before ++ line ∷ []) new
 knows_record file before line Header n (of.Header r) old new h some e place count spells follows =
     let all = before ++ line ∷ [] in
     record {
-      previous = ap kind_behind follows.0 ∙ sym (previous_kind_push before line Header some e);
-      details = subst (λ (last : Behind). KnowsDetails last all) (sym follows.0)
-          (governing_kept before line (ap (is_this_kind NmiDataDetails) e) ∙ none_at_header file old.behind before place h.details);
+      previous = ap last_kind follows.0 ∙ sym (previous_kind_push before line Header some e);
+      details = subst (λ (state : LastRecord). KnowsDetails state all) (sym follows.0)
+          (governing_kept before line (ap (is_this_kind NmiDataDetails) e) ∙ none_at_header file old.last before place h.details);
       text = follows.1 ∙ h.text ∙ sym (reports_kept before line (ap (is_this_kind IntervalData) e));
     }
 knows_record file before line NmiDataDetails n (of.NmiDataDetails r) old new h some e place count spells follows =
     let all = before ++ line ∷ [] in
-    let reads = follows.2 in
     record {
-      previous = ap kind_behind follows.1 ∙ sym (previous_kind_push before line NmiDataDetails some e);
-      details = subst (λ (last : Behind). KnowsDetails last all) (sym follows.1) (
+      previous = ap last_kind follows.0 ∙ sym (previous_kind_push before line NmiDataDetails some e);
+      details = subst (λ (state : LastRecord). KnowsDetails state all) (sym follows.0) (
         line,
         governing_push before line (ap (is_this_kind NmiDataDetails) e),
-        record {
-          nmi = reads.nmi ∙ spells.nmi;
-          suffix = reads.suffix ∙ spells.suffix;
-          unit = ap unit_of (sym spells.unit) ∙ reads.unit;
-          length = ap length_of (sym spells.length) ∙ reads.length;
-        },
+        record { nmi = nmi_is (field line 2) r.stream.nmi spells.nmi; suffix = suffix_is (field line 5) r.stream.suffix spells.suffix; unit = spells.unit; length = spells.length },
       );
-      text = follows.3 ∙ h.text ∙ sym (reports_kept before line (ap (is_this_kind IntervalData) e));
+      text = follows.1 ∙ h.text ∙ sym (reports_kept before line (ap (is_this_kind IntervalData) e));
     }
 knows_record file before line IntervalData n (of.IntervalData r) old new h some e place count spells follows =
     let all = before ++ line ∷ [] in
-    let day = day_governed old.behind before _ (some_at_day file old.behind place) h.details follows in
+    let day = day_governed old.last before _ (some_at_day file old.last place) h.details follows in
     record {
-      previous = ap kind_behind day.2.0 ∙ sym (previous_kind_push before line IntervalData some e);
-      details = subst (λ (last : Behind). KnowsDetails last all) (sym day.2.0)
+      previous = ap last_kind day.2.0 ∙ sym (previous_kind_push before line IntervalData some e);
+      details = subst (λ (state : LastRecord). KnowsDetails state all) (sym day.2.0)
           (governed_along day.0 before all (governing_kept before line (ap (is_this_kind NmiDataDetails) e)) day.1);
-      text = day.2.1 ∙ ap (λ t. t ++ day_text day.0 r.date.now (written r.sum)) h.text
-          ∙ ap (λ t. reports before ++ t) (sym (day_line_is before line day.0 n r.date.now (written r.sum) day.1 count spells.date (ap written spells.sum)))
+      text = day.2.1 (field line 2) spells.date ∙ ap (λ t. t ++ day_text day.0 (field line 2) (written r.sum)) h.text
+          ∙ ap (λ t. reports before ++ t) (sym (day_line_is before line day.0 n (field line 2) (written r.sum) day.1 count refl (ap written spells.sum)))
           ∙ sym (reports_day before line (ap (is_this_kind IntervalData) e));
     }
 knows_record file before line EndOfData n of.EndOfData old new h some e place count spells follows =
     let all = before ++ line ∷ [] in
     record {
-      previous = ap kind_behind follows.0 ∙ sym (previous_kind_push before line EndOfData some e);
-      details = subst (λ (last : Behind). KnowsDetails last all) (sym follows.0) tt;
+      previous = ap last_kind follows.0 ∙ sym (previous_kind_push before line EndOfData some e);
+      details = subst (λ (state : LastRecord). KnowsDetails state all) (sym follows.0) tt;
       text = follows.1 ∙ h.text ∙ sym (reports_kept before line (ap (is_this_kind IntervalData) e));
     }
+knows_record file before line IntervalEvent n (of.IntervalEvent r) old new h some e place count spells follows = absurd follows
 knows_record file before line kind n r old new h some e place count spells follows = absurd spells
 
 -- the fault of a record in place is that of its fields
-pub fault_in_place : (file : FileKind) (before : List (List ℕ)) (line : List ℕ) (kind : Kind) (last : Behind) → kind_behind last ≡ previous_kind before → KnowsDetails last before
-    → is_in_place file (kind_behind last) kind ≡ true → record_fault file before line (Ok kind) ≡ option_map (at_field (length before + 1)) (field_fault file kind (value_count (length_behind last)) line)
-fault_in_place file before line kind last previous details place =
-    ap (λ o. cond (not (is_in_place file o kind)) (Some (at_line code.OutOfPlace (length before + 1))) (option_map (at_field (length before + 1)) (field_fault file kind (value_count (governing_length before)) line))) (sym previous)
-    ∙ ap (λ b. cond (not b) (Some (at_line code.OutOfPlace (length before + 1))) (option_map (at_field (length before + 1)) (field_fault file kind (value_count (governing_length before)) line))) place
-    ∙ ap (λ n. option_map (at_field (length before + 1)) (field_fault file kind n line)) (sym (count_known file last kind before place details))
+pub fault_in_place : (file : FileKind) (before : List (List ℕ)) (line : List ℕ) (kind : Kind) (state : LastRecord) → last_kind state ≡ previous_kind before → KnowsDetails state before
+    → is_unknown_for_now kind ≡ false → is_in_place file (last_kind state) kind ≡ true
+    → record_fault file before line (Ok kind) ≡ option_map (at_field (length before + 1)) (narrow_fault file kind (value_count (last_length state)) line)
+fault_in_place file before line kind state previous details known place =
+    let number = length before + 1 in
+    let fields = option_map (at_field number) (narrow_fault file kind (value_count (governing_length before)) line) in
+    let unknown = Some (at_line code.UnknownRecord number) in
+    let out = Some (at_line code.OutOfPlace number) in
+    ap (λ b. cond b unknown (cond (not (is_in_place file (previous_kind before) kind)) out fields)) known
+    ∙ ap (λ o. cond (not (is_in_place file o kind)) out fields) (sym previous)
+    ∙ ap (λ b. cond (not b) out fields) place
+    ∙ ap (λ n. option_map (at_field number) (narrow_fault file kind n line)) (sym (count_known file state kind before place details))
+
+-- and so are those of a record that isn't known, or isn't in place
+pub fault_unknown : (file : FileKind) (before : List (List ℕ)) (line : List ℕ) (kind : Kind) → is_unknown_for_now kind ≡ true
+    → record_fault file before line (Ok kind) ≡ Some (at_line code.UnknownRecord (length before + 1))
+fault_unknown file before line kind unknown =
+    ap (λ b. cond b (Some (at_line code.UnknownRecord (length before + 1)))
+    (cond (not (is_in_place file (previous_kind before) kind)) (Some (at_line code.OutOfPlace (length before + 1)))
+    (option_map (at_field (length before + 1)) (narrow_fault file kind (value_count (governing_length before)) line)))) unknown
+
+-- a fault that is answered
+pub refused_with : (found : Option FileFault) (fault : FileFault) (answer : TakeFault) → answer ≡ File fault → found ≡ Some fault → IsRefusal found answer
+refused_with found fault answer is e = subst (λ (t : TakeFault). IsRefusal found t) (sym is) e

@@ -2,21 +2,21 @@
 use Rattle.std.proofs.Common.{◌≡◌, ℕ, ◌+◌, ◌-◌, ◌<◌, ◌≤◌, ◌⊎◌, Bool, true, false, MatchBool, List, [], ◌∷◌, ◌++◌, length, take, drop, map, Option, Some, None, IfSome, Result, Ok, Err, IfOk, MatchResult, refl, sym, ◌∙◌, ap, subst, arith, append_assoc}
 use Rattle.std.specs.Io.KnownBytes.{Appends as AppendsKnown}
 use Rattle.std.proofs.lemmas.List.{append-nil, length-map, map_push, length_push, take-take, take-append-drop, drop-take, drop-drop, take_rest, length-drop}
-use Rattle.mds_records.specs.Buffered.{Buffered, text_left, FindsLine, FindsEnd, IsOverLimit}
-use Rattle.mds_records.specs.Lines.{line_pieces, line_text, longest_line, most_lines}
+use Rattle.mds_lines.specs.Buffered.{Buffered, text_left, FindsLine, FindsEnd, IsOverLimit}
+use Rattle.mds_lines.specs.Lines.{line_pieces, line_text, longest_line, most_lines}
 use Rattle.mds_records.specs.declared.file.FaultCode.TheVariants as code
 use Rattle.mds_records.specs.declared.file.FileFault.{FileFault}
 use Rattle.mds_records.specs.declared.file.FileKind.{FileKind}
-use Rattle.mds_records.specs.declared.reader.LineFault.{LineFault}
-use Rattle.mds_records.specs.declared.reader.LineFault.TheVariants as line
+use Rattle.mds_lines.specs.declared.reader.LineFault.{LineFault}
+use Rattle.mds_lines.specs.declared.reader.LineFault.TheVariants as line
 use Rattle.mds_desk.specs.declared.checking.CheckFault.{CheckFault}
 use Rattle.mds_desk.specs.declared.checking.CheckFault.TheVariants.{File}
-use Rattle.mds_desk.specs.declared.file.FileReader.{FileReader}
-use Rattle.mds_desk.specs.declared.file.TakeFault.{TakeFault}
-use Rattle.mds_desk.specs.declared.file.TakeFault.TheVariants as take
+use Rattle.mds_desk.specs.declared.file_reader.FileReader.{FileReader}
+use Rattle.mds_desk.specs.declared.file_reader.TakeFault.{TakeFault}
+use Rattle.mds_desk.specs.declared.file_reader.TakeFault.TheVariants as take
 use Rattle.mds_desk.specs.Ends.{IsAnswer, line_fault_of}
 use Rattle.mds_desk.specs.Faults.{at_line, line_fault, text_fault, end_fault, fault_of}
-use Rattle.mds_desk.specs.Knows.{Knows, IsRefusal}
+use Rattle.mds_desk.specs.KnowsLines.{KnowsLines, IsRefusal}
 use Rattle.mds_desk.specs.Report.{reports, report_of}
 use Rattle.mds_desk.proofs.Faultless.{Faultless, faultless_none, faultless_push, fault_stops, fault_ends, fault_within, fault_over}
 
@@ -27,12 +27,12 @@ pub record Reading (kind : FileKind) (lines : Buffered) (file : FileReader) (lef
   pub pieces : line_pieces text ≡ done ++ line_pieces rest
   pub left_is : left ≡ Some rest
   pub faultless : Faultless kind done
-  pub knows : Knows (map line_text done) file
+  pub knows : KnowsLines (map line_text done) file
   pub number : lines.number ≡ length done
 
 -- none has been read
 pub reading_none : (kind : FileKind) (lines : Buffered) (file : FileReader) (known : Option (List ℕ))
-    → lines ≡ record { pending = []; is_ended = false; piece = []; number = 0; fault = None } → Knows [] file → IfSome known (Reading kind lines file (text_left lines known))
+    → lines ≡ record { pending = []; is_ended = false; piece = []; number = 0; fault = None } → KnowsLines [] file → IfSome known (Reading kind lines file (text_left lines known))
 reading_none kind lines file None e h = tt
 reading_none kind lines file (Some text) e h = record {
   done = [];
@@ -56,7 +56,7 @@ record Found (kind : FileKind) (file : FileReader) (piece : List ℕ) (left : Op
   pieces : line_pieces text ≡ done ++ piece ∷ line_pieces rest
   left_is : left ≡ Some rest
   faultless : Faultless kind done
-  knows : Knows (map line_text done) file
+  knows : KnowsLines (map line_text done) file
   number_is : number ≡ length (map line_text done) + 1
   fault_is : line_fault kind (map line_text done) piece ≡ text_fault kind (map line_text done) (line_text piece)
 
@@ -79,7 +79,7 @@ found kind old new file a b text r f =
 -- and taken
 pub reading_more : (kind k : FileKind) (old new : Buffered) (file after : FileReader) (a b : Option (List ℕ)) (number : ℕ) (line : List ℕ) (text : List ℕ) → k ≡ kind → Reading kind old file a text → FindsLine old new a b
     → number ≡ new.number → line ≡ line_text new.piece
-    → ((before : List (List ℕ)) → Knows before file → number ≡ length before + 1 → (text_fault k before line ≡ None) × Knows (before ++ line ∷ []) after)
+    → ((before : List (List ℕ)) → KnowsLines before file → number ≡ length before + 1 → (text_fault k before line ≡ None) × KnowsLines (before ++ line ∷ []) after)
     → Reading kind new after b text
 reading_more kind k old new file after a b number line text same r f number_is line_is taken =
     let found = found kind old new file a b text r f in
@@ -92,14 +92,14 @@ reading_more kind k old new file after a b number line text same r f number_is l
       pieces = found.pieces ∙ sym (append_assoc found.done (new.piece ∷ []) (line_pieces found.rest));
       left_is = found.left_is;
       faultless = faultless_push kind found.done new.piece found.faultless none;
-      knows = subst (λ (lines : List (List ℕ)). Knows lines after) (ap (λ t. before ++ t ∷ []) line_is ∙ sym (map_push line_text found.done new.piece)) took.1;
+      knows = subst (λ (lines : List (List ℕ)). KnowsLines lines after) (ap (λ t. before ++ t ∷ []) line_is ∙ sym (map_push line_text found.done new.piece)) took.1;
       number = omega (arith, found.number_is, length-map found.done line_text, length_push found.done new.piece);
     }
 
 -- or refused
 pub reading_stops : (kind k : FileKind) (old new : Buffered) (file : FileReader) (a b : Option (List ℕ)) (number : ℕ) (line : List ℕ) (answer : TakeFault) (fault : FileFault) (text : List ℕ) → k ≡ kind → Reading kind old file a text → FindsLine old new a b
     → number ≡ new.number → line ≡ line_text new.piece
-    → ((before : List (List ℕ)) → Knows before file → number ≡ length before + 1 → IsRefusal (text_fault k before line) answer) → answer ≡ take.File fault
+    → ((before : List (List ℕ)) → KnowsLines before file → number ≡ length before + 1 → IsRefusal (text_fault k before line) answer) → answer ≡ take.File fault
     → fault_of kind text ≡ Some fault
 reading_stops kind k old new file a b number line answer fault text same r f number_is line_is taken is =
     let found = found kind old new file a b text r f in
@@ -122,7 +122,7 @@ reading_over kind old file a number text r next over =
 -- or none at all: the lines that were read are the whole text
 pub record Ended (kind : FileKind) (lines : ℕ) (file : FileReader) (text : List ℕ) : Type 0 where
   pub before : List (List ℕ)
-  pub knows : Knows before file
+  pub knows : KnowsLines before file
   pub count : lines ≡ length before
   pub fault : fault_of kind text ≡ end_fault before
   pub report : report_of text ≡ reports before
@@ -143,7 +143,7 @@ reading_ends kind old new file a b count text r f count_is =
 -- How it ends.
 
 pub ends_done : {S : Type 0} (bytes : S → List ℕ) (kind : FileKind) (lines : ℕ) (file : FileReader) (known : Option (List ℕ)) (r : Result S CheckFault) → IfSome known (Ended kind lines file)
-    → ((before : List (List ℕ)) → Knows before file → lines ≡ length before → MatchResult r (λ out. (end_fault before ≡ None) × (bytes out ≡ reports before)) (IsAnswer (end_fault before)))
+    → ((before : List (List ℕ)) → KnowsLines before file → lines ≡ length before → MatchResult r (λ out. (end_fault before ≡ None) × (bytes out ≡ reports before)) (IsAnswer (end_fault before)))
     → IfOk r (λ out. IfSome known (λ text. (fault_of kind text ≡ None) × (bytes out ≡ report_of text)))
 ends_done bytes kind lines file known (Err fault) h e = tt
 ends_done bytes kind lines file None (Ok out) h e = tt
@@ -152,7 +152,7 @@ ends_done bytes kind lines file (Some text) (Ok out) h e =
     (h.fault ∙ done.0, done.1 ∙ sym h.report)
 
 pub ends_fault : {S : Type 0} (bytes : S → List ℕ) (kind : FileKind) (lines : ℕ) (file : FileReader) (known : Option (List ℕ)) (r : Result S CheckFault) (fault : FileFault) → IfSome known (Ended kind lines file)
-    → ((before : List (List ℕ)) → Knows before file → lines ≡ length before → MatchResult r (λ out. (end_fault before ≡ None) × (bytes out ≡ reports before)) (IsAnswer (end_fault before)))
+    → ((before : List (List ℕ)) → KnowsLines before file → lines ≡ length before → MatchResult r (λ out. (end_fault before ≡ None) × (bytes out ≡ reports before)) (IsAnswer (end_fault before)))
     → r ≡ Err (File fault) → IfSome known (λ text. fault_of kind text ≡ Some fault)
 ends_fault bytes kind lines file known (Ok out) fault h e is = absurd (cc)
 ends_fault bytes kind lines file None (Err found) fault h e is = tt

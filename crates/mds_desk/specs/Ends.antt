@@ -2,8 +2,8 @@
 use Rattle.std.specs.Prelude.{◌≡◌, Option, Some}
 use Rattle.mds_records.specs.declared.file.FileFault.{FileFault}
 use Rattle.mds_records.specs.declared.file.FaultCode.TheVariants as code
-use Rattle.mds_records.specs.declared.reader.LineFault.{LineFault}
-use Rattle.mds_records.specs.declared.reader.LineFault.TheVariants as line
+use Rattle.mds_lines.specs.declared.reader.LineFault.{LineFault}
+use Rattle.mds_lines.specs.declared.reader.LineFault.TheVariants as line
 use Rattle.mds_desk.specs.declared.checking.CheckFault.{CheckFault}
 use Rattle.mds_desk.specs.declared.checking.CheckFault.TheVariants.{File, Read, Write, Memory}
 use Rattle.mds_desk.specs.Faults.{at_line}

@@ -2,12 +2,12 @@
 use Rattle.std.specs.Prelude.{ℕ, Bool, false, nat_lt, ◌==◌, List, length, filter, Option, None, option_and_then, Result, Ok, Err}
 use Rattle.std.specs.List.{last_or}
 use Rattle.std.specs.Result.{result_ok}
-use Rattle.mds_terms.specs.Length.{length_of}
-use Rattle.mds_records.specs.declared.line.Kind.{Kind}
-use Rattle.mds_records.specs.declared.line.Kind.TheVariants.{NmiDataDetails}
-use Rattle.mds_records.specs.declared.line.KindFault.{KindFault}
-use Rattle.mds_records.specs.Kinds.{kind_of}
-use Rattle.mds_records.specs.Lines.{field}
+use Rattle.mds_calendar.specs.Length.{length_of}
+use Rattle.mds_lines.specs.declared.line.Kind.{Kind}
+use Rattle.mds_lines.specs.declared.line.Kind.TheVariants.{NmiDataDetails}
+use Rattle.mds_lines.specs.declared.line.KindFault.{KindFault}
+use Rattle.mds_lines.specs.Kinds.{kind_of}
+use Rattle.mds_lines.specs.Lines.{field}
 use Rattle.mds_desk.specs.Place.{indicator}
 
 -- a kind that was found is this one

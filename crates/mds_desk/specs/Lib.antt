@@ -2,6 +2,9 @@ pub mod Answer
 pub mod Ends
 pub mod Faults
 pub mod Governing
-pub mod Knows
+pub mod KnowsLines
+pub mod Narrow
 pub mod Place
+pub mod Program
 pub mod Report
+pub mod Requests

@@ -4,14 +4,15 @@ use Rattle.std.specs.Prelude.{ℕ, Bool, ◌==◌, List, [], ◌∷◌, Option, 
 use Rattle.std.specs.List.{list_any}
 use Rattle.mds_records.specs.declared.file.FileKind.{FileKind}
 use Rattle.mds_records.specs.declared.file.FileKind.TheVariants.{Nem12}
-use Rattle.mds_records.specs.declared.line.Kind.{Kind}
-use Rattle.mds_records.specs.declared.line.Kind.TheVariants.{Header, NmiDataDetails, IntervalData, EndOfData}
+use Rattle.mds_lines.specs.declared.line.Kind.{Kind}
+use Rattle.mds_lines.specs.declared.line.Kind.TheVariants.{Header, NmiDataDetails, IntervalData, IntervalEvent, EndOfData}
 
 -- the record indicator of a kind
 abbrev pub indicator : Kind → ℕ
 indicator Header = 100
 indicator NmiDataDetails = 200
 indicator IntervalData = 300
+indicator IntervalEvent = 400
 indicator EndOfData = 900
 
 -- the kinds that may stand first, in a file of a kind
@@ -23,9 +24,10 @@ abbrev pub followers : FileKind → Kind → List Kind
 followers Nem12 Header = NmiDataDetails ∷ EndOfData ∷ []
 followers Nem12 NmiDataDetails = NmiDataDetails ∷ IntervalData ∷ EndOfData ∷ []
 followers Nem12 IntervalData = IntervalData ∷ NmiDataDetails ∷ EndOfData ∷ []
+followers Nem12 IntervalEvent = []
 followers Nem12 EndOfData = []
 
--- the kinds that may stand behind a record of a kind, or first where there is none
+-- the kinds that may stand after a record of a kind, or first where there is none
 abbrev pub next_kinds : FileKind → Option Kind → List Kind
 next_kinds file None = first_kinds file
 next_kinds file (Some previous) = followers file previous

@@ -1,6 +1,6 @@
 -- Texts that grow piece by piece, and the fronts that a want of memory leaves.
 use Rattle.std.proofs.Common.{◌≡◌, ℕ, ◌+◌, List, [], ◌++◌, length, take, append_assoc, sym, ap, ◌∙◌, refl, Result, Ok, Err, OnErr, ◌∷◌, ◌/◌, ◌%◌, true, false, ℤ, pos, negsuc, unsigned_abs, decimal, arith}
-use Rattle.std.proofs.lemmas.List.{append-nil, take_at}
+use Rattle.std.proofs.lemmas.List.{append-nil, take_at, length-append}
 use Rattle.std.proofs.lemmas.Bool.{ltb-true, true≢false}
 use Rattle.std.specs.Int.Signed.{lt_z}
 use Rattle.std.proofs.Math.Seq.{take-append-add}
@@ -60,3 +60,11 @@ written_done s u v z r e er f = two_pieces s u v (sign_of z ++ decimal (unsigned
 pub written_part : (s u v : List ℕ) (z : ℤ) (r : ℕ) → Appends s u (sign_of z ++ decimal (unsigned_abs z / 1000000)) → r ≡ unsigned_abs z % 1000000 → AppendsPart u v (point_and_decimals r) → AppendsPart s v (written z)
 unfolding written
 written_part s u v z r e er f = next_front s u v (sign_of z ++ decimal (unsigned_abs z / 1000000)) (point_and_decimals (unsigned_abs z % 1000000)) e (f.0, f.1 ∙ ap (λ k. u ++ take f.0 (point_and_decimals k)) er)
+
+-- how much room the text takes
+pub written_length : (z : ℤ) → length (written z) ≡ length (sign_of z) + length (decimal (unsigned_abs z / 1000000)) + length (point_and_decimals (unsigned_abs z % 1000000))
+unfolding written
+written_length z =
+    let whole = decimal (unsigned_abs z / 1000000) in
+    let rest = point_and_decimals (unsigned_abs z % 1000000) in
+    omega (arith, length-append (sign_of z ++ whole) rest, length-append (sign_of z) whole)

@@ -1,22 +1,26 @@
 -- The first fault of a 300 record.
-use Rattle.std.proofs.Common.{◌≡◌, ℕ, zero, suc, ◌+◌, ◌-◌, ◌<◌, ◌≤◌, Bool, true, false, not, ◌&&◌, ◌||◌, eqb, ltb, List, [], ◌∷◌, ◌++◌, length, take, drop, map, replicate, get_or, Option, Some, None, is_some, is_ok, bytes_eq, codes, refl, sym, ◌∙◌, ap, arith, rules, tests, if◌then◌else◌, add-zero, lit<, length-append, option_map, inl, inr}
+use Rattle.std.proofs.Common.{◌≡◌, ℕ, zero, suc, ◌+◌, ◌-◌, ◌<◌, ◌≤◌, Bool, true, false, not, ◌&&◌, ◌||◌, ltb, List, [], ◌∷◌, ◌++◌, length, take, drop, map, replicate, get_or, Option, Some, None, is_some, is_ok, refl, sym, ◌∙◌, ap, arith, rules, tests, if◌then◌else◌, add-zero, lit<, length-append, option_map, inl, inr}
 use Rattle.std.specs.List.{range_with_len}
 use Rattle.std.proofs.lemmas.List.{length-drop, drop-drop, get_or-drop, length-replicate, length-map, length-take-le}
 use Rattle.std.proofs.lemmas.Bool.{lt-ltb, le-ltb, cases_lt}
 use Rattle.mds_quantity.specs.Quantity.{denoted}
-use Rattle.mds_terms.specs.Calendar.{day_of, moment_of}
+use Rattle.mds_calendar.specs.Calendar.{day_of, moment_of}
+use Rattle.mds_marks.specs.Quality.{quality_of}
+use Rattle.mds_marks.specs.Reason.{code_of, is_reason_text}
+use Rattle.mds_terms.specs.Parts.{optional}
 use Rattle.mds_records.specs.declared.file.FileKind.{FileKind}
-use Rattle.mds_records.specs.declared.line.Kind.TheVariants.{IntervalData}
-use Rattle.mds_records.specs.declared.interval.Faults.{Faults}
-use Rattle.mds_records.specs.declared.record.FieldFault.TheVariants.{Count, Bad}
-use Rattle.mds_records.specs.declared.record.IntervalDataRecord.{IntervalDataRecord}
+use Rattle.mds_lines.specs.declared.line.Kind.TheVariants.{IntervalData}
+use Rattle.mds_records.specs.declared.interval_data.ValueFaults.{ValueFaults}
+use Rattle.mds_records.specs.declared.fault.FieldFault.TheVariants.{Count, Bad}
+use Rattle.mds_records.specs.declared.interval_data.DayFields.{DayFields}
 use Rattle.mds_records.specs.Faults.{field_fault, is_bad, layout_of}
-use Rattle.mds_records.specs.Layouts.{Rule, Value, DayDate, QualityMethod, Nothing, MomentTime, may, must, layout, means_values}
-use Rattle.mds_records.specs.Lines.{field, fields_of}
-use Rattle.mds_records.specs.Rest.{first_of, first_false, are_blank}
-use Rattle.mds_records.specs.Values.{HasFields, HasWrongCount, is_empty_or_quantity, is_there, lesser, or_else}
+use Rattle.mds_records.specs.Layouts.{Rule, Value, DayDate, QualityMethod, ReasonNumber, ReasonWords, Nothing, MomentTime, may, must, layout, means_values}
+use Rattle.mds_lines.specs.Lines.{field, fields_of}
+use Rattle.mds_lines.specs.Rest.{first_of, are_blank}
+use Rattle.mds_records.specs.RecordSteps.{first_false, HasDayFields, HasWrongCount, is_empty_or_quantity, is_there, lesser, or_else}
 use Rattle.mds_records.proofs.Rests.{right_count, taken_at, left_at}
-use Rattle.mds_records.proofs.Rules.{field_fault-is, good_tests, good_must, good_may, same_parts, suc_is_not}
+use Rattle.mds_records.proofs.Rules.{field_fault-is, good_tests, good_must, good_may, good_even_empty, none_fails, same_parts, suc_is_not}
+use Rattle.mds_records.proofs.Terms.{no_day, no_quality, empty_code, empty_text, optional_good}
 
 -- the rule of a value
 abbrev value_rule : Bool → Rule
@@ -38,11 +42,11 @@ sub_self a = omega arith
 first_at : (all : List (List ℕ)) (k : ℕ) → get_or all k [] ≡ first_of (drop k all)
 first_at all k = sym (get_or-drop k all 0 [] ∙ ap (λ i. get_or all i []) (omega arith))
 
-rule_behind : (rule : Rule) (rules : List Rule) (a k : ℕ) → a + 1 ≤ k → get_or (rule ∷ rules) (k - a) (may Nothing) ≡ get_or rules (k - (a + 1)) (may Nothing)
-rule_behind rule rules a k above = let e : k - a ≡ suc (k - (a + 1)) = omega arith in ap (λ i. get_or (rule ∷ rules) i (may Nothing)) e
+rule_after : (rule : Rule) (rules : List Rule) (a k : ℕ) → a + 1 ≤ k → get_or (rule ∷ rules) (k - a) (may Nothing) ≡ get_or rules (k - (a + 1)) (may Nothing)
+rule_after rule rules a k above = let e : k - a ≡ suc (k - (a + 1)) = omega arith in ap (λ i. get_or (rule ∷ rules) i (may Nothing)) e
 
-one_behind : (all : List (List ℕ)) (a : ℕ) → 0 < a → drop (a + 1 - 1) all ≡ drop 1 (drop (a - 1) all)
-one_behind all a low = ap (λ n. drop n all) (omega arith) ∙ sym (drop-drop 1 (a - 1) all)
+one_after : (all : List (List ℕ)) (a : ℕ) → 0 < a → drop (a + 1 - 1) all ≡ drop 1 (drop (a - 1) all)
+one_after all a low = ap (λ n. drop n all) (omega arith) ∙ sym (drop-drop 1 (a - 1) all)
 
 tests_from : (file : FileKind) (rules : List Rule) (all : List (List ℕ)) (a : ℕ) → 0 < a → map (λ k. not (is_bad file (get_or rules (k - a) (may Nothing)) (get_or all (k - 1) []))) (range_with_len a (length rules)) ≡ tests_of file rules (drop (a - 1) all)
 tests_from file [] all a low = refl
@@ -50,8 +54,8 @@ tests_from file (rule ∷ rules) all a low =
     same_parts (rw (sub_self a) (ap (λ t. not (is_bad file rule t)) (first_at all (a - 1))))
     (same_on (a + 1) (length rules) (λ k. not (is_bad file (get_or (rule ∷ rules) (k - a) (may Nothing)) (get_or all (k - 1) [])))
     (λ k. not (is_bad file (get_or rules (k - (a + 1)) (may Nothing)) (get_or all (k - 1) [])))
-    (λ k above. ap (λ (r : Rule). not (is_bad file r (get_or all (k - 1) []))) (rule_behind rule rules a k above))
-    ∙ tests_from file rules all (a + 1) (omega arith) ∙ ap (tests_of file rules) (one_behind all a low))
+    (λ k above. ap (λ (r : Rule). not (is_bad file r (get_or all (k - 1) []))) (rule_after rule rules a k above))
+    ∙ tests_from file rules all (a + 1) (omega arith) ∙ ap (tests_of file rules) (one_after all a low))
 
 -- the tests of a line's fields
 pub good_tests-is : (file : FileKind) (rules : List Rule) (line : List ℕ) → good_tests file rules line ≡ tests_of file rules (drop 1 (fields_of line))
@@ -74,7 +78,7 @@ tests_of-replicate file rule zero fields h = refl
 tests_of-replicate file rule (suc n) [] h = absurd (omega arith)
 tests_of-replicate file rule (suc n) (f ∷ fields) h = ap (λ ts. not (is_bad file rule f) ∷ ts) (tests_of-replicate file rule n fields (omega arith))
 
--- the first failure of a list with more behind it
+-- the first failure of a list with more after it
 pub first_false-append : (n : ℕ) (some more : List Bool) → first_false n (some ++ more) ≡ or_else (first_false n some) (first_false (n + length some) more)
 first_false-append n [] more = ap (λ m. first_false m more) (sym (add-zero n))
 first_false-append n (true ∷ some) more = first_false-append (n + 1) some more ∙ ap (λ m. or_else (first_false (n + 1) some) (first_false m more)) (omega arith)
@@ -136,15 +140,15 @@ pub field_by : (line : List ℕ) (left : List (List ℕ)) (k number : ℕ) → l
 field_by line left k number e h = taken_at (fields_of line) left k e ∙ ap (λ i. get_or (fields_of line) i []) (omega arith)
 
 layout_length : (n : ℕ) (there : Bool) → length (layout IntervalData n (not there)) + 1 ≡ n + 7
-layout_length n there = ap (λ m. suc m + 1) (length-append (replicate n (value_rule there)) (must QualityMethod ∷ may Nothing ∷ may Nothing ∷ may MomentTime ∷ may MomentTime ∷ []) ∙ ap (λ m. m + 5) (length-replicate n (value_rule there))) ∙ omega arith
+layout_length n there = ap (λ m. suc m + 1) (length-append (replicate n (value_rule there)) (must QualityMethod ∷ may ReasonNumber ∷ may ReasonWords ∷ may MomentTime ∷ may MomentTime ∷ []) ∙ ap (λ m. m + 5) (length-replicate n (value_rule there))) ∙ omega arith
 
--- the rules behind the values
+-- the rules after the values
 abbrev last_rules : List Rule
-last_rules = must QualityMethod ∷ may Nothing ∷ may Nothing ∷ may MomentTime ∷ may MomentTime ∷ []
+last_rules = must QualityMethod ∷ may ReasonNumber ∷ may ReasonWords ∷ may MomentTime ∷ may MomentTime ∷ []
 
 last_tests : (file : FileKind) (n : ℕ) (line : List ℕ) (left : List (List ℕ)) (a b c e g : Bool) → left ≡ drop (n + 2) (fields_of line)
     → a ≡ not (is_bad file (must QualityMethod) (field line (n + 3)))
-    → b ≡ not (is_bad file (may Nothing) (field line (n + 4))) → c ≡ not (is_bad file (may Nothing) (field line (n + 5)))
+    → b ≡ not (is_bad file (may ReasonNumber) (field line (n + 4))) → c ≡ not (is_bad file (may ReasonWords) (field line (n + 5)))
     → e ≡ not (is_bad file (may MomentTime) (field line (n + 6))) → g ≡ not (is_bad file (may MomentTime) (field line (n + 7)))
     → tests_of file last_rules left ≡ a ∷ b ∷ c ∷ e ∷ g ∷ []
 last_tests file n line left a b c e g at0 ea eb ec ee eg =
@@ -154,14 +158,14 @@ last_tests file n line left a b c e g at0 ea eb ec ee eg =
     let at3 : drop 1 (drop 1 (drop 1 left)) ≡ drop (n + 2 + 1 + 1 + 1) fs = left_at fs (drop 1 (drop 1 left)) (drop 1 (drop 1 (drop 1 left))) (n + 2 + 1 + 1) at2 refl in
     let at4 : drop 1 (drop 1 (drop 1 (drop 1 left))) ≡ drop (n + 2 + 1 + 1 + 1 + 1) fs = left_at fs (drop 1 (drop 1 (drop 1 left))) (drop 1 (drop 1 (drop 1 (drop 1 left)))) (n + 2 + 1 + 1 + 1) at3 refl in
     same_parts (ap (λ t. not (is_bad file (must QualityMethod) t)) (field_by line left (n + 2) (n + 3) at0 (omega arith)) ∙ sym ea)
-    (same_parts (ap (λ t. not (is_bad file (may Nothing) t)) (field_by line (drop 1 left) (n + 2 + 1) (n + 4) at1 (omega arith)) ∙ sym eb)
-    (same_parts (ap (λ t. not (is_bad file (may Nothing) t)) (field_by line (drop 1 (drop 1 left)) (n + 2 + 1 + 1) (n + 5) at2 (omega arith)) ∙ sym ec)
+    (same_parts (ap (λ t. not (is_bad file (may ReasonNumber) t)) (field_by line (drop 1 left) (n + 2 + 1) (n + 4) at1 (omega arith)) ∙ sym eb)
+    (same_parts (ap (λ t. not (is_bad file (may ReasonWords) t)) (field_by line (drop 1 (drop 1 left)) (n + 2 + 1 + 1) (n + 5) at2 (omega arith)) ∙ sym ec)
     (same_parts (ap (λ t. not (is_bad file (may MomentTime) t)) (field_by line (drop 1 (drop 1 (drop 1 left))) (n + 2 + 1 + 1 + 1) (n + 6) at3 (omega arith)) ∙ sym ee)
     (same_parts (ap (λ t. not (is_bad file (may MomentTime) t)) (field_by line (drop 1 (drop 1 (drop 1 (drop 1 left)))) (n + 2 + 1 + 1 + 1 + 1) (n + 7) at4 (omega arith)) ∙ sym eg) refl))))
 
 interval_tests : (file : FileKind) (n : ℕ) (line : List ℕ) (d a b c e g : Bool) → n + 3 ≤ length (fields_of line)
     → d ≡ not (is_bad file (must DayDate) (field line 2)) → a ≡ not (is_bad file (must QualityMethod) (field line (n + 3)))
-    → b ≡ not (is_bad file (may Nothing) (field line (n + 4))) → c ≡ not (is_bad file (may Nothing) (field line (n + 5)))
+    → b ≡ not (is_bad file (may ReasonNumber) (field line (n + 4))) → c ≡ not (is_bad file (may ReasonWords) (field line (n + 5)))
     → e ≡ not (is_bad file (may MomentTime) (field line (n + 6))) → g ≡ not (is_bad file (may MomentTime) (field line (n + 7)))
     → d ∷ (map (λ t. not (is_bad file (value_rule (means_values (field line (n + 3)))) t)) (take n (drop 2 (fields_of line))) ++ a ∷ b ∷ c ∷ e ∷ g ∷ [])
     ≡ good_tests file (layout_of IntervalData n line) line
@@ -171,7 +175,7 @@ interval_tests file n line d a b c e g long ed ea eb ec ee eg =
     let values = replicate n (value_rule there) in
     let two : drop 1 (drop 1 fs) ≡ drop 2 fs = drop-drop 1 1 fs in
     let counted : length (drop 1 (drop 1 fs)) ≡ length fs - 2 = ap length two ∙ length-drop 2 fs in
-    let behind : drop (length values) (drop 1 (drop 1 fs)) ≡ drop (n + 2) fs =
+    let after : drop (length values) (drop 1 (drop 1 fs)) ≡ drop (n + 2) fs =
     ap (drop (length values)) two ∙ drop-drop (length values) 2 fs ∙ cong_drop fs (2 + length values) (n + 2) (ap (λ m. 2 + m) (length-replicate n (value_rule there)) ∙ omega arith) in
     let taken : tests_of file values (drop 1 (drop 1 fs)) ≡ map (λ t. not (is_bad file (value_rule there) t)) (take n (drop 2 fs)) =
     tests_of-replicate file (value_rule there) n (drop 1 (drop 1 fs)) (omega arith) ∙ ap (λ left. map (λ t. not (is_bad file (value_rule there) t)) (take n left)) two in
@@ -179,26 +183,18 @@ interval_tests file n line d a b c e g long ed ea eb ec ee eg =
     ∙ same_parts (ap (λ t. not (is_bad file (must DayDate) t)) (field_by line (drop 1 fs) 1 2 refl refl) ∙ sym ed)
     (tests_of-append file values last_rules (drop 1 (drop 1 fs))
     ∙ ap (λ ts. ts ++ tests_of file last_rules (drop (length values) (drop 1 (drop 1 fs)))) taken
-    ∙ ap (λ ts. map (λ t. not (is_bad file (value_rule there) t)) (take n (drop 2 fs)) ++ ts) (last_tests file n line (drop (length values) (drop 1 (drop 1 fs))) a b c e g behind ea eb ec ee eg)))
+    ∙ ap (λ ts. map (λ t. not (is_bad file (value_rule there) t)) (take n (drop 2 fs)) ++ ts) (last_tests file n line (drop (length values) (drop 1 (drop 1 fs))) a b c e g after ea eb ec ee eg)))
 
 -- the outcome of the tests of a day
 day_outcome : (d : Bool) (n : ℕ) (values more : List Bool) → length values ≡ n → first_false 2 (d ∷ (values ++ more)) ≡ (if d then or_else (first_false 3 values) (first_false (n + 3) more) else Some 2)
 day_outcome true n values more l = first_false-append 3 values more ∙ ap (λ m. or_else (first_false 3 values) (first_false m more)) (omega arith)
 day_outcome false n values more l = refl
 
-or_nothing : (b : Bool) → b ≡ (b || false)
-or_nothing true = refl
-or_nothing false = refl
-
-no_day : is_some (day_of []) ≡ false
-unfolding day_of
-no_day = refl
-
 -- the first fault of a 300 record, from its fields and the tests of them
-pub interval_is : (file : FileKind) (n : ℕ) (line : List ℕ) (day : IntervalDataRecord) (faults : Faults) (d m a b c e g : Bool) (least : Option ℕ) → HasFields n line day faults
-    → d ≡ is_some (day_of day.date.now) → m ≡ means_values day.quality.now → a ≡ bytes_eq day.quality.now (codes "A")
-    → b ≡ eqb (length day.reason_code.now) 0 → c ≡ eqb (length day.reason_text.now) 0
-    → e ≡ (eqb (length day.update.now) 0 || is_some (moment_of day.update.now)) → g ≡ (eqb (length day.load.now) 0 || is_some (moment_of day.load.now))
+pub interval_is : (file : FileKind) (n : ℕ) (line : List ℕ) (day : DayFields) (faults : ValueFaults) (d m a b c e g : Bool) (least : Option ℕ) → HasDayFields n line day faults
+    → d ≡ is_some (day_of day.date.now) → m ≡ means_values day.quality.now → a ≡ is_some (quality_of day.quality.now)
+    → b ≡ is_some (code_of day.reason_code.now) → c ≡ is_reason_text day.reason_text.now
+    → e ≡ is_some (optional moment_of day.update.now) → g ≡ is_some (optional moment_of day.load.now)
     → least ≡ (if d then or_else (lesser faults.bad (if m then faults.empty else None)) (first_false (n + 3) (a ∷ b ∷ c ∷ e ∷ g ∷ [])) else Some 2)
     → field_fault file IntervalData n line ≡ option_map Bad least
 interval_is file n line day faults d m a b c e g least f ed em ea eb ec ee eg is =
@@ -216,17 +212,17 @@ interval_is file n line day faults d m a b c e g least f ed em ea eb ec ee eg is
     (sym f.blank ∙ right_count true (drop (n + 7) fs) fs (n + 3) (length (layout_of IntervalData n line) + 1) enough (cong_drop fs (n + 7) (length (layout_of IntervalData n line) + 1) (sym last)))
     (interval_tests file n line d a b c e g long
     (ed ∙ ap (λ t. is_some (day_of t)) f.date ∙ good_must file DayDate (field line 2) no_day)
-    (ea ∙ ap (λ t. bytes_eq t (codes "A")) f.quality ∙ good_must file QualityMethod (field line (n + 3)) refl)
-    (eb ∙ ap (λ t. eqb (length t) 0) f.reason_code ∙ or_nothing (eqb (length (field line (n + 4))) 0) ∙ good_may file Nothing (field line (n + 4)))
-    (ec ∙ ap (λ t. eqb (length t) 0) f.reason_text ∙ or_nothing (eqb (length (field line (n + 5))) 0) ∙ good_may file Nothing (field line (n + 5)))
-    (ee ∙ ap (λ t. eqb (length t) 0 || is_some (moment_of t)) f.update ∙ good_may file MomentTime (field line (n + 6)))
-    (eg ∙ ap (λ t. eqb (length t) 0 || is_some (moment_of t)) f.load ∙ good_may file MomentTime (field line (n + 7))))
+    (ea ∙ ap (λ t. is_some (quality_of t)) f.quality ∙ good_must file QualityMethod (field line (n + 3)) no_quality)
+    (eb ∙ ap (λ t. is_some (code_of t)) f.reason_code ∙ good_even_empty file ReasonNumber (field line (n + 4)) empty_code)
+    (ec ∙ ap is_reason_text f.reason_text ∙ good_even_empty file ReasonWords (field line (n + 5)) empty_text)
+    (ee ∙ ap (λ t. is_some (optional moment_of t)) f.update ∙ optional_good moment_of (field line (n + 6)) ∙ good_may file MomentTime (field line (n + 6)))
+    (eg ∙ ap (λ t. is_some (optional moment_of t)) f.load ∙ optional_good moment_of (field line (n + 7)) ∙ good_may file MomentTime (field line (n + 7))))
     ∙ ap (option_map Bad) (day_outcome d n values (a ∷ b ∷ c ∷ e ∷ g ∷ []) size
     ∙ ap (λ (v : Option ℕ). if d then or_else v (first_false (n + 3) (a ∷ b ∷ c ∷ e ∷ g ∷ [])) else Some 2)
     (values_fault file there (take n (drop 2 fs)) ∙ sym (rw (f.bad, f.empty, same) refl))
     ∙ sym is)
 
--- the fault of a line with something behind its last field
+-- the fault of a line with something after its last field
 pub wrong_end : (file : FileKind) (n : ℕ) (line : List ℕ) (left : List (List ℕ)) → n + 3 ≤ length (fields_of line) → left ≡ drop (n + 7) (fields_of line) → false ≡ are_blank left → field_fault file IntervalData n line ≡ Some Count
 wrong_end file n line left long l w =
     let fs = fields_of line in
@@ -244,3 +240,30 @@ wrong_count file n line (inr more) =
       | inl few ↦ too_few file n line (omega arith)
       | inr long ↦ wrong_end file n line (drop (n + 7) (fields_of line)) long refl (sym more)
     ]
+
+-- where no field of a day is bad, its date and each field after its values are good
+pub record HasPassed (d a b c e g : Bool) : Type 0 where
+  pub date : d ≡ true
+  pub quality : a ≡ true
+  pub code : b ≡ true
+  pub text : c ≡ true
+  pub update : e ≡ true
+  pub load : g ≡ true
+
+no_other : (m n : Option ℕ) → or_else m n ≡ None → n ≡ None
+no_other None n h = h
+no_other (Some m) n h = absurd (cc)
+
+pub all_passed : (d a b c e g : Bool) (values after least : Option ℕ) (from : ℕ) → after ≡ first_false from (a ∷ b ∷ c ∷ e ∷ g ∷ [])
+    → least ≡ (if d then or_else values after else Some 2) → least ≡ None → HasPassed d a b c e g
+all_passed false a b c e g values after least from tests is none = let wrong = sym is ∙ none in absurd (cc)
+all_passed true a b c e g values after least from tests is none =
+    let passed = none_fails from (a ∷ b ∷ c ∷ e ∷ g ∷ []) (sym tests ∙ no_other values after (sym is ∙ none)) in
+    record {
+      date = refl;
+      quality = passed 0 (lit< tt);
+      code = passed 1 (lit< tt);
+      text = passed 2 (lit< tt);
+      update = passed 3 (lit< tt);
+      load = passed 4 (lit< tt);
+    }

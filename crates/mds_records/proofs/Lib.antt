@@ -1,13 +1,7 @@
 pub mod Days
-pub mod KindFacts
-pub mod Lefts
+pub mod Numbers
 pub mod Outcomes
-pub mod Pieces
-pub mod Qualities
-pub mod Ranges
 pub mod Rests
 pub mod Rules
-pub mod Seeks
-pub mod Splits
-pub mod StreamFacts
 pub mod Tallies
+pub mod Terms

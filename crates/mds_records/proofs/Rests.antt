@@ -1,14 +1,14 @@
 -- What is left of a line while its fields are taken.
 use Rattle.std.proofs.Common.{◌≡◌, ℕ, ◌+◌, ◌<◌, Bool, true, false, not, ◌&&◌, ◌||◌, ltb, List, [], ◌∷◌, length, take, drop, get_or, Option, Some, None, is_some, option_copied, add-zero, ◌-◌, length-drop, refl, sym, ◌∙◌, ap, arith, rules}
-use Rattle.std.specs.List.{onto_first, position_or_len, list_any, list_all}
+use Rattle.std.specs.List.{position_or_len, list_any}
 use Rattle.std.proofs.lemmas.List.Sums.{fails_before_first}
-use Rattle.std.proofs.lemmas.List.Splits.{slice_split_none, slice_split_first, slice_split-cons_yes, slice_split-cons_no, length-slice_split}
-use Rattle.mds_records.specs.Lines.{is_comma, fields_of}
+use Rattle.std.proofs.lemmas.List.Splits.{slice_split_none, slice_split_first, length-slice_split}
+use Rattle.mds_lines.specs.Lines.{is_comma, fields_of}
 use Rattle.std.proofs.lemmas.Bool.{lt-ltb}
 use Rattle.std.proofs.lemmas.Bool.Decides.{nat_tests}
 use Rattle.std.proofs.lemmas.List.{get_or-drop, drop-drop}
 use denote.Ref.{Bor}
-use Rattle.mds_records.specs.Rest.{fields_left, first_of, are_blank}
+use Rattle.mds_lines.specs.Rest.{fields_left, first_of, are_blank}
 
 -- where there is no comma, the text is its one field
 pub one_field : (text : List ℕ) (n : ℕ) → n ≡ position_or_len is_comma text → n ≡ length text → fields_of text ≡ text ∷ []
@@ -17,20 +17,6 @@ one_field text n e l = slice_split_none is_comma text (λ k d lt. fails_before_f
 -- at a comma, the first field stands before it and the others after it
 pub more_fields : (text : List ℕ) (n : ℕ) → n ≡ position_or_len is_comma text → n < length text → fields_of text ≡ take n text ∷ fields_of (drop (n + 1) text)
 more_fields text n e lt = let h : position_or_len is_comma text < length text = omega arith in rw e (slice_split_first is_comma text 0 h)
-
--- a byte more in the first field makes it no longer empty
-onto_first_blank : (x : ℕ) (parts : List (List ℕ)) → are_blank (onto_first x parts) ≡ false
-onto_first_blank x [] = refl
-onto_first_blank x (part ∷ parts) = grind arith
-
-blank_more : (x : ℕ) (xs : List ℕ) (b : Bool) → is_comma x ≡ b → are_blank (fields_of xs) ≡ list_all is_comma xs → are_blank (fields_of (x ∷ xs)) ≡ (b && list_all is_comma xs)
-blank_more x xs true e h = ap are_blank (slice_split-cons_yes is_comma x xs e) ∙ h
-blank_more x xs false e h = ap are_blank (slice_split-cons_no is_comma x xs e) ∙ onto_first_blank x (fields_of xs)
-
--- the fields of a text are empty exactly if it is commas alone
-pub are_blank-fields_of : (text : List ℕ) → are_blank (fields_of text) ≡ list_all is_comma text
-are_blank-fields_of [] = refl
-are_blank-fields_of (x ∷ xs) = blank_more x xs (is_comma x) refl (are_blank-fields_of xs)
 
 one_more : (xs : List (List ℕ)) (k : ℕ) → drop 1 (drop k xs) ≡ drop (k + 1) xs
 one_more xs k = drop-drop 1 k xs
@@ -44,7 +30,7 @@ pub some_left : (r : Option (Bor (List ℕ))) → is_some r ≡ ltb 0 (length (f
 some_left None = refl
 some_left (Some text) = sym (lt-ltb 0 (length (fields_of text.now)) (omega (arith, length-slice_split is_comma text.now)))
 
--- where k fields were taken, the next is the field at k, and one fewer is left behind it
+-- where k fields were taken, the next is the field at k, and one fewer is left after it
 pub taken_at : (fields left : List (List ℕ)) (k : ℕ) → left ≡ drop k fields → first_of left ≡ get_or fields k []
 taken_at fields left k e = ap first_of e ∙ get_or-drop k fields 0 [] ∙ ap (λ i. get_or fields i []) (add-zero k)
 
@@ -54,7 +40,7 @@ left_at fields left rest k e h = h ∙ ap (drop 1) e ∙ one_more fields k
 above : (n k : ℕ) → ltb 0 (n - k) ≡ not (ltb n (k + 1))
 above n k = search (rules, nat_tests)
 
--- behind one fewer than the least number of fields something is left exactly if there are so many
+-- after one fewer than the least number of fields something is left exactly if there are so many
 pub enough : (r : Option (Bor (List ℕ))) (fields : List (List ℕ)) (k : ℕ) → fields_left (option_copied r) ≡ drop k fields → is_some r ≡ not (ltb (length fields) (k + 1))
 enough r fields k e = some_left r ∙ ap (λ xs. ltb 0 (length xs)) e ∙ ap (ltb 0) (length-drop k fields) ∙ above (length fields) k
 

@@ -4,12 +4,12 @@ use Rattle.std.specs.List.{range_with_len}
 use Rattle.std.proofs.lemmas.Bool.Decides.{nat_tests}
 use Rattle.mds_records.specs.declared.file.FileKind.{FileKind}
 use Rattle.mds_records.specs.declared.file.FileKind.TheVariants.{Nem12}
-use Rattle.mds_records.specs.declared.line.Kind.{Kind}
-use Rattle.mds_records.specs.declared.record.FieldFault.TheVariants.{WrongFile, Count, Bad}
+use Rattle.mds_lines.specs.declared.line.Kind.{Kind}
+use Rattle.mds_records.specs.declared.fault.FieldFault.TheVariants.{WrongFile, Count, Bad}
 use Rattle.mds_records.specs.Faults.{field_fault, is_of_other_file, has_wrong_count, layout_of, least_bad, is_bad}
-use Rattle.mds_records.specs.Layouts.{Form, Rule, Nothing, Printable, may, must, fits, file_name, is_printable}
-use Rattle.mds_records.specs.Lines.{field}
-use Rattle.mds_records.specs.Rest.{first_false, outcome}
+use Rattle.mds_records.specs.Layouts.{Form, Rule, Nothing, may, must, fits, file_name}
+use Rattle.mds_lines.specs.Lines.{field}
+use Rattle.mds_records.specs.RecordSteps.{first_false, outcome}
 
 first_of_tests : (p : ℕ → Bool) (a n : ℕ) (b : Bool) → p a ≡ b → find p (range_with_len (a + 1) n) ≡ first_false (a + 1) (map (λ k. not (p k)) (range_with_len (a + 1) n)) → find p (range_with_len a (suc n)) ≡ first_false a (map (λ k. not (p k)) (range_with_len a (suc n)))
 first_of_tests p a n true e h = rw e refl
@@ -54,15 +54,17 @@ pub good_may : (file : FileKind) (form : Form) (text : List ℕ) → (eqb (lengt
 good_may file form [] = refl
 good_may file form (x ∷ xs) = rw (suc_is_not (length xs)) (twice (fits file form (x ∷ xs)))
 
-pub good_printable : (file : FileKind) (text : List ℕ) → is_printable text ≡ not (is_bad file (may Printable) text)
-good_printable file [] = refl
-good_printable file (x ∷ xs) = rw (suc_is_not (length xs)) (twice (is_printable (x ∷ xs)))
+-- and so if it is of its form, where the empty text is of that form too
+pub good_even_empty : (file : FileKind) (form : Form) (text : List ℕ) → fits file form [] ≡ true → fits file form text ≡ not (is_bad file (may form) text)
+good_even_empty file form [] h = h
+good_even_empty file form (x ∷ xs) h = rw (suc_is_not (length xs)) (twice (fits file form (x ∷ xs)))
 
 -- lists are equal by their parts
 pub same_parts : {X : Type 0} {a b : X} {xs ys : List X} → a ≡ b → xs ≡ ys → a ∷ xs ≡ b ∷ ys
 same_parts e h = cc
 
-none_fails : (n : ℕ) (tests : List Bool) → first_false n tests ≡ None → (k : ℕ) → k < length tests → get_or tests k true ≡ true
+-- where no test of a list failed, each passed
+pub none_fails : (n : ℕ) (tests : List Bool) → first_false n tests ≡ None → (k : ℕ) → k < length tests → get_or tests k true ≡ true
 none_fails n [] h k lt = absurd (omega arith)
 none_fails n (false ∷ tests) h k lt = cc
 none_fails n (true ∷ tests) h zero lt = refl

@@ -1,5 +1,7 @@
 -- What values say together, one value after the other.
-use Rattle.std.proofs.Common.{◌≡◌, ℕ, ◌+◌, ◌-◌, ◌<◌, ◌≤◌, Bool, true, false, not, ◌||◌, eqb, List, [], ◌∷◌, ◌++◌, length, take, drop, map, get_or, Option, Some, None, is_some, refl, sym, ◌∙◌, ap, arith, rules, if◌then◌else◌, ◌+ℤ◌, pos, ℤ, Result, Ok, Err, is_ok, add-zero, ◌⊎◌, inl, inr, length-drop, length-append}
+use Rattle.std.proofs.Common.{◌≡◌, ℕ, ◌+◌, ◌-◌, ◌*◌, ◌^◌, ◌<◌, ◌≤◌, unsigned_abs, to_z, of_z, Bool, true, false, not, ◌||◌, eqb, List, [], ◌∷◌, ◌++◌, length, take, drop, map, get_or, Option, Some, None, is_some, refl, sym, ◌∙◌, ap, arith, rules, if◌then◌else◌, ◌+ℤ◌, pos, ℤ, Result, Ok, Err, is_ok, add-zero, ◌⊎◌, inl, inr, length-drop, length-append}
+use Rattle.std.proofs.lemmas.Int.{to_z-of_z, fits_signed_from_abs}
+use Rattle.std.specs.Int.{w128}
 use Rattle.std.specs.List.{position_or_len, onto_first}
 use Rattle.std.proofs.lemmas.List.{take_more, take_at, take-append-drop, drop_more, take_all, map-append, length-map, length-take-le, drop-drop, get_or-drop}
 use Rattle.std.proofs.lemmas.List.Sums.{fold_push, prefix_len-le-length, passes_at_first}
@@ -9,10 +11,10 @@ use Rattle.std.proofs.lemmas.Bool.Decides.{nat_tests}
 use Rattle.mds_quantity.specs.declared.quantity.QuantityFault.{QuantityFault}
 use Rattle.mds_quantity.specs.declared.quantity.QuantityFault.TheVariants.{Form}
 use Rattle.mds_quantity.specs.Quantity.{denoted}
-use Rattle.mds_records.specs.Lines.{is_comma, fields_of}
+use Rattle.mds_lines.specs.Lines.{is_comma, fields_of}
 use Rattle.mds_records.specs.Records.{sum_of, amount_of}
-use Rattle.mds_records.specs.Rest.{first_of, first_false}
-use Rattle.mds_records.specs.Values.{is_empty_or_quantity}
+use Rattle.mds_lines.specs.Rest.{first_of}
+use Rattle.mds_records.specs.RecordSteps.{first_false, is_empty_or_quantity}
 use Rattle.mds_records.proofs.Rests.{one_field, more_fields, taken_at}
 
 -- with one test more
@@ -116,12 +118,12 @@ split_more x xs ys false e h =
     ∙ onto_first-append x (fields_of xs) (fields_of ys) (omega (arith, length-slice_split is_comma xs))
     ∙ ap (λ ps. ps ++ fields_of ys) (sym (slice_split-cons_no is_comma x xs e))
 
--- the fields before a comma and those behind it
+-- the fields before a comma and those after it
 split_at_comma : (xs ys : List ℕ) → fields_of (xs ++ 44 ∷ ys) ≡ fields_of xs ++ fields_of ys
 split_at_comma [] ys = refl
 split_at_comma (x ∷ xs) ys = split_more x xs ys (is_comma x) refl (split_at_comma xs ys)
 
--- what stands before a comma behind which all but k fields are left is the first k fields
+-- what stands before a comma after which all but k fields are left is the first k fields
 pub front_fields : (text : List ℕ) (end at k : ℕ) → at ≡ end + 1 → get_or text end 0 ≡ 44 → at ≤ length text → fields_of (drop at text) ≡ drop k (fields_of text) → fields_of (take end text) ≡ take k (fields_of text)
 front_fields text end at k e comma within left =
     let cut : text ≡ take end text ++ 44 ∷ drop at text =
@@ -138,3 +140,7 @@ left_means_more text at k left =
     let some : 0 < length (fields_of (drop at text)) = omega (arith, length-slice_split is_comma (drop at text)) in
     let counted : length (fields_of (drop at text)) ≡ length (fields_of text) - k = ap length left ∙ length-drop k (fields_of text) in
     omega arith
+
+-- the sum of a day's values is an i128
+pub sum_fits : (sum : ℤ) (n : ℕ) → n ≤ 288 → unsigned_abs sum ≤ n * 10 ^ 18 → to_z w128 (of_z w128 sum) ≡ sum
+sum_fits sum n few small = to_z-of_z w128 sum (fits_signed_from_abs w128 sum (omega arith))

@@ -1,17 +1,22 @@
 -- The layouts of the records, each as one row of a table: what its fields hold, from field 2 on. MDFF Specification, the
--- tables of the 100, 200, 300 and 900 records. Which fields may be empty, how long a text may be and which fields may be
--- left off is this project's profile.
-use Rattle.std.specs.Prelude.{ℕ, ◌+◌, Bool, true, false, ◌&&◌, ◌||◌, ◌==◌, nat_le, List, [], ◌∷◌, ◌++◌, length, drop, replicate, codes, bytes_eq, slice_index, is_some, is_ok}
+-- tables of the 100, 200, 300, 400 and 900 records. Which fields may be empty, how long a text may be and which fields may
+-- be left off is this project's profile.
+use Rattle.std.specs.Prelude.{ℕ, ◌+◌, Bool, true, false, ◌&&◌, ◌==◌, nat_le, if◌then◌else◌, List, [], ◌∷◌, ◌++◌, length, replicate, codes, bytes_eq, Option, Some, None, is_some, is_ok}
 use Rattle.std.specs.Char.{is_ascii_digit}
-use Rattle.std.specs.List.{list_all}
+use Rattle.std.specs.List.{list_all, list_any}
+use Rattle.std.specs.Str.Parse.{digits_value}
 use Rattle.mds_quantity.specs.Quantity.{denoted}
 use Rattle.mds_quantity.specs.Unit.{unit_of}
-use Rattle.mds_terms.specs.Calendar.{day_of, moment_of, date_time_of}
-use Rattle.mds_terms.specs.Names.{nmi_of, suffix_of}
+use Rattle.mds_calendar.specs.Calendar.{day_of, moment_of, date_time_of}
+use Rattle.mds_calendar.specs.Length.{length_of}
+use Rattle.mds_names.specs.Names.{nmi_of, suffix_of}
+use Rattle.mds_marks.specs.Quality.{QualityValue, quality_of}
+use Rattle.mds_marks.specs.Reason.{code_of, is_reason_text}
+use Rattle.mds_terms.specs.Printable.{is_printable}
+use Rattle.mds_lines.specs.declared.line.Kind.{Kind}
+use Rattle.mds_lines.specs.declared.line.Kind.TheVariants.{Header, NmiDataDetails, IntervalData, IntervalEvent, EndOfData}
 use Rattle.mds_records.specs.declared.file.FileKind.{FileKind}
 use Rattle.mds_records.specs.declared.file.FileKind.TheVariants.{Nem12}
-use Rattle.mds_records.specs.declared.line.Kind.{Kind}
-use Rattle.mds_records.specs.declared.line.Kind.TheVariants.{Header, NmiDataDetails, IntervalData, EndOfData}
 
 -- what a field that isn't empty has to be
 pub data Form : Type 0 where
@@ -24,7 +29,11 @@ pub data Form : Type 0 where
   LengthInMinutes : Form
   DayDate : Form
   Value : Form
+  IntervalNumber : Form
   QualityMethod : Form
+  EventQuality : Form
+  ReasonNumber : Form
+  ReasonWords : Form
   MomentTime : Form
   Nothing : Form
 
@@ -36,11 +45,27 @@ file_name Nem12 = codes "NEM12"
 abbrev pub other_file_name : FileKind → List ℕ
 other_file_name Nem12 = codes "NEM13"
 
--- printable ASCII but the comma, at most 240 bytes of it
-abbrev pub is_printable : List ℕ → Bool
-is_printable text = nat_le (length text) 240 && list_all (λ c. nat_le 32 c && nat_le c 126) text
+-- the number of an interval that a text of one to four digits is (the digits are the profile's)
+unfoldable pub interval_number_of : List ℕ → Option ℕ
+interval_number_of text =
+    if nat_le 1 (length text) && nat_le (length text) 4 && list_all is_ascii_digit text
+    then Some (digits_value 10 text) else None
 
--- A field that isn't empty is of its form. For now a length is 30 minutes, a quality is A, and reasons are empty.
+-- a quality's flag is one of these letters
+abbrev pub has_flag : List ℕ → Option QualityValue → Bool
+has_flag letters None = false
+has_flag letters (Some quality) = list_any (λ letter. quality.flag == letter) letters
+
+-- A quality that means that values are there: actual, or estimated, final substituted or substituted by a method. Null
+-- and variable don't, and what is no quality says nothing of that.
+abbrev pub means_values : List ℕ → Bool
+means_values quality = has_flag (codes "AEFS") (quality_of quality)
+
+-- the quality of an event: any but variable, which says that events follow
+abbrev pub is_event_quality : List ℕ → Bool
+is_event_quality quality = has_flag (codes "AEFNS") (quality_of quality)
+
+-- a field that isn't empty is of its form
 abbrev pub fits : FileKind → Form → List ℕ → Bool
 fits file FileName text = bytes_eq text (file_name file)
 fits file DateTime text = is_some (date_time_of text)
@@ -48,10 +73,14 @@ fits file Printable text = is_printable text
 fits file NmiName text = is_some (nmi_of text)
 fits file SuffixName text = is_some (suffix_of text)
 fits file UnitName text = is_some (unit_of text)
-fits file LengthInMinutes text = bytes_eq text (codes "30")
+fits file LengthInMinutes text = is_some (length_of text)
 fits file DayDate text = is_some (day_of text)
 fits file Value text = is_ok (denoted text)
-fits file QualityMethod text = bytes_eq text (codes "A")
+fits file IntervalNumber text = is_some (interval_number_of text)
+fits file QualityMethod text = is_some (quality_of text)
+fits file EventQuality text = is_event_quality text
+fits file ReasonNumber text = is_some (code_of text)
+fits file ReasonWords text = is_reason_text text
 fits file MomentTime text = is_some (moment_of text)
 fits file Nothing text = false
 
@@ -66,7 +95,7 @@ must form = record { may_be_empty = false; form = form }
 abbrev pub may : Form → Rule
 may form = record { may_be_empty = true; form = form }
 
--- the fields after the indicator; a 300 record has n values, which may be empty or not
+-- the fields after the indicator; a 300 has n values, which may be empty or not
 abbrev pub layout : Kind → ℕ → Bool → List Rule
 layout Header n values_may_be_empty = must FileName ∷ must DateTime ∷ may Printable ∷ may Printable ∷ []
 layout NmiDataDetails n values_may_be_empty =
@@ -74,7 +103,9 @@ layout NmiDataDetails n values_may_be_empty =
     ∷ must LengthInMinutes ∷ may DayDate ∷ []
 layout IntervalData n values_may_be_empty =
     must DayDate ∷ replicate n (record { may_be_empty = values_may_be_empty; form = Value })
-    ++ must QualityMethod ∷ may Nothing ∷ may Nothing ∷ may MomentTime ∷ may MomentTime ∷ []
+    ++ must QualityMethod ∷ may ReasonNumber ∷ may ReasonWords ∷ may MomentTime ∷ may MomentTime ∷ []
+layout IntervalEvent n values_may_be_empty =
+    must IntervalNumber ∷ must IntervalNumber ∷ must EventQuality ∷ may ReasonNumber ∷ may ReasonWords ∷ []
 layout EndOfData n values_may_be_empty = []
 
 -- the least number of fields, the indicator included: trailing fields may be left off down to it
@@ -82,12 +113,5 @@ abbrev pub least_count : Kind → ℕ → ℕ
 least_count Header n = 3
 least_count NmiDataDetails n = 9
 least_count IntervalData n = n + 3
+least_count IntervalEvent n = 4
 least_count EndOfData n = 1
-
--- A quality that means that values are there: A, or E, F or S with a method of two digits. N and V, and what is no
--- quality, say nothing of that.
-abbrev pub means_values : List ℕ → Bool
-means_values quality =
-    bytes_eq quality (codes "A")
-    || ((length quality == 3) && list_all is_ascii_digit (drop 1 quality)
-    && ((slice_index quality 0 == 69) || (slice_index quality 0 == 70) || (slice_index quality 0 == 83)))

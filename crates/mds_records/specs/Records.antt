@@ -1,27 +1,33 @@
--- The record that a line spells: its fields by name, in the standard's order, each a slice of the line.
--- MDFF Specification, the tables of the 100, 200, 300 and 900 records.
-use Rattle.std.specs.Prelude.{◌≡◌, ℕ, ◌+◌, List, take, drop, fold, ℤ, pos, ◌+ℤ◌, Option, Some, None, IsSome, Result, Ok, Err}
+-- The record that a line spells: its fields by name, each read once into its term.
+-- MDFF Specification, the tables of the 100, 200, 300, 400 and 900 records.
+use Rattle.std.specs.Prelude.{◌≡◌, ℕ, ◌+◌, List, take, drop, fold, ℤ, pos, ◌+ℤ◌, Option, Some, None, Result, Ok, Err}
 use Rattle.mds_quantity.specs.Quantity.{denoted}
 use Rattle.mds_quantity.specs.declared.quantity.QuantityFault.{QuantityFault}
 use Rattle.mds_quantity.specs.Unit.{unit_of}
-use Rattle.mds_terms.specs.Calendar.{day_of}
-use Rattle.mds_terms.specs.Length.{count_of, length_of}
-use Rattle.mds_terms.specs.Names.{nmi_of, suffix_of}
-use Rattle.mds_records.specs.declared.line.Kind.{Kind}
-use Rattle.mds_records.specs.declared.line.Kind.TheVariants.{Header, NmiDataDetails, IntervalData, EndOfData}
-use Rattle.mds_records.specs.declared.record.HeaderRecord.{HeaderRecord}
-use Rattle.mds_records.specs.declared.record.NmiDataDetailsRecord.{NmiDataDetailsRecord}
-use Rattle.mds_records.specs.declared.record.IntervalDataRecord.{IntervalDataRecord}
+use Rattle.mds_calendar.specs.Calendar.{day_of, moment_of, date_time_of}
+use Rattle.mds_calendar.specs.Length.{count_of, length_of}
+use Rattle.mds_names.specs.Names.{nmi_of, suffix_of}
+use Rattle.mds_marks.specs.Mark.{mark_of}
+use Rattle.mds_marks.specs.Borrowed.{mark_value}
+use Rattle.mds_terms.specs.Borrowed.{text_of}
+use Rattle.mds_terms.specs.Parts.{optional}
+use Rattle.mds_lines.specs.declared.line.Kind.{Kind}
+use Rattle.mds_lines.specs.declared.line.Kind.TheVariants.{Header, NmiDataDetails, IntervalData, IntervalEvent, EndOfData}
+use Rattle.mds_lines.specs.Lines.{fields_of, field}
+use Rattle.mds_records.specs.declared.header.HeaderRecord.{HeaderRecord}
+use Rattle.mds_records.specs.declared.nmi_data_details.NmiDataDetailsRecord.{NmiDataDetailsRecord}
+use Rattle.mds_records.specs.declared.interval_data.IntervalDataRecord.{IntervalDataRecord}
+use Rattle.mds_records.specs.declared.interval_event.IntervalEventRecord.{IntervalEventRecord}
 use Rattle.mds_records.specs.declared.record.Record.{Record}
 use Rattle.mds_records.specs.declared.record.Record.TheVariants as of
-use Rattle.mds_records.specs.Lines.{fields_of, field}
+use Rattle.mds_records.specs.Layouts.{interval_number_of}
 
--- how many values a 300 record has, by the length of its intervals
+-- how many values a 300 has, by the length of its intervals
 abbrev pub value_count : Option ℕ → ℕ
 value_count None = 0
 value_count (Some minutes) = count_of minutes
 
--- the value fields of a 300 record: n of them from field 3 on
+-- the value fields of a 300: n of them from field 3 on
 abbrev pub values_of : ℕ → List ℕ → List (List ℕ)
 values_of n line = take n (drop 2 (fields_of line))
 
@@ -36,44 +42,41 @@ sum_of values = fold (λ sum text. sum +ℤ amount_of (denoted text)) (pos 0) va
 
 -- 100
 pub record IsHeader (line : List ℕ) (r : HeaderRecord) : Type 0 where
-  pub file : r.file.now ≡ field line 2
-  pub date_time : r.date_time.now ≡ field line 3
-  pub sender : r.sender.now ≡ field line 4
-  pub receiver : r.receiver.now ≡ field line 5
+  pub moment : date_time_of (field line 3) ≡ Some r.moment
+  pub sender : text_of r.sender ≡ field line 4
+  pub receiver : text_of r.receiver ≡ field line 5
 
 -- 200
 pub record IsNmiDataDetails (line : List ℕ) (r : NmiDataDetailsRecord) : Type 0 where
-  pub nmi : r.nmi.now ≡ field line 2
-  pub configuration : r.configuration.now ≡ field line 3
-  pub register : r.register.now ≡ field line 4
-  pub suffix : r.suffix.now ≡ field line 5
-  pub datastream : r.datastream.now ≡ field line 6
-  pub meter : r.meter.now ≡ field line 7
-  pub unit : r.unit.now ≡ field line 8
-  pub length : r.length.now ≡ field line 9
-  pub next_read : r.next_read.now ≡ field line 10
-  -- what names it, and what its 300 records are of, can be read
-  pub good_nmi : IsSome (nmi_of r.nmi.now)
-  pub good_suffix : IsSome (suffix_of r.suffix.now)
-  pub good_unit : IsSome (unit_of r.unit.now)
-  pub good_length : IsSome (length_of r.length.now)
+  pub nmi : nmi_of (field line 2) ≡ Some r.stream.nmi
+  pub configuration : text_of r.details.configuration ≡ field line 3
+  pub register : text_of r.details.register ≡ field line 4
+  pub suffix : suffix_of (field line 5) ≡ Some r.stream.suffix
+  pub datastream : text_of r.details.datastream ≡ field line 6
+  pub meter : text_of r.details.meter ≡ field line 7
+  pub unit : unit_of (field line 8) ≡ Some r.unit
+  pub length : length_of (field line 9) ≡ Some r.length
+  pub next : optional day_of (field line 10) ≡ Some r.details.next
 
 -- 300, of n values
 pub record IsIntervalData (n : ℕ) (line : List ℕ) (r : IntervalDataRecord) : Type 0 where
-  pub date : r.date.now ≡ field line 2
+  pub date : day_of (field line 2) ≡ Some r.date
   pub values : fields_of r.values.now ≡ values_of n line
   pub sum : r.sum ≡ sum_of (values_of n line)
-  pub quality : r.quality.now ≡ field line (n + 3)
-  pub reason_code : r.reason_code.now ≡ field line (n + 4)
-  pub reason_text : r.reason_text.now ≡ field line (n + 5)
-  pub update : r.update.now ≡ field line (n + 6)
-  pub load : r.load.now ≡ field line (n + 7)
-  pub good_date : IsSome (day_of r.date.now)
+  pub mark : mark_of (field line (n + 3)) (field line (n + 4)) (field line (n + 5)) ≡ Some (mark_value r.mark)
+  pub update : optional moment_of (field line (n + 6)) ≡ Some r.update
+
+-- 400
+pub record IsIntervalEvent (line : List ℕ) (r : IntervalEventRecord) : Type 0 where
+  pub first : interval_number_of (field line 2) ≡ Some r.first
+  pub last : interval_number_of (field line 3) ≡ Some r.last
+  pub mark : mark_of (field line 4) (field line 5) (field line 6) ≡ Some (mark_value r.mark)
 
 -- the record that a line of a kind spells
 abbrev pub Spells : Kind → ℕ → List ℕ → Record → Type 0
 Spells Header n line (of.Header r) = IsHeader line r
 Spells NmiDataDetails n line (of.NmiDataDetails r) = IsNmiDataDetails line r
 Spells IntervalData n line (of.IntervalData r) = IsIntervalData n line r
+Spells IntervalEvent n line (of.IntervalEvent r) = IsIntervalEvent line r
 Spells EndOfData n line of.EndOfData = Unit {0}
 Spells kind n line r = ⊥

@@ -1,6 +1,6 @@
 //! The kinds of files, and the faults that a file can have.
 
-ghost use Rattle.std.specs.Prelude.{Some};
+ghost use Rattle.std.specs.Prelude.{◌≡◌, ◌↔◌, IsTrue, Some};
 ghost use Rattle.mds_records.specs.Printed.{code_text, fault_text};
 
 use std::fmt;
@@ -10,6 +10,15 @@ use std::fmt;
 pub enum FileKind {
     /// Interval data.
     Nem12,
+}
+
+impl FileKind {
+    ghost use Rattle.mds_records.specs.declared.file.FileKind.{FileKind as AFileKind};
+
+    /// A law: kinds of files are equal where they are the same.
+    pub fn one_equality()
+        ensures { (a b : AFileKind) → IsTrue (⟦<FileKind as PartialEq>⟧.eq a b) ↔ (a ≡ b) }
+    {}
 }
 
 /// What is wrong with a line of a file. Each is printed as its code.
@@ -33,6 +42,15 @@ pub enum FaultCode {
     WrongFile,
 }
 
+impl FaultCode {
+    ghost use Rattle.mds_records.specs.declared.file.FaultCode.{FaultCode as AFaultCode};
+
+    /// A law: codes are equal where they are the same.
+    pub fn one_equality()
+        ensures { (a b : AFaultCode) → IsTrue (⟦<FaultCode as PartialEq>⟧.eq a b) ↔ (a ≡ b) }
+    {}
+}
+
 impl fmt::Display for FaultCode {
     ghost output = { λ code. Some (code_text code) };
 
@@ -50,13 +68,22 @@ impl fmt::Display for FaultCode {
     }
 }
 
-/// The fault of a file: what is wrong, the number of the line, from 1, and that of the field, from 1, or 0 where no
-/// field is at fault.
+/// The fault of a file: what is wrong, the number of the line, from 1, and that of the field, from
+/// 1, or 0 where no field is at fault.
 #[derive(Clone, Copy, Debug, PartialEq, Eq)]
 pub struct FileFault {
     pub code: FaultCode,
     pub line: u64,
     pub field: usize,
+}
+
+impl FileFault {
+    ghost use Rattle.mds_records.specs.declared.file.FileFault.{FileFault as AFileFault};
+
+    /// A law: faults are equal where they are the same.
+    pub fn one_equality()
+        ensures { (a b : AFileFault) → IsTrue (⟦<FileFault as PartialEq>⟧.eq a b) ↔ (a ≡ b) }
+    {}
 }
 
 impl fmt::Display for FileFault {

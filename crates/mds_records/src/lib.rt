@@ -1,23 +1,26 @@
-//! The lines, fields and records of MDFF files, all borrowed from the buffer that they were read into.
+//! The records of MDFF files, whose texts are borrowed from the buffer that they were read into. The
+//! names of the lines and fields that they are read from are given on.
 #![tactic(auto)]
 
-mod fields;
+mod fault;
 mod file;
-mod interval;
-mod line;
-mod reader;
+mod header;
+mod interval_data;
+mod interval_event;
+mod nmi_data_details;
 mod record;
-mod rest;
-mod stream;
+mod term;
 
-pub use fields::Fields;
+pub use fault::FieldFault;
 pub use file::{FaultCode, FileFault, FileKind};
-pub use line::{Kind, KindFault, Line, one_split};
-pub use reader::{LineBuffer, LineFault, LineReader};
-pub use record::{
-    FieldFault, HeaderRecord, IntervalDataRecord, NmiDataDetailsRecord, Record, read_record,
+pub use header::HeaderRecord;
+pub use interval_data::IntervalDataRecord;
+pub use interval_event::IntervalEventRecord;
+pub use mds_lines::{
+    Counted, Fields, Kind, KindFault, Line, LineBuffer, LineFault, LineReader, Sink, Source,
 };
-pub use stream::{Counted, Sink, Source};
+pub use nmi_data_details::NmiDataDetailsRecord;
+pub use record::{Record, read_record};
 
 #[cfg(test)]
 mod tests;

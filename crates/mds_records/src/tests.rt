@@ -1,4 +1,3 @@
 //! Tests of what no clause says, and of each call once.
 
-mod lines;
 mod records;

@@ -1,5 +1,3 @@
-pub mod Days
-pub mod Digits
-pub mod Lengths
-pub mod Moments
+pub mod Joined
+pub mod ReadBack
 pub mod Texts

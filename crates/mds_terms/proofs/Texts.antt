@@ -1,29 +1,28 @@
--- Names and digits as text.
-use Rattle.std.proofs.Common.{◌≡◌, ℕ, ◌<◌, Bool, true, false, ◌==◌, cond, if◌then◌else◌, is_ok, OnErr, List, [], ◌∷◌, ◌++◌, length, take, codes, refl, sym, ap, ◌∙◌, Some, None, arith, MatchResult, IsOk, Ok, Err, Result, append_assoc}
+-- Bytes that are text, and what read as a day or a moment.
+use Rattle.std.proofs.Common.{◌≡◌, ℕ, ◌<◌, Bool, true, false, ◌&&◌, ◌==◌, cond, List, length, refl, Option, Some, None, unwrap_or, is_some, [], ◌∷◌, Result, Ok, Err, MatchResult, IsOk, arith}
 use Rattle.std.proofs.lemmas.Bool.Decides.{nat_tests}
-use Rattle.std.proofs.lemmas.List.Splits.{slice_split_at, slice_split_none}
 use Rattle.std.proofs.lemmas.List.Elements.{All-weaker}
 use Rattle.std.proofs.lemmas.List.Sums.{AllPass-from_list_all}
 use Rattle.std.proofs.lemmas.Str.{IsUtf8-from_ascii}
 use Rattle.std.proofs.lemmas.Str.Ascii.{IsAscii-from_all}
-use Rattle.std.proofs.Math.Seq.{take-append_seam}
-use Rattle.std.specs.Char.{is_ascii_digit}
-use Rattle.std.specs.List.{All, list_all, slice_split}
+use Rattle.std.specs.Char.{is_ascii_digit, is_ascii_uppercase}
+use Rattle.std.specs.List.{list_all}
+use Rattle.std.specs.Option.{option_and_then}
 use Rattle.std.specs.Str.{IsUtf8}
-use Rattle.mds_quantity.specs.Append.{AppendsPart}
-use Rattle.mds_terms.specs.Calendar.{are_digits}
-use Rattle.mds_terms.specs.Names.{is_name_char, is_name, nmi_of, suffix_of, stream_text}
-use Rattle.mds_terms.proofs.Digits.{both}
+use Rattle.mds_calendar.specs.Calendar.{day_of, moment_of, are_digits}
+use Rattle.mds_terms.specs.Event.{is_trans}
+use Rattle.mds_terms.specs.Printable.{is_printable_char}
+
+-- both of two tests hold where their conjunction does
+pub both : (a b : Bool) → (a && b) ≡ true → (a ≡ true) × (b ≡ true)
+both true true e = (refl, refl)
+both true false e = (refl, e)
+both false b e = absurd (cc)
 
 -- an outcome that is no error is a success
 pub ok_from : {T E : Type 0} (r : Result T E) (P : T → Type 0) (Q : E → Type 0) → MatchResult r P Q → ((e : E) → Q e → ⊥) → IsOk r
 ok_from (Ok x) P Q h none = refl
 ok_from (Err e) P Q h none = absurd (none e h)
-
--- what holds where the bytes were kept holds after an error
-pub on_err_kept : {T E P : Type 0} (r : Result T E) (new done kept : List ℕ) → new ≡ (if is_ok r then done else kept) → (new ≡ kept → P) → OnErr r P
-on_err_kept (Ok x) new done kept e h = tt
-on_err_kept (Err x) new done kept e h = h e
 
 -- bytes that are all of a kind below 128 are text
 utf8_from : (p : ℕ → Bool) → ((c : ℕ) → p c ≡ true → c < 128) → (bs : List ℕ) → list_all p bs ≡ true → IsUtf8 bs
@@ -32,36 +31,32 @@ utf8_from p low bs h = IsUtf8-from_ascii bs (IsAscii-from_all bs (All-weaker (λ
 pub digits_utf8 : (bs : List ℕ) → list_all is_ascii_digit bs ≡ true → IsUtf8 bs
 digits_utf8 bs h = utf8_from is_ascii_digit (λ c d. grind (arith, nat_tests)) bs h
 
-pub are_digits_utf8 : (n : ℕ) (bs : List ℕ) → are_digits n bs ≡ true → IsUtf8 bs
-are_digits_utf8 n bs h = digits_utf8 bs (both (length bs == n) (list_all is_ascii_digit bs) h).1
+pub letters_utf8 : (bs : List ℕ) → list_all is_ascii_uppercase bs ≡ true → IsUtf8 bs
+letters_utf8 bs h = utf8_from is_ascii_uppercase (λ c d. grind (arith, nat_tests)) bs h
 
-pub name_utf8 : (n : ℕ) (bs : List ℕ) → is_name n bs ≡ true → IsUtf8 bs
-name_utf8 n bs h = utf8_from is_name_char (λ c d. grind (arith, nat_tests)) bs (both (length bs == n) (list_all is_name_char bs) h).1
+pub printable_utf8 : (bs : List ℕ) → list_all is_printable_char bs ≡ true → IsUtf8 bs
+printable_utf8 bs h = utf8_from is_printable_char (λ c d. grind (arith, nat_tests)) bs h
 
--- what reads back is a name
-name_holds : (b : Bool) (x : List ℕ) → cond b (Some x) None ≡ Some x → b ≡ true
-name_holds true x e = refl
-name_holds false x e = absurd (cc)
+-- what a choice that made a value chose by
+if_some : (b : Bool) (x n : ℕ) → cond b (Some x) None ≡ Some n → b ≡ true
+if_some true x n e = refl
+if_some false x n e = absurd (cc)
 
-pub nmi_holds : (nmi : List ℕ) → nmi_of nmi ≡ Some nmi → is_name 10 nmi ≡ true
-nmi_holds nmi e = name_holds (is_name 10 nmi) nmi e
+then_some : (o : Option ℕ) (b : Bool) (f : ℕ → ℕ) (n : ℕ) → option_and_then (λ x. cond b (Some (f x)) None) o ≡ Some n → b ≡ true
+then_some (Some x) b f n e = if_some b (f x) n e
+then_some None b f n e = absurd (cc)
 
-pub suffix_holds : (suffix : List ℕ) → suffix_of suffix ≡ Some suffix → is_name 2 suffix ≡ true
-suffix_holds suffix e = name_holds (is_name 2 suffix) suffix e
+-- a day is digits
+pub day_is_digits : (text : List ℕ) (n : ℕ) → day_of text ≡ Some n → list_all is_ascii_digit text ≡ true
+unfolding day_of
+day_is_digits text n e = (both (length text == 8) (list_all is_ascii_digit text) (both (are_digits 8 text) _ (if_some _ _ n e)).0).1
 
--- a name has no comma
-name_no_comma : (n : ℕ) (bs : List ℕ) → is_name n bs ≡ true → All (λ c. (c == 44) ≡ false) bs
-name_no_comma n bs h = All-weaker (λ c. is_name_char c ≡ true) (λ c. (c == 44) ≡ false) (λ c d. grind (arith, nat_tests)) bs (AllPass-from_list_all is_name_char bs (both (length bs == n) (list_all is_name_char bs) h).1)
+-- and so is a moment
+pub moment_is_digits : (text : List ℕ) (n : ℕ) → moment_of text ≡ Some n → list_all is_ascii_digit text ≡ true
+unfolding moment_of
+moment_is_digits text n e = (both (length text == 14) (list_all is_ascii_digit text) (both (are_digits 14 text) _ (then_some _ _ _ n e)).0).1
 
--- a stream's text splits at its comma into its NMI and its suffix
-pub stream_splits : (nmi suffix : List ℕ) → is_name 10 nmi ≡ true → is_name 2 suffix ≡ true → slice_split (λ c. c == 44) (stream_text nmi suffix) ≡ nmi ∷ suffix ∷ []
-stream_splits nmi suffix h k =
-    ap (slice_split (λ c. c == 44)) (append_assoc nmi (codes ",") suffix) ∙ (slice_split_at (λ c. c == 44) nmi 44 suffix (name_no_comma 10 nmi h) refl ∙ ap (λ t. nmi ∷ t) (slice_split_none (λ c. c == 44) suffix (name_no_comma 2 suffix k)))
-
--- what stands after the first write, and after the second
-pub part_nmi : (old new nmi suffix : List ℕ) → new ≡ old ++ nmi → AppendsPart old new (stream_text nmi suffix)
-part_nmi old new nmi suffix e = (length nmi, e ∙ ap (λ t. old ++ t) (sym (ap (take (length nmi)) (append_assoc nmi (codes ",") suffix) ∙ take-append_seam nmi (codes "," ++ suffix))))
-
-pub part_comma : (old new nmi suffix : List ℕ) → new ≡ (old ++ nmi) ++ codes "," → AppendsPart old new (stream_text nmi suffix)
-part_comma old new nmi suffix e =
-    (length (nmi ++ codes ","), e ∙ (append_assoc old nmi (codes ",") ∙ ap (λ t. old ++ t) (sym (take-append_seam (nmi ++ codes ",") suffix))))
+-- the text of the letter of a transaction code
+pub trans_letter : (trans : Option ℕ) (letter : List ℕ) → is_trans trans ≡ true → is_some trans ≡ true → letter ≡ unwrap_or trans 65 ∷ [] → list_all is_ascii_uppercase letter ≡ true
+trans_letter (Some x) letter h n e = rw (e, h)
+trans_letter None letter h n e = absurd (cc)

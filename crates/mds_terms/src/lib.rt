@@ -1,15 +1,26 @@
-//! The terms of metering data: NMIs, suffixes and streams, days and moments, and lengths of intervals. Each is read
-//! from its text, and written as the one text that reads back.
+//! The terms of metering data: the days, moments, lengths, names and marks of the crates that this one stands on, and
+//! what records say of meters and events. Each is read from its texts, and written as the one text that reads back.
 #![tactic(auto)]
 
-mod day;
-mod length;
-mod moment;
-mod names;
+mod details;
+mod details_ref;
+mod event;
+mod event_ref;
+mod parts;
+mod printable;
 #[cfg(test)]
 mod tests;
 
-pub use day::{Day, first_and_last_day};
-pub use length::Length;
-pub use moment::Moment;
-pub use names::{Nmi, Stream, Suffix};
+pub use details::{Details, details_read_back};
+pub use details_ref::DetailsRef;
+pub use event::{Event, events_read_back};
+pub use mds_calendar::{
+    Day, Length, Moment, Weekday, first_and_last_day, lengths_read_back, one_day_text,
+    one_moment_text, weekdays_go_on,
+};
+pub use mds_marks::{
+    Mark, MarkRef, Quality, Reading, Reason, ReasonRef, marks_read_back, qualities_read_back,
+    readings_read_back,
+};
+pub use mds_names::{Nmi, Stream, Suffix, names_read_back};
+pub use printable::PrintableText;

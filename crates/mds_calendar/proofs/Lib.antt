@@ -1,0 +1,5 @@
+pub mod Days
+pub mod Digits
+pub mod Lengths
+pub mod Moments
+pub mod Texts

@@ -1,0 +1,213 @@
+//! A day of market time.
+
+ghost use Rattle.std.specs.Prelude.{codes, ◌≡◌, ◌↔◌, ℕ, ◌+◌, ◌-◌, ◌/◌, ◌%◌, ◌<◌, ◌≤◌, if◌then◌else◌, IfSome, IsTrue, List, set, length, pos, unsigned_abs, ◌≤ℤ◌, SomeIff, OnOk, OnErr, Some, None, string_bytes, string_capacity, string_len};
+ghost use Rattle.std.specs.Ordering.{nat_cmp};
+ghost use Rattle.mds_quantity.specs.Append.{Appends};
+ghost use Rattle.mds_calendar.specs.Calendar.{is_date, day_number, day_of, last_day, weekday_of};
+ghost use Rattle.mds_calendar.specs.CalendarSteps.{digit};
+ghost use Rattle.jiff_core.specs.Date.{epoch_day};
+ghost use Rattle.jiff_core.specs.Weekday.{monday_zero};
+ghost use Rattle.std.specs.Char.{is_ascii_digit};
+ghost use Rattle.std.specs.List.{list_all};
+ghost use Rattle.std.specs.Str.Parse.{digits_value};
+
+use jiff_core::civil::{Date, Weekday};
+use std::alloc::AllocError;
+use std::marker::Model;
+use std::str;
+
+/// A day from 1 January 1970 to 31 December 9999, by its number from 0.
+#[derive(Clone, Copy, Debug, PartialEq, Eq, PartialOrd, Ord)]
+pub struct Day {
+    number: u32,
+}
+
+impl Model for Day {
+    ghost use Rattle.std.specs.Prelude.{ℕ, ◌≤◌};
+    ghost use Rattle.mds_calendar.specs.Calendar.{last_day};
+
+    ghost Value = { ℕ };
+
+    ghost view = { λ day. day.number };
+
+    ghost invariant = { λ day. day.number ≤ last_day };
+
+    ghost inverse = { λ number. record { number = number } };
+}
+
+/// The number of 31 December 9999.
+const LAST: u32 = 2_932_896;
+
+/// The year of the first day.
+const FIRST_YEAR: u32 = 1970;
+
+/// The days from the calendar's first, 1 January -9999, to 1 January 1970.
+const BEFORE_1970: u32 = 4_371_587;
+
+impl Day {
+    /// The day of a number from 0, 1 January 1970, to 2,932,896, 31 December 9999.
+    pub fn from_number(number: i64) -> Option<Day>
+        ensures { SomeIff result ((pos 0 ≤ℤ number) × (number ≤ℤ pos last_day))
+            (unsigned_abs number) }
+    {
+        if (0..=i64::from(LAST)).contains(&number) {
+            Some(Day {
+                number: number as u32,
+            })
+        } else {
+            None
+        }
+    }
+
+    /// Its number: the days from 1 January 1970.
+    pub fn number(self) -> i64
+        ensures value { result ≡ pos self }
+        ensures last { self ≤ last_day }
+        ensures equal { (other : ℕ) → IsTrue (⟦<Day as PartialEq>⟧.eq self other) ↔ (self ≡ other) }
+        ensures order { (other : ℕ) → ⟦<Day as Ord>⟧.cmp self other ≡ nat_cmp self other }
+    {
+        i64::from(self.number)
+    }
+
+    /// Its day of the week, in the calendar of `jiff`.
+    pub fn weekday(self) -> Weekday
+        ensures { monday_zero result ≡ weekday_of self }
+    {
+        self.date().weekday()
+    }
+
+    /// The day so many days before, or `None` where that is before 1 January 1970.
+    pub fn back(self, days: u32) -> Option<Day>
+        ensures { SomeIff result (days ≤ self) (self - days) }
+    {
+        if days > self.number {
+            return None;
+        }
+        let number = self.number - days;
+        Some(Day { number })
+    }
+
+    /// The day after, or `None` after 31 December 9999.
+    pub fn next(self) -> Option<Day>
+        ensures { SomeIff result (self + 1 ≤ last_day) (self + 1) }
+    {
+        if self.number >= LAST {
+            return None;
+        }
+        let number = self.number + 1;
+        Some(Day { number })
+    }
+
+    /// Reads a day from its text, CCYYMMDD (MDFF Specification, Date(8)). `None` where the calendar
+    /// has no such day, or where it is before 1970.
+    pub fn read(text: &[u8]) -> Option<Day>
+        ensures { result ≡ day_of text.now }
+    {
+        if text.len() != 8 {
+            return None;
+        }
+        let year = number_in(&text[..4])?;
+        let month = number_in(&text[4..6])?;
+        let day = number_in(&text[6..8])?;
+        let number = number_of(year, month, day)?;
+        Some(Day { number })
+    }
+
+    /// Appends its one text, CCYYMMDD, which reads back (`one_day_text`). After an error nothing is
+    /// appended.
+    pub fn write_to(self, out: &mut String) -> Result<(), AllocError>
+        ensures done { OnOk result ((text : List ℕ) × (day_of text ≡ Some self)
+            × Appends (string_bytes out.old) (string_bytes out.new) text) }
+        ensures kept { OnErr result (string_bytes out.new ≡ string_bytes out.old) }
+        ensures full { OnErr result (string_capacity out.old < string_len out.old + 8) }
+    {
+        out.push_str(str::from_utf8(&self.digits()).unwrap())
+    }
+
+    /// The digits of its text, CCYYMMDD.
+    pub fn digits(self) -> [u8; 8]
+        ensures { day_of result ≡ Some self }
+    {
+        let date = self.date();
+        let year = date.year.unsigned_abs();
+        let mut digits = [b'0'; 8];
+        write_pair(&mut digits, 0, (year / 100) as u8);
+        write_pair(&mut digits, 2, (year % 100) as u8);
+        write_pair(&mut digits, 4, date.month);
+        write_pair(&mut digits, 6, date.day);
+        digits
+    }
+
+    /// Its year, month and day.
+    fn date(self) -> Date
+        ensures { epoch_day result ≡ pos self }
+    {
+        Date::from_days_since_min(self.number + BEFORE_1970)
+    }
+}
+
+/// The numbers of the first and the last day: 1 January 1970 and 31 December 9999.
+pub fn first_and_last_day()
+    ensures first { day_of (codes "19700101") ≡ Some 0 }
+    ensures last { day_of (codes "99991231") ≡ Some last_day }
+{}
+
+/// A day has one text: two that read as the same day are the same.
+pub fn one_day_text()
+    ensures { (a b : List ℕ) (day : ℕ) → day_of a ≡ Some day → day_of b ≡ Some day → a ≡ b }
+{}
+
+/// Day 0, 1 January 1970, is a Thursday, each day's weekday is the one after that of the day
+/// before, and after a week it is the same.
+pub fn weekdays_go_on()
+    ensures first { weekday_of 0 ≡ monday_zero Weekday.Thursday }
+    ensures next { (day : ℕ) → weekday_of (day + 1) ≡ (weekday_of day + 1) % 7 }
+    ensures week { (day : ℕ) → weekday_of (day + 7) ≡ weekday_of day }
+{}
+
+/// The number of a day, if the calendar has it, in 1970 or later.
+fn number_of(year: u32, month: u32, day: u32) -> Option<u32>
+    requires year { year < 10_000 }
+    requires month { month < 100 }
+    requires day { day < 100 }
+    ensures value { result ≡ (if is_date year month day
+        then Some (day_number year month day) else None) }
+    ensures last { IfSome result (λ n. n ≤ last_day) }
+{
+    if year < FIRST_YEAR {
+        return None;
+    }
+    let Ok(date) = Date::new(year as i16, month as i8, day as i8) else {
+        return None;
+    };
+    Some(date.to_unix_epoch_day().unsigned_abs())
+}
+
+/// The number that digits say, or `None` where some byte is no digit.
+pub(crate) fn number_in(text: &[u8]) -> Option<u32>
+    requires { length text.now ≤ 4 }
+    ensures value { result ≡ (if list_all is_ascii_digit text.now
+        then Some (digits_value 10 text.now) else None) }
+    ensures two { length text.now ≡ 2 → IfSome result (λ n. n < 100) }
+    ensures four { IfSome result (λ n. n < 10_000) }
+{
+    let mut number = 0;
+    for byte in text {
+        if !byte.is_ascii_digit() {
+            return None;
+        }
+        number = number * 10 + u32::from(*byte - b'0');
+    }
+    Some(number)
+}
+
+/// Writes a number below 100 as two digits at a place.
+pub(crate) fn write_pair(digits: &mut [u8], at: usize, number: u8)
+    requires fits { at + 2 ≤ length digits.old }
+    requires below { number < 100 }
+    ensures { digits.new
+        ≡ set (set digits.old at (digit (number / 10))) (at + 1) (digit (number % 10)) }
+{
+    digits[at] = b'0' + number / 10;
+    digits[at + 1] = b'0' + number % 10;
+}

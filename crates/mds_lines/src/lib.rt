@@ -1,0 +1,18 @@
+//! The lines and fields of MDFF files, borrowed from the buffer that they were read into, and the sources and sinks
+//! that the calls above read and write.
+#![tactic(auto)]
+
+mod fields;
+mod line;
+mod reader;
+mod rest;
+mod stream;
+
+pub use fields::Fields;
+pub use line::{Kind, KindFault, Line, one_split};
+pub use reader::{LineBuffer, LineFault, LineReader};
+pub use rest::{is_blank_from, next_field};
+pub use stream::{Counted, Sink, Source};
+
+#[cfg(test)]
+mod tests;

@@ -1,0 +1,39 @@
+-- The names of what is metered. MDFF Specification, the 200 record: NMI, CHAR(10), and NMISuffix, CHAR(2).
+-- That both are of capital letters and digits is this project's profile.
+use Rattle.std.specs.Prelude.{ℕ, Bool, ◌&&◌, ◌||◌, ◌==◌, if◌then◌else◌, List, ◌++◌, length, codes, Option, Some, None}
+use Rattle.std.specs.Char.{is_ascii_digit, is_ascii_uppercase}
+use Rattle.std.specs.List.{list_all}
+
+-- a capital letter or a digit
+abbrev pub is_name_char : ℕ → Bool
+is_name_char c = is_ascii_uppercase c || is_ascii_digit c
+
+-- so many capital letters and digits
+abbrev pub is_name : ℕ → List ℕ → Bool
+is_name n text = (length text == n) && list_all is_name_char text
+
+-- the characters of an NMI, and of a suffix
+abbrev pub nmi_length : ℕ
+nmi_length = 10
+
+abbrev pub suffix_length : ℕ
+suffix_length = 2
+
+-- the NMI that a text is
+abbrev pub nmi_of : List ℕ → Option (List ℕ)
+nmi_of text = if is_name nmi_length text then Some text else None
+
+-- the suffix that a text is
+abbrev pub suffix_of : List ℕ → Option (List ℕ)
+suffix_of text = if is_name suffix_length text then Some text else None
+
+-- the character that joins the two, as it does the fields of a record
+abbrev pub comma : ℕ
+comma = 44
+
+abbrev pub is_comma : ℕ → Bool
+is_comma c = c == comma
+
+-- a stream's written text: its NMI and its suffix, joined by a comma (profile)
+abbrev pub stream_text : List ℕ → List ℕ → List ℕ
+stream_text nmi suffix = nmi ++ codes "," ++ suffix

@@ -1,0 +1,45 @@
+use Rattle.std.proofs.Common.{ℕ, codes, [], ◌∷◌, false, ◌∙◌, ap, sym, lit<, Option, option_map, is_some}
+use Rattle.std.proofs.lemmas.Result.{err_from_is_err_and}
+use Rattle.mds_marks.specs.Borrowed.{mark_value}
+use Rattle.mds_marks.specs.Quality.{QualityValue}
+use Rattle.mds_marks.specs.declared.mark.MarkRef.{MarkRef}
+use Rattle.mds_records.specs.Layouts.{interval_number_of}
+use Rattle.mds_records.proofs.Outcomes.{event_is}
+use Rattle.mds_records.proofs.Rules.{each_passed}
+use Rattle.mds_records.proofs.Terms.{flag_quality, flag_there, mark_there, mark_fields}
+use Rattle.mds_records.proofs.interval_event.read_interval_event.Goals as goal
+
+pub returns-in_err-first_fault : goal.returns-in_err-first_fault
+returns-in_err-first_fault c = λ file n.
+    let is = event_is file n c.args.text.now c.split_event-fields.result _ _ _ _ _ c.split_event-fields.ensures
+    (c.is_some.ensures ∙ ap (λ (o : Option ℕ). is_some o) c.interval_number-first.ensures)
+    (c.is_some-2.ensures ∙ ap (λ (o : Option ℕ). is_some o) c.interval_number-last.ensures)
+    (c.is_event_quality.ensures ∙ flag_quality (codes "AEFNS") _ c.mark_parts-parts.ensures.quality) c.mark_parts-parts.ensures.code c.mark_parts-parts.ensures.text in
+    let p = err_from_is_err_and c.from_residual.result c.from_residual.ensures.1 in
+    rw (p.1, p.2) (is ∙ c.in_err-first_fault.ensures)
+
+pub unreachable-requires : goal.unreachable-requires
+unreachable-requires c =
+    let passed = each_passed false c.split_event-fields.result.is_whole
+    (c.is_some.result ∷ c.is_some-2.result ∷ c.is_event_quality.result ∷ c.mark_parts-parts.result.has_code ∷ c.mark_parts-parts.result.has_text ∷ [])
+    c.in_ok-first_fault.ensures in
+    let quality = flag_there (codes "AEFNS") _ (sym c.is_event_quality.ensures ∙ passed 2 (lit< tt)) in
+    mark_there _ _ _ c.read-mark.result c.read-mark.ensures.value
+    (sym (ap (λ (o : Option QualityValue). is_some o) c.mark_parts-parts.ensures.quality) ∙ quality)
+    (sym c.mark_parts-parts.ensures.code ∙ passed 3 (lit< tt)) (sym c.mark_parts-parts.ensures.text ∙ passed 4 (lit< tt)) c.in_default.is
+
+pub returns : goal.returns
+returns c = λ file n.
+    let f = c.split_event-fields.ensures in
+    let is = event_is file n c.args.text.now c.split_event-fields.result _ _ _ _ _ f
+    (c.is_some.ensures ∙ ap (λ (o : Option ℕ). is_some o) c.interval_number-first.ensures)
+    (c.is_some-2.ensures ∙ ap (λ (o : Option ℕ). is_some o) c.interval_number-last.ensures)
+    (c.is_event_quality.ensures ∙ flag_quality (codes "AEFNS") _ c.mark_parts-parts.ensures.quality) c.mark_parts-parts.ensures.code c.mark_parts-parts.ensures.text in (
+      is ∙ c.in_ok-first_fault.ensures,
+      record {
+        first = sym (c.interval_number-first.ensures ∙ ap interval_number_of f.first) ∙ c.unwrap.ensures;
+        last = sym (c.interval_number-last.ensures ∙ ap interval_number_of f.last) ∙ c.unwrap-2.ensures;
+        mark = sym (mark_fields _ _ _ _ f.quality f.reason_code f.reason_text c.read-mark.ensures.value)
+            ∙ ap (λ (o : Option MarkRef). option_map mark_value o) c.in-Some.is;
+      },
+    )

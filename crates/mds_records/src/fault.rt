@@ -1,0 +1,66 @@
+//! The first fault of a record's fields.
+
+ghost use Rattle.std.specs.Prelude.{◌≡◌, ◌+◌, ◌^◌, ◌<◌, ◌&&◌, ◌↔◌, IsTrue, Some, None, MatchResult, length, option_copied};
+ghost use Rattle.mds_lines.specs.Rest.{fields_left, are_blank};
+ghost use Rattle.mds_records.specs.RecordSteps.{first_false, outcome};
+
+use mds_lines::is_blank_from;
+
+/// Why the fields of a line spell no record: the first of these that stands.
+#[derive(Clone, Copy, Debug, PartialEq, Eq)]
+pub enum FieldFault {
+    /// The header is that of the other kind of file.
+    WrongFile,
+    /// There are too few fields, or a field past the last isn't empty.
+    Count,
+    /// The field of this number, from 1, is the least that isn't what the layout says.
+    Bad(usize),
+}
+
+impl FieldFault {
+    ghost use Rattle.mds_records.specs.declared.fault.FieldFault.{FieldFault as AFieldFault};
+
+    /// A law: faults are equal where they are the same.
+    pub fn one_equality()
+        ensures { (a b : AFieldFault) → IsTrue (⟦<FieldFault as PartialEq>⟧.eq a b) ↔ (a ≡ b) }
+    {}
+}
+
+/// The first fault of a line: that it is of the other kind of file, that it has a wrong number of
+/// fields, or the first of its fields, from field 2 on, that isn't good.
+pub(crate) fn first_fault(is_other: bool, is_whole: bool, good: &[bool]) -> Result<(), FieldFault>
+    requires { 2 + length good.now < 2 ^ 64 }
+    ensures { MatchResult result (λ _. outcome is_other is_whole (first_false 2 good.now) ≡ None)
+        (λ fault. outcome is_other is_whole (first_false 2 good.now) ≡ Some fault) }
+{
+    if is_other {
+        return Err(FieldFault::WrongFile);
+    }
+    if !is_whole {
+        return Err(FieldFault::Count);
+    }
+    match least_bad(2, good) {
+        Some(number) => Err(FieldFault::Bad(number)),
+        None => Ok(()),
+    }
+}
+
+/// The number of the first field that isn't good, of these fields from a number on.
+pub(crate) fn least_bad(from: usize, good: &[bool]) -> Option<usize>
+    requires { from + length good.now < 2 ^ 64 }
+    ensures { result ≡ first_false from good.now }
+{
+    for (i, is_good) in good.iter().enumerate() {
+        if !*is_good {
+            return Some(from + i);
+        }
+    }
+    None
+}
+
+/// Whether a line has its least number of fields, and none that isn't empty in what is left of it.
+pub(crate) fn has_right_count(has_least: bool, rest: Option<&[u8]>) -> bool
+    ensures { result ≡ (has_least && are_blank (fields_left (option_copied rest.entry))) }
+{
+    has_least && is_blank_from(rest)
+}

@@ -1,0 +1,95 @@
+//! The 400 record, which marks some intervals of the day before it.
+
+ghost use Rattle.std.specs.Prelude.{◌≡◌, ℕ, Some, None, MatchResult, codes};
+ghost use Rattle.mds_lines.specs.declared.line.Kind.{Kind};
+ghost use Rattle.mds_records.specs.declared.file.FileKind.{FileKind};
+ghost use Rattle.mds_records.specs.Faults.{field_fault};
+ghost use Rattle.mds_records.specs.Layouts.{has_flag};
+ghost use Rattle.mds_records.specs.RecordSteps.{HasEventFields};
+ghost use Rattle.mds_records.specs.Records.{IsIntervalEvent};
+
+use crate::fault::{FieldFault, first_fault, has_right_count};
+use crate::term::{interval_number, mark_parts};
+use mds_lines::next_field;
+use mds_terms::{MarkRef, Quality};
+
+/// A 400 record: the mark of the intervals from the first to the last, counted from 1.
+#[derive(Clone, Copy)]
+pub struct IntervalEventRecord<'a> {
+    pub first: u16,
+    pub last: u16,
+    pub mark: MarkRef<'a>,
+}
+
+/// The fields of a 400 record, good or bad.
+#[derive(Clone, Copy)]
+struct EventFields<'a> {
+    first: &'a [u8],
+    last: &'a [u8],
+    quality: &'a [u8],
+    reason_code: &'a [u8],
+    reason_text: &'a [u8],
+    /// Whether there are the least fields, and none past the last that isn't empty.
+    is_whole: bool,
+}
+
+/// Reads a 400 record.
+pub(crate) fn read_interval_event(text: &[u8]) -> Result<IntervalEventRecord<'_>, FieldFault>
+    ensures { (file : FileKind) (n : ℕ) → MatchResult result
+        (λ r. (field_fault file Kind.IntervalEvent n text.now ≡ None) × IsIntervalEvent text.now r)
+        (λ fault. field_fault file Kind.IntervalEvent n text.now ≡ Some fault) }
+{
+    let fields = split_event(text);
+    let first = interval_number(fields.first);
+    let last = interval_number(fields.last);
+    let (quality, code, text) = (fields.quality, fields.reason_code, fields.reason_text);
+    let mark = MarkRef::read(quality, code, text);
+    let parts = mark_parts(&mark, quality, code, text);
+    let good = [
+        first.is_some(),
+        last.is_some(),
+        is_event_quality(parts.quality),
+        parts.has_code,
+        parts.has_text,
+    ];
+    first_fault(false, fields.is_whole, &good)?;
+    let Some(mark) = mark else {
+        unreachable!();
+    };
+    Ok(IntervalEventRecord {
+        first: first.unwrap(),
+        last: last.unwrap(),
+        mark,
+    })
+}
+
+/// The fields of a 400 record, good or bad.
+fn split_event(text: &[u8]) -> EventFields<'_>
+    ensures { HasEventFields text.now result }
+{
+    let (_, rest) = next_field(Some(text));
+    let (first, rest) = next_field(rest);
+    let (last, rest) = next_field(rest);
+    let has_least = rest.is_some();
+    let (quality, rest) = next_field(rest);
+    let (reason_code, rest) = next_field(rest);
+    let (reason_text, rest) = next_field(rest);
+    EventFields {
+        first,
+        last,
+        quality,
+        reason_code,
+        reason_text,
+        is_whole: has_right_count(has_least, rest),
+    }
+}
+
+/// Whether a quality is that of an event: any but V.
+fn is_event_quality(quality: Option<Quality>) -> bool
+    ensures { result ≡ has_flag (codes "AEFNS") quality }
+{
+    match quality {
+        Some(quality) => matches!(quality.flag(), b'A' | b'E' | b'F' | b'N' | b'S'),
+        None => false,
+    }
+}

@@ -1,0 +1,115 @@
+//! The terms that several kinds of records hold.
+
+ghost use Rattle.std.specs.Prelude.{◌≡◌, ◌≤◌, if◌then◌else◌, length, Some, None, is_some, option_map};
+ghost use Rattle.std.specs.Char.{is_ascii_digit};
+ghost use Rattle.std.specs.List.{list_all};
+ghost use Rattle.std.specs.Str.Parse.{digits_value};
+ghost use Rattle.mds_calendar.specs.Calendar.{day_of, moment_of};
+ghost use Rattle.mds_marks.specs.Borrowed.{mark_value};
+ghost use Rattle.mds_marks.specs.Mark.{mark_of};
+ghost use Rattle.mds_marks.specs.Quality.{quality_of};
+ghost use Rattle.mds_marks.specs.Reason.{code_of, is_reason_text};
+ghost use Rattle.mds_records.specs.Layouts.{interval_number_of};
+ghost use Rattle.mds_terms.specs.Parts.{optional};
+
+use mds_terms::{Day, MarkRef, Moment, Quality, ReasonRef};
+
+/// What is good of the fields of a mark.
+#[derive(Clone, Copy)]
+pub(crate) struct MarkParts {
+    /// The quality, where its field is good.
+    pub quality: Option<Quality>,
+    /// Whether the field of the reason's code is good.
+    pub has_code: bool,
+    /// Whether the field of the reason's text is good.
+    pub has_text: bool,
+}
+
+/// What is good of the fields that a mark was read from. They are read again only where it is none.
+pub(crate) fn mark_parts(
+    mark: &Option<MarkRef<'_>>,
+    quality: &[u8],
+    code: &[u8],
+    text: &[u8],
+) -> MarkParts
+    requires { option_map mark_value mark.now ≡ mark_of quality.now code.now text.now }
+    ensures quality { result.quality ≡ quality_of quality.now }
+    ensures code { result.has_code ≡ is_some (code_of code.now) }
+    ensures text { result.has_text ≡ is_reason_text text.now }
+{
+    match mark {
+        Some(mark) => MarkParts {
+            quality: Some(mark.quality),
+            has_code: true,
+            has_text: true,
+        },
+        None => MarkParts {
+            quality: Quality::read(quality),
+            has_code: is_code(code),
+            has_text: is_text(text),
+        },
+    }
+}
+
+/// Whether a text is empty or the code of a reason.
+#[cold]
+#[inline(never)]
+fn is_code(code: &[u8]) -> bool
+    ensures { result ≡ is_some (code_of code.now) }
+{
+    ReasonRef::read(code, b"").is_some()
+}
+
+/// Whether a text is empty or the text of a reason.
+#[cold]
+#[inline(never)]
+fn is_text(text: &[u8]) -> bool
+    ensures { result ≡ is_reason_text text.now }
+{
+    ReasonRef::read(b"", text).is_some()
+}
+
+/// Reads a day, or none from the empty text.
+pub(crate) fn optional_day(text: &[u8]) -> Option<Option<Day>>
+    ensures { result ≡ optional day_of text.now }
+{
+    if text.is_empty() {
+        return Some(None);
+    }
+    Some(Some(Day::read(text)?))
+}
+
+/// Reads a moment, or none from the empty text.
+pub(crate) fn optional_moment(text: &[u8]) -> Option<Option<Moment>>
+    ensures { result ≡ optional moment_of text.now }
+{
+    if text.is_empty() {
+        return Some(None);
+    }
+    Some(Some(Moment::read(text)?))
+}
+
+/// Reads the number of an interval: one to four digits.
+pub(crate) fn interval_number(text: &[u8]) -> Option<u16>
+    ensures { result ≡ interval_number_of text.now }
+{
+    if text.is_empty() || text.len() > 4 {
+        return None;
+    }
+    digits_number(text)
+}
+
+/// The number that at most four digits say, or `None` where some byte is no digit.
+fn digits_number(text: &[u8]) -> Option<u16>
+    requires { length text.now ≤ 4 }
+    ensures { result ≡ (if list_all is_ascii_digit text.now then Some (digits_value 10 text.now) else None) }
+{
+    let mut number = 0;
+    for byte in text {
+        if !byte.is_ascii_digit() {
+            return None;
+        }
+        number = number * 10 + u16::from(*byte - b'0');
+    }
+    Some(number)
+}

@@ -1,0 +1,3 @@
+pub mod RunFacts
+pub mod Spreads
+pub mod Tilings

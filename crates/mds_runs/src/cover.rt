@@ -1,0 +1,228 @@
+//! Runs, and the cover of a day that they make.
+
+ghost use Rattle.std.specs.Prelude.{◌≡◌, ◌≢◌, ◌↔◌, ◌+◌, ◌-◌, ◌^◌, ◌<◌, ◌≤◌, ℕ, List, [], ◌∷◌, ◌++◌, length, replicate, slice_get, Contains, Some, IfOk, IfErr, OnOk, OnErr, IsTrue};
+ghost use Rattle.mds_marks.specs.declared.mark.Mark.{Mark};
+ghost use Rattle.mds_runs.specs.RunSteps.{end_of};
+ghost use Rattle.mds_runs.specs.Runs.{holds, IsInRange, ComesAfter, AreRuns, run_at, spread_of, IsFull, IsLeast, Refuses};
+ghost use Rattle.mds_runs.specs.declared.cover.Run.{Run};
+ghost use Rattle.mds_runs.specs.declared.cover.RunFault.{RunFault};
+
+use mds_marks::Mark;
+use std::alloc::{AllocError, Global};
+use std::marker::Model;
+
+/// Intervals `first` to `last` of a day, counted from 1, with one mark (MDFF Specification, the 400
+/// record: StartInterval, EndInterval, QualityMethod, ReasonCode and ReasonDescription).
+#[derive(Drop)]
+pub struct Run {
+    pub first: u16,
+    pub last: u16,
+    pub mark: Mark,
+}
+
+/// Why a run isn't taken: the first of these that stands (profile).
+#[derive(Clone, Copy, Debug, PartialEq, Eq)]
+pub enum RunFault {
+    /// It isn't within the day, or ends before it begins.
+    Range,
+    /// It begins before the last run has ended.
+    Order,
+    /// There was no memory.
+    Memory,
+}
+
+/// Runs in ascending order without a common interval, in a day of at most 65,535 intervals. They
+/// need not hold each of them.
+#[derive(Drop)]
+pub struct Cover {
+    count: u16,
+    /// How many intervals the runs hold.
+    held: u16,
+    runs: Vec<Run>,
+}
+
+impl Model for Cover {
+    ghost use Rattle.std.specs.Prelude.{◌≡◌};
+    ghost use Rattle.mds_runs.specs.RunSteps.{held_by};
+    ghost use Rattle.mds_runs.specs.Runs.{CoverValue, AreRuns};
+
+    ghost Value = { CoverValue };
+
+    ghost view = { λ cover. record { count = cover.count; runs = cover.runs.items } };
+
+    ghost invariant = { λ cover. AreRuns cover.count cover.runs.items
+        × (cover.held ≡ held_by cover.runs.items) };
+}
+
+impl Cover {
+    /// The cover of a day of so many intervals, without runs. It takes no memory.
+    pub fn new(alloc: Global, count: u16) -> Cover
+        ensures { result ≡ record { count = count; runs = [] } }
+    {
+        Cover {
+            count,
+            held: 0,
+            runs: Vec::new(alloc),
+        }
+    }
+
+    /// Adds a run that lies in the day and begins after the last one has ended. It looks at the last
+    /// run alone. After an error nothing has changed, and the run is gone.
+    pub fn push(&mut self, run: Run) -> Result<(), RunFault>
+        ensures done { OnOk result (self.new
+            ≡ record self.old { runs = self.old.runs ++ run ∷ [] }) }
+        ensures taken { OnOk result (IsInRange self.old.count run × ComesAfter self.old.runs run) }
+        ensures refused { IfErr result (λ fault. Refuses fault self.old.count self.old.runs run) }
+        ensures kept { OnErr result (self.new ≡ self.old) }
+    {
+        if !is_in_range(self.count, &run) {
+            return Err(RunFault::Range);
+        }
+        if run.first <= last_end(&self.runs) {
+            return Err(RunFault::Order);
+        }
+        let length = run.last - run.first + 1;
+        match self.runs.push(run) {
+            Ok(()) => {
+                self.held += length;
+                Ok(())
+            }
+            Err(_) => Err(RunFault::Memory),
+        }
+    }
+
+    /// Its runs, in ascending order and without a common interval.
+    pub fn runs(&self) -> &[Run]
+        ensures value { result.now ≡ self.now.runs }
+        ensures lawful { AreRuns self.now.count self.now.runs }
+    {
+        self.runs.as_slice()
+    }
+
+    /// How many intervals the day has.
+    pub fn count(&self) -> u16
+        ensures { result ≡ self.now.count }
+    {
+        self.count
+    }
+
+    /// Whether each interval is held by a run. It looks at no run, since disjoint runs that hold as
+    /// many intervals as the day has hold each of them.
+    pub fn is_full(&self) -> bool
+        ensures { IsTrue result ↔ IsFull self.now.count self.now.runs }
+    {
+        self.held == self.count
+    }
+}
+
+/// Whether a run lies in a day of so many intervals.
+fn is_in_range(count: u16, run: &Run) -> bool
+    ensures { IsTrue result ↔ IsInRange count run.now }
+{
+    1 <= run.first && run.first <= run.last && run.last <= count
+}
+
+/// The interval that the last run ends with, or 0 where there is none.
+fn last_end(runs: &[Run]) -> u16
+    ensures { result ≡ end_of 0 runs.now }
+{
+    match runs.last() {
+        Some(run) => run.last,
+        None => 0,
+    }
+}
+
+/// The marks of the day's intervals in their order: that of the run which holds the interval, or
+/// else the default. It goes over the runs once, and fails only for want of memory, in no empty day.
+pub fn spread(alloc: Global, cover: &Cover, default: &Mark) -> Result<Vec<Mark>, AllocError>
+    ensures done { IfOk result (λ marks. marks.items
+        ≡ spread_of cover.now.count cover.now.runs default.now) }
+    ensures full { OnErr result (0 < cover.now.count) }
+{
+    let mut marks = Vec::with_capacity(alloc, usize::from(cover.count))?;
+    for run in &cover.runs {
+        fill(&mut marks, default, run.first - 1)?;
+        fill(&mut marks, &run.mark, run.last)?;
+    }
+    fill(&mut marks, default, cover.count)?;
+    Ok(marks)
+}
+
+/// Appends copies of a mark until there are so many marks.
+fn fill(marks: &mut Vec<Mark>, mark: &Mark, count: u16) -> Result<(), AllocError>
+    ensures done { OnOk result (marks.new.items
+        ≡ marks.old.items ++ replicate (count - length marks.old.items) mark.now) }
+    ensures full { OnErr result (0 < count) }
+{
+    while marks.len() < usize::from(count) {
+        marks.push(mark.try_clone()?)?;
+    }
+    Ok(())
+}
+
+/// The full cover with the fewest runs of a day with these marks, one for each interval and at most
+/// 65,535. It compares each mark with one before it, and fails only for want of memory, in no empty
+/// day.
+pub fn gather(alloc: Global, marks: &[Mark]) -> Result<Cover, AllocError>
+    requires { length marks.now < 2 ^ 16 }
+    ensures count { IfOk result (λ cover. cover.count ≡ length marks.now) }
+    ensures lawful { IfOk result (λ cover. AreRuns cover.count cover.runs) }
+    ensures whole { IfOk result (λ cover. IsFull cover.count cover.runs) }
+    ensures same { IfOk result (λ cover. (default : Mark)
+        → spread_of cover.count cover.runs default ≡ marks.now) }
+    ensures least { IfOk result (λ cover. IsLeast cover.count cover.runs) }
+    ensures full { OnErr result (0 < length marks.now) }
+{
+    let count = marks.len() as u16;
+    let mut runs = Vec::new(alloc);
+    let mut place = 0;
+    while place < marks.len() {
+        let end = end_of_run(marks, place);
+        runs.push(Run {
+            first: place as u16 + 1,
+            last: end as u16,
+            mark: marks[place].try_clone()?,
+        })?;
+        place = end;
+    }
+    Ok(Cover {
+        count,
+        held: count,
+        runs,
+    })
+}
+
+/// The index of the first mark after this one that differs from it, or how many marks there are.
+fn end_of_run(marks: &[Mark], start: usize) -> usize
+    requires { start < length marks.now }
+    ensures within { (start < result) × (result ≤ length marks.now) }
+    ensures alike { (k : ℕ) → start ≤ k → k < result
+        → slice_get marks.now k ≡ slice_get marks.now start }
+    ensures differs { result < length marks.now
+        → slice_get marks.now result ≢ slice_get marks.now start }
+{
+    let mark = &marks[start];
+    for end in start + 1..marks.len() {
+        if !marks[end].is_same(mark) {
+            return end;
+        }
+    }
+    marks.len()
+}
+
+/// The law of faults: `==` says whether two are the same. The function does nothing.
+pub fn equal_faults()
+    ensures { (fault other : RunFault)
+        → IsTrue (⟦<RunFault as PartialEq>⟧.eq fault other) ↔ (fault ≡ other) }
+{}
+
+/// The laws of the run that holds an interval: of lawful runs at most one does, and it is the one
+/// that `run_at` finds. The function does nothing.
+pub fn one_run_holds()
+    ensures found { (count : ℕ) (runs : List Run) (interval : ℕ) (run : Run)
+        → AreRuns count runs → Contains runs run → IsTrue (holds interval run)
+        → run_at runs interval ≡ Some run }
+    ensures one { (count : ℕ) (runs : List Run) (interval : ℕ) (run other : Run)
+        → AreRuns count runs → Contains runs run → Contains runs other
+        → IsTrue (holds interval run) → IsTrue (holds interval other) → run ≡ other }
+{}

@@ -1,0 +1,9 @@
+//! Runs of a day's intervals that have one mark, as its 400 records give them (MDFF Specification,
+//! the 400 record): a cover takes them in order, and its marks are spread and gathered.
+#![tactic(auto)]
+
+mod cover;
+#[cfg(test)]
+mod tests;
+
+pub use cover::{Cover, Run, RunFault, equal_faults, gather, one_run_holds, spread};

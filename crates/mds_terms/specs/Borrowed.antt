@@ -1,0 +1,19 @@
+-- What contracts see of the borrowed terms.
+use Rattle.std.specs.Prelude.{ℕ, List}
+use Rattle.mds_terms.specs.Details.{DetailsValue}
+use Rattle.mds_terms.specs.declared.printable.PrintableText.{PrintableText}
+use Rattle.mds_terms.specs.declared.details_ref.DetailsRef.{DetailsRef}
+
+-- the bytes of a printable text
+abbrev pub text_of : PrintableText → List ℕ
+text_of printable = printable.text.now
+
+-- borrowed details as a value
+abbrev pub details_in : DetailsRef → DetailsValue
+details_in details = record {
+  configuration = text_of details.configuration;
+  register = text_of details.register;
+  datastream = text_of details.datastream;
+  meter = text_of details.meter;
+  next = details.next;
+}

@@ -1,0 +1,204 @@
+//! What is known of a meter.
+
+ghost use Rattle.std.specs.Prelude.{◌≡◌, ◌<◌, ◌+◌, ◌↔◌, ℕ, List, [], ◌∷◌, length, IsTrue, true, IfOk, OnOk, OnErr, Some, string_bytes, string_capacity, string_len};
+ghost use Rattle.std.specs.List.{slice_split, list_all};
+ghost use Rattle.mds_quantity.specs.Append.{Appends, AppendsPart};
+ghost use Rattle.mds_names.specs.Names.{is_comma};
+ghost use Rattle.mds_terms.specs.Printable.{is_printable};
+ghost use Rattle.mds_terms.specs.Details.{DetailsValue, is_details, details_of, IsDetailsText};
+
+use crate::details_ref::DetailsRef;
+use crate::parts::{day_digits, day_text, own_text, write_joined};
+use mds_calendar::{Day, one_day_text};
+use std::alloc::{AllocError, Global};
+use std::marker::Model;
+
+/// What is known of a meter: four printable texts, which are empty where they are absent, and its next scheduled read
+/// date.
+#[derive(Drop)]
+pub struct Details {
+    configuration: String,
+    register: String,
+    datastream: String,
+    meter: String,
+    next_read: Option<Day>,
+}
+
+impl Model for Details {
+    ghost use Rattle.std.specs.Prelude.{◌≡◌, true, string_bytes};
+    ghost use Rattle.mds_terms.specs.Details.{DetailsValue, is_details};
+
+    ghost Value = { DetailsValue };
+
+    ghost view = { λ d. record {
+      configuration = string_bytes d.configuration;
+      register = string_bytes d.register;
+      datastream = string_bytes d.datastream;
+      meter = string_bytes d.meter;
+      next = d.next_read;
+    } };
+
+    ghost invariant = { λ d. is_details (record {
+      configuration = string_bytes d.configuration;
+      register = string_bytes d.register;
+      datastream = string_bytes d.datastream;
+      meter = string_bytes d.meter;
+      next = d.next_read;
+    }) ≡ true };
+}
+
+impl Details {
+    /// The details of five texts, each empty where it is absent: four printable ones and a day (CCYYMMDD). `None` where
+    /// one of them is not what it has to be. Fails only where memory is refused: never where the first four are empty.
+    pub fn read(
+        alloc: Global,
+        configuration: &[u8],
+        register: &[u8],
+        datastream: &[u8],
+        meter: &[u8],
+        next: &[u8],
+    ) -> Result<Option<Details>, AllocError>
+        ensures value { IfOk result (λ details. details
+            ≡ details_of configuration.now register.now datastream.now meter.now next.now) }
+        ensures full { OnErr result (0 < length configuration.now + length register.now + length datastream.now
+            + length meter.now) }
+    {
+        match DetailsRef::read(configuration, register, datastream, meter, next) {
+            Some(details) => Ok(Some(details.to_details(alloc)?)),
+            None => Ok(None),
+        }
+    }
+
+    /// The configuration of the NMI's datastreams (NMIConfiguration).
+    pub fn configuration(&self) -> &str
+        ensures value { result.now ≡ self.now.configuration }
+        ensures lawful { is_details self.now ≡ true }
+    {
+        self.configuration.as_str()
+    }
+
+    /// The register of the meter (RegisterID).
+    pub fn register(&self) -> &str
+        ensures { result.now ≡ self.now.register }
+    {
+        self.register.as_str()
+    }
+
+    /// The datastream of the market's settlement (MDMDataStreamIdentifier).
+    pub fn datastream(&self) -> &str
+        ensures { result.now ≡ self.now.datastream }
+    {
+        self.datastream.as_str()
+    }
+
+    /// The serial number of the meter (MeterSerialNumber).
+    pub fn meter(&self) -> &str
+        ensures { result.now ≡ self.now.meter }
+    {
+        self.meter.as_str()
+    }
+
+    /// The next scheduled read date (NextScheduledReadDate), if there is one.
+    pub fn next(&self) -> Option<Day>
+        ensures { result ≡ self.now.next }
+    {
+        self.next_read
+    }
+
+    /// Appends their one text, the five parts joined by commas, as `E1,1,N1,01009,20240201`
+    /// (`details_read_back`). Fails only where `out` had no room for all of it and can't grow; a front of it may be
+    /// appended then.
+    pub fn write_to(&self, out: &mut String) -> Result<(), AllocError>
+        ensures done { OnOk result ((text : List ℕ) × IsDetailsText self.now text
+            × Appends (string_bytes out.old) (string_bytes out.new) text) }
+        ensures part { OnErr result ((text : List ℕ) × IsDetailsText self.now text
+            × AppendsPart (string_bytes out.old) (string_bytes out.new) text
+            × (string_capacity out.old < string_len out.old + length text)) }
+    {
+        let Details {
+            configuration,
+            register,
+            datastream,
+            meter,
+            next_read: next,
+        } = self;
+        let digits = day_digits(*next);
+        write_joined(
+            out,
+            &[
+                configuration.as_str(),
+                register.as_str(),
+                datastream.as_str(),
+                meter.as_str(),
+                day_text(*next, &digits),
+            ],
+        )
+    }
+
+    /// The same details once more. Fails only where memory is refused: never where all texts are empty.
+    pub fn try_clone(&self) -> Result<Details, AllocError>
+        ensures value { IfOk result (λ details. details ≡ self.now) }
+        ensures full { OnErr result (0 < length self.now.configuration + length self.now.register
+            + length self.now.datastream + length self.now.meter) }
+    {
+        own_details(
+            *self.configuration.allocator(),
+            self.configuration(),
+            self.register(),
+            self.datastream(),
+            self.meter(),
+            self.next(),
+        )
+    }
+
+    /// Whether both say the same.
+    pub fn is_same(&self, other: &Details) -> bool
+        ensures { IsTrue result ↔ (self.now ≡ other.now) }
+    {
+        self.configuration() == other.configuration()
+            && self.register() == other.register()
+            && self.datastream() == other.datastream()
+            && self.meter() == other.meter()
+            && self.next() == other.next()
+    }
+}
+
+/// Details with texts of their own.
+pub(crate) fn own_details(
+    alloc: Global,
+    configuration: &str,
+    register: &str,
+    datastream: &str,
+    meter: &str,
+    next: Option<Day>,
+) -> Result<Details, AllocError>
+    requires { list_all is_printable (configuration.now ∷ register.now ∷ datastream.now ∷ meter.now ∷ []) ≡ true }
+    ensures value { IfOk result (λ details. details ≡ record {
+      configuration = configuration.now;
+      register = register.now;
+      datastream = datastream.now;
+      meter = meter.now;
+      next = next;
+    }) }
+    ensures full { OnErr result (0 < length configuration.now + length register.now + length datastream.now
+        + length meter.now) }
+{
+    Ok(Details {
+        configuration: own_text(alloc, configuration)?,
+        register: own_text(alloc, register)?,
+        datastream: own_text(alloc, datastream)?,
+        meter: own_text(alloc, meter)?,
+        next_read: next,
+    })
+}
+
+/// A law: the pieces between the commas of the details' text read back as these details, and they have one text.
+pub fn details_read_back()
+    ensures pieces { (details : DetailsValue) (text : List ℕ) → is_details details ≡ true → IsDetailsText details text
+        → (next : List ℕ) × (slice_split is_comma text ≡ details.configuration ∷ details.register
+        ∷ details.datastream ∷ details.meter ∷ next ∷ [])
+        × (details_of details.configuration details.register details.datastream details.meter next ≡ Some details) }
+    ensures only { (details : DetailsValue) (a b : List ℕ) → IsDetailsText details a → IsDetailsText details b → a ≡ b }
+{
+    one_day_text();
+}

@@ -1,0 +1,229 @@
+//! What happened to a stream on a day.
+
+ghost use Rattle.std.specs.Prelude.{◌≡◌, ◌<◌, ◌+◌, ◌↔◌, ℕ, List, [], ◌∷◌, length, IsTrue, true, IfOk, OnOk, OnErr, Some, string_bytes, string_capacity, string_len};
+ghost use Rattle.std.specs.List.{slice_split};
+ghost use Rattle.mds_quantity.specs.Append.{Appends, AppendsPart};
+ghost use Rattle.mds_names.specs.Names.{is_comma};
+ghost use Rattle.mds_terms.specs.Event.{EventValue, is_event, event_of, trans_text as text_of_trans, IsEventText};
+ghost use Rattle.mds_terms.specs.Borrowed.{text_of};
+ghost use Rattle.mds_terms.specs.BorrowedSteps.{event_in};
+
+use crate::event_ref::EventRef;
+use crate::parts::{
+    day_digits, day_text, moment_digits, moment_text, own_text, trans_text, write_joined,
+};
+use mds_calendar::{Day, Moment, one_day_text, one_moment_text};
+use mds_names::{Nmi, Stream, Suffix};
+use std::alloc::{AllocError, Global};
+use std::marker::Model;
+
+/// What happened to a stream on a day, as a 500 record says it: a transaction, a service order, and what was read when.
+/// Each of these may be absent.
+#[derive(Drop)]
+pub struct Event {
+    stream: Stream,
+    on: Day,
+    code: Option<u8>,
+    ticket: String,
+    read_at: Option<Moment>,
+    reading: String,
+}
+
+impl Model for Event {
+    ghost use Rattle.std.specs.Prelude.{◌≡◌, true, string_bytes};
+    ghost use Rattle.mds_terms.specs.Event.{EventValue, is_event};
+
+    ghost Value = { EventValue };
+
+    ghost view = { λ e. record {
+      nmi = e.stream.nmi;
+      suffix = e.stream.suffix;
+      day = e.on;
+      trans = e.code;
+      ticket = string_bytes e.ticket;
+      moment = e.read_at;
+      reading = string_bytes e.reading;
+    } };
+
+    ghost invariant = { λ e. is_event (record {
+      nmi = e.stream.nmi;
+      suffix = e.stream.suffix;
+      day = e.on;
+      trans = e.code;
+      ticket = string_bytes e.ticket;
+      moment = e.read_at;
+      reading = string_bytes e.reading;
+    }) ≡ true };
+}
+
+impl Event {
+    /// The event of seven texts: an NMI, a suffix, a day (CCYYMMDD), and, each empty where it is absent, a capital
+    /// letter, a printable text, a moment (CCYYMMDDhhmmss) and a printable text. `None` where one of them is not what
+    /// it has to be. Fails only where memory is refused: never where the service order and the index read are empty.
+    pub fn read(
+        alloc: Global,
+        nmi: &[u8],
+        suffix: &[u8],
+        day: &[u8],
+        trans: &[u8],
+        ticket: &[u8],
+        moment: &[u8],
+        reading: &[u8],
+    ) -> Result<Option<Event>, AllocError>
+        ensures value { IfOk result (λ event. event
+            ≡ event_of nmi.now suffix.now day.now trans.now ticket.now moment.now reading.now) }
+        ensures full { OnErr result (0 < length ticket.now + length reading.now) }
+    {
+        match EventRef::read(nmi, suffix, day, trans, ticket, moment, reading) {
+            Some(event) => Ok(Some(own_event(alloc, &event)?)),
+            None => Ok(None),
+        }
+    }
+
+    /// The NMI of the stream.
+    pub fn nmi(&self) -> Nmi
+        ensures value { result ≡ self.now.nmi }
+        ensures lawful { is_event self.now ≡ true }
+    {
+        self.stream.nmi
+    }
+
+    /// The suffix of the stream.
+    pub fn suffix(&self) -> Suffix
+        ensures { result ≡ self.now.suffix }
+    {
+        self.stream.suffix
+    }
+
+    /// The day.
+    pub fn day(&self) -> Day
+        ensures { result ≡ self.now.day }
+    {
+        self.on
+    }
+
+    /// The transaction code (TransCode), if there is one: an ASCII capital letter.
+    pub fn trans(&self) -> Option<u8>
+        ensures { result ≡ self.now.trans }
+    {
+        self.code
+    }
+
+    /// The service order (RetServiceOrder), empty where it is absent.
+    pub fn ticket(&self) -> &str
+        ensures { result.now ≡ self.now.ticket }
+    {
+        self.ticket.as_str()
+    }
+
+    /// The moment of the read (ReadDateTime), if there is one.
+    pub fn moment(&self) -> Option<Moment>
+        ensures { result ≡ self.now.moment }
+    {
+        self.read_at
+    }
+
+    /// The index read (IndexRead), empty where it is absent.
+    pub fn reading(&self) -> &str
+        ensures { result.now ≡ self.now.reading }
+    {
+        self.reading.as_str()
+    }
+
+    /// Appends its one text, the seven parts joined by commas, as `NEM1201009,E1,20240102,O,,20240102000000,15.5`
+    /// (`events_read_back`). Fails only where `out` had no room for all of it and can't grow; a front of it may be
+    /// appended then.
+    pub fn write_to(&self, out: &mut String) -> Result<(), AllocError>
+        ensures done { OnOk result ((text : List ℕ) × IsEventText self.now text
+            × Appends (string_bytes out.old) (string_bytes out.new) text) }
+        ensures part { OnErr result ((text : List ℕ) × IsEventText self.now text
+            × AppendsPart (string_bytes out.old) (string_bytes out.new) text
+            × (string_capacity out.old < string_len out.old + length text)) }
+    {
+        let Event {
+            stream,
+            on: day,
+            code,
+            ticket,
+            read_at,
+            reading,
+        } = self;
+        let day_digits = day_digits(Some(*day));
+        let moment_digits = moment_digits(*read_at);
+        let letter = [code.unwrap_or(b'A')];
+        write_joined(
+            out,
+            &[
+                stream.nmi.text(),
+                stream.suffix.text(),
+                day_text(Some(*day), &day_digits),
+                trans_text(*code, &letter),
+                ticket.as_str(),
+                moment_text(*read_at, &moment_digits),
+                reading.as_str(),
+            ],
+        )
+    }
+
+    /// The same event once more. Fails only where memory is refused: never where the service order and the index read
+    /// are empty.
+    pub fn try_clone(&self) -> Result<Event, AllocError>
+        ensures value { IfOk result (λ event. event ≡ self.now) }
+        ensures full { OnErr result (0 < length self.now.ticket + length self.now.reading) }
+    {
+        let alloc = *self.ticket.allocator();
+        Ok(Event {
+            stream: self.stream,
+            on: self.day(),
+            code: self.trans(),
+            ticket: own_text(alloc, self.ticket())?,
+            read_at: self.moment(),
+            reading: own_text(alloc, self.reading())?,
+        })
+    }
+
+    /// Whether both say the same.
+    pub fn is_same(&self, other: &Event) -> bool
+        ensures { IsTrue result ↔ (self.now ≡ other.now) }
+    {
+        self.nmi() == other.nmi()
+            && self.suffix() == other.suffix()
+            && self.day() == other.day()
+            && self.trans() == other.trans()
+            && self.ticket() == other.ticket()
+            && self.moment() == other.moment()
+            && self.reading() == other.reading()
+    }
+}
+
+/// A law: the pieces between the commas of an event's text read back as this event, and it has one text.
+pub fn events_read_back()
+    ensures pieces { (event : EventValue) (text : List ℕ) → is_event event ≡ true → IsEventText event text
+        → (day : List ℕ) × (moment : List ℕ) × (slice_split is_comma text ≡ event.nmi ∷ event.suffix ∷ day
+        ∷ text_of_trans event.trans ∷ event.ticket ∷ moment ∷ event.reading ∷ [])
+        × (event_of event.nmi event.suffix day (text_of_trans event.trans) event.ticket moment event.reading
+        ≡ Some event) }
+    ensures only { (event : EventValue) (a b : List ℕ) → IsEventText event a → IsEventText event b → a ≡ b }
+{
+    one_day_text();
+    one_moment_text();
+}
+
+/// An event with texts of its own.
+fn own_event(alloc: Global, event: &EventRef<'_>) -> Result<Event, AllocError>
+    requires { is_event (event_in event.now) ≡ true }
+    ensures value { IfOk result (λ own. own ≡ event_in event.now) }
+    ensures full { OnErr result (0 < length (text_of event.now.ticket) + length (text_of event.now.reading)) }
+{
+    Ok(Event {
+        stream: Stream {
+            nmi: event.nmi,
+            suffix: event.suffix,
+        },
+        on: event.day,
+        code: event.trans,
+        ticket: own_text(alloc, event.ticket.text())?,
+        read_at: event.moment,
+        reading: own_text(alloc, event.reading.text())?,
+    })
+}

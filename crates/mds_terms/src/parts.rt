@@ -1,0 +1,121 @@
+//! Parts of terms: texts of their own, parts that may be absent, and how parts are written.
+
+ghost use Rattle.std.specs.Prelude.{◌≡◌, ◌<◌, ◌+◌, true, [], ◌∷◌, map, unwrap_or, Some, IfSome, IfOk, OnOk, OnErr, length, string_bytes, string_capacity, string_len};
+ghost use Rattle.std.specs.Char.{is_ascii_digit};
+ghost use Rattle.std.specs.List.{list_all};
+ghost use Rattle.mds_quantity.specs.Append.{Appends, AppendsPart};
+ghost use Rattle.mds_calendar.specs.Calendar.{day_of, moment_of};
+ghost use Rattle.mds_terms.specs.Event.{is_trans, trans_text as text_of_trans};
+ghost use Rattle.mds_terms.specs.Parts.{joined, optional};
+
+use mds_calendar::{Day, Moment};
+use std::alloc::{AllocError, Global};
+use std::str;
+
+/// A text of its own with these bytes. The empty one takes no memory.
+pub(crate) fn own_text(alloc: Global, text: &str) -> Result<String, AllocError>
+    ensures value { IfOk result (λ own. string_bytes own ≡ text.now) }
+    ensures full { OnErr result (0 < length text.now) }
+{
+    let mut own = String::with_capacity(alloc, text.len())?;
+    own.push_str(text)?;
+    Ok(own)
+}
+
+/// The day of a text, no day where it is empty, or `None` where it is no day.
+pub(crate) fn read_optional_day(text: &[u8]) -> Option<Option<Day>>
+    ensures { result ≡ optional day_of text.now }
+{
+    if text.is_empty() {
+        return Some(None);
+    }
+    Day::read(text).map(Some)
+}
+
+/// The moment of a text, no moment where it is empty, or `None` where it is no moment.
+pub(crate) fn read_optional_moment(text: &[u8]) -> Option<Option<Moment>>
+    ensures { result ≡ optional moment_of text.now }
+{
+    if text.is_empty() {
+        return Some(None);
+    }
+    Moment::read(text).map(Some)
+}
+
+/// Appends texts joined by commas. After an error a front of that may be appended.
+pub(crate) fn write_joined(out: &mut String, texts: &[&str]) -> Result<(), AllocError>
+    ensures done { OnOk result (Appends (string_bytes out.old) (string_bytes out.new)
+        (joined (map (λ text. text.now) texts.now))) }
+    ensures part { OnErr result (AppendsPart (string_bytes out.old) (string_bytes out.new)
+        (joined (map (λ text. text.now) texts.now))) }
+    ensures full { OnErr result (string_capacity out.old
+        < string_len out.old + length (joined (map (λ text. text.now) texts.now))) }
+{
+    match texts {
+        [] => Ok(()),
+        [last] => out.push_str(last),
+        [first, rest @ ..] => {
+            out.push_str(first)?;
+            out.push(',')?;
+            write_joined(out, rest)
+        }
+    }
+}
+
+/// The digits of a day, CCYYMMDD, or zeros where there is none.
+pub(crate) fn day_digits(day: Option<Day>) -> [u8; 8]
+    ensures digits { list_all is_ascii_digit result ≡ true }
+    ensures value { IfSome day (λ day. day_of result ≡ Some day) }
+{
+    match day {
+        Some(day) => day.digits(),
+        None => [b'0'; 8],
+    }
+}
+
+/// The text of a day that has these digits, or the empty text where there is none.
+pub(crate) fn day_text(day: Option<Day>, digits: &[u8; 8]) -> &str
+    requires digits { list_all is_ascii_digit digits.now ≡ true }
+    requires value { IfSome day (λ day. day_of digits.now ≡ Some day) }
+    ensures { optional day_of result.now ≡ Some day }
+{
+    if day.is_none() {
+        return "";
+    }
+    str::from_utf8(digits).unwrap()
+}
+
+/// The digits of a moment, CCYYMMDDhhmmss, or zeros where there is none.
+pub(crate) fn moment_digits(moment: Option<Moment>) -> [u8; 14]
+    ensures digits { list_all is_ascii_digit result ≡ true }
+    ensures value { IfSome moment (λ moment. moment_of result ≡ Some moment) }
+{
+    match moment {
+        Some(moment) => moment.digits(),
+        None => [b'0'; 14],
+    }
+}
+
+/// The text of a moment that has these digits, or the empty text where there is none.
+pub(crate) fn moment_text(moment: Option<Moment>, digits: &[u8; 14]) -> &str
+    requires digits { list_all is_ascii_digit digits.now ≡ true }
+    requires value { IfSome moment (λ moment. moment_of digits.now ≡ Some moment) }
+    ensures { optional moment_of result.now ≡ Some moment }
+{
+    if moment.is_none() {
+        return "";
+    }
+    str::from_utf8(digits).unwrap()
+}
+
+/// The text of a transaction code that is this letter, or the empty text where there is none.
+pub(crate) fn trans_text(trans: Option<u8>, letter: &[u8; 1]) -> &str
+    requires lawful { is_trans trans ≡ true }
+    requires value { letter.now ≡ unwrap_or trans 65 ∷ [] }
+    ensures { result.now ≡ text_of_trans trans }
+{
+    if trans.is_none() {
+        return "";
+    }
+    str::from_utf8(letter).unwrap()
+}

@@ -1,0 +1,48 @@
+//! Printable texts.
+
+ghost use Rattle.std.specs.Prelude.{◌≡◌, IfSome, is_some, true};
+ghost use Rattle.mds_terms.specs.Printable.{is_printable, is_printable_char};
+ghost use Rattle.std.specs.List.{list_all};
+
+use std::str;
+
+/// A printable text, borrowed: at most 240 characters of printable ASCII, none of them a comma (profile).
+#[derive(Clone, Copy)]
+pub struct PrintableText<'a> {
+    text: &'a str,
+    pub ghost printable: { is_printable text.now ≡ true },
+}
+
+/// The most bytes that a printable text has.
+const LONGEST: usize = 240;
+
+impl<'a> PrintableText<'a> {
+    ghost use Rattle.mds_terms.specs.Borrowed.{text_of};
+
+    /// The printable text of these bytes, or `None` where they are none.
+    pub fn read(text: &'a [u8]) -> Option<PrintableText<'a>>
+        ensures accepted { is_some result ≡ is_printable text.now }
+        ensures value { IfSome result (λ read. text_of read ≡ text.now) }
+    {
+        if text.len() > LONGEST || !is_printable_ascii(text) {
+            return None;
+        }
+        let text = str::from_utf8(text).unwrap();
+        Some(PrintableText { text })
+    }
+
+    /// Its text.
+    pub fn text(&self) -> &'a str
+        ensures value { result.now ≡ text_of self.now }
+        ensures printable { is_printable (text_of self.now) ≡ true }
+    {
+        self.text
+    }
+}
+
+/// Whether each byte is printable ASCII and no comma.
+fn is_printable_ascii(text: &[u8]) -> bool
+    ensures { result ≡ list_all is_printable_char text.now }
+{
+    text.iter().all(|c| matches!(*c, b' '..=b'~') && *c != b',')
+}
