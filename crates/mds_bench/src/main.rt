@@ -1,13 +1,15 @@
 //! Measures the libraries, and makes the file that the program is measured on.
 //!
-//! `mds_bench FORM PATH MEGABYTES` writes a well formed NEM12 file of about that size. `plain` has days of 48 values with
-//! three decimals; `wide` has values with a minus sign, with ten whole digits, and with twelve decimals of which the last
+//! `mds_bench FORM PATH MEGABYTES` writes a well formed NEM12 file of about that size. `plain` has days of 48 values
+//! with three decimals; `wide` has values with a minus sign, with ten whole digits, and with twelve decimals of which the last
 //! six are zeros, in turn; `details` has 200 records alone. `mds_bench values` reads ten million values and prints
-//! the time for one. `mds_bench lines PATH` reads a file's lines alone and prints how fast.
+//! the time for one, `mds_bench readings` a hundred thousand days of 48 readings. `mds_bench lines PATH` reads a file's
+//! lines alone and prints how fast.
 #![tactic(auto)]
 
 use mds_calendar::Day;
 use mds_lines::{Counted, LineBuffer, LineReader};
+use mds_marks::Reading;
 use mds_quantity::Quantity;
 use std::io::{BufWriter, Write};
 use std::process::ExitCode;
@@ -38,6 +40,7 @@ fn run(rt: &HostRuntime) -> io::Result<bool> {
     let words: Vec<String> = env::args(rt)?.skip(1).collect(rt.alloc())?;
     match words.as_slice() {
         [what] if what.as_str() == "values" => time_values(rt)?,
+        [what] if what.as_str() == "readings" => time_readings(rt)?,
         [what, path] if what.as_str() == "lines" => time_lines(rt, path.as_str())?,
         [form, path, size] => match (form_of(form.as_str()), size.as_str().parse::<u32>()) {
             (Some(form), Ok(size)) => make_file(rt, form, path.as_str(), u64::from(size))?,
@@ -59,7 +62,9 @@ fn form_of(name: &str) -> Option<Form> {
 }
 
 fn usage(rt: &HostRuntime) -> io::Result<bool> {
-    println!(rt; "usage: mds_bench values | lines PATH | plain, wide or details PATH MEGABYTES")?;
+    println!(rt;
+        "usage: mds_bench values | readings | lines PATH | plain, wide or details PATH MEGABYTES"
+    )?;
     Ok(false)
 }
 
@@ -77,6 +82,25 @@ fn time_values(rt: &HostRuntime) -> io::Result<()> {
     }
     let time = start.elapsed(rt)?.as_nanos() / 10_000_000;
     println!(rt; "Quantity::read: {time} ns for a value (sum {sum})")
+}
+
+/// Reads a hundred thousand days of readings from their texts, and prints the time for one.
+fn time_readings(rt: &HostRuntime) -> io::Result<()> {
+    let texts: [&[u8]; 4] = [b"0.125", b"1.5", b"12.345", b"101.250"];
+    let mut day = Vec::with_capacity(rt.alloc(), 48)?;
+    let start = Instant::now(rt)?;
+    let mut count = 0u64;
+    for _ in 0..100_000 {
+        day.clear();
+        for k in 0..48usize {
+            if let Some(reading) = Reading::read(rt.alloc(), b"A", b"", b"", texts[k % 4])? {
+                day.push(reading)?;
+            }
+        }
+        count = count.wrapping_add(day.len() as u64);
+    }
+    let time = start.elapsed(rt)?.as_nanos() / 4_800_000;
+    println!(rt; "Reading::read: {time} ns for a reading ({count} readings)")
 }
 
 /// Reads the lines of a file, and prints how fast.

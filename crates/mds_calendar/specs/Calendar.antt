@@ -1,5 +1,6 @@
 -- Days and moments of market time, which has no daylight saving. MDFF Specification: Date(8), CCYYMMDD, and
--- DateTime(14), CCYYMMDDhhmmss, or DateTime(12) without the seconds. The range, from 1970 to 9999, is this project's profile.
+-- DateTime(14), CCYYMMDDhhmmss, or DateTime(12) without the seconds. The range, from 1970 to 9999, is this project's
+-- profile.
 -- The calendar is that of the library jiff: its `days_in_month`, its number of a day, `days_from_civil`, and its number
 -- of a weekday, `weekday_number`.
 use Rattle.std.specs.Prelude.{ℕ, ◌+◌, ◌*◌, Bool, ◌&&◌, ◌==◌, nat_lt, nat_le, if◌then◌else◌, List, ◌++◌, length, take, drop, codes, pos, unsigned_abs, Option, Some, None, option_and_then}

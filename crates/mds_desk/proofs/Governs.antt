@@ -235,14 +235,6 @@ fault_in_place file before line kind state previous details known place =
     ∙ ap (λ b. cond (not b) out fields) place
     ∙ ap (λ n. option_map (at_field number) (narrow_fault file kind n line)) (sym (count_known file state kind before place details))
 
--- and so are those of a record that isn't known, or isn't in place
-pub fault_unknown : (file : FileKind) (before : List (List ℕ)) (line : List ℕ) (kind : Kind) → is_unknown_for_now kind ≡ true
-    → record_fault file before line (Ok kind) ≡ Some (at_line code.UnknownRecord (length before + 1))
-fault_unknown file before line kind unknown =
-    ap (λ b. cond b (Some (at_line code.UnknownRecord (length before + 1)))
-    (cond (not (is_in_place file (previous_kind before) kind)) (Some (at_line code.OutOfPlace (length before + 1)))
-    (option_map (at_field (length before + 1)) (narrow_fault file kind (value_count (governing_length before)) line)))) unknown
-
 -- a fault that is answered
 pub refused_with : (found : Option FileFault) (fault : FileFault) (answer : TakeFault) → answer ≡ File fault → found ≡ Some fault → IsRefusal found answer
 refused_with found fault answer is e = subst (λ (t : TakeFault). IsRefusal found t) (sym is) e

@@ -1,5 +1,5 @@
 -- The steps through the lines of a file.
-use Rattle.std.proofs.Common.{◌≡◌, ℕ, ◌+◌, ◌-◌, ◌<◌, ◌≤◌, ◌⊎◌, Bool, true, false, MatchBool, List, [], ◌∷◌, ◌++◌, length, take, drop, map, Option, Some, None, IfSome, Result, Ok, Err, IfOk, MatchResult, refl, sym, ◌∙◌, ap, subst, arith, append_assoc}
+use Rattle.std.proofs.Common.{◌≡◌, ℕ, ◌+◌, ◌-◌, ◌<◌, ◌≤◌, ◌⊎◌, false, List, [], ◌∷◌, ◌++◌, length, take, drop, map, Option, Some, None, IfSome, Result, Ok, Err, IfOk, MatchResult, refl, sym, ◌∙◌, ap, subst, arith, append_assoc}
 use Rattle.std.specs.Io.KnownBytes.{Appends as AppendsKnown}
 use Rattle.std.proofs.lemmas.List.{append-nil, length-map, map_push, length_push, take-take, take-append-drop, drop-take, drop-drop, take_rest, length-drop}
 use Rattle.mds_lines.specs.Buffered.{Buffered, text_left, FindsLine, FindsEnd, IsOverLimit}
@@ -194,12 +194,3 @@ wrote_more text rest count a b c h within k =
       take_rest rest count ∙ ap (drop count) h.2 ∙ drop-drop count h.0 text,
       appends_both a b c (take h.0 text) (take count rest) _ (ap (λ t. take h.0 text ++ take count t) h.2 ∙ take_add h.0 count text) h.3 k,
     )
-
--- what a test chose
-pub at_true : (b : Bool) (P Q : Type 0) → b ≡ true → MatchBool b P Q → P
-at_true true P Q e h = h
-at_true false P Q e h = absurd (cc)
-
-pub at_false : (b : Bool) (P Q : Type 0) → b ≡ false → MatchBool b P Q → Q
-at_false true P Q e h = absurd (cc)
-at_false false P Q e h = h

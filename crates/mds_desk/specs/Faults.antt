@@ -66,7 +66,8 @@ first_fault (Some fault ∷ faults) = Some fault
 -- the fault of each line, and after them that of the line after the last
 abbrev pub faults_of : FileKind → List (List ℕ) → List (Option FileFault)
 faults_of file pieces =
-    map (λ k. line_fault file (map line_text (take k pieces)) (slice_index_or pieces k [])) (range_with_len 0 (length pieces))
+    map (λ k. line_fault file (map line_text (take k pieces)) (slice_index_or pieces k []))
+    (range_with_len 0 (length pieces))
     ++ end_fault (map line_text pieces) ∷ []
 
 -- the fault of a text: that of its least faulty line

@@ -21,12 +21,14 @@ abbrev pub day_line : List (List ℕ) → List ℕ → List ℕ → List ℕ
 day_line before details line =
     let n = value_count (governing_length before) in
     field details 2 ++ codes " " ++ field details 5 ++ codes " " ++ field line 2 ++ codes " " ++ decimal n
-    ++ codes " " ++ written (sum_of (values_of n line)) ++ codes " " ++ unit_name (unit_of (field details 8)) ++ codes "\n"
+    ++ codes " " ++ written (sum_of (values_of n line)) ++ codes " " ++ unit_name (unit_of (field details 8))
+    ++ codes "\n"
 
 -- what is printed of a line after these lines
 abbrev pub line_report : List (List ℕ) → List ℕ → List ℕ
 line_report before line =
-    if is_this_kind IntervalData (kind_of line) then day_line before (unwrap_or (governing_details before) []) line else []
+    if is_this_kind IntervalData (kind_of line) then day_line before (unwrap_or (governing_details before) []) line
+    else []
 
 -- what is printed of lines
 abbrev pub reports : List (List ℕ) → List ℕ

@@ -5,14 +5,14 @@ use Rattle.std.specs.Option.{option_map}
 use Rattle.std.specs.List.{All}
 use Rattle.std.specs.Prelude.{if◌then◌else◌}
 use Rattle.std.specs.Io.KnownBytes.{Keeps, Consumes, IsAtEnd}
-use Rattle.std.proofs.lemmas.List.{append-nil, take-append-drop, drop_more, take_all, drop_all, length-take-le, nil_from_length}
+use Rattle.std.proofs.lemmas.List.{append-nil, take-append-drop, drop_more, take_all, drop_all, length-take-le}
 use Rattle.std.proofs.lemmas.List.Elements.{All-same}
 use Rattle.std.proofs.lemmas.Bool.{false≢true}
 use Rattle.std.proofs.lemmas.Option.{IfSome_then}
 use Rattle.mds_lines.specs.declared.reader.LineFault.{LineFault}
 use Rattle.mds_lines.specs.declared.reader.LineFault.TheVariants.{TooLarge}
 use Rattle.mds_lines.specs.Lines.{line_pieces, longest_line, most_lines}
-use Rattle.mds_lines.specs.Buffered.{Buffered, BothKnown, text_left, FindsLine, FindsEnd, IsOverLimit}
+use Rattle.mds_lines.specs.Buffered.{Buffered, BothKnown, text_left, FindsLine, IsOverLimit}
 use Rattle.mds_lines.specs.BufferedSteps.{Reaches, TakesPiece}
 use Rattle.mds_lines.proofs.Pieces.{pieces_at, pieces_last, pieces_long, HasFirst}
 
@@ -121,21 +121,6 @@ finds_line old mid new n r0 r1 faultless keeps number fault reach some take =
       few = take.few;
       faultless = take.fault ∙ fault ∙ faultless;
     }
-
--- there is none
-pub finds_end : (old mid : Buffered) (n : ℕ) (r0 r1 : Option (List ℕ)) → old.fault ≡ None → Keeps (text_left old r0) (text_left mid r1)
-    → mid.number ≡ old.number → mid.fault ≡ old.fault → Reaches mid n → length mid.pending ≡ 0 → FindsEnd old mid (text_left old r0) (text_left mid r1)
-finds_end old mid n r0 r1 faultless keeps number fault reach none =
-    let within = reach.within in
-    record {
-      pieces = known_after _ _ _ _ keeps (at mid.is_ended mid.pending (nil_from_length mid.pending none) (elim (reach.ends (omega arith)) [ inl long ↦ absurd (omega arith) | inr ended ↦ ended ]));
-      number = number;
-      ended = elim (reach.ends (omega arith)) [ inl long ↦ absurd (omega arith) | inr ended ↦ ended ];
-      faultless = fault ∙ faultless;
-    } where
-      at : (ended : Bool) (pending : List ℕ) → pending ≡ [] → ended ≡ true → BothKnown (coming ended pending r1) (coming ended pending r1) (λ a b. (a ≡ []) × (b ≡ []))
-      at true pending e t = (pending, refl, (e, e))
-      at false pending e t = absurd (grind arith)
 
 -- it has too many bytes, or too great a number
 pub over_limit : (old mid : Buffered) (n number : ℕ) (r0 r1 : Option (List ℕ)) → Keeps (text_left old r0) (text_left mid r1)

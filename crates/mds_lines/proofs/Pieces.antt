@@ -35,10 +35,6 @@ pieces_one p some =
     let test : eqb (length p) 0 ≡ false = grind (arith, nat_tests) in
     ap (λ n. without_at n (p ∷ [])) here ∙ ap (λ b. cond b (take 0 (p ∷ [])) (p ∷ [])) test
 
--- no text has no pieces
-pub pieces_none : line_pieces [] ≡ []
-pieces_none = refl
-
 -- the piece before the first line feed
 pub pieces_at : (piece rest : List ℕ) → All (λ x. x ≢ 10) piece → line_pieces (piece ++ 10 ∷ rest) ≡ piece ∷ line_pieces rest
 pieces_at piece rest apart =

@@ -7,21 +7,7 @@ use Rattle.mds_lines.specs.declared.reader.LineFault.{LineFault}
 use Rattle.mds_lines.specs.Buffered.{Buffered, Takes}
 use Rattle.mds_lines.specs.BufferedSteps.{is_found, Reaches, TakesPiece, Gathers}
 use Rattle.mds_lines.specs.Lines.{line_feed}
-use Rattle.mds_lines.specs.Reads.{block}
 use Rattle.mds_lines.proofs.Lefts.{around}
-
--- Nothing was read, and nothing taken.
-pub takes_nothing : {S : Type 0} (gives : S → List ℕ → S → Type 0) (source : S) (old new : Buffered) → new.pending ≡ old.pending → length old.pending ≤ block
-    → Takes gives source source old new false
-takes_nothing gives source old new same held = record {
-  given = [];
-  reads = refl;
-  needed = tt;
-  taken = [];
-  all = append-nil old.pending ∙ sym same;
-  line = refl;
-  held = omega (arith, ap length same);
-}
 
 -- What was gathered is all in hand.
 pub takes_none : {S : Type 0} (gives : S → List ℕ → S → Type 0) (s0 s1 : S) (old mid new : Buffered) → Gathers gives s0 s1 old mid → new.pending ≡ mid.pending

@@ -1,5 +1,5 @@
 -- Names and streams as text.
-use Rattle.std.proofs.Common.{◌≡◌, ℕ, ◌<◌, Bool, true, false, ◌&&◌, ◌==◌, cond, if◌then◌else◌, is_ok, OnErr, List, [], ◌∷◌, ◌++◌, length, take, codes, refl, sym, ap, ◌∙◌, Some, None, arith, MatchResult, IsOk, Ok, Err, Result, append_assoc}
+use Rattle.std.proofs.Common.{◌≡◌, ℕ, ◌<◌, Bool, true, false, ◌&&◌, ◌==◌, if◌then◌else◌, is_ok, OnErr, List, [], ◌∷◌, ◌++◌, length, take, codes, refl, sym, ap, ◌∙◌, arith, MatchResult, IsOk, Ok, Err, Result, append_assoc}
 use Rattle.std.proofs.lemmas.Bool.Decides.{nat_tests}
 use Rattle.std.proofs.lemmas.List.Splits.{slice_split_at, slice_split_none}
 use Rattle.std.proofs.lemmas.List.Elements.{All-weaker}
@@ -34,10 +34,6 @@ utf8_from p low bs h = IsUtf8-from_ascii bs (IsAscii-from_all bs (All-weaker (λ
 
 pub name_utf8 : (n : ℕ) (bs : List ℕ) → is_name n bs ≡ true → IsUtf8 bs
 name_utf8 n bs h = utf8_from is_name_char (λ c d. grind (arith, nat_tests)) bs (both (length bs == n) (list_all is_name_char bs) h).1
-
--- a name reads as itself
-pub name_reads_back : (n : ℕ) (text : List ℕ) → is_name n text ≡ true → cond (is_name n text) (Some text) None ≡ Some text
-name_reads_back n text e = rw e
 
 -- a name has no comma
 name_no_comma : (n : ℕ) (bs : List ℕ) → is_name n bs ≡ true → All (λ c. is_comma c ≡ false) bs

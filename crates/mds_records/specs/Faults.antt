@@ -1,4 +1,5 @@
--- The first fault of a record's fields. MDFF Specification, the layouts; the order of the faults is this project's profile.
+-- The first fault of a record's fields. MDFF Specification, the layouts; the order of the faults is this project's
+-- profile.
 use Rattle.std.specs.Prelude.{ℕ, ◌+◌, ◌-◌, Bool, false, not, ◌||◌, ◌==◌, nat_lt, if◌then◌else◌, List, length, drop, bytes_eq, find, slice_index_or, Option, Some, option_map}
 use Rattle.std.specs.List.{list_any, range_with_len}
 use Rattle.mds_lines.specs.declared.line.Kind.{Kind}
