@@ -8,7 +8,7 @@ use Rattle.mds_records.specs.declared.file.FaultCode.TheVariants as code
 use Rattle.mds_records.specs.declared.file.FileFault.{FileFault}
 use Rattle.mds_records.specs.declared.file.FileKind.{FileKind}
 use Rattle.mds_lines.specs.Lines.{line_pieces, line_text, longest_line, most_lines}
-use Rattle.mds_desk.specs.Faults.{at_line, text_fault, line_fault, end_fault, first_fault, faults_of, fault_of}
+use Rattle.mds_desk.specs.FileFaults.{at_line, text_fault, line_fault, end_fault, first_fault, faults_of, fault_of}
 
 -- the fault of a line by its place
 abbrev pub fault_at : FileKind → List (List ℕ) → ℕ → Option FileFault

@@ -23,7 +23,7 @@ use Rattle.mds_lines.specs.declared.line.Kind.TheVariants.{Header, NmiDataDetail
 use Rattle.mds_lines.specs.declared.line.KindFault.TheVariants.{Unknown}
 use Rattle.mds_records.specs.declared.record.Record.{Record}
 use Rattle.mds_records.specs.declared.record.Record.TheVariants as of
-use Rattle.mds_desk.specs.Faults.{at_line, at_field, record_fault}
+use Rattle.mds_desk.specs.FileFaults.{at_line, at_field, record_fault}
 use Rattle.mds_desk.specs.Governing.{is_this_kind, last_that, previous_kind, governing_details, governing_length}
 use Rattle.mds_desk.specs.Narrow.{is_unknown_for_now, narrow_fault}
 use Rattle.mds_desk.specs.Place.{is_in_place}
@@ -35,7 +35,7 @@ use Rattle.mds_desk.specs.declared.file_reader.FileReader.{FileReader}
 use Rattle.mds_desk.specs.declared.file_reader.TakeFault.{TakeFault}
 use Rattle.mds_desk.specs.declared.file_reader.TakeFault.TheVariants.{File}
 use Rattle.mds_records.specs.declared.file.FileFault.{FileFault}
-use Rattle.mds_desk.specs.KnowsLines.{last_kind, last_details, last_length, IsRefusal, IsGoverned, KnowsDetails, KnowsLines, day_text, Follows}
+use Rattle.mds_desk.specs.FileReaderSteps.{last_kind, last_details, last_length, IsRefusal, IsGoverned, KnowsDetails, KnowsLines, day_text, Follows}
 use Rattle.mds_desk.proofs.Reported.{reports_push}
 
 last_or_push : (o : Option (List ℕ)) (xs : List (List ℕ)) (x : List ℕ) → last_or o (xs ++ x ∷ []) ≡ Some x

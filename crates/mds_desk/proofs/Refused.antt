@@ -13,9 +13,9 @@ use Rattle.mds_lines.specs.declared.line.Kind.TheVariants.{Header, NmiDataDetail
 use Rattle.mds_marks.specs.Quality.{QualityValue, quality_of, method_of, has_method, is_method, stands_alone}
 use Rattle.mds_marks.specs.Reason.{ReasonValue, is_code_text, code_of, is_reason_text, reason_of}
 use Rattle.mds_marks.specs.Mark.{mark_of}
-use Rattle.mds_marks.specs.Borrowed.{mark_value}
+use Rattle.mds_marks.specs.BorrowedMarks.{mark_value}
 use Rattle.mds_marks.specs.declared.mark.Mark.{Mark}
-use Rattle.mds_records.specs.Faults.{field_fault}
+use Rattle.mds_records.specs.FieldFaults.{field_fault}
 use Rattle.mds_records.specs.Records.{Spells}
 use Rattle.mds_records.specs.declared.fault.FieldFault.{FieldFault}
 use Rattle.mds_records.specs.declared.file.FileKind.{FileKind}

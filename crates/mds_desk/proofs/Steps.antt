@@ -14,9 +14,9 @@ use Rattle.mds_desk.specs.declared.checking.CheckFault.TheVariants.{File}
 use Rattle.mds_desk.specs.declared.file_reader.FileReader.{FileReader}
 use Rattle.mds_desk.specs.declared.file_reader.TakeFault.{TakeFault}
 use Rattle.mds_desk.specs.declared.file_reader.TakeFault.TheVariants as take
-use Rattle.mds_desk.specs.Ends.{IsAnswer, line_fault_of}
-use Rattle.mds_desk.specs.Faults.{at_line, line_fault, text_fault, end_fault, fault_of}
-use Rattle.mds_desk.specs.KnowsLines.{KnowsLines, IsRefusal}
+use Rattle.mds_desk.specs.CheckSteps.{IsAnswer, line_fault_of}
+use Rattle.mds_desk.specs.FileFaults.{at_line, line_fault, text_fault, end_fault, fault_of}
+use Rattle.mds_desk.specs.FileReaderSteps.{KnowsLines, IsRefusal}
 use Rattle.mds_desk.specs.Report.{reports, report_of}
 use Rattle.mds_desk.proofs.Faultless.{Faultless, faultless_none, faultless_push, fault_stops, fault_ends, fault_within, fault_over}
 

@@ -1,8 +1,8 @@
 pub mod Answer
-pub mod Ends
-pub mod Faults
+pub mod CheckSteps
+pub mod FileFaults
+pub mod FileReaderSteps
 pub mod Governing
-pub mod KnowsLines
 pub mod Narrow
 pub mod Place
 pub mod Program

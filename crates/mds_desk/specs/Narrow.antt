@@ -6,7 +6,7 @@ use Rattle.mds_lines.specs.Lines.{field}
 use Rattle.mds_records.specs.declared.file.FileKind.{FileKind}
 use Rattle.mds_records.specs.declared.fault.FieldFault.{FieldFault}
 use Rattle.mds_records.specs.declared.fault.FieldFault.TheVariants.{WrongFile, Count, Bad}
-use Rattle.mds_records.specs.Faults.{field_fault}
+use Rattle.mds_records.specs.FieldFaults.{field_fault}
 
 -- records of this kind count as unknown
 abbrev pub is_unknown_for_now : Kind → Bool

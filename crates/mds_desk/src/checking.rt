@@ -9,9 +9,9 @@ ghost use Rattle.mds_lines.specs.Lines.{longest_line, most_lines};
 ghost use Rattle.mds_lines.specs.Readers.{reader_source, reader_lines};
 ghost use Rattle.mds_lines.specs.Reads.{Reads, block};
 ghost use Rattle.mds_desk.specs.Answer.{is_read_fault, is_write_fault};
-ghost use Rattle.mds_desk.specs.Ends.{IsAnswer, IsFileFault, line_fault_of};
-ghost use Rattle.mds_desk.specs.Faults.{fault_of, end_fault};
-ghost use Rattle.mds_desk.specs.KnowsLines.{KnowsLines};
+ghost use Rattle.mds_desk.specs.CheckSteps.{IsAnswer, IsFileFault, line_fault_of};
+ghost use Rattle.mds_desk.specs.FileFaults.{fault_of, end_fault};
+ghost use Rattle.mds_desk.specs.FileReaderSteps.{KnowsLines};
 ghost use Rattle.mds_desk.specs.Report.{report_of, reports};
 
 use crate::file_reader::{FileReader, TakeFault};
@@ -122,7 +122,7 @@ fn report_lines<R: Source>(
     loop {
         let line = match lines.next() {
             Ok(Some(line)) => line,
-            Ok(None) => return finish(file, count),
+            Ok(None) => return end_report(file, count),
             Err(fault) => return Err(line_fault(fault)),
         };
         count = line.number();
@@ -135,7 +135,7 @@ fn report_lines<R: Source>(
 }
 
 /// Ends a file after so many lines.
-fn finish(file: FileReader, lines: u64) -> Result<String, CheckFault>
+fn end_report(file: FileReader, lines: u64) -> Result<String, CheckFault>
     requires { lines ≤ most_lines }
     ensures ended { (before : List (List ℕ)) → KnowsLines before file → lines ≡ length before
         → MatchResult result

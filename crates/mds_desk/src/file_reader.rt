@@ -8,8 +8,8 @@ ghost use Rattle.mds_lines.specs.Kinds.{kind_of};
 ghost use Rattle.mds_lines.specs.Lines.{most_lines};
 ghost use Rattle.mds_lines.specs.Numbered.{number_of, text_of};
 ghost use Rattle.mds_records.specs.Records.{value_count};
-ghost use Rattle.mds_desk.specs.Faults.{text_fault, record_fault, end_fault, at_line as fault_at, at_field as field_fault_at};
-ghost use Rattle.mds_desk.specs.KnowsLines.{day_text};
+ghost use Rattle.mds_desk.specs.FileFaults.{text_fault, record_fault, end_fault, at_line as fault_at, at_field as field_fault_at};
+ghost use Rattle.mds_desk.specs.FileReaderSteps.{day_text};
 ghost use Rattle.mds_desk.specs.Place.{is_in_place};
 ghost use Rattle.mds_desk.specs.Report.{reports};
 
@@ -64,7 +64,7 @@ pub(crate) struct FileReader {
 }
 
 impl LastRecord {
-    ghost use Rattle.mds_desk.specs.KnowsLines.{last_kind, last_details, last_length};
+    ghost use Rattle.mds_desk.specs.FileReaderSteps.{last_kind, last_details, last_length};
 
     /// Whether a record of a kind may stand next in a file of a kind.
     fn allows(self, file: FileKind, kind: Kind) -> bool
@@ -116,7 +116,7 @@ impl LastRecord {
 }
 
 impl FileReader {
-    ghost use Rattle.mds_desk.specs.KnowsLines.{KnowsLines, IsRefusal, CanFollow, Follows, day_text, last_details};
+    ghost use Rattle.mds_desk.specs.FileReaderSteps.{KnowsLines, IsRefusal, CanFollow, Follows, day_text, last_details};
 
     /// Before the first line.
     pub(crate) fn new(alloc: Global, kind: FileKind) -> FileReader

@@ -9,7 +9,7 @@ use Rattle.mds_lines.specs.Buffered.{Buffered, nothing_read, Takes, HasTaken}
 use Rattle.mds_lines.specs.Lines.{line_feed, longest_line, most_lines}
 use Rattle.mds_lines.specs.Readers.{reader_source, reader_lines, GoesOn}
 use Rattle.mds_lines.specs.Reads.{Reads, block}
-use Rattle.mds_lines.specs.Streams.{lent_gives}
+use Rattle.mds_lines.specs.Counted.{lent_gives}
 use denote.MutBor.{MutBor}
 
 reads_append : {S : Type 0} (gives : S → List ℕ → S → Type 0) (a b c : S) (xs ys : List (List ℕ)) → Reads gives a xs b → Reads gives b ys c → Reads gives a (xs ++ ys) c

@@ -6,13 +6,13 @@ mod fields;
 mod line;
 mod reader;
 mod rest;
-mod stream;
+mod source;
 
 pub use fields::Fields;
 pub use line::{Kind, KindFault, Line, one_split};
 pub use reader::{LineBuffer, LineFault, LineReader};
 pub use rest::{is_blank_from, next_field};
-pub use stream::{Counted, Sink, Source};
+pub use source::{Counted, Sink, Source};
 
 #[cfg(test)]
 mod tests;

@@ -5,7 +5,7 @@ ghost use Rattle.mds_lines.specs.Lines.{line_text, longest_line, most_lines};
 ghost use Rattle.mds_lines.specs.Numbered.{number_of, text_of};
 
 use crate::line::Line;
-use crate::stream::Source;
+use crate::source::Source;
 use memchr::memchr;
 use std::alloc::{AllocError, Global};
 use std::cmp::min;

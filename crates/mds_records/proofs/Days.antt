@@ -13,7 +13,7 @@ use Rattle.mds_lines.specs.declared.line.Kind.TheVariants.{IntervalData}
 use Rattle.mds_records.specs.declared.interval_data.ValueFaults.{ValueFaults}
 use Rattle.mds_records.specs.declared.fault.FieldFault.TheVariants.{Count, Bad}
 use Rattle.mds_records.specs.declared.interval_data.DayFields.{DayFields}
-use Rattle.mds_records.specs.Faults.{field_fault, is_bad, layout_of}
+use Rattle.mds_records.specs.FieldFaults.{field_fault, is_bad, layout_of}
 use Rattle.mds_records.specs.Layouts.{Rule, Value, DayDate, QualityMethod, ReasonNumber, ReasonWords, Nothing, MomentTime, may, must, layout, means_values}
 use Rattle.mds_lines.specs.Lines.{field, fields_of}
 use Rattle.mds_lines.specs.Rest.{first_of, are_blank}

@@ -16,7 +16,7 @@ use Rattle.mds_records.specs.declared.file.FileKind.{FileKind}
 use Rattle.mds_records.specs.declared.header.HeaderFields.{HeaderFields}
 use Rattle.mds_records.specs.declared.interval_event.EventFields.{EventFields}
 use Rattle.mds_records.specs.declared.nmi_data_details.DetailsFields.{DetailsFields}
-use Rattle.mds_records.specs.Faults.{field_fault}
+use Rattle.mds_records.specs.FieldFaults.{field_fault}
 use Rattle.mds_records.specs.Layouts.{FileName, DateTime, Printable, NmiName, SuffixName, UnitName, LengthInMinutes, DayDate, IntervalNumber, EventQuality, ReasonNumber, ReasonWords, file_name, other_file_name, interval_number_of, is_event_quality}
 use Rattle.mds_records.specs.RecordSteps.{HasHeaderFields, HasDetailsFields, HasEventFields, first_false, outcome}
 use Rattle.mds_records.proofs.Rests.{right_count}

@@ -6,7 +6,7 @@ use Rattle.mds_records.specs.declared.file.FileKind.{FileKind}
 use Rattle.mds_records.specs.declared.file.FileKind.TheVariants.{Nem12}
 use Rattle.mds_lines.specs.declared.line.Kind.{Kind}
 use Rattle.mds_records.specs.declared.fault.FieldFault.TheVariants.{WrongFile, Count, Bad}
-use Rattle.mds_records.specs.Faults.{field_fault, is_of_other_file, has_wrong_count, layout_of, least_bad, is_bad}
+use Rattle.mds_records.specs.FieldFaults.{field_fault, is_of_other_file, has_wrong_count, layout_of, least_bad, is_bad}
 use Rattle.mds_records.specs.Layouts.{Form, Rule, Nothing, may, must, fits, file_name}
 use Rattle.mds_lines.specs.Lines.{field}
 use Rattle.mds_records.specs.RecordSteps.{first_false, outcome}

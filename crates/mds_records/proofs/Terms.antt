@@ -9,14 +9,14 @@ use Rattle.std.specs.Str.Parse.{digits_value}
 use Rattle.std.specs.Option.{option_and_then}
 use Rattle.mds_quantity.specs.Unit.{unit_of}
 use Rattle.mds_calendar.specs.Calendar.{day_of, moment_of, date_time_of}
-use Rattle.mds_marks.specs.Borrowed.{reason_value, mark_value}
+use Rattle.mds_marks.specs.BorrowedMarks.{reason_value, mark_value}
 use Rattle.mds_marks.specs.Mark.{mark_of}
 use Rattle.mds_marks.specs.Quality.{QualityValue, quality_of}
 use Rattle.mds_marks.specs.Reason.{ReasonValue, code_of, is_reason_text, reason_of}
 use Rattle.mds_marks.specs.declared.mark.Mark.{Mark}
 use Rattle.mds_marks.specs.declared.mark.MarkRef.{MarkRef}
 use Rattle.mds_marks.specs.declared.reason.ReasonRef.{ReasonRef}
-use Rattle.mds_terms.specs.Borrowed.{text_of}
+use Rattle.mds_terms.specs.BorrowedTexts.{text_of}
 use Rattle.mds_terms.specs.Parts.{optional}
 use Rattle.mds_terms.specs.Printable.{is_printable}
 use Rattle.mds_terms.specs.declared.printable.PrintableText.{PrintableText}

@@ -1,4 +1,4 @@
-pub mod Faults
+pub mod FieldFaults
 pub mod Layouts
 pub mod Printed
 pub mod RecordSteps
@@ -9,10 +9,10 @@ pub use Rattle.mds_lines.specs.Numbered
 pub use Rattle.mds_calendar.specs.Calendar
 pub use Rattle.mds_calendar.specs.Length
 pub use Rattle.mds_names.specs.Names
-pub use Rattle.mds_marks.specs.Borrowed as BorrowedMarks
+pub use Rattle.mds_marks.specs.BorrowedMarks
 pub use Rattle.mds_marks.specs.Mark
 pub use Rattle.mds_marks.specs.Quality
 pub use Rattle.mds_marks.specs.Reason
-pub use Rattle.mds_terms.specs.Borrowed
+pub use Rattle.mds_terms.specs.BorrowedTexts
 pub use Rattle.mds_terms.specs.Parts
 pub use Rattle.mds_terms.specs.Printable

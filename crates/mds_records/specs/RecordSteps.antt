@@ -12,7 +12,7 @@ use Rattle.mds_records.specs.declared.interval_data.DayFields.{DayFields}
 use Rattle.mds_records.specs.declared.interval_data.DayValues.{DayValues}
 use Rattle.mds_records.specs.declared.interval_data.ValueFaults.{ValueFaults}
 use Rattle.mds_records.specs.declared.interval_event.EventFields.{EventFields}
-use Rattle.mds_records.specs.Faults.{has_wrong_count}
+use Rattle.mds_records.specs.FieldFaults.{has_wrong_count}
 use Rattle.mds_records.specs.Records.{sum_of, values_of}
 
 -- the first of these tests that failed, by its number from a number on

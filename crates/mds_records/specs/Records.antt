@@ -8,8 +8,8 @@ use Rattle.mds_calendar.specs.Calendar.{day_of, moment_of, date_time_of}
 use Rattle.mds_calendar.specs.Length.{count_of, length_of}
 use Rattle.mds_names.specs.Names.{nmi_of, suffix_of}
 use Rattle.mds_marks.specs.Mark.{mark_of}
-use Rattle.mds_marks.specs.Borrowed.{mark_value}
-use Rattle.mds_terms.specs.Borrowed.{text_of}
+use Rattle.mds_marks.specs.BorrowedMarks.{mark_value}
+use Rattle.mds_terms.specs.BorrowedTexts.{text_of}
 use Rattle.mds_terms.specs.Parts.{optional}
 use Rattle.mds_lines.specs.declared.line.Kind.{Kind}
 use Rattle.mds_lines.specs.declared.line.Kind.TheVariants.{Header, NmiDataDetails, IntervalData, IntervalEvent, EndOfData}

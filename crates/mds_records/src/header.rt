@@ -2,7 +2,7 @@
 
 ghost use Rattle.std.specs.Prelude.{◌≡◌, ℕ, Some, None, MatchResult, bytes_eq};
 ghost use Rattle.mds_lines.specs.declared.line.Kind.{Kind};
-ghost use Rattle.mds_records.specs.Faults.{field_fault};
+ghost use Rattle.mds_records.specs.FieldFaults.{field_fault};
 ghost use Rattle.mds_records.specs.Layouts.{file_name, other_file_name};
 ghost use Rattle.mds_records.specs.RecordSteps.{HasHeaderFields};
 ghost use Rattle.mds_records.specs.Records.{IsHeader};

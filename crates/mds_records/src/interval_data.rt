@@ -4,7 +4,7 @@ ghost use Rattle.std.specs.Prelude.{◌≡◌, ◌<◌, ◌≤◌, ◌||◌, not
 ghost use Rattle.mds_lines.specs.declared.line.Kind.{Kind};
 ghost use Rattle.mds_lines.specs.Lines.{fields_of};
 ghost use Rattle.mds_records.specs.declared.file.FileKind.{FileKind};
-ghost use Rattle.mds_records.specs.Faults.{field_fault};
+ghost use Rattle.mds_records.specs.FieldFaults.{field_fault};
 ghost use Rattle.mds_records.specs.Layouts.{has_flag};
 ghost use Rattle.mds_records.specs.RecordSteps.{AreValues, HasDayFields, HasWrongCount, lesser, or_else};
 ghost use Rattle.mds_records.specs.Records.{IsIntervalData};

@@ -3,7 +3,7 @@
 ghost use Rattle.std.specs.Prelude.{◌≡◌, ℕ, Some, None, MatchResult};
 ghost use Rattle.mds_lines.specs.declared.line.Kind.{Kind};
 ghost use Rattle.mds_records.specs.declared.file.FileKind.{FileKind};
-ghost use Rattle.mds_records.specs.Faults.{field_fault};
+ghost use Rattle.mds_records.specs.FieldFaults.{field_fault};
 ghost use Rattle.mds_records.specs.RecordSteps.{HasDetailsFields};
 ghost use Rattle.mds_records.specs.Records.{IsNmiDataDetails};
 

@@ -4,7 +4,7 @@ ghost use Rattle.std.specs.Prelude.{◌≡◌, ℕ, Ok, Some, None, IsSome, Matc
 ghost use Rattle.mds_lines.specs.Kinds.{kind_of};
 ghost use Rattle.mds_lines.specs.Numbered.{text_of};
 ghost use Rattle.mds_records.specs.declared.file.FileKind.{FileKind as AFileKind};
-ghost use Rattle.mds_records.specs.Faults.{field_fault};
+ghost use Rattle.mds_records.specs.FieldFaults.{field_fault};
 ghost use Rattle.mds_records.specs.Records.{Spells, value_count};
 
 use crate::fault::{FieldFault, first_fault};

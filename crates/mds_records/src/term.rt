@@ -5,7 +5,7 @@ ghost use Rattle.std.specs.Char.{is_ascii_digit};
 ghost use Rattle.std.specs.List.{list_all};
 ghost use Rattle.std.specs.Str.Parse.{digits_value};
 ghost use Rattle.mds_calendar.specs.Calendar.{day_of, moment_of};
-ghost use Rattle.mds_marks.specs.Borrowed.{mark_value};
+ghost use Rattle.mds_marks.specs.BorrowedMarks.{mark_value};
 ghost use Rattle.mds_marks.specs.Mark.{mark_of};
 ghost use Rattle.mds_marks.specs.Quality.{quality_of};
 ghost use Rattle.mds_marks.specs.Reason.{code_of, is_reason_text};

@@ -1,5 +1,5 @@
 -- What contracts inside this crate see of a borrowed event.
-use Rattle.mds_terms.specs.Borrowed.{text_of}
+use Rattle.mds_terms.specs.BorrowedTexts.{text_of}
 use Rattle.mds_terms.specs.Event.{EventValue}
 use Rattle.mds_terms.specs.declared.event_ref.EventRef.{EventRef}
 

@@ -1,4 +1,4 @@
-pub mod Borrowed
+pub mod BorrowedTexts
 pub mod BorrowedSteps
 pub mod Details
 pub mod Event
@@ -7,7 +7,7 @@ pub mod Printable
 pub use Rattle.mds_calendar.specs.Calendar
 pub use Rattle.mds_calendar.specs.Length
 pub use Rattle.mds_names.specs.Names
-pub use Rattle.mds_marks.specs.Borrowed as BorrowedMarks
+pub use Rattle.mds_marks.specs.BorrowedMarks
 pub use Rattle.mds_marks.specs.Mark
 pub use Rattle.mds_marks.specs.Quality
 pub use Rattle.mds_marks.specs.Reading

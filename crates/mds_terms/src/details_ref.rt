@@ -24,7 +24,7 @@ pub struct DetailsRef<'a> {
 }
 
 impl<'a> DetailsRef<'a> {
-    ghost use Rattle.mds_terms.specs.Borrowed.{text_of, details_in};
+    ghost use Rattle.mds_terms.specs.BorrowedTexts.{text_of, details_in};
     ghost use Rattle.mds_terms.specs.Details.{details_of};
 
     /// The details of five texts, the last empty or a day (CCYYMMDD), or `None` where one of them is not what it has

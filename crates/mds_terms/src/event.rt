@@ -5,7 +5,7 @@ ghost use Rattle.std.specs.List.{slice_split};
 ghost use Rattle.mds_quantity.specs.Append.{Appends, AppendsPart};
 ghost use Rattle.mds_names.specs.Names.{is_comma};
 ghost use Rattle.mds_terms.specs.Event.{EventValue, is_event, event_of, trans_text as text_of_trans, IsEventText};
-ghost use Rattle.mds_terms.specs.Borrowed.{text_of};
+ghost use Rattle.mds_terms.specs.BorrowedTexts.{text_of};
 ghost use Rattle.mds_terms.specs.BorrowedSteps.{event_in};
 
 use crate::event_ref::EventRef;

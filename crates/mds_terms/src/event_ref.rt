@@ -23,7 +23,7 @@ pub(crate) struct EventRef<'a> {
 
 impl<'a> EventRef<'a> {
     ghost use Rattle.mds_terms.specs.Event.{event_of, is_event};
-    ghost use Rattle.mds_terms.specs.Borrowed.{text_of};
+    ghost use Rattle.mds_terms.specs.BorrowedTexts.{text_of};
     ghost use Rattle.mds_terms.specs.BorrowedSteps.{event_in};
 
     /// The event of seven texts.

@@ -17,7 +17,7 @@ pub struct PrintableText<'a> {
 const LONGEST: usize = 240;
 
 impl<'a> PrintableText<'a> {
-    ghost use Rattle.mds_terms.specs.Borrowed.{text_of};
+    ghost use Rattle.mds_terms.specs.BorrowedTexts.{text_of};
 
     /// The printable text of these bytes, or `None` where they are none.
     pub fn read(text: &'a [u8]) -> Option<PrintableText<'a>>

@@ -2,7 +2,7 @@ use Rattle.std.proofs.Common.{◌≡◌, Some, arith, ap, ◌∙◌, sym, string
 use Rattle.std.proofs.lemmas.Option.{IfSome_then}
 use Rattle.mds_lines.specs.Buffered.{Buffered, HasTaken}
 use Rattle.mds_lines.proofs.HasTakens.{taken_none, taken_next, at_line, at_end}
-use Rattle.mds_desk.specs.Faults.{fault_of}
+use Rattle.mds_desk.specs.FileFaults.{fault_of}
 use Rattle.mds_desk.proofs.Steps.{reading_none, reading_more, reading_stops, reading_over, reading_ends, ends_done, ends_fault, over_fault}
 use Rattle.mds_desk.proofs.checking.report_lines.Goals as goal
 
@@ -23,15 +23,15 @@ pub returns-in-Ok-None-clause-done : goal.returns-in-Ok-None-clause-done
 returns-in-Ok-None-clause-done g c =
     let known = c.loop-line.invariant in
     let end = at_end _ _ c.next.result c.in-Ok-None.field-0 c.in-Ok-None.is c.in-Ok-None.field-0-is c.next.follows.holds-at-none.next in
-    ends_done string_bytes c.args.kind c.loop-line.count c.loop-line.file _ c.finish.result
-    (IfSome_then _ known.read (λ text r. reading_ends c.args.kind _ _ c.loop-line.file _ _ c.loop-line.count text r end known.count)) c.finish.ensures.ended
+    ends_done string_bytes c.args.kind c.loop-line.count c.loop-line.file _ c.end_report.result
+    (IfSome_then _ known.read (λ text r. reading_ends c.args.kind _ _ c.loop-line.file _ _ c.loop-line.count text r end known.count)) c.end_report.ensures.ended
 
 pub returns-in-Ok-None-clause-fault : goal.returns-in-Ok-None-clause-fault
 returns-in-Ok-None-clause-fault g c = λ fault e.
     let known = c.loop-line.invariant in
     let end = at_end _ _ c.next.result c.in-Ok-None.field-0 c.in-Ok-None.is c.in-Ok-None.field-0-is c.next.follows.holds-at-none.next in
-    ends_fault string_bytes c.args.kind c.loop-line.count c.loop-line.file _ c.finish.result fault
-    (IfSome_then _ known.read (λ text r. reading_ends c.args.kind _ _ c.loop-line.file _ _ c.loop-line.count text r end known.count)) c.finish.ensures.ended e
+    ends_fault string_bytes c.args.kind c.loop-line.count c.loop-line.file _ c.end_report.result fault
+    (IfSome_then _ known.read (λ text r. reading_ends c.args.kind _ _ c.loop-line.file _ _ c.loop-line.count text r end known.count)) c.end_report.ensures.ended e
 
 pub returns-in-Ok-None-clause-taken : goal.returns-in-Ok-None-clause-taken
 returns-in-Ok-None-clause-taken g c =

@@ -1,6 +1,6 @@
 use Rattle.std.proofs.Common.{ℕ, codes, Option, option_map, is_some, refl, sym, ◌∙◌, ap}
 use Rattle.mds_calendar.specs.Calendar.{day_of, moment_of}
-use Rattle.mds_marks.specs.Borrowed.{mark_value}
+use Rattle.mds_marks.specs.BorrowedMarks.{mark_value}
 use Rattle.mds_marks.specs.Quality.{QualityValue}
 use Rattle.mds_marks.specs.declared.mark.MarkRef.{MarkRef}
 use Rattle.mds_terms.specs.Parts.{optional}

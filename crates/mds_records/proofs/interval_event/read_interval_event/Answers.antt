@@ -1,6 +1,6 @@
 use Rattle.std.proofs.Common.{ℕ, codes, [], ◌∷◌, false, ◌∙◌, ap, sym, lit<, Option, option_map, is_some}
 use Rattle.std.proofs.lemmas.Result.{err_from_is_err_and}
-use Rattle.mds_marks.specs.Borrowed.{mark_value}
+use Rattle.mds_marks.specs.BorrowedMarks.{mark_value}
 use Rattle.mds_marks.specs.Quality.{QualityValue}
 use Rattle.mds_marks.specs.declared.mark.MarkRef.{MarkRef}
 use Rattle.mds_records.specs.Layouts.{interval_number_of}

@@ -1,5 +1,5 @@
 use Rattle.std.proofs.Common.{Option, option_map, sym, ◌∙◌, ap}
-use Rattle.mds_marks.specs.Borrowed.{mark_value}
+use Rattle.mds_marks.specs.BorrowedMarks.{mark_value}
 use Rattle.mds_marks.specs.declared.mark.MarkRef.{MarkRef}
 use Rattle.mds_records.proofs.Terms.{parts_of}
 use Rattle.mds_records.proofs.term.mark_parts.Goals as goal

@@ -1,5 +1,5 @@
 use Rattle.std.proofs.Common.{ap, refl, ◌∙◌}
-use Rattle.mds_desk.specs.Faults.{text_fault}
+use Rattle.mds_desk.specs.FileFaults.{text_fault}
 use Rattle.mds_desk.proofs.Governs.{knows_empty}
 use Rattle.mds_desk.proofs.file_reader.FileReader.take.Goals as goal
 

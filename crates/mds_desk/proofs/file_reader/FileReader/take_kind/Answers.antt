@@ -1,10 +1,10 @@
 use Rattle.std.proofs.Common.{◌≡◌, ◌+◌, length, true, ℕ, Option, None, Some, subst, ◌∙◌, ap, sym}
 use Rattle.std.specs.Option.{option_map}
-use Rattle.mds_records.specs.Faults.{field_fault}
+use Rattle.mds_records.specs.FieldFaults.{field_fault}
 use Rattle.mds_records.specs.Records.{Spells, value_count}
 use Rattle.mds_records.specs.declared.fault.FieldFault.TheVariants.{Bad}
-use Rattle.mds_desk.specs.Faults.{at_field}
-use Rattle.mds_desk.specs.KnowsLines.{last_kind, last_length}
+use Rattle.mds_desk.specs.FileFaults.{at_field}
+use Rattle.mds_desk.specs.FileReaderSteps.{last_kind, last_length}
 use Rattle.mds_desk.specs.Narrow.{narrow_bad}
 use Rattle.mds_desk.specs.Place.{is_in_place}
 use Rattle.mds_desk.proofs.Governs.{knows_record, count_known, fault_in_place, refused_with}

@@ -6,7 +6,7 @@ use Rattle.mds_lines.specs.declared.reader.LineFault.{LineFault}
 use Rattle.mds_lines.specs.declared.reader.LineFault.TheVariants as line
 use Rattle.mds_desk.specs.declared.checking.CheckFault.{CheckFault}
 use Rattle.mds_desk.specs.declared.checking.CheckFault.TheVariants.{File, Read, Write, Memory}
-use Rattle.mds_desk.specs.Faults.{at_line}
+use Rattle.mds_desk.specs.FileFaults.{at_line}
 
 -- the file isn't well formed
 abbrev pub IsFileFault : CheckFault → Type 0

@@ -58,7 +58,7 @@ pub struct Counted<T> {
 }
 
 impl<T> Counted<T> {
-    ghost use Rattle.mds_lines.specs.Streams.{counted_inner, counted_failures};
+    ghost use Rattle.mds_lines.specs.Counted.{counted_inner, counted_failures};
 
     /// A reader or a writer none of whose calls has failed yet.
     pub fn new(inner: T) -> Counted<T>
@@ -105,7 +105,7 @@ impl<R: Source> Source for &mut R {
 
     ghost failures = { λ lent. R.failures lent.now };
 
-    ghost use Rattle.mds_lines.specs.Streams.{lent_gives};
+    ghost use Rattle.mds_lines.specs.Counted.{lent_gives};
 
     ghost gives = { lent_gives R.gives };
 

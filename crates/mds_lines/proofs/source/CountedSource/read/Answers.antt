@@ -1,6 +1,6 @@
 use Rattle.std.proofs.Common.{arith}
 use Rattle.mds_lines.proofs.StreamFacts.{Keeps_same, Keeps_keeps, Keeps_consumes}
-use Rattle.mds_lines.proofs.stream.CountedSource.read.Goals as goal
+use Rattle.mds_lines.proofs.source.CountedSource.read.Goals as goal
 
 pub loop-init : goal.loop-init
 loop-init g c = (omega arith, Keeps_same _)

@@ -1,7 +1,7 @@
 -- A reader or writer that counts its failed calls, and what is lent of one.
 use Rattle.std.specs.Prelude.{◌≡◌, ℕ, List}
 use denote.MutBor.{MutBor}
-use Rattle.mds_lines.specs.declared.stream.Counted.{Counted}
+use Rattle.mds_lines.specs.declared.source.Counted.{Counted}
 
 -- what it counts the calls of
 abbrev pub counted_inner : {T : Type 0} → Counted T → T

@@ -1,6 +1,6 @@
 use Rattle.std.proofs.Common.{arith}
 use Rattle.mds_lines.proofs.StreamFacts.{Keeps_same, Keeps_keeps, Keeps_appends}
-use Rattle.mds_lines.proofs.stream.CountedSink.write.Goals as goal
+use Rattle.mds_lines.proofs.source.CountedSink.write.Goals as goal
 
 pub loop-init : goal.loop-init
 loop-init g c = (omega arith, Keeps_same _)
