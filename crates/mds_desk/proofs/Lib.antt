@@ -1,6 +1,3 @@
-pub mod Faultless
-pub mod Governs
-pub mod Refused
-pub mod Reported
-pub mod Steps
+pub mod Reports
 pub mod Texts
+pub mod Writing

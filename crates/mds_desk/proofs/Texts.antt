@@ -13,3 +13,8 @@ more_char old text new front char part e h same = more old text new front part e
 pub grown : {T E P : Type 0} (r : Result T E) (new done kept : List ℕ) → new ≡ cond (is_ok r) done kept → (new ≡ done → P) → OnOk r P
 grown (Ok x) new done kept e h = h e
 grown (Err x) new done kept e h = tt
+
+-- what follows from what a call did where it succeeded
+pub on_ok : {T E P Q : Type 0} (r : Result T E) → OnOk r P → (P → Q) → OnOk r Q
+on_ok (Ok x) h f = f h
+on_ok (Err x) h f = tt

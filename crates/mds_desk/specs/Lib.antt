@@ -1,10 +1,4 @@
 pub mod Answer
-pub mod CheckSteps
-pub mod FileFaults
-pub mod FileReaderSteps
-pub mod Governing
-pub mod Narrow
-pub mod Place
 pub mod Program
 pub mod Report
 pub mod Requests

@@ -1,39 +1,36 @@
--- What `check` prints of a well formed file (profile): for each 300 record in order the NMI, the suffix, the date, how
--- many values it has, their sum, and the unit.
-use Rattle.std.specs.Prelude.{ℕ, List, [], ◌++◌, length, take, map, flat_map, slice_index_or, codes, decimal, if◌then◌else◌, Option, Some, None, unwrap_or}
-use Rattle.std.specs.List.{range_with_len}
+-- What `check` prints of a well formed file (profile): for each 300 record in order the NMI, the suffix, the date, how many
+-- of its intervals have a value, the sum of these values, and the unit.
+use Rattle.std.specs.Prelude.{◌≡◌, ℕ, List, [], ◌∷◌, ◌++◌, length, codes, decimal, Some, None}
 use Rattle.mds_quantity.specs.Quantity.{written}
-use Rattle.mds_quantity.specs.Unit.{unit_of, unit_text}
-use Rattle.mds_quantity.specs.declared.unit.Unit.{Unit as MeasureUnit}
-use Rattle.mds_lines.specs.declared.line.Kind.TheVariants.{IntervalData}
-use Rattle.mds_lines.specs.Kinds.{kind_of}
-use Rattle.mds_lines.specs.Lines.{line_pieces, line_text, field}
-use Rattle.mds_records.specs.Records.{value_count, values_of, sum_of}
-use Rattle.mds_desk.specs.Governing.{governing_details, governing_length, is_this_kind}
+use Rattle.mds_quantity.specs.Unit.{unit_text}
+use Rattle.mds_calendar.specs.Calendar.{day_of}
+use Rattle.mds_records.specs.declared.file.FileFault.{FileFault}
+use Rattle.mds_records.specs.declared.file.FileKind.{FileKind}
+use Rattle.mds_records.specs.declared.file.FileKind.TheVariants.{Nem12}
+use Rattle.mds_days.specs.Readings.{amounts, total}
+use Rattle.mds_nem12.specs.Faults.{fault_of}
+use Rattle.mds_nem12.specs.Statements.{DayStatement, Statement, statements_of}
+use Rattle.mds_nem12.specs.Statements.Statement.{DayOf}
 
--- the written text of a unit that was read
-abbrev pub unit_name : Option MeasureUnit → List ℕ
-unit_name None = []
-unit_name (Some unit) = unit_text unit
+-- the line of a day, by the text of its date
+abbrev pub day_line : DayStatement → List ℕ → List ℕ
+day_line day date =
+    day.stream.nmi ++ codes " " ++ day.stream.suffix ++ codes " " ++ date ++ codes " "
+    ++ decimal (length (amounts day.readings)) ++ codes " " ++ written (total (amounts day.readings)) ++ codes " "
+    ++ unit_text day.unit ++ codes "\n"
 
--- the line that is printed of a 300 record after these lines, the last 200 record among which is `details`
-abbrev pub day_line : List (List ℕ) → List ℕ → List ℕ → List ℕ
-day_line before details line =
-    let n = value_count (governing_length before) in
-    field details 2 ++ codes " " ++ field details 5 ++ codes " " ++ field line 2 ++ codes " " ++ decimal n
-    ++ codes " " ++ written (sum_of (values_of n line)) ++ codes " " ++ unit_name (unit_of (field details 8))
-    ++ codes "\n"
+-- the lines of all days of statements; a day has one text of its date
+abbrev pub IsReport : List Statement → List ℕ → Type 0
+IsReport [] text = text ≡ []
+IsReport (DayOf day ∷ statements) text =
+    (date : List ℕ) × (rest : List ℕ) × (day_of date ≡ Some day.date) × (text ≡ day_line day date ++ rest)
+    × IsReport statements rest
+IsReport (statement ∷ statements) text = IsReport statements text
 
--- what is printed of a line after these lines
-abbrev pub line_report : List (List ℕ) → List ℕ → List ℕ
-line_report before line =
-    if is_this_kind IntervalData (kind_of line) then day_line before (unwrap_or (governing_details before) []) line
-    else []
+-- the text of a file of a kind is well formed, and this is what is printed of it
+abbrev pub IsReportOf : FileKind → List ℕ → List ℕ → Type 0
+IsReportOf Nem12 text report = (fault_of text ≡ None) × IsReport (statements_of text) report
 
--- what is printed of lines
-abbrev pub reports : List (List ℕ) → List ℕ
-reports lines = flat_map (λ k. line_report (take k lines) (slice_index_or lines k [])) (range_with_len 0 (length lines))
-
--- what is printed of a text
-unfoldable pub report_of : List ℕ → List ℕ
-report_of text = reports (map line_text (line_pieces text))
+-- this is the fault of a file of a kind
+abbrev pub IsFaultOf : FileKind → List ℕ → FileFault → Type 0
+IsFaultOf Nem12 text fault = fault_of text ≡ Some fault

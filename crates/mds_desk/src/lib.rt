@@ -2,9 +2,8 @@
 #![tactic(auto)]
 
 mod checking;
-mod file_reader;
-mod narrow;
 mod program;
+mod report;
 #[cfg(test)]
 mod tests;
 

@@ -1,10 +1,31 @@
+mod made;
+mod slow;
+mod small;
+
 use crate::{CheckFault, Outcome, check};
+use made::Random;
 use mds_lines::Counted;
 use mds_records::FileKind;
 use std::alloc::{AllocError, Global};
-use std::io;
 use std::io::{ErrorKind, Read, Write};
 use std::test::Fail;
+use std::{io, str};
+
+/// How a line begins that is printed of a well formed file, and of each fault that a small file may have.
+const BEGINNINGS: [&[u8]; 12] = [
+    b"NEM1201009 E1 2",
+    b"L1 ",
+    b"L2 ",
+    b"L3 ",
+    b"L4 ",
+    b"L5 ",
+    b"L6 ",
+    b"L7 ",
+    b"L8 ",
+    b"L9 ",
+    b"L11 ",
+    b"L12 ",
+];
 
 /// What `check` answers, and how many calls of its reader and of its writer failed.
 fn checked<R: Read + Drop, W: Write + Drop>(
@@ -28,20 +49,27 @@ fn printed<R: Read + Drop>(alloc: Global, reader: R) -> Result<(Vec<u8>, u8), Al
     Ok((out, outcome.status().code()))
 }
 
-/// A file that a short text stands for: `@` for a header, `#` for a 200 record, `~` for a good end of a 300 record, `$`
-/// for the end of data, and a value between two `*` for 48 of it.
+/// A file that a short text stands for: `@` for a header, `#` for a 200 record of 30 minutes and `%` for one of 5, `~` for a
+/// good end of a 300 record, `$` for the end of data, and a value between two `*` for 48 of it, after `<` for 47 and after
+/// `>` for 287.
 fn file_of(alloc: Global, short: &[u8]) -> Result<Vec<u8>, AllocError> {
     let mut file = Vec::new(alloc);
     for (k, piece) in short.split(|byte| *byte == b'*').enumerate() {
-        let times = if k % 2 == 1 { 48 } else { 0 };
+        let (times, value): (usize, &[u8]) = match piece {
+            _ if k % 2 == 0 => (0, piece),
+            [b'<', value @ ..] => (47, value),
+            [b'>', value @ ..] => (287, value),
+            value => (48, value),
+        };
         for _ in 0..times {
             file.push(b',')?;
-            file.extend_from_slice(piece)?;
+            file.extend_from_slice(value)?;
         }
         for byte in if times == 0 { piece } else { &[] } {
             match *byte {
                 b'@' => file.extend_from_slice(b"100,NEM12,202401030000,MDP1,RETAILER\n")?,
                 b'#' => file.extend_from_slice(b"200,NEM1201009,E1,1,E1,N1,01009,kWh,30,\n")?,
+                b'%' => file.extend_from_slice(b"200,NEM1201009,,,E1,,,kWh,5\n")?,
                 b'~' => file.extend_from_slice(b",A,,,20240102010203,\n")?,
                 b'$' => file.extend_from_slice(b"900\n")?,
                 _ => file.push(*byte)?,
@@ -51,64 +79,69 @@ fn file_of(alloc: Global, short: &[u8]) -> Result<Vec<u8>, AllocError> {
     Ok(file)
 }
 
-/// What is printed of files, and the status.
-#[test]
-fn small_files(rt: HostRuntime) -> Result<(), Fail> {
-    let alloc = rt.alloc();
-    let sum = "NEM1201009 E1 20240101 48 72 kWh\n";
-    let files: [(&[u8], &str); 36] = [
-        (b"@#300,20240101*1.5*~$", sum),
-        (b"@\n#\r\n300,20240101*1.5*,A\r\n\n900,,", sum),
-        (
-            b"100,NEM12,20240103000000\n200,NEM1201010,,,B2,,,KVARH,30\n300,20240229*-.000001*~$",
-            "NEM1201010 B2 20240229 48 -0.000048 kVArh\n",
-        ),
-        (
-            b"@#300,20240101*1.5*~200,1234567890,,,11,,,pf,30\n300,20240102*999999999999.999999*~$",
-            "NEM1201009 E1 20240101 48 72 kWh\n1234567890 11 20240102 48 47999999999999.999952 pf\n",
-        ),
-        (b"@$", ""),
-        (b"", "L9 line 1\n"),
-        (b"@#300,20240101*1.5*~", "L9 line 4\n"),
-        (b"$", "L3 line 1\n"),
-        (b"@#@$", "L3 line 3\n"),
-        (b"@300,20240101*1.5*~$", "L3 line 2\n"),
-        (b"@#300,20240101*1.5*~$$", "L3 line 5\n"),
-        (b"\xff", "L1 line 1\n"),
-        (b"@\n\r\r\n", "L2 line 3\n"),
-        (b"400\n", "L2 line 1\n"),
-        (b"@#300,20240101*1.5*~400,1,2,A,,\n$", "L2 line 4\n"),
-        (b"100,NEM13,x\n", "L11 line 1\n"),
-        (b"100\n", "L4 line 1\n"),
-        (b"100,NEM12,x\n", "L5 line 1 field 3\n"),
-        (b"@200,nem1201009,,,E1,,,kWh,15\n", "L5 line 2 field 2\n"),
-        (b"@200,NEM1201009,,,E1,,,kWh,15\n", "L5 line 2 field 9\n"),
-        (b"@200,NEM1201009,,,E1,,,kWh,05,x\n", "L5 line 2 field 9\n"),
-        (b"@200,NEM1201009,,,E1,,,kWh,30,x\n", "L5 line 2 field 10\n"),
-        (b"@200,NEM1201009,,,E1,,,kWh,15,,x\n", "L4 line 2\n"),
-        (b"@#300,20240230*1.5*~", "L5 line 3 field 2\n"),
-        (b"@#300,20240101*0.0000001*~", "L5 line 3 field 3\n"),
-        (b"@#300,20240101*1000000000000*~", "L5 line 3 field 3\n"),
-        (b"@#300,20240101**,E52,,,,\n", "L5 line 3 field 3\n"),
-        (b"@#300,20240101*1.5*,E52,7x,,,\n", "L5 line 3 field 51\n"),
-        (b"@#300,20240101**,N,,,,\n", "L5 line 3 field 51\n"),
-        (b"@#300,20240101**,V,,,,\n", "L5 line 3 field 51\n"),
-        (b"@#300,20240101*1.5*,a,,,,\n", "L5 line 3 field 51\n"),
-        (b"@#300,20240101*1.5*,A,76,,x,\n", "L5 line 3 field 52\n"),
-        (b"@#300,20240101*1.5*,A,,late,x,\n", "L5 line 3 field 53\n"),
-        (
-            b"@#300,20240101*1.5*,A,,,,20240102010260\n",
-            "L5 line 3 field 55\n",
-        ),
-        (b"@#300,20240101*1.5*,A,76,,,,x\n", "L4 line 3\n"),
-        (b"@#300,20240101*1.5*\n", "L4 line 3\n"),
-    ];
+/// The first of these files of which something else is printed, or that ends with another status.
+fn first_wrong<'a>(
+    alloc: Global,
+    files: &[(&'a [u8], &str)],
+) -> Result<Option<&'a [u8]>, AllocError> {
     for (short, wanted) in files {
         let file = file_of(alloc, short)?;
         let (out, status) = printed(alloc, file.as_slice())?;
-        assert_eq!(rt; out.as_slice(), wanted.as_bytes());
-        assert_eq!(rt; status, u8::from(wanted.starts_with("L")), "{wanted}");
+        if out.as_slice() != wanted.as_bytes() || status != u8::from(wanted.starts_with("L")) {
+            return Ok(Some(*short));
+        }
     }
+    Ok(None)
+}
+
+#[test]
+fn good_files(rt: HostRuntime) -> Result<(), Fail> {
+    assert_eq!(rt; first_wrong(rt.alloc(), &small::GOOD)?, None);
+    Ok(())
+}
+
+#[test]
+fn good_runs_and_events(rt: HostRuntime) -> Result<(), Fail> {
+    assert_eq!(rt; first_wrong(rt.alloc(), &small::RUNS)?, None);
+    Ok(())
+}
+
+#[test]
+fn lines_out_of_place(rt: HostRuntime) -> Result<(), Fail> {
+    assert_eq!(rt; first_wrong(rt.alloc(), &small::PLACES)?, None);
+    Ok(())
+}
+
+#[test]
+fn faulty_fields(rt: HostRuntime) -> Result<(), Fail> {
+    assert_eq!(rt; first_wrong(rt.alloc(), &small::FIELDS)?, None);
+    Ok(())
+}
+
+#[test]
+fn faulty_runs(rt: HostRuntime) -> Result<(), Fail> {
+    assert_eq!(rt; first_wrong(rt.alloc(), &small::RUN_FAULTS)?, None);
+    Ok(())
+}
+
+/// Made files are printed as the slow check prints them, and each fault but L10 comes up.
+#[test]
+fn made_files(rt: HostRuntime) -> Result<(), Fail> {
+    let alloc = rt.alloc();
+    let mut random = Random::new(1);
+    let mut seen = 0;
+    for _ in 0..1_000 {
+        let file = made::file(alloc, &mut random)?;
+        let (wanted, wanted_status) = slow::printed(alloc, file.as_slice())?;
+        let (out, status) = printed(alloc, file.as_slice())?;
+        let text = str::from_utf8(file.as_slice()).unwrap_or("no UTF-8");
+        assert_eq!(rt; out.as_slice(), wanted.as_slice(), "{text}");
+        assert_eq!(rt; status, wanted_status, "{text}");
+        for (k, beginning) in BEGINNINGS.into_iter().enumerate() {
+            seen |= u32::from(out.starts_with(beginning)) << k;
+        }
+    }
+    assert_eq!(rt; seen, (1 << BEGINNINGS.len()) - 1);
     Ok(())
 }
 
@@ -139,7 +172,7 @@ fn long_files(rt: HostRuntime) -> Result<(), Fail> {
     let files: [(u8, usize, &[u8], &str); 12] = [
         (b'\n', 999_998, b"100,NEM12,202401030000\n900\n", ""),
         (b'\n', 999_999, b"\xff", "L1 line 1000000\n"),
-        (b'\n', 999_999, b"400\n", "L2 line 1000000\n"),
+        (b'\n', 999_999, b"201\n", "L2 line 1000000\n"),
         (b'\n', 999_999, b"900\n", "L3 line 1000000\n"),
         (b'\n', 999_999, b"100\n", "L4 line 1000000\n"),
         (b'\n', 999_999, b"100,NEM13\n", "L11 line 1000000\n"),
@@ -200,8 +233,9 @@ impl<T: Write> Write for Failing<T> {
     }
 }
 
-/// A file of two days, and what is printed of it.
-const TWO_DAYS: &[u8] = b"@#300,20240101*1.5*~300,20240102*-0.000001*~$";
+/// A file of two days, the first of them with runs, and what is printed of it.
+const TWO_DAYS: &[u8] =
+    b"@#300,20240101*1.5*,V\n400,1,20,F14,,late\n400,21,48,A\n300,20240102*-0.000001*~$";
 
 const TWO_LINES: &[u8] =
     b"NEM1201009 E1 20240101 48 72 kWh\nNEM1201009 E1 20240102 48 -0.000048 kWh\n";

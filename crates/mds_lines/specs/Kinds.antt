@@ -2,7 +2,7 @@
 use Rattle.std.specs.Prelude.{ℕ, Bool, not, ◌==◌, if◌then◌else◌, List, length, codes, bytes_eq, Option, Some, None, Result, Err, ok_or}
 use Rattle.std.specs.Str.Lossy.{utf8_valid_len}
 use Rattle.mds_lines.specs.declared.line.Kind.{Kind}
-use Rattle.mds_lines.specs.declared.line.Kind.TheVariants.{Header, NmiDataDetails, IntervalData, IntervalEvent, EndOfData}
+use Rattle.mds_lines.specs.declared.line.Kind.TheVariants.{Header, NmiDataDetails, AccumulationData, IntervalData, IntervalEvent, B2bDetails, AccumulationB2bDetails, EndOfData}
 use Rattle.mds_lines.specs.declared.line.KindFault.{KindFault}
 use Rattle.mds_lines.specs.declared.line.KindFault.TheVariants.{NotText, Unknown}
 use Rattle.mds_lines.specs.Lines.{field}
@@ -16,10 +16,13 @@ abbrev pub kind_named : List ℕ → Option Kind
 kind_named indicator =
     if bytes_eq indicator (codes "100") then Some Header
     else (if bytes_eq indicator (codes "200") then Some NmiDataDetails
+    else (if bytes_eq indicator (codes "250") then Some AccumulationData
     else (if bytes_eq indicator (codes "300") then Some IntervalData
     else (if bytes_eq indicator (codes "400") then Some IntervalEvent
+    else (if bytes_eq indicator (codes "500") then Some B2bDetails
+    else (if bytes_eq indicator (codes "550") then Some AccumulationB2bDetails
     else (if bytes_eq indicator (codes "900") then Some EndOfData
-    else None))))
+    else None)))))))
 
 -- the kind of a line, or why it has none: it isn't UTF-8, or its first field is no record indicator
 unfoldable pub kind_of : List ℕ → Result Kind KindFault

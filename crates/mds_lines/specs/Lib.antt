@@ -7,3 +7,4 @@ pub mod Numbered
 pub mod Readers
 pub mod Reads
 pub mod Rest
+pub mod TextLeft

@@ -7,12 +7,14 @@ mod line;
 mod reader;
 mod rest;
 mod source;
+mod text_source;
 
 pub use fields::Fields;
 pub use line::{Kind, KindFault, Line, one_split};
 pub use reader::{LineBuffer, LineFault, LineReader};
 pub use rest::{is_blank_from, next_field};
 pub use source::{Counted, Sink, Source};
+pub use text_source::TextSource;
 
 #[cfg(test)]
 mod tests;

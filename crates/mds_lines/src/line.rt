@@ -13,10 +13,16 @@ pub enum Kind {
     Header,
     /// 200, the NMI data details.
     NmiDataDetails,
+    /// 250, the accumulation data of a period (NEM13).
+    AccumulationData,
     /// 300, the interval data of a day.
     IntervalData,
     /// 400, the interval events of a day.
     IntervalEvent,
+    /// 500, the B2B details of a day.
+    B2bDetails,
+    /// 550, the B2B details of accumulation data (NEM13).
+    AccumulationB2bDetails,
     /// 900, the end of data.
     EndOfData,
 }
@@ -120,10 +126,16 @@ fn kind_named(indicator: &[u8]) -> Option<Kind>
         Some(Kind::Header)
     } else if indicator == b"200".as_slice() {
         Some(Kind::NmiDataDetails)
+    } else if indicator == b"250".as_slice() {
+        Some(Kind::AccumulationData)
     } else if indicator == b"300".as_slice() {
         Some(Kind::IntervalData)
     } else if indicator == b"400".as_slice() {
         Some(Kind::IntervalEvent)
+    } else if indicator == b"500".as_slice() {
+        Some(Kind::B2bDetails)
+    } else if indicator == b"550".as_slice() {
+        Some(Kind::AccumulationB2bDetails)
     } else if indicator == b"900".as_slice() {
         Some(Kind::EndOfData)
     } else {

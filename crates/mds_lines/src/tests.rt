@@ -89,6 +89,8 @@ fn lines_are_found(rt: HostRuntime) {
         let mut slow = Counted::new(OneByOne(bytes, 0, 0));
         let slow = count(&rt, rt.alloc(), &mut slow, lines);
         assert!(rt; at_once == wanted || slow == wanted);
+        let in_memory = count(&rt, rt.alloc(), &mut TextSource::new(bytes), lines);
+        assert!(rt; in_memory.is_none() || in_memory == wanted);
     }
 
     // A call fails for each byte, and one that finds the end.

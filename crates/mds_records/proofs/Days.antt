@@ -10,7 +10,7 @@ use Rattle.mds_marks.specs.Reason.{code_of, is_reason_text}
 use Rattle.mds_terms.specs.Parts.{optional}
 use Rattle.mds_records.specs.declared.file.FileKind.{FileKind}
 use Rattle.mds_lines.specs.declared.line.Kind.TheVariants.{IntervalData}
-use Rattle.mds_records.specs.declared.interval_data.ValueFaults.{ValueFaults}
+use Rattle.mds_records.specs.declared.interval_values.ValueFaults.{ValueFaults}
 use Rattle.mds_records.specs.declared.fault.FieldFault.TheVariants.{Count, Bad}
 use Rattle.mds_records.specs.declared.interval_data.DayFields.{DayFields}
 use Rattle.mds_records.specs.FieldFaults.{field_fault, is_bad, layout_of}

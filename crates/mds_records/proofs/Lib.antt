@@ -5,3 +5,4 @@ pub mod Rests
 pub mod Rules
 pub mod Tallies
 pub mod Terms
+pub mod Together

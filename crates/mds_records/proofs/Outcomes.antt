@@ -3,22 +3,24 @@ use Rattle.std.proofs.Common.{◌≡◌, ℕ, Bool, true, false, not, ltb, List,
 use Rattle.std.proofs.lemmas.Bool.Decides.{nat_tests}
 use Rattle.std.proofs.lemmas.List.Splits.{length-slice_split}
 use Rattle.mds_quantity.specs.Unit.{unit_of}
-use Rattle.mds_calendar.specs.Calendar.{day_of, date_time_of}
+use Rattle.mds_calendar.specs.Calendar.{day_of, moment_of, date_time_of}
 use Rattle.mds_calendar.specs.Length.{length_of}
 use Rattle.mds_marks.specs.Reason.{code_of, is_reason_text}
 use Rattle.mds_names.specs.Names.{nmi_of, suffix_of}
+use Rattle.mds_terms.specs.Event.{letter_of}
 use Rattle.mds_terms.specs.Parts.{optional}
 use Rattle.mds_terms.specs.Printable.{is_printable}
-use Rattle.mds_lines.specs.declared.line.Kind.TheVariants.{Header, NmiDataDetails, IntervalEvent, EndOfData}
+use Rattle.mds_lines.specs.declared.line.Kind.TheVariants.{Header, NmiDataDetails, IntervalEvent, B2bDetails, EndOfData}
 use Rattle.mds_lines.specs.Lines.{field, fields_of, is_comma}
 use Rattle.mds_lines.specs.Rest.{are_blank}
 use Rattle.mds_records.specs.declared.file.FileKind.{FileKind}
+use Rattle.mds_records.specs.declared.b2b_details.B2bFields.{B2bFields}
 use Rattle.mds_records.specs.declared.header.HeaderFields.{HeaderFields}
 use Rattle.mds_records.specs.declared.interval_event.EventFields.{EventFields}
 use Rattle.mds_records.specs.declared.nmi_data_details.DetailsFields.{DetailsFields}
-use Rattle.mds_records.specs.FieldFaults.{field_fault}
-use Rattle.mds_records.specs.Layouts.{FileName, DateTime, Printable, NmiName, SuffixName, UnitName, LengthInMinutes, DayDate, IntervalNumber, EventQuality, ReasonNumber, ReasonWords, file_name, other_file_name, interval_number_of, is_event_quality}
-use Rattle.mds_records.specs.RecordSteps.{HasHeaderFields, HasDetailsFields, HasEventFields, first_false, outcome}
+use Rattle.mds_records.specs.FieldFaults.{field_fault, has_wrong_count}
+use Rattle.mds_records.specs.Layouts.{FileName, DateTime, Printable, NmiName, SuffixName, UnitName, LengthInMinutes, DayDate, IntervalNumber, EventQuality, ReasonNumber, ReasonWords, TransLetter, MomentTime, file_name, other_file_name, interval_number_of, is_event_quality}
+use Rattle.mds_records.specs.RecordSteps.{HasHeaderFields, HasDetailsFields, HasEventFields, HasB2bFields, first_false, outcome}
 use Rattle.mds_records.proofs.Rests.{right_count}
 use Rattle.mds_records.proofs.Rules.{field_fault-is, good_must, good_may, good_even_empty, named, same_parts}
 use Rattle.mds_records.proofs.Terms.{no_date_time, no_unit, no_number, no_event_quality, empty_printable, empty_code, empty_text, optional_good}
@@ -71,6 +73,22 @@ event_is file n line f a b c d e h ea eb ec ed ee =
 
 some_field : (line : List ℕ) → not (ltb (length (fields_of line)) 1) ≡ true
 some_field line = let h = length-slice_split is_comma line in search (rules, nat_tests)
+
+pub b2b_whole : (line : List ℕ) (left : List (List ℕ)) (is_whole : Bool) → left ≡ drop 5 (fields_of line) → is_whole ≡ are_blank left → is_whole ≡ not (has_wrong_count B2bDetails 0 line)
+b2b_whole line left is_whole l w = w ∙ right_count true left (fields_of line) 1 5 (sym (some_field line)) l
+
+pub b2b_is : (file : FileKind) (n : ℕ) (line : List ℕ) (f : B2bFields) (a b c d : Bool) → HasB2bFields line f
+    → a ≡ is_some (optional letter_of f.trans.now) → b ≡ is_printable f.ticket.now
+    → c ≡ is_some (optional moment_of f.moment.now) → d ≡ is_printable f.reading.now
+    → field_fault file B2bDetails n line ≡ outcome false f.is_whole (first_false 2 (a ∷ b ∷ c ∷ d ∷ []))
+b2b_is file n line f a b c d h ea eb ec ed =
+    field_fault-is file B2bDetails n line false f.is_whole (a ∷ b ∷ c ∷ d ∷ [])
+    refl
+    h.whole
+    (same_parts (ea ∙ ap (λ t. is_some (optional letter_of t)) h.trans ∙ optional_good letter_of (field line 2) ∙ good_may file TransLetter (field line 2))
+    (same_parts (eb ∙ ap is_printable h.ticket ∙ good_even_empty file Printable (field line 3) empty_printable)
+    (same_parts (ec ∙ ap (λ t. is_some (optional moment_of t)) h.moment ∙ optional_good moment_of (field line 4) ∙ good_may file MomentTime (field line 4))
+    (same_parts (ed ∙ ap is_printable h.reading ∙ good_even_empty file Printable (field line 5) empty_printable) refl))))
 
 pub end_is : (file : FileKind) (n : ℕ) (line : List ℕ) (left : List (List ℕ)) (is_whole : Bool) → left ≡ drop 1 (fields_of line) → is_whole ≡ are_blank left
     → field_fault file EndOfData n line ≡ outcome false is_whole (first_false 2 [])

@@ -1,18 +1,18 @@
 -- What values say together, one value after the other.
-use Rattle.std.proofs.Common.{◌≡◌, ℕ, ◌+◌, ◌-◌, ◌*◌, ◌^◌, ◌<◌, ◌≤◌, unsigned_abs, to_z, of_z, Bool, true, false, not, ◌||◌, eqb, List, [], ◌∷◌, ◌++◌, length, take, drop, map, get_or, Option, Some, None, is_some, refl, sym, ◌∙◌, ap, arith, rules, if◌then◌else◌, ◌+ℤ◌, pos, ℤ, Result, Ok, Err, is_ok, add-zero, ◌⊎◌, inl, inr, length-drop, length-append}
+use Rattle.std.proofs.Common.{◌≡◌, ℕ, ◌+◌, ◌-◌, ◌*◌, ◌^◌, ◌<◌, ◌≤◌, unsigned_abs, to_z, of_z, Bool, true, false, not, ◌||◌, eqb, List, [], ◌∷◌, ◌++◌, length, take, drop, set, map, get_or, Option, Some, None, is_some, refl, sym, ◌∙◌, ap, arith, rules, if◌then◌else◌, ◌+ℤ◌, pos, ℤ, Result, Ok, Err, is_ok, add-zero, ◌⊎◌, inl, inr, length-drop}
 use Rattle.std.proofs.lemmas.Int.{to_z-of_z, fits_signed_from_abs}
 use Rattle.std.specs.Int.{w128}
-use Rattle.std.specs.List.{position_or_len, onto_first}
-use Rattle.std.proofs.lemmas.List.{take_more, take_at, take-append-drop, drop_more, take_all, map-append, length-map, length-take-le, drop-drop, get_or-drop}
+use Rattle.std.specs.List.{position_or_len}
+use Rattle.std.proofs.lemmas.List.{take_more, take_more_set, take_all, map-append, length-map, length-take-le, drop-drop, get_or-drop}
 use Rattle.std.proofs.lemmas.List.Sums.{fold_push, prefix_len-le-length, passes_at_first}
-use Rattle.std.proofs.lemmas.List.Splits.{slice_split-cons_yes, slice_split-cons_no, length-slice_split}
+use Rattle.std.proofs.lemmas.List.Splits.{length-slice_split}
 use Rattle.std.proofs.lemmas.Bool.{cases_lt, ne_eqb}
 use Rattle.std.proofs.lemmas.Bool.Decides.{nat_tests}
 use Rattle.mds_quantity.specs.declared.quantity.QuantityFault.{QuantityFault}
 use Rattle.mds_quantity.specs.declared.quantity.QuantityFault.TheVariants.{Form}
 use Rattle.mds_quantity.specs.Quantity.{denoted}
 use Rattle.mds_lines.specs.Lines.{is_comma, fields_of}
-use Rattle.mds_records.specs.Records.{sum_of, amount_of}
+use Rattle.mds_records.specs.Records.{sum_of, amount_of, quantity_in}
 use Rattle.mds_lines.specs.Rest.{first_of}
 use Rattle.mds_records.specs.RecordSteps.{first_false, is_empty_or_quantity}
 use Rattle.mds_records.proofs.Rests.{one_field, more_fields, taken_at}
@@ -23,6 +23,13 @@ first_false_push n [] true = refl
 first_false_push n [] false = ap Some (sym (add-zero n))
 first_false_push n (true ∷ tests) test = first_false_push (n + 1) tests test ∙ ap (λ m. if is_some (first_false (n + 1) tests) || test then first_false (n + 1) tests else Some m) (omega arith)
 first_false_push n (false ∷ tests) test = refl
+
+-- one more value in its slot
+pub slot_more : (slots : List (Option ℤ)) (fields : List (List ℕ)) (k : ℕ) → k < length slots → k < length fields → take k slots ≡ map quantity_in (take k fields)
+    → take (k + 1) (set slots k (quantity_in (get_or fields k []))) ≡ map quantity_in (take (k + 1) fields)
+slot_more slots fields k slot there e =
+    take_more_set slots k (quantity_in (get_or fields k [])) slot ∙ ap (λ xs. xs ++ quantity_in (get_or fields k []) ∷ []) e
+    ∙ sym (ap (map quantity_in) (take_more fields k [] there) ∙ map-append quantity_in (take k fields) (get_or fields k [] ∷ []))
 
 -- the same of the first k + 1 fields
 pub first_false_more : (p : List ℕ → Bool) (fields : List (List ℕ)) (k : ℕ) → k < length fields → first_false 3 (map p (take (k + 1) fields))
@@ -106,33 +113,6 @@ no_empty None is_empty n h = rw h refl
 pub bad_noted : (bad : Option ℕ) (is_empty : Bool) (n : ℕ) → (if is_some bad || is_empty then bad else Some n) ≡ (if is_some bad || (is_empty || false) then bad else Some n)
 bad_noted bad true n = refl
 bad_noted bad false n = refl
-
-onto_first-append : (x : ℕ) (parts more : List (List ℕ)) → 0 < length parts → onto_first x (parts ++ more) ≡ onto_first x parts ++ more
-onto_first-append x [] more some = absurd (omega arith)
-onto_first-append x (part ∷ parts) more some = refl
-
-split_more : (x : ℕ) (xs ys : List ℕ) (b : Bool) → is_comma x ≡ b → fields_of (xs ++ 44 ∷ ys) ≡ fields_of xs ++ fields_of ys → fields_of (x ∷ (xs ++ 44 ∷ ys)) ≡ fields_of (x ∷ xs) ++ fields_of ys
-split_more x xs ys true e h = slice_split-cons_yes is_comma x (xs ++ 44 ∷ ys) e ∙ ap (λ ps. [] ∷ ps) h ∙ ap (λ ps. ps ++ fields_of ys) (sym (slice_split-cons_yes is_comma x xs e))
-split_more x xs ys false e h =
-    slice_split-cons_no is_comma x (xs ++ 44 ∷ ys) e ∙ ap (onto_first x) h
-    ∙ onto_first-append x (fields_of xs) (fields_of ys) (omega (arith, length-slice_split is_comma xs))
-    ∙ ap (λ ps. ps ++ fields_of ys) (sym (slice_split-cons_no is_comma x xs e))
-
--- the fields before a comma and those after it
-split_at_comma : (xs ys : List ℕ) → fields_of (xs ++ 44 ∷ ys) ≡ fields_of xs ++ fields_of ys
-split_at_comma [] ys = refl
-split_at_comma (x ∷ xs) ys = split_more x xs ys (is_comma x) refl (split_at_comma xs ys)
-
--- what stands before a comma after which all but k fields are left is the first k fields
-pub front_fields : (text : List ℕ) (end at k : ℕ) → at ≡ end + 1 → get_or text end 0 ≡ 44 → at ≤ length text → fields_of (drop at text) ≡ drop k (fields_of text) → fields_of (take end text) ≡ take k (fields_of text)
-front_fields text end at k e comma within left =
-    let cut : text ≡ take end text ++ 44 ∷ drop at text =
-    sym (take-append-drop end text) ∙ ap (λ d. take end text ++ d) (drop_more text end 0 (omega arith) ∙ ap (λ c. c ∷ drop (end + 1) text) comma ∙ ap (λ m. 44 ∷ drop m text) (sym e)) in
-    let parts : fields_of text ≡ fields_of (take end text) ++ fields_of (drop at text) = ap fields_of cut ∙ split_at_comma (take end text) (drop at text) in
-    let some : 0 < length (fields_of (drop at text)) = omega (arith, length-slice_split is_comma (drop at text)) in
-    let counted : length (fields_of (drop at text)) ≡ length (fields_of text) - k = ap length left ∙ length-drop k (fields_of text) in
-    let all : length (fields_of text) ≡ length (fields_of (take end text)) + length (fields_of (drop at text)) = ap length parts ∙ length-append (fields_of (take end text)) (fields_of (drop at text)) in
-    sym (ap (take k) parts ∙ take_at (fields_of (take end text)) (fields_of (drop at text)) k (omega arith))
 
 -- there is always a field left, so there are more than were taken
 pub left_means_more : (text : List ℕ) (at k : ℕ) → fields_of (drop at text) ≡ drop k (fields_of text) → k < length (fields_of text)

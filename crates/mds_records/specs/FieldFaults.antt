@@ -3,7 +3,7 @@
 use Rattle.std.specs.Prelude.{ℕ, ◌+◌, ◌-◌, Bool, false, not, ◌||◌, ◌==◌, nat_lt, if◌then◌else◌, List, length, drop, bytes_eq, find, slice_index_or, Option, Some, option_map}
 use Rattle.std.specs.List.{list_any, range_with_len}
 use Rattle.mds_lines.specs.declared.line.Kind.{Kind}
-use Rattle.mds_lines.specs.declared.line.Kind.TheVariants.{Header, NmiDataDetails, IntervalData, IntervalEvent, EndOfData}
+use Rattle.mds_lines.specs.declared.line.Kind.TheVariants.{Header, NmiDataDetails, AccumulationData, IntervalData, IntervalEvent, B2bDetails, AccumulationB2bDetails, EndOfData}
 use Rattle.mds_lines.specs.Lines.{fields_of, field}
 use Rattle.mds_records.specs.declared.file.FileKind.{FileKind}
 use Rattle.mds_records.specs.declared.fault.FieldFault.{FieldFault}
@@ -14,8 +14,11 @@ use Rattle.mds_records.specs.Layouts.{Rule, Nothing, may, fits, layout, least_co
 abbrev pub is_of_other_file : FileKind → Kind → List ℕ → Bool
 is_of_other_file file Header line = bytes_eq (field line 2) (other_file_name file)
 is_of_other_file file NmiDataDetails line = false
+is_of_other_file file AccumulationData line = false
 is_of_other_file file IntervalData line = false
 is_of_other_file file IntervalEvent line = false
+is_of_other_file file B2bDetails line = false
+is_of_other_file file AccumulationB2bDetails line = false
 is_of_other_file file EndOfData line = false
 
 -- the layout of a line whose kind has n values; the quality after the values says whether these may be empty

@@ -1,6 +1,6 @@
--- The layouts of the records, each as one row of a table: what its fields hold, from field 2 on. MDFF Specification, the
--- tables of the 100, 200, 300, 400 and 900 records. Which fields may be empty, how long a text may be and which fields may
--- be left off is this project's profile.
+-- The layouts of the records, each as one row of a table: what its fields hold, from field 2 on. MDFF Specification,
+-- the tables of the 100, 200, 300, 400, 500 and 900 records. Which fields may be empty, how long a text may be and
+-- which fields may be left off is this project's profile.
 use Rattle.std.specs.Prelude.{ℕ, ◌+◌, Bool, true, false, ◌&&◌, ◌==◌, nat_le, if◌then◌else◌, List, [], ◌∷◌, ◌++◌, length, replicate, codes, bytes_eq, Option, Some, None, is_some, is_ok}
 use Rattle.std.specs.Char.{is_ascii_digit}
 use Rattle.std.specs.List.{list_all, list_any}
@@ -12,9 +12,10 @@ use Rattle.mds_calendar.specs.Length.{length_of}
 use Rattle.mds_names.specs.Names.{nmi_of, suffix_of}
 use Rattle.mds_marks.specs.Quality.{QualityValue, quality_of}
 use Rattle.mds_marks.specs.Reason.{code_of, is_reason_text}
+use Rattle.mds_terms.specs.Event.{letter_of}
 use Rattle.mds_terms.specs.Printable.{is_printable}
 use Rattle.mds_lines.specs.declared.line.Kind.{Kind}
-use Rattle.mds_lines.specs.declared.line.Kind.TheVariants.{Header, NmiDataDetails, IntervalData, IntervalEvent, EndOfData}
+use Rattle.mds_lines.specs.declared.line.Kind.TheVariants.{Header, NmiDataDetails, AccumulationData, IntervalData, IntervalEvent, B2bDetails, AccumulationB2bDetails, EndOfData}
 use Rattle.mds_records.specs.declared.file.FileKind.{FileKind}
 use Rattle.mds_records.specs.declared.file.FileKind.TheVariants.{Nem12}
 
@@ -35,6 +36,7 @@ pub data Form : Type 0 where
   ReasonNumber : Form
   ReasonWords : Form
   MomentTime : Form
+  TransLetter : Form
   Nothing : Form
 
 -- the name of a kind of file, in field 2 of its header
@@ -82,6 +84,7 @@ fits file EventQuality text = is_event_quality text
 fits file ReasonNumber text = is_some (code_of text)
 fits file ReasonWords text = is_reason_text text
 fits file MomentTime text = is_some (moment_of text)
+fits file TransLetter text = is_some (letter_of text)
 fits file Nothing text = false
 
 -- a field: whether it may be empty, and what it has to be else
@@ -95,23 +98,30 @@ must form = record { may_be_empty = false; form = form }
 abbrev pub may : Form → Rule
 may form = record { may_be_empty = true; form = form }
 
--- the fields after the indicator; a 300 has n values, which may be empty or not
+-- The fields after the indicator; a 300 has n values, which may be empty or not. A 250 and a 550 stand in no NEM12
+-- file: their layouts come with NEM13.
 abbrev pub layout : Kind → ℕ → Bool → List Rule
 layout Header n values_may_be_empty = must FileName ∷ must DateTime ∷ may Printable ∷ may Printable ∷ []
 layout NmiDataDetails n values_may_be_empty =
     must NmiName ∷ may Printable ∷ may Printable ∷ must SuffixName ∷ may Printable ∷ may Printable ∷ must UnitName
     ∷ must LengthInMinutes ∷ may DayDate ∷ []
+layout AccumulationData n values_may_be_empty = []
 layout IntervalData n values_may_be_empty =
     must DayDate ∷ replicate n (record { may_be_empty = values_may_be_empty; form = Value })
     ++ must QualityMethod ∷ may ReasonNumber ∷ may ReasonWords ∷ may MomentTime ∷ may MomentTime ∷ []
 layout IntervalEvent n values_may_be_empty =
     must IntervalNumber ∷ must IntervalNumber ∷ must EventQuality ∷ may ReasonNumber ∷ may ReasonWords ∷ []
+layout B2bDetails n values_may_be_empty = may TransLetter ∷ may Printable ∷ may MomentTime ∷ may Printable ∷ []
+layout AccumulationB2bDetails n values_may_be_empty = []
 layout EndOfData n values_may_be_empty = []
 
 -- the least number of fields, the indicator included: trailing fields may be left off down to it
 abbrev pub least_count : Kind → ℕ → ℕ
 least_count Header n = 3
 least_count NmiDataDetails n = 9
+least_count AccumulationData n = 1
 least_count IntervalData n = n + 3
 least_count IntervalEvent n = 4
+least_count B2bDetails n = 1
+least_count AccumulationB2bDetails n = 1
 least_count EndOfData n = 1

@@ -14,5 +14,6 @@ pub use Rattle.mds_marks.specs.Mark
 pub use Rattle.mds_marks.specs.Quality
 pub use Rattle.mds_marks.specs.Reason
 pub use Rattle.mds_terms.specs.BorrowedTexts
+pub use Rattle.mds_terms.specs.Event
 pub use Rattle.mds_terms.specs.Parts
 pub use Rattle.mds_terms.specs.Printable

@@ -1,7 +1,7 @@
 -- The private steps of reading a record.
 use Rattle.std.specs.Prelude.{◌≡◌, ℕ, ◌+◌, ◌*◌, ◌^◌, ◌<◌, ◌≤◌, unsigned_abs, min, Bool, true, false, ◌⊎◌, not, ◌||◌, ◌==◌, if◌then◌else◌, List, [], ◌∷◌, length, take, drop, map, Option, Some, None, option_map, is_ok}
 use Rattle.mds_quantity.specs.Quantity.{denoted}
-use Rattle.mds_lines.specs.declared.line.Kind.TheVariants.{Header, NmiDataDetails, IntervalEvent}
+use Rattle.mds_lines.specs.declared.line.Kind.TheVariants.{Header, NmiDataDetails, IntervalEvent, B2bDetails}
 use Rattle.mds_lines.specs.Lines.{fields_of, field}
 use Rattle.mds_lines.specs.Rest.{are_blank}
 use Rattle.mds_records.specs.declared.fault.FieldFault.{FieldFault}
@@ -9,9 +9,10 @@ use Rattle.mds_records.specs.declared.fault.FieldFault.TheVariants.{WrongFile, C
 use Rattle.mds_records.specs.declared.header.HeaderFields.{HeaderFields}
 use Rattle.mds_records.specs.declared.nmi_data_details.DetailsFields.{DetailsFields}
 use Rattle.mds_records.specs.declared.interval_data.DayFields.{DayFields}
-use Rattle.mds_records.specs.declared.interval_data.DayValues.{DayValues}
-use Rattle.mds_records.specs.declared.interval_data.ValueFaults.{ValueFaults}
+use Rattle.mds_records.specs.declared.interval_values.DayValues.{DayValues}
+use Rattle.mds_records.specs.declared.interval_values.ValueFaults.{ValueFaults}
 use Rattle.mds_records.specs.declared.interval_event.EventFields.{EventFields}
+use Rattle.mds_records.specs.declared.b2b_details.B2bFields.{B2bFields}
 use Rattle.mds_records.specs.FieldFaults.{has_wrong_count}
 use Rattle.mds_records.specs.Records.{sum_of, values_of}
 
@@ -66,6 +67,14 @@ pub record HasEventFields (line : List ℕ) (f : EventFields) : Type 0 where
   pub reason_text : f.reason_text.now ≡ field line 6
   pub whole : f.is_whole ≡ not (has_wrong_count IntervalEvent 0 line)
 
+-- these are the fields of a 500, and whether their number is right
+pub record HasB2bFields (line : List ℕ) (f : B2bFields) : Type 0 where
+  pub trans : f.trans.now ≡ field line 2
+  pub ticket : f.ticket.now ≡ field line 3
+  pub moment : f.moment.now ≡ field line 4
+  pub reading : f.reading.now ≡ field line 5
+  pub whole : f.is_whole ≡ not (has_wrong_count B2bDetails 0 line)
+
 -- it is empty or a quantity
 abbrev pub is_empty_or_quantity : List ℕ → Bool
 is_empty_or_quantity text = (length text == 0) || is_ok (denoted text)
@@ -77,7 +86,6 @@ is_there text = not (length text == 0)
 -- these are n values, the first of these fields, after which a further one stands
 pub record AreValues (n : ℕ) (fields : List (List ℕ)) (values : DayValues) : Type 0 where
   pub more : n < length fields
-  pub text : fields_of values.text.now ≡ take n fields
   pub rest : fields_of values.rest.now ≡ drop n fields
   pub sum : values.sum ≡ sum_of (take n fields)
   pub small : unsigned_abs values.sum ≤ n * 10 ^ 18
@@ -94,7 +102,6 @@ pub record HasDayFields (n : ℕ) (line : List ℕ) (f : DayFields) (faults : Va
   pub least : n + 3 ≤ length (fields_of line)
   pub blank : are_blank (drop (n + 7) (fields_of line)) ≡ true
   pub date : f.date.now ≡ field line 2
-  pub values : fields_of f.values.now ≡ values_of n line
   pub sum : f.sum ≡ sum_of (values_of n line)
   pub small : unsigned_abs f.sum ≤ n * 10 ^ 18
   pub quality : f.quality.now ≡ field line (n + 3)

@@ -1,6 +1,9 @@
 -- The record that a line spells: its fields by name, each read once into its term.
--- MDFF Specification, the tables of the 100, 200, 300, 400 and 900 records.
-use Rattle.std.specs.Prelude.{◌≡◌, ℕ, ◌+◌, List, take, drop, fold, ℤ, pos, ◌+ℤ◌, Option, Some, None, Result, Ok, Err}
+-- MDFF Specification, the tables of the 100, 200, 300, 400, 500 and 900 records.
+use Rattle.std.specs.Prelude.{◌≡◌, ℕ, ◌+◌, false, not, ◌&&◌, ◌==◌, List, take, drop, fold, flat_map, ℤ, pos, ◌+ℤ◌, Option, Some, None, is_none, Result, Ok, Err}
+use Rattle.std.specs.List.{list_any}
+use Rattle.std.specs.Option.{option_to_list}
+use Rattle.std.specs.Result.{result_ok}
 use Rattle.mds_quantity.specs.Quantity.{denoted}
 use Rattle.mds_quantity.specs.declared.quantity.QuantityFault.{QuantityFault}
 use Rattle.mds_quantity.specs.Unit.{unit_of}
@@ -9,15 +12,18 @@ use Rattle.mds_calendar.specs.Length.{count_of, length_of}
 use Rattle.mds_names.specs.Names.{nmi_of, suffix_of}
 use Rattle.mds_marks.specs.Mark.{mark_of}
 use Rattle.mds_marks.specs.BorrowedMarks.{mark_value}
+use Rattle.mds_marks.specs.Quality.{null, variable}
 use Rattle.mds_terms.specs.BorrowedTexts.{text_of}
+use Rattle.mds_terms.specs.Event.{letter_of}
 use Rattle.mds_terms.specs.Parts.{optional}
 use Rattle.mds_lines.specs.declared.line.Kind.{Kind}
-use Rattle.mds_lines.specs.declared.line.Kind.TheVariants.{Header, NmiDataDetails, IntervalData, IntervalEvent, EndOfData}
+use Rattle.mds_lines.specs.declared.line.Kind.TheVariants.{Header, NmiDataDetails, IntervalData, IntervalEvent, B2bDetails, EndOfData}
 use Rattle.mds_lines.specs.Lines.{fields_of, field}
 use Rattle.mds_records.specs.declared.header.HeaderRecord.{HeaderRecord}
 use Rattle.mds_records.specs.declared.nmi_data_details.NmiDataDetailsRecord.{NmiDataDetailsRecord}
 use Rattle.mds_records.specs.declared.interval_data.IntervalDataRecord.{IntervalDataRecord}
 use Rattle.mds_records.specs.declared.interval_event.IntervalEventRecord.{IntervalEventRecord}
+use Rattle.mds_records.specs.declared.b2b_details.B2bDetailsRecord.{B2bDetailsRecord}
 use Rattle.mds_records.specs.declared.record.Record.{Record}
 use Rattle.mds_records.specs.declared.record.Record.TheVariants as of
 use Rattle.mds_records.specs.Layouts.{interval_number_of}
@@ -30,6 +36,10 @@ value_count (Some minutes) = count_of minutes
 -- the value fields of a 300: n of them from field 3 on
 abbrev pub values_of : ℕ → List ℕ → List (List ℕ)
 values_of n line = take n (drop 2 (fields_of line))
+
+-- the quantity that a field is, in millionths: none where it is none or empty
+abbrev pub quantity_in : List ℕ → Option ℤ
+quantity_in text = result_ok (denoted text)
 
 -- what a value adds to a sum, in millionths: its quantity, and nothing where it is none
 abbrev pub amount_of : Result ℤ QuantityFault → ℤ
@@ -61,7 +71,6 @@ pub record IsNmiDataDetails (line : List ℕ) (r : NmiDataDetailsRecord) : Type 
 -- 300, of n values
 pub record IsIntervalData (n : ℕ) (line : List ℕ) (r : IntervalDataRecord) : Type 0 where
   pub date : day_of (field line 2) ≡ Some r.date
-  pub values : fields_of r.values.now ≡ values_of n line
   pub sum : r.sum ≡ sum_of (values_of n line)
   pub mark : mark_of (field line (n + 3)) (field line (n + 4)) (field line (n + 5)) ≡ Some (mark_value r.mark)
   pub update : optional moment_of (field line (n + 6)) ≡ Some r.update
@@ -72,11 +81,29 @@ pub record IsIntervalEvent (line : List ℕ) (r : IntervalEventRecord) : Type 0 
   pub last : interval_number_of (field line 3) ≡ Some r.last
   pub mark : mark_of (field line 4) (field line 5) (field line 6) ≡ Some (mark_value r.mark)
 
+-- 500
+pub record IsB2bDetails (line : List ℕ) (r : B2bDetailsRecord) : Type 0 where
+  pub trans : optional letter_of (field line 2) ≡ Some r.trans
+  pub ticket : text_of r.ticket ≡ field line 3
+  pub moment : optional moment_of (field line 4) ≡ Some r.moment
+  pub reading : text_of r.reading ≡ field line 5
+
 -- the record that a line of a kind spells
 abbrev pub Spells : Kind → ℕ → List ℕ → Record → Type 0
 Spells Header n line (of.Header r) = IsHeader line r
 Spells NmiDataDetails n line (of.NmiDataDetails r) = IsNmiDataDetails line r
 Spells IntervalData n line (of.IntervalData r) = IsIntervalData n line r
 Spells IntervalEvent n line (of.IntervalEvent r) = IsIntervalEvent line r
+Spells B2bDetails n line (of.B2bDetails r) = IsB2bDetails line r
 Spells EndOfData n line of.EndOfData = Unit {0}
 Spells kind n line r = ⊥
+
+-- What a record says together with the values that were read with it (profile). 300: its sum is that of the values that
+-- are there, and none is empty unless its quality is N or V. 400: its quality isn't V.
+abbrev pub GoesWith : List (Option ℤ) → Record → Type 0
+GoesWith values (of.IntervalData r) =
+    (r.sum ≡ fold (λ sum value. sum +ℤ value) (pos 0) (flat_map option_to_list values))
+    × ((not (r.mark.quality.flag == null) && not (r.mark.quality.flag == variable)
+    && list_any (λ value. is_none value) values) ≡ false)
+GoesWith values (of.IntervalEvent r) = (r.mark.quality.flag == variable) ≡ false
+GoesWith values r = Unit {0}

@@ -34,12 +34,20 @@ pub enum FaultCode {
     FieldCount,
     /// L5: a field isn't what the record's layout says.
     BadField,
+    /// L6: the intervals of a 400 aren't within the day, or end before they begin.
+    RunRange,
+    /// L7: a 400 doesn't begin after the run before it under the same 300.
+    RunOrder,
+    /// L8: the runs of a variable day leave an interval out.
+    RunGap,
     /// L9: the file ends without its end of data.
     MissingEnd,
     /// L10: the line has too many bytes, or the file too many lines.
     TooLarge,
     /// L11: the header is that of the other kind of file.
     WrongFile,
+    /// L12: a 400 whose quality isn't N holds an interval without a value.
+    NoValue,
 }
 
 impl FaultCode {
@@ -61,9 +69,13 @@ impl fmt::Display for FaultCode {
             FaultCode::OutOfPlace => "L3",
             FaultCode::FieldCount => "L4",
             FaultCode::BadField => "L5",
+            FaultCode::RunRange => "L6",
+            FaultCode::RunOrder => "L7",
+            FaultCode::RunGap => "L8",
             FaultCode::MissingEnd => "L9",
             FaultCode::TooLarge => "L10",
             FaultCode::WrongFile => "L11",
+            FaultCode::NoValue => "L12",
         })
     }
 }

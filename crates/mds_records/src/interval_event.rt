@@ -1,7 +1,8 @@
 //! The 400 record, which marks some intervals of the day before it.
 
-ghost use Rattle.std.specs.Prelude.{◌≡◌, ℕ, Some, None, MatchResult, codes};
+ghost use Rattle.std.specs.Prelude.{◌≡◌, ◌==◌, ℕ, false, Some, None, IfOk, MatchResult, codes};
 ghost use Rattle.mds_lines.specs.declared.line.Kind.{Kind};
+ghost use Rattle.mds_marks.specs.Quality.{variable};
 ghost use Rattle.mds_records.specs.declared.file.FileKind.{FileKind};
 ghost use Rattle.mds_records.specs.FieldFaults.{field_fault};
 ghost use Rattle.mds_records.specs.Layouts.{has_flag};
@@ -35,9 +36,10 @@ struct EventFields<'a> {
 
 /// Reads a 400 record.
 pub(crate) fn read_interval_event(text: &[u8]) -> Result<IntervalEventRecord<'_>, FieldFault>
-    ensures { (file : FileKind) (n : ℕ) → MatchResult result
+    ensures read { (file : FileKind) (n : ℕ) → MatchResult result
         (λ r. (field_fault file Kind.IntervalEvent n text.now ≡ None) × IsIntervalEvent text.now r)
         (λ fault. field_fault file Kind.IntervalEvent n text.now ≡ Some fault) }
+    ensures marked { IfOk result (λ r. (r.mark.quality.flag == variable) ≡ false) }
 {
     let fields = split_event(text);
     let first = interval_number(fields.first);

@@ -2,20 +2,24 @@
 //! names of the lines and fields that they are read from are given on.
 #![tactic(auto)]
 
+mod b2b_details;
 mod fault;
 mod file;
 mod header;
 mod interval_data;
 mod interval_event;
+mod interval_values;
 mod nmi_data_details;
 mod record;
 mod term;
 
+pub use b2b_details::B2bDetailsRecord;
 pub use fault::FieldFault;
 pub use file::{FaultCode, FileFault, FileKind};
 pub use header::HeaderRecord;
 pub use interval_data::IntervalDataRecord;
 pub use interval_event::IntervalEventRecord;
+pub use interval_values::IntervalValues;
 pub use mds_lines::{
     Counted, Fields, Kind, KindFault, Line, LineBuffer, LineFault, LineReader, Sink, Source,
 };

@@ -1,17 +1,19 @@
 //! The records of MDFF files, each field read once into its term.
 
-ghost use Rattle.std.specs.Prelude.{◌≡◌, ℕ, Ok, Some, None, IsSome, MatchResult};
+ghost use Rattle.std.specs.Prelude.{◌≡◌, ◌≢◌, ℕ, Ok, Some, None, IsSome, IfOk, OnOk, MatchResult, map};
 ghost use Rattle.mds_lines.specs.Kinds.{kind_of};
 ghost use Rattle.mds_lines.specs.Numbered.{text_of};
 ghost use Rattle.mds_records.specs.declared.file.FileKind.{FileKind as AFileKind};
 ghost use Rattle.mds_records.specs.FieldFaults.{field_fault};
-ghost use Rattle.mds_records.specs.Records.{Spells, value_count};
+ghost use Rattle.mds_records.specs.Records.{GoesWith, Spells, quantity_in, value_count, values_of};
 
+use crate::b2b_details::{B2bDetailsRecord, read_b2b_details};
 use crate::fault::{FieldFault, first_fault};
 use crate::file::FileKind;
 use crate::header::{HeaderRecord, read_header};
 use crate::interval_data::{IntervalDataRecord, read_interval_data};
 use crate::interval_event::{IntervalEventRecord, read_interval_event};
+use crate::interval_values::IntervalValues;
 use crate::nmi_data_details::{NmiDataDetailsRecord, read_nmi_data_details};
 use mds_lines::{Kind, Line, is_blank_from, next_field};
 use mds_terms::Length;
@@ -23,23 +25,33 @@ pub enum Record<'a> {
     NmiDataDetails(NmiDataDetailsRecord<'a>),
     IntervalData(IntervalDataRecord<'a>),
     IntervalEvent(IntervalEventRecord<'a>),
+    B2bDetails(B2bDetailsRecord<'a>),
     EndOfData,
 }
 
-/// Reads the record that a line of a known kind spells. A 300 comes with the length of its
-/// intervals, which is that of the 200 that governs it. It takes no memory.
+/// Reads the record that a line of a known kind spells: one that a NEM12 file can hold. A 300 comes
+/// with the length of its intervals, that of the 200 that governs it, and leaves its values in
+/// `values`: any values where it has a fault. The other kinds leave what that holds. It takes no
+/// memory.
 pub fn read_record<'a>(
     line: &Line<'a>,
     kind: Kind,
     file: FileKind,
     length: Option<Length>,
+    values: &mut IntervalValues,
 ) -> Result<Record<'a>, FieldFault>
     requires known { kind_of (text_of line.now) ≡ Ok kind }
     requires length { kind ≡ Kind.IntervalData → IsSome length }
-    ensures { MatchResult result
+    requires interval { kind ≢ Kind.AccumulationData }
+    requires interval_b2b { kind ≢ Kind.AccumulationB2bDetails }
+    ensures spells { MatchResult result
         (λ r. (field_fault file kind (value_count length) (text_of line.now) ≡ None)
         × Spells kind (value_count length) (text_of line.now) r)
         (λ fault. field_fault file kind (value_count length) (text_of line.now) ≡ Some fault) }
+    ensures held { kind ≡ Kind.IntervalData
+        → OnOk result (values.new ≡ map quantity_in (values_of (value_count length) (text_of line.now))) }
+    ensures kept { kind ≢ Kind.IntervalData → values.new ≡ values.old }
+    ensures valued { IfOk result (λ r. GoesWith values.new r) }
 {
     let text = line.text();
     match kind {
@@ -52,7 +64,7 @@ pub fn read_record<'a>(
             Err(fault) => Err(fault),
         },
         Kind::IntervalData => match length {
-            Some(length) => match read_interval_data(text, length.count()) {
+            Some(length) => match read_interval_data(text, length.count(), values) {
                 Ok(day) => Ok(Record::IntervalData(day)),
                 Err(fault) => Err(fault),
             },
@@ -62,6 +74,11 @@ pub fn read_record<'a>(
             Ok(event) => Ok(Record::IntervalEvent(event)),
             Err(fault) => Err(fault),
         },
+        Kind::B2bDetails => match read_b2b_details(text) {
+            Ok(details) => Ok(Record::B2bDetails(details)),
+            Err(fault) => Err(fault),
+        },
+        Kind::AccumulationData | Kind::AccumulationB2bDetails => unreachable!(),
         Kind::EndOfData => {
             read_end(text)?;
             Ok(Record::EndOfData)

@@ -10,9 +10,10 @@ ghost use Rattle.mds_marks.specs.Mark.{mark_of};
 ghost use Rattle.mds_marks.specs.Quality.{quality_of};
 ghost use Rattle.mds_marks.specs.Reason.{code_of, is_reason_text};
 ghost use Rattle.mds_records.specs.Layouts.{interval_number_of};
+ghost use Rattle.mds_terms.specs.Event.{letter_of};
 ghost use Rattle.mds_terms.specs.Parts.{optional};
 
-use mds_terms::{Day, MarkRef, Moment, Quality, ReasonRef};
+use mds_terms::{Day, MarkRef, Moment, Quality, ReasonRef, TransCode};
 
 /// What is good of the fields of a mark.
 #[derive(Clone, Copy)]
@@ -87,6 +88,16 @@ pub(crate) fn optional_moment(text: &[u8]) -> Option<Option<Moment>>
         return Some(None);
     }
     Some(Some(Moment::read(text)?))
+}
+
+/// Reads a transaction code, or none from the empty text.
+pub(crate) fn optional_trans(text: &[u8]) -> Option<Option<TransCode>>
+    ensures { result ≡ optional letter_of text.now }
+{
+    if text.is_empty() {
+        return Some(None);
+    }
+    Some(Some(TransCode::read(text)?))
 }
 
 /// Reads the number of an interval: one to four digits.

@@ -1,9 +1,10 @@
 //! Runs, and the cover of a day that they make.
 
-ghost use Rattle.std.specs.Prelude.{◌≡◌, ◌≢◌, ◌↔◌, ◌+◌, ◌-◌, ◌^◌, ◌<◌, ◌≤◌, ℕ, List, [], ◌∷◌, ◌++◌, length, replicate, slice_get, Contains, Some, IfOk, IfErr, OnOk, OnErr, IsTrue};
+ghost use Rattle.std.specs.Prelude.{◌≡◌, ◌≢◌, ◌↔◌, ◌+◌, ◌-◌, ◌^◌, ◌<◌, ◌≤◌, ℕ, List, [], ◌∷◌, ◌++◌, filter, length, nat_le, replicate, slice_get, Contains, Some, IfOk, IfErr, OnOk, OnErr, IsTrue, not};
+ghost use Rattle.std.specs.Option.{unwrap_or};
 ghost use Rattle.mds_marks.specs.declared.mark.Mark.{Mark};
-ghost use Rattle.mds_runs.specs.RunSteps.{end_of};
-ghost use Rattle.mds_runs.specs.Runs.{holds, IsInRange, ComesAfter, AreRuns, run_at, spread_of, IsFull, IsLeast, Refuses};
+ghost use Rattle.mds_runs.specs.RunSteps.{first_mark, runs_from};
+ghost use Rattle.mds_runs.specs.Runs.{holds, is_in_range, AreRuns, AreAscending, run_at, mark_at, spread_of, IsFull, leaves_out, IsLeast, last_end, refusal};
 ghost use Rattle.mds_runs.specs.declared.cover.Run.{Run};
 ghost use Rattle.mds_runs.specs.declared.cover.RunFault.{RunFault};
 
@@ -66,20 +67,34 @@ impl Cover {
         }
     }
 
-    /// Adds a run that lies in the day and begins after the last one has ended. It looks at the last
-    /// run alone. After an error nothing has changed, and the run is gone.
+    /// Why a run of intervals `first` to `last` isn't taken, want of memory aside: it doesn't lie
+    /// in the day, or doesn't begin after the last run has ended. It looks at the last run alone.
+    pub fn refusal(&self, first: u16, last: u16) -> Option<RunFault>
+        ensures { result ≡ refusal self.now.count self.now.runs first last }
+    {
+        if !is_in_range(self.count, first, last) {
+            return Some(RunFault::Range);
+        }
+        if first <= last_end(&self.runs) {
+            return Some(RunFault::Order);
+        }
+        None
+    }
+
+    /// Adds a run that lies in the day and begins after the last one has ended. It looks at the
+    /// last run alone, and fails with what `refusal` says, or else for want of memory. After an
+    /// error nothing has changed, and the run is gone.
     pub fn push(&mut self, run: Run) -> Result<(), RunFault>
         ensures done { OnOk result (self.new
             ≡ record self.old { runs = self.old.runs ++ run ∷ [] }) }
-        ensures taken { OnOk result (IsInRange self.old.count run × ComesAfter self.old.runs run) }
-        ensures refused { IfErr result (λ fault. Refuses fault self.old.count self.old.runs run) }
+        ensures taken { OnOk result
+            (refusal self.old.count self.old.runs run.first run.last ≡ None) }
+        ensures refused { IfErr result (λ fault. fault
+            ≡ unwrap_or (refusal self.old.count self.old.runs run.first run.last) RunFault.Memory) }
         ensures kept { OnErr result (self.new ≡ self.old) }
     {
-        if !is_in_range(self.count, &run) {
-            return Err(RunFault::Range);
-        }
-        if run.first <= last_end(&self.runs) {
-            return Err(RunFault::Order);
+        if let Some(fault) = self.refusal(run.first, run.last) {
+            return Err(fault);
         }
         let length = run.last - run.first + 1;
         match self.runs.push(run) {
@@ -109,26 +124,65 @@ impl Cover {
     /// Whether each interval is held by a run. It looks at no run, since disjoint runs that hold as
     /// many intervals as the day has hold each of them.
     pub fn is_full(&self) -> bool
-        ensures { IsTrue result ↔ IsFull self.now.count self.now.runs }
+        ensures full { IsTrue result ↔ IsFull self.now.count self.now.runs }
+        ensures none { result ≡ not (leaves_out self.now.count self.now.runs) }
     {
         self.held == self.count
     }
 }
 
-/// Whether a run lies in a day of so many intervals.
-fn is_in_range(count: u16, run: &Run) -> bool
-    ensures { IsTrue result ↔ IsInRange count run.now }
+/// Whether intervals `first` to `last` lie in a day of so many, and are at least one.
+fn is_in_range(count: u16, first: u16, last: u16) -> bool
+    ensures { result ≡ is_in_range count first last }
 {
-    1 <= run.first && run.first <= run.last && run.last <= count
+    1 <= first && first <= last && last <= count
 }
 
 /// The interval that the last run ends with, or 0 where there is none.
 fn last_end(runs: &[Run]) -> u16
-    ensures { result ≡ end_of 0 runs.now }
+    ensures { result ≡ last_end runs.now }
 {
     match runs.last() {
         Some(run) => run.last,
         None => 0,
+    }
+}
+
+/// The mark of an interval, and the runs that later intervals may be in: those that end before this
+/// one are passed over. Whoever goes on with these runs passes over each run once.
+pub fn mark_from<'a>(runs: &'a [Run], default: &'a Mark, interval: u16) -> (&'a Mark, &'a [Run])
+    requires { AreAscending runs.now }
+    ensures mark { result.0.now ≡ mark_at runs.now default.now interval }
+    ensures later { (next : ℕ) → interval ≤ next
+        → mark_at result.1.now default.now next ≡ mark_at runs.now default.now next }
+    ensures left { result.1.now ≡ filter (λ run. nat_le interval run.last) runs.now }
+    ensures lawful { AreAscending result.1.now }
+{
+    let left = runs_from(runs, interval);
+    (first_mark(left, default, interval), left)
+}
+
+/// These runs without those at their start that end before an interval.
+fn runs_from(runs: &[Run], interval: u16) -> &[Run]
+    ensures { result.now ≡ runs_from runs.now interval }
+{
+    let mut left = runs;
+    while let [run, rest @ ..] = left {
+        if interval <= run.last {
+            return left;
+        }
+        left = rest;
+    }
+    left
+}
+
+/// The mark of the first run, or the default where it begins after the interval or there is none.
+fn first_mark<'a>(runs: &'a [Run], default: &'a Mark, interval: u16) -> &'a Mark
+    ensures { result.now ≡ first_mark runs.now default.now interval }
+{
+    match runs.first() {
+        Some(run) if run.first <= interval => &run.mark,
+        _ => default,
     }
 }
 

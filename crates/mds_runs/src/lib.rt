@@ -6,4 +6,4 @@ mod cover;
 #[cfg(test)]
 mod tests;
 
-pub use cover::{Cover, Run, RunFault, equal_faults, gather, one_run_holds, spread};
+pub use cover::{Cover, Run, RunFault, equal_faults, gather, mark_from, one_run_holds, spread};

@@ -1,5 +1,5 @@
 -- Bytes that are text, and what read as a day or a moment.
-use Rattle.std.proofs.Common.{◌≡◌, ℕ, ◌<◌, Bool, true, false, ◌&&◌, ◌==◌, cond, List, length, refl, Option, Some, None, unwrap_or, is_some, [], ◌∷◌, Result, Ok, Err, MatchResult, IsOk, arith}
+use Rattle.std.proofs.Common.{◌≡◌, ℕ, ◌<◌, Bool, true, false, ◌&&◌, ◌==◌, cond, List, length, refl, Option, Some, None, Result, Ok, Err, MatchResult, IsOk, arith}
 use Rattle.std.proofs.lemmas.Bool.Decides.{nat_tests}
 use Rattle.std.proofs.lemmas.List.Elements.{All-weaker}
 use Rattle.std.proofs.lemmas.List.Sums.{AllPass-from_list_all}
@@ -10,7 +10,6 @@ use Rattle.std.specs.List.{list_all}
 use Rattle.std.specs.Option.{option_and_then}
 use Rattle.std.specs.Str.{IsUtf8}
 use Rattle.mds_calendar.specs.Calendar.{day_of, moment_of, are_digits}
-use Rattle.mds_terms.specs.Event.{is_trans}
 use Rattle.mds_terms.specs.Printable.{is_printable_char}
 
 -- both of two tests hold where their conjunction does
@@ -55,8 +54,3 @@ day_is_digits text n e = (both (length text == 8) (list_all is_ascii_digit text)
 pub moment_is_digits : (text : List ℕ) (n : ℕ) → moment_of text ≡ Some n → list_all is_ascii_digit text ≡ true
 unfolding moment_of
 moment_is_digits text n e = (both (length text == 14) (list_all is_ascii_digit text) (both (are_digits 14 text) _ (then_some _ _ _ n e)).0).1
-
--- the text of the letter of a transaction code
-pub trans_letter : (trans : Option ℕ) (letter : List ℕ) → is_trans trans ≡ true → is_some trans ≡ true → letter ≡ unwrap_or trans 65 ∷ [] → list_all is_ascii_uppercase letter ≡ true
-trans_letter (Some x) letter h n e = rw (e, h)
-trans_letter None letter h n e = absurd (cc)

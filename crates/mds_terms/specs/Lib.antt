@@ -1,5 +1,4 @@
 pub mod BorrowedTexts
-pub mod BorrowedSteps
 pub mod Details
 pub mod Event
 pub mod Parts

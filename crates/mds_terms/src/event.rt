@@ -5,13 +5,14 @@ ghost use Rattle.std.specs.List.{slice_split};
 ghost use Rattle.mds_quantity.specs.Append.{Appends, AppendsPart};
 ghost use Rattle.mds_names.specs.Names.{is_comma};
 ghost use Rattle.mds_terms.specs.Event.{EventValue, is_event, event_of, trans_text as text_of_trans, IsEventText};
-ghost use Rattle.mds_terms.specs.BorrowedTexts.{text_of};
-ghost use Rattle.mds_terms.specs.BorrowedSteps.{event_in};
+ghost use Rattle.mds_terms.specs.BorrowedTexts.{event_in, text_of};
 
 use crate::event_ref::EventRef;
 use crate::parts::{
-    day_digits, day_text, moment_digits, moment_text, own_text, trans_text, write_joined,
+    day_digits, day_text, moment_digits, moment_text, own_text, trans_letter, trans_text,
+    write_joined,
 };
+use crate::trans_code::TransCode;
 use mds_calendar::{Day, Moment, one_day_text, one_moment_text};
 use mds_names::{Nmi, Stream, Suffix};
 use std::alloc::{AllocError, Global};
@@ -23,7 +24,7 @@ use std::marker::Model;
 pub struct Event {
     stream: Stream,
     on: Day,
-    code: Option<u8>,
+    code: Option<TransCode>,
     ticket: String,
     read_at: Option<Moment>,
     reading: String,
@@ -75,7 +76,7 @@ impl Event {
         ensures full { OnErr result (0 < length ticket.now + length reading.now) }
     {
         match EventRef::read(nmi, suffix, day, trans, ticket, moment, reading) {
-            Some(event) => Ok(Some(own_event(alloc, &event)?)),
+            Some(event) => Ok(Some(event.to_event(alloc)?)),
             None => Ok(None),
         }
     }
@@ -102,8 +103,8 @@ impl Event {
         self.on
     }
 
-    /// The transaction code (TransCode), if there is one: an ASCII capital letter.
-    pub fn trans(&self) -> Option<u8>
+    /// The transaction code (TransCode), if there is one.
+    pub fn trans(&self) -> Option<TransCode>
         ensures { result ≡ self.now.trans }
     {
         self.code
@@ -150,7 +151,7 @@ impl Event {
         } = self;
         let day_digits = day_digits(Some(*day));
         let moment_digits = moment_digits(*read_at);
-        let letter = [code.unwrap_or(b'A')];
+        let letter = trans_letter(*code);
         write_joined(
             out,
             &[
@@ -209,12 +210,12 @@ pub fn events_read_back()
     one_moment_text();
 }
 
-/// An event with texts of its own.
-fn own_event(alloc: Global, event: &EventRef<'_>) -> Result<Event, AllocError>
-    requires { is_event (event_in event.now) ≡ true }
+/// An event with texts of its own. The empty ones take no memory.
+pub(crate) fn own_event(alloc: Global, event: &EventRef<'_>) -> Result<Event, AllocError>
     ensures value { IfOk result (λ own. own ≡ event_in event.now) }
     ensures full { OnErr result (0 < length (text_of event.now.ticket) + length (text_of event.now.reading)) }
 {
+    event.parts_are_lawful();
     Ok(Event {
         stream: Stream {
             nmi: event.nmi,

@@ -1,34 +1,44 @@
 //! An event whose texts are borrowed.
 
-ghost use Rattle.std.specs.Prelude.{◌≡◌, true, IfSome, option_map};
-ghost use Rattle.mds_terms.specs.Event.{letter_of};
-ghost use Rattle.mds_terms.specs.Parts.{optional};
+ghost use Rattle.std.specs.Prelude.{◌≡◌, ◌<◌, ◌+◌, true, IfSome, IfOk, OnErr, length, option_map};
+ghost use Rattle.mds_terms.specs.Event.{is_trans};
 
-use crate::parts::read_optional_moment;
+use crate::event::{Event, own_event};
+use crate::parts::{read_optional_moment, read_optional_trans};
 use crate::printable::PrintableText;
+use crate::trans_code::TransCode;
 use mds_calendar::{Day, Moment};
 use mds_names::{Nmi, Suffix};
+use std::alloc::{AllocError, Global};
 
 /// An event whose texts are borrowed.
 #[derive(Clone, Copy)]
-pub(crate) struct EventRef<'a> {
-    pub(crate) nmi: Nmi,
-    pub(crate) suffix: Suffix,
-    pub(crate) day: Day,
-    pub(crate) trans: Option<u8>,
-    pub(crate) ticket: PrintableText<'a>,
-    pub(crate) moment: Option<Moment>,
-    pub(crate) reading: PrintableText<'a>,
+pub struct EventRef<'a> {
+    /// The NMI of the stream.
+    pub nmi: Nmi,
+    /// The suffix of the stream.
+    pub suffix: Suffix,
+    /// The day.
+    pub day: Day,
+    /// The transaction code (TransCode), if there is one.
+    pub trans: Option<TransCode>,
+    /// The service order (RetServiceOrder), empty where it is absent.
+    pub ticket: PrintableText<'a>,
+    /// The moment of the read (ReadDateTime), if there is one.
+    pub moment: Option<Moment>,
+    /// The index read (IndexRead), empty where it is absent.
+    pub reading: PrintableText<'a>,
 }
 
 impl<'a> EventRef<'a> {
     ghost use Rattle.mds_terms.specs.Event.{event_of, is_event};
-    ghost use Rattle.mds_terms.specs.BorrowedTexts.{text_of};
-    ghost use Rattle.mds_terms.specs.BorrowedSteps.{event_in};
+    ghost use Rattle.mds_terms.specs.BorrowedTexts.{event_in, text_of};
 
-    /// The event of seven texts.
+    /// The event of seven texts: an NMI, a suffix, a day (CCYYMMDD), and, each empty where it is absent, a capital
+    /// letter, a printable text, a moment (CCYYMMDDhhmmss) and a printable text. `None` where one of them is not what
+    /// it has to be. It takes no memory.
     #[tactic(auto, unfolding(crate::specs::Event::event_of))]
-    pub(crate) fn read(
+    pub fn read(
         nmi: &[u8],
         suffix: &[u8],
         day: &[u8],
@@ -47,21 +57,39 @@ impl<'a> EventRef<'a> {
             nmi: Nmi::read(nmi)?,
             suffix: Suffix::read(suffix)?,
             day: Day::read(day)?,
-            trans: read_trans(trans)?,
+            trans: read_optional_trans(trans)?,
             moment: read_optional_moment(moment)?,
             ticket: PrintableText::read(ticket)?,
             reading: PrintableText::read(reading)?,
         })
     }
+
+    /// The same event with texts of its own. Fails only where memory is refused: never where the service order and the
+    /// index read are empty.
+    pub fn to_event(&self, alloc: Global) -> Result<Event, AllocError>
+        ensures value { IfOk result (λ event. event ≡ event_in self.now) }
+        ensures full { OnErr result (0 < length (text_of self.now.ticket) + length (text_of self.now.reading)) }
+    {
+        own_event(alloc, self)
+    }
+
+    /// The law of every borrowed event: its parts are lawful. The function does nothing.
+    pub(crate) fn parts_are_lawful(&self)
+        ensures { is_event (event_in self.now) ≡ true }
+    {
+        let _ = self.nmi.text();
+        let _ = self.suffix.text();
+        code_is_lawful(&self.trans);
+        let _ = self.ticket.text();
+        let _ = self.reading.text();
+    }
 }
 
-/// The letter of a transaction code, none where the text is empty, or `None` where it is no such code.
-fn read_trans(text: &[u8]) -> Option<Option<u8>>
-    ensures { result ≡ optional letter_of text.now }
+/// The law of a transaction code that may be absent. The function does nothing.
+fn code_is_lawful(trans: &Option<TransCode>)
+    ensures { is_trans trans.now ≡ true }
 {
-    match text {
-        [] => Some(None),
-        [letter] if letter.is_ascii_uppercase() => Some(Some(*letter)),
-        _ => None,
+    if let Some(code) = trans {
+        let _ = code.letter();
     }
 }

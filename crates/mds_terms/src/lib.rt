@@ -10,10 +10,12 @@ mod parts;
 mod printable;
 #[cfg(test)]
 mod tests;
+mod trans_code;
 
 pub use details::{Details, details_read_back};
 pub use details_ref::DetailsRef;
 pub use event::{Event, events_read_back};
+pub use event_ref::EventRef;
 pub use mds_calendar::{
     Day, Length, Moment, Weekday, first_and_last_day, lengths_read_back, one_day_text,
     one_moment_text, weekdays_go_on,
@@ -24,3 +26,4 @@ pub use mds_marks::{
 };
 pub use mds_names::{Nmi, Stream, Suffix, names_read_back};
 pub use printable::PrintableText;
+pub use trans_code::TransCode;

@@ -1,13 +1,14 @@
 //! Parts of terms: texts of their own, parts that may be absent, and how parts are written.
 
-ghost use Rattle.std.specs.Prelude.{◌≡◌, ◌<◌, ◌+◌, true, [], ◌∷◌, map, unwrap_or, Some, IfSome, IfOk, OnOk, OnErr, length, string_bytes, string_capacity, string_len};
-ghost use Rattle.std.specs.Char.{is_ascii_digit};
+ghost use Rattle.std.specs.Prelude.{◌≡◌, ◌<◌, ◌+◌, true, [], ◌∷◌, map, Some, IfSome, IfOk, OnOk, OnErr, length, string_bytes, string_capacity, string_len};
+ghost use Rattle.std.specs.Char.{is_ascii_digit, is_ascii_uppercase};
 ghost use Rattle.std.specs.List.{list_all};
 ghost use Rattle.mds_quantity.specs.Append.{Appends, AppendsPart};
 ghost use Rattle.mds_calendar.specs.Calendar.{day_of, moment_of};
-ghost use Rattle.mds_terms.specs.Event.{is_trans, trans_text as text_of_trans};
+ghost use Rattle.mds_terms.specs.Event.{letter_of, trans_text as text_of_trans};
 ghost use Rattle.mds_terms.specs.Parts.{joined, optional};
 
+use crate::trans_code::TransCode;
 use mds_calendar::{Day, Moment};
 use std::alloc::{AllocError, Global};
 use std::str;
@@ -40,6 +41,16 @@ pub(crate) fn read_optional_moment(text: &[u8]) -> Option<Option<Moment>>
         return Some(None);
     }
     Moment::read(text).map(Some)
+}
+
+/// The transaction code of a text, no code where it is empty, or `None` where it is no code.
+pub(crate) fn read_optional_trans(text: &[u8]) -> Option<Option<TransCode>>
+    ensures { result ≡ optional letter_of text.now }
+{
+    if text.is_empty() {
+        return Some(None);
+    }
+    TransCode::read(text).map(Some)
 }
 
 /// Appends texts joined by commas. After an error a front of that may be appended.
@@ -108,10 +119,21 @@ pub(crate) fn moment_text(moment: Option<Moment>, digits: &[u8; 14]) -> &str
     str::from_utf8(digits).unwrap()
 }
 
-/// The text of a transaction code that is this letter, or the empty text where there is none.
-pub(crate) fn trans_text(trans: Option<u8>, letter: &[u8; 1]) -> &str
-    requires lawful { is_trans trans ≡ true }
-    requires value { letter.now ≡ unwrap_or trans 65 ∷ [] }
+/// The letter of a transaction code, or an A where there is none.
+pub(crate) fn trans_letter(trans: Option<TransCode>) -> [u8; 1]
+    ensures letter { list_all is_ascii_uppercase result ≡ true }
+    ensures value { IfSome trans (λ code. result ≡ code ∷ []) }
+{
+    match trans {
+        Some(code) => [code.letter()],
+        None => [b'A'],
+    }
+}
+
+/// The text of a transaction code that has this letter, or the empty text where there is none.
+pub(crate) fn trans_text(trans: Option<TransCode>, letter: &[u8; 1]) -> &str
+    requires letter { list_all is_ascii_uppercase letter.now ≡ true }
+    requires value { IfSome trans (λ code. letter.now ≡ code ∷ []) }
     ensures { result.now ≡ text_of_trans trans }
 {
     if trans.is_none() {

@@ -9,7 +9,7 @@ use std::str;
 /// A printable text, borrowed: at most 240 characters of printable ASCII, none of them a comma (profile).
 #[derive(Clone, Copy)]
 pub struct PrintableText<'a> {
-    text: &'a str,
+    text: &'a [u8],
     pub ghost printable: { is_printable text.now ≡ true },
 }
 
@@ -27,7 +27,6 @@ impl<'a> PrintableText<'a> {
         if text.len() > LONGEST || !is_printable_ascii(text) {
             return None;
         }
-        let text = str::from_utf8(text).unwrap();
         Some(PrintableText { text })
     }
 
@@ -36,7 +35,7 @@ impl<'a> PrintableText<'a> {
         ensures value { result.now ≡ text_of self.now }
         ensures printable { is_printable (text_of self.now) ≡ true }
     {
-        self.text
+        str::from_utf8(self.text).unwrap()
     }
 }
 

@@ -1,4 +1,7 @@
-use crate::{Details, DetailsRef, Event, PrintableText, details_read_back, events_read_back};
+use crate::{
+    Details, DetailsRef, Event, EventRef, PrintableText, TransCode, details_read_back,
+    events_read_back,
+};
 use std::alloc::{AllocError, Global};
 
 /// A string of this text, with room for no more.
@@ -27,6 +30,21 @@ fn printable_texts(rt: HostRuntime) {
         if let Some(read) = read {
             assert_eq!(rt; read.text().as_bytes(), text);
         }
+    }
+}
+
+#[test]
+fn transaction_codes(rt: HostRuntime) {
+    let texts: [(&[u8], Option<u8>); 6] = [
+        (b"A", Some(b'A')),
+        (b"Z", Some(b'Z')),
+        (b"", None),
+        (b"a", None),
+        (b"AA", None),
+        (b"@", None),
+    ];
+    for (text, letter) in texts {
+        assert_eq!(rt; TransCode::read(text).map(TransCode::letter), letter);
     }
 }
 
@@ -78,10 +96,18 @@ fn events(rt: HostRuntime) {
         let (nmi, suffix, day) = (b"NEM1201009", b"E1", b"20240102");
         let read = Event::read(rt.alloc(), nmi, suffix, day, trans, ticket, moment, reading);
         let read = read.expect(&rt, "memory");
-        assert_eq!(rt; read.is_some(), written.is_some());
+        let lent = EventRef::read(nmi, suffix, day, trans, ticket, moment, reading);
+        assert_eq!(rt;
+            (read.is_some(), lent.is_some()),
+            (written.is_some(), written.is_some())
+        );
         let (Some(event), Some(written)) = (read, written) else {
             continue;
         };
+        if let Some(lent) = lent {
+            let owned = lent.to_event(rt.alloc()).expect(&rt, "memory");
+            assert!(rt; owned.is_same(&event), "{written}");
+        }
         let again = event.try_clone().expect(&rt, "memory");
         assert!(rt; again.is_same(&event), "{written}");
         for before in ["", "before "] {

@@ -1,39 +1,60 @@
 //! Tests of the records, of their faults, and of the faults' texts.
 
 use crate::FieldFault::{Bad, Count, WrongFile};
-use crate::{FaultCode, FieldFault, Fields, FileFault, FileKind, Line, Record, read_record};
-use mds_quantity::Unit;
-use mds_terms::{Day, Length, Moment, Stream};
+use crate::{
+    FaultCode, FieldFault, FileFault, FileKind, IntervalValues, Kind, Line, Record, read_record,
+};
+use mds_quantity::{Quantity, Unit};
+use mds_terms::{Day, Length, Moment, Stream, TransCode};
 use std::alloc::{AllocError, Global};
 use std::process::Abort;
 use std::test::Fail;
 
 /// Reads the record of a line, of intervals of so many minutes.
-fn read<'a>(rt: &impl Abort, line: &'a str, minutes: i64) -> Result<Record<'a>, FieldFault> {
+fn read<'a>(
+    rt: &impl Abort,
+    line: &'a str,
+    minutes: i64,
+    values: &mut IntervalValues,
+) -> Result<Record<'a>, FieldFault> {
     let line = Line::new(1, line.as_bytes());
     let kind = line.kind().expect(rt, "a known kind");
+    let is_of_nem13 = matches!(kind, Kind::AccumulationData | Kind::AccumulationB2bDetails);
+    assert!(rt; !is_of_nem13);
     let length = Length::from_minutes(minutes).expect(rt, "a length");
-    read_record(&line, kind, FileKind::Nem12, Some(length))
+    read_record(&line, kind, FileKind::Nem12, Some(length), values)
 }
 
 /// Compares a line's fault, or that it has none.
-fn expect_fault(rt: &impl Abort, line: &str, minutes: i64, fault: Option<FieldFault>) {
-    match read(rt, line, minutes) {
+fn expect_fault(
+    rt: &impl Abort,
+    line: &str,
+    minutes: i64,
+    values: &mut IntervalValues,
+    fault: Option<FieldFault>,
+) {
+    match read(rt, line, minutes, values) {
         Ok(_) => assert_eq!(rt; None, fault, "{line}"),
         Err(found) => assert_eq!(rt; Some(found), fault, "{line}"),
     }
 }
 
 #[test]
-fn records_are_read(rt: HostRuntime) {
-    match read(&rt, "100,NEM12,202401030405,ACME,,,", 30) {
+fn records_are_read(rt: HostRuntime) -> Result<(), Fail> {
+    let mut values = IntervalValues::new(rt.alloc())?;
+    match read(&rt, "100,NEM12,202401030405,ACME,,,", 30, &mut values) {
         Ok(Record::Header(header)) => {
             assert!(rt; Some(header.moment) == Moment::read(b"20240103040500"));
             assert_eq!(rt; header.sender.text(), "ACME");
         }
         _ => assert!(rt; false),
     }
-    match read(&rt, "200,NEM1201009,E1Q1,1,E1,N1,01009,KWH,05,20240229", 30) {
+    match read(
+        &rt,
+        "200,NEM1201009,E1Q1,1,E1,N1,01009,KWH,05,20240229",
+        30,
+        &mut values,
+    ) {
         Ok(Record::NmiDataDetails(record)) => {
             assert!(rt; Some(record.stream) == Stream::read(b"NEM1201009", b"E1"));
             assert_eq!(rt; record.unit, Unit::KWh);
@@ -45,7 +66,7 @@ fn records_are_read(rt: HostRuntime) {
         }
         _ => assert!(rt; false),
     }
-    match read(&rt, "400,1,0020,F14,076,meter changed", 30) {
+    match read(&rt, "400,1,0020,F14,076,meter changed", 30, &mut values) {
         Ok(Record::IntervalEvent(event)) => {
             assert_eq!(rt; event.first, 1);
             assert_eq!(rt; event.last, 20);
@@ -55,11 +76,23 @@ fn records_are_read(rt: HostRuntime) {
         }
         _ => assert!(rt; false),
     }
-    assert!(rt; matches!(read(&rt, "900", 30), Ok(Record::EndOfData)));
+    match read(&rt, "500,O,S 1,20240102030405,15.5", 30, &mut values) {
+        Ok(Record::B2bDetails(details)) => {
+            assert!(rt; details.trans == TransCode::read(b"O"));
+            assert_eq!(rt; details.ticket.text(), "S 1");
+            assert!(rt; details.moment == Moment::read(b"20240102030405"));
+            assert_eq!(rt; details.reading.text(), "15.5");
+        }
+        _ => assert!(rt; false),
+    }
+    assert!(rt; matches!(read(&rt, "900", 30, &mut values), Ok(Record::EndOfData)));
+    assert!(rt; values.as_slice().is_empty());
+    Ok(())
 }
 
 #[test]
-fn faults_are_told(rt: HostRuntime) {
+fn faults_are_told(rt: HostRuntime) -> Result<(), Fail> {
+    let mut values = IntervalValues::new(rt.alloc())?;
     for (line, fault) in [
         ("100,NEM13", Some(WrongFile)),
         ("100,NEM14,202401030000", Some(Bad(2))),
@@ -77,10 +110,18 @@ fn faults_are_told(rt: HostRuntime) {
         ("400,1,48,F,1000,\u{7f}", Some(Bad(4))),
         ("400,1,48,N,1000,\u{7f}", Some(Bad(5))),
         ("400,1,48,N,,\u{7f},,", Some(Bad(6))),
+        ("500", None),
+        ("500,,,,15,,", None),
+        ("500,OS,,2024010203040", Some(Bad(2))),
+        ("500,,é,2024010203040", Some(Bad(3))),
+        ("500,,,2024010203040,é", Some(Bad(4))),
+        ("500,,,,é", Some(Bad(5))),
+        ("500,o,,,,x", Some(Count)),
         ("900,,x", Some(Count)),
     ] {
-        expect_fault(&rt, line, 30, fault);
+        expect_fault(&rt, line, 30, &mut values, fault);
     }
+    Ok(())
 }
 
 /// A 300 of a date and so many values, each `1.5` but the fifth, and of what stands after them.
@@ -106,11 +147,13 @@ fn day(
 fn days_are_read_and_their_faults_told(rt: HostRuntime) -> Result<(), Fail> {
     let after = ",S14,9,,20240102010203,20240103040506";
     let line = day(rt.alloc(), "20240101", 96, "-1", after)?;
-    match read(&rt, line.as_str(), 15) {
+    let mut values = IntervalValues::new(rt.alloc())?;
+    match read(&rt, line.as_str(), 15, &mut values) {
         Ok(Record::IntervalData(day)) => {
             assert!(rt; Some(day.date) == Day::read(b"20240101"));
-            assert_eq!(rt; Fields::new(day.values).count(), 96);
-            assert_eq!(rt; Fields::new(day.values).get(5), Some(b"-1".as_slice()));
+            assert_eq!(rt; values.as_slice().len(), 96);
+            assert!(rt; values.as_slice()[4] == Quantity::from_millionths(-1_000_000));
+            assert!(rt; values.as_slice()[95] == Quantity::from_millionths(1_500_000));
             assert_eq!(rt; day.sum, 141_500_000);
             assert_eq!(rt; day.mark.quality.flag(), b'S');
             assert!(rt; day.update == Moment::read(b"20240102010203"));
@@ -132,10 +175,10 @@ fn days_are_read_and_their_faults_told(rt: HostRuntime) -> Result<(), Fail> {
         ("x", ",A,,,,,x", Some(Count)),
     ] {
         let line = day(rt.alloc(), "20240229", 48, fifth, after)?;
-        expect_fault(&rt, line.as_str(), 30, fault);
+        expect_fault(&rt, line.as_str(), 30, &mut values, fault);
     }
     let line = day(rt.alloc(), "20240230", 288, "x", ",A")?;
-    expect_fault(&rt, line.as_str(), 5, Some(Bad(2)));
+    expect_fault(&rt, line.as_str(), 5, &mut values, Some(Bad(2)));
     Ok(())
 }
 

@@ -1,5 +1,5 @@
 use Rattle.std.proofs.Common.{arith}
-use Rattle.mds_desk.proofs.Steps.{wrote_more}
+use Rattle.mds_desk.proofs.Writing.{wrote_more}
 use Rattle.mds_desk.proofs.checking.write_whole.Goals as goal
 
 pub loop-rest-preserved : goal.loop-rest-preserved

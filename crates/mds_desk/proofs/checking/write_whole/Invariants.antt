@@ -1,5 +1,5 @@
 use Rattle.std.proofs.Common.{◌≡◌, length}
-use Rattle.mds_desk.proofs.Steps.{Wrote}
+use Rattle.mds_desk.proofs.Writing.{Wrote}
 use Rattle.mds_desk.proofs.checking.write_whole.Given as goal
 
 abbrev pub invariant-loop-rest : goal.invariant-loop-rest

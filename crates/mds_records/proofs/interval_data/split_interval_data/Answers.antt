@@ -2,7 +2,7 @@ use Rattle.std.proofs.Common.{◌≡◌, ℕ, ◌+◌, ◌-◌, List, length, ta
 use Rattle.std.proofs.lemmas.List.{drop-drop}
 use denote.Ref.{Bor}
 use Rattle.mds_lines.specs.Lines.{fields_of}
-use Rattle.mds_records.specs.Records.{sum_of}
+use Rattle.mds_records.specs.Records.{quantity_in, sum_of}
 use Rattle.mds_lines.specs.Rest.{fields_left, are_blank}
 use Rattle.mds_records.specs.RecordSteps.{first_false, is_empty_or_quantity, is_there}
 use Rattle.mds_records.proofs.Days.{field_by}
@@ -41,7 +41,7 @@ pub returns-then-not-is_blank_from-clause-none : goal.returns-then-not-is_blank_
 returns-then-not-is_blank_from-clause-none c =
     let n = c.args.count in
     let fs = fields_of c.args.text.now in
-    let v = c.in_ok-values.ensures.some in
+    let v = c.in_ok-day.ensures.some in
     let values = ap (λ (r : Option (Bor (List ℕ))). fields_left (option_copied r)) c.in_ok-rest.was in
     let two = sym values ∙ after_date fs _ _ c.next_field.ensures.left c.next_field-2.ensures.left in
     let after = five_left fs _ _ _ _ _ _ (n + 2) (after_values fs _ _ n two v.rest) c.next_field-3.ensures.left c.next_field-4.ensures.left c.next_field-5.ensures.left c.next_field-6.ensures.left c.next_field-7.ensures.left in
@@ -52,18 +52,17 @@ returns-clause-some c =
     let n = c.args.count in
     let line = c.args.text.now in
     let fs = fields_of line in
-    let v = c.in_ok-values.ensures.some in
+    let v = c.in_ok-day.ensures.some in
     let values = ap (λ (r : Option (Bor (List ℕ))). fields_left (option_copied r)) c.in_ok-rest.was in
     let two = sym values ∙ after_date fs _ _ c.next_field.ensures.left c.next_field-2.ensures.left in
     let rest = after_values fs _ _ n two v.rest in
     let after = five_left fs _ _ _ _ _ _ (n + 2) rest c.next_field-3.ensures.left c.next_field-4.ensures.left c.next_field-5.ensures.left c.next_field-6.ensures.left c.next_field-7.ensures.left in
     let counted : length (fields_of c.in_ok-rest.field-0.now) ≡ length fs - 2 = ap length two ∙ length-drop 2 fs in
-    let same = sum_fits c.in_ok-values.values.sum n c.requires.1 v.small in
+    let same = sum_fits c.in_ok-day.day.sum n c.requires.1 v.small in
     record {
       least = omega (arith, v.more);
       blank = ap are_blank (sym (after.five ∙ ap (λ m. drop m fs) (seven n))) ∙ sym c.if-not-is_blank_from.ensures;
       date = c.next_field-2.ensures.taken ∙ field_by line _ 1 2 (left_at fs _ _ 0 refl c.next_field.ensures.left) refl;
-      values = v.text ∙ ap (take n) two;
       small = rw same v.small;
       sum = same ∙ v.sum ∙ ap (λ vs. sum_of (take n vs)) two;
       quality = c.next_field-3.ensures.taken ∙ field_by line _ (n + 2) (n + 3) rest (omega arith);
@@ -74,3 +73,11 @@ returns-clause-some c =
       bad = v.bad ∙ ap (λ vs. first_false 3 (map is_empty_or_quantity (take n vs))) two;
       empty = v.empty ∙ ap (λ vs. first_false 3 (map is_there (take n vs))) two;
     }
+
+pub returns-clause-held : goal.returns-clause-held
+returns-clause-held c =
+    let n = c.args.count in
+    let fs = fields_of c.args.text.now in
+    let values = ap (λ (r : Option (Bor (List ℕ))). fields_left (option_copied r)) c.in_ok-rest.was in
+    let two = sym values ∙ after_date fs _ _ c.next_field.ensures.left c.next_field-2.ensures.left in
+    c.in_ok-day.ensures.held ∙ ap (λ vs. map quantity_in (take n vs)) two

@@ -1,0 +1,4 @@
+pub mod Days
+pub mod DaySteps
+pub mod Readings
+pub mod RunFaults

@@ -1,0 +1,9 @@
+//! A day's interval data: what its 300 record and the 400 records after it give together, and the
+//! readings that come of it.
+#![tactic(auto)]
+
+mod day;
+#[cfg(test)]
+mod tests;
+
+pub use day::{DayData, Tally};

@@ -1,0 +1,208 @@
+-- What a record says is what its line says, and its faults are judged alike by what governs it and by what the reader keeps.
+use Rattle.std.proofs.Common.{◌≡◌, ℕ, ◌+◌, ◌≤◌, Bool, true, false, ◌||◌, cond, ltb, List, [], ◌∷◌, length, drop, Option, Some, None, unwrap_or, Result, Ok, Err, MatchResult, refl, sym, ◌∙◌, ap, subst, arith}
+use Rattle.std.specs.Option.{option_map}
+use Rattle.std.proofs.lemmas.Bool.Decides.{nat_tests}
+use Rattle.std.proofs.lemmas.List.{length-drop, length-take-le}
+use Rattle.mds_lines.specs.Lines.{field, fields_of}
+use Rattle.mds_lines.specs.declared.line.Kind.{Kind}
+use Rattle.mds_lines.specs.declared.line.Kind.TheVariants as a
+use Rattle.mds_days.specs.Days.{DayValue, run_value}
+use Rattle.mds_days.specs.RunFaults.{first_of, run_fault}
+use Rattle.mds_records.specs.FieldFaults.{field_fault, has_wrong_count}
+use Rattle.mds_records.specs.Records.{IsB2bDetails, IsHeader, IsIntervalEvent, IsNmiDataDetails, Spells, value_count, values_of}
+use Rattle.mds_records.specs.declared.b2b_details.B2bDetailsRecord.{B2bDetailsRecord}
+use Rattle.mds_records.specs.declared.fault.FieldFault.{FieldFault}
+use Rattle.mds_records.specs.declared.fault.FieldFault.TheVariants.{Count}
+use Rattle.mds_records.specs.declared.file.FaultCode.{FaultCode}
+use Rattle.mds_records.specs.declared.file.FileFault.{FileFault}
+use Rattle.mds_records.specs.declared.file.FileKind.TheVariants.{Nem12}
+use Rattle.mds_records.specs.declared.header.HeaderRecord.{HeaderRecord}
+use Rattle.mds_records.specs.declared.interval_event.IntervalEventRecord.{IntervalEventRecord}
+use Rattle.mds_records.specs.declared.nmi_data_details.NmiDataDetailsRecord.{NmiDataDetailsRecord}
+use Rattle.mds_records.specs.declared.record.Record.{Record}
+use Rattle.mds_records.specs.declared.record.Record.TheVariants as of
+use Rattle.mds_nem12.specs.Faults.{at_field, at_line, event_fault}
+use Rattle.mds_nem12.specs.FileReaderSteps.{Governs, IsRefusal, Says, fields_fault, last_governing, last_kind}
+use Rattle.mds_nem12.specs.Governing.{Governors, governors}
+use Rattle.mds_nem12.specs.Place.{is_in_place, is_kind}
+use Rattle.mds_nem12.specs.Said.{bare_null, count_in, event_in, header_in, run_in, values_in}
+use Rattle.mds_nem12.specs.Statements.{Statement, stream_statement}
+use Rattle.mds_nem12.specs.Told.{event_said, header_said, stream_said}
+use Rattle.mds_nem12.specs.declared.file_reader.LastRecord.{LastRecord}
+use Rattle.mds_nem12.specs.declared.file_reader.LastRecord.TheVariants as state
+use Rattle.mds_nem12.specs.declared.file_reader.Nem12Fault.{Nem12Fault}
+use Rattle.mds_nem12.specs.declared.file_reader.Nem12Fault.TheVariants.{File, Memory}
+use Rattle.mds_nem12.specs.declared.sink.Governing.{Governing}
+
+-- a field that was read
+read : {T : Type 0} (o : Option T) (x default : T) → o ≡ Some x → unwrap_or o default ≡ x
+read o x default e = ap (λ p. unwrap_or p default) e
+
+pub header_spelled : (line : List ℕ) (r : HeaderRecord) → IsHeader line r → header_in line ≡ header_said r
+header_spelled line r s = λ i. record { moment = read _ r.moment 0 s.moment i; sender = sym s.sender i; receiver = sym s.receiver i }
+
+-- a text that is taken as it is
+taken_as : (b : Bool) (text name : List ℕ) → cond b (Some text) None ≡ Some name → text ≡ name
+taken_as true text name e = cc
+taken_as false text name e = absurd (cc)
+
+pub details_spelled : (line : List ℕ) (r : NmiDataDetailsRecord) (moment : ℕ) → IsNmiDataDetails line r
+    → Says line (record { stream = r.stream; length = r.length; unit = r.unit; moment = moment })
+details_spelled line r moment s = record {
+  stream = λ i. record { nmi = taken_as _ (field line 2) r.stream.nmi s.nmi i; suffix = taken_as _ (field line 5) r.stream.suffix s.suffix i };
+  length = read _ r.length 0 s.length;
+  count = ap value_count s.length;
+  unit = read _ r.unit _ s.unit;
+}
+
+pub stream_spelled : (g : Governors) (j number moment : ℕ) (line : List ℕ) (r : NmiDataDetailsRecord) → IsNmiDataDetails line r
+    → number ≡ j → (header_in g.header).moment ≡ moment → stream_statement g j line ≡ stream_said number moment r
+stream_spelled g j number moment line r s same at =
+    let says = details_spelled line r moment s in
+    λ i. record {
+      line = sym same i;
+      stream = says.stream i;
+      length = says.length i;
+      unit = says.unit i;
+      moment = at i;
+      details = record {
+        configuration = sym s.configuration i;
+        register = sym s.register i;
+        datastream = sym s.datastream i;
+        meter = sym s.meter i;
+        next = read _ r.details.next None s.next i;
+      };
+    }
+
+pub run_spelled : (line : List ℕ) (r : IntervalEventRecord) → IsIntervalEvent line r → run_in line ≡ run_value r
+run_spelled line r s = λ i. record {
+  first = read _ r.first 0 s.first i;
+  last = read _ r.last 0 s.last i;
+  mark = ap (λ o. unwrap_or o bare_null) s.mark i;
+}
+
+pub event_spelled : (governing : Governing) (date : ℕ) (line : List ℕ) (r : B2bDetailsRecord) → IsB2bDetails line r
+    → event_in governing.stream date line ≡ event_said governing date r
+event_spelled governing date line r s = λ i. record {
+  nmi = governing.stream.nmi;
+  suffix = governing.stream.suffix;
+  day = date;
+  trans = read _ r.trans None s.trans i;
+  ticket = sym s.ticket i;
+  moment = read _ r.moment None s.moment i;
+  reading = sym s.reading i;
+}
+
+-- a 300 with its fields has as many values as its intervals
+right_count : (b : Bool) (more : Option FieldFault) → cond b (Some Count) more ≡ None → b ≡ false
+right_count true more e = absurd (cc)
+right_count false more e = refl
+
+first_false : (b c : Bool) → (b || c) ≡ false → b ≡ false
+first_false true c e = absurd (cc)
+first_false false c e = refl
+
+pub values_length : (n : ℕ) (line : List ℕ) → field_fault Nem12 a.IntervalData n line ≡ None → length (values_of n line) ≡ n
+unfolding field_fault
+values_length n line none =
+    let few : ltb (length (fields_of line)) (n + 3) ≡ false = first_false _ _ (right_count (has_wrong_count a.IntervalData n line) _ none) in
+    let enough : n + 3 ≤ length (fields_of line) = grind (arith, nat_tests) in
+    let left = length-drop 2 (fields_of line) in
+    length-take-le n (drop 2 (fields_of line)) (omega arith)
+
+-- The kind of a record is that of its line.
+abbrev pub kind_by : Record → Kind
+kind_by (of.Header r) = a.Header
+kind_by (of.NmiDataDetails r) = a.NmiDataDetails
+kind_by (of.IntervalData r) = a.IntervalData
+kind_by (of.IntervalEvent r) = a.IntervalEvent
+kind_by (of.B2bDetails r) = a.B2bDetails
+kind_by of.EndOfData = a.EndOfData
+
+pub spelled : (kind : Kind) (n : ℕ) (line : List ℕ) (r : Record) → Spells kind n line r → kind ≡ kind_by r
+spelled a.Header n line (of.Header r) s = refl
+spelled a.NmiDataDetails n line (of.NmiDataDetails r) s = refl
+spelled a.IntervalData n line (of.IntervalData r) s = refl
+spelled a.IntervalEvent n line (of.IntervalEvent r) s = refl
+spelled a.B2bDetails n line (of.B2bDetails r) s = refl
+spelled a.EndOfData n line of.EndOfData s = refl
+spelled kind n line r s = absurd s
+
+-- The number of values matters to a 300 alone.
+pub fields_same : (kind : Kind) (m n : ℕ) (line : List ℕ) → (kind ≡ a.IntervalData → m ≡ n)
+    → field_fault Nem12 kind m line ≡ field_fault Nem12 kind n line
+unfolding field_fault
+fields_same a.Header m n line same = refl
+fields_same a.NmiDataDetails m n line same = refl
+fields_same a.AccumulationData m n line same = refl
+fields_same a.IntervalData m n line same = ap (λ k. field_fault Nem12 a.IntervalData k line) (same refl)
+fields_same a.IntervalEvent m n line same = refl
+fields_same a.B2bDetails m n line same = refl
+fields_same a.AccumulationB2bDetails m n line same = refl
+fields_same a.EndOfData m n line same = refl
+
+pub spells_same : (kind : Kind) (m n : ℕ) (line : List ℕ) (r : Record) → (kind ≡ a.IntervalData → m ≡ n) → Spells kind m line r → Spells kind n line r
+spells_same a.IntervalData m n line r same s = subst (λ (k : ℕ). Spells a.IntervalData k line r) (same refl) s
+spells_same a.Header m n line (of.Header r) same s = s
+spells_same a.NmiDataDetails m n line (of.NmiDataDetails r) same s = s
+spells_same a.IntervalEvent m n line (of.IntervalEvent r) same s = s
+spells_same a.B2bDetails m n line (of.B2bDetails r) same s = s
+spells_same a.EndOfData m n line of.EndOfData same s = s
+spells_same kind m n line r same s = absurd s
+
+-- the number of values is that of the governing 200, where a 300 may stand
+pub count_known : (before : List (List ℕ)) (last : LastRecord) (day : DayValue) (done : List Statement) → Governs before last day done
+    → is_in_place (last_kind last) a.IntervalData ≡ true
+    → value_count (option_map (λ governing. governing.length) (last_governing last)) ≡ count_in (governors before).details
+count_known before state.Nothing day done k place = absurd (cc)
+count_known before (state.Header moment) day done k place = absurd (cc)
+count_known before (state.Details g) day done k place = sym k.details.count
+count_known before (state.Day g) day done k place = sym k.details.count
+count_known before (state.Run g) day done k place = sym k.details.count
+count_known before (state.Event g) day done k place = sym k.details.count
+count_known before state.End day done k place = absurd (cc)
+
+-- the faults of a record whose fields have none
+last_of : (o : Option FileFault) → first_of (None ∷ o ∷ []) ≡ o
+last_of None = refl
+last_of (Some fault) = refl
+
+pub fields_none : (g : Governors) (number : ℕ) (line : List ℕ) (kind : Kind) → field_fault Nem12 kind (count_in g.details) line ≡ None
+    → fields_fault g number line kind ≡ option_map (at_line number) (event_fault g line kind)
+fields_none g number line kind none =
+    ap (λ o. first_of (option_map (at_field number) o ∷ option_map (at_line number) (event_fault g line kind) ∷ [])) none
+    ∙ last_of (option_map (at_line number) (event_fault g line kind))
+
+pub fields_some : (g : Governors) (number : ℕ) (line : List ℕ) (kind : Kind) (fault : FieldFault)
+    → field_fault Nem12 kind (count_in g.details) line ≡ Some fault → fields_fault g number line kind ≡ Some (at_field number fault)
+fields_some g number line kind fault some =
+    ap (λ o. first_of (option_map (at_field number) o ∷ option_map (at_line number) (event_fault g line kind) ∷ [])) some
+
+pub no_event : (g : Governors) (line : List ℕ) (kind : Kind) → is_kind kind a.IntervalEvent ≡ false → event_fault g line kind ≡ None
+no_event g line kind other = ap (λ b. cond b (run_fault (count_in g.details) g.runs (values_in (count_in g.details) g.day) (run_in line)) None) other
+
+-- How a record is answered.
+
+pub refused_with : (o : Option FileFault) (fault : FileFault) (answer : Nem12Fault) → answer ≡ File fault → o ≡ Some fault → IsRefusal o answer
+refused_with o fault answer is some = subst (λ (t : Nem12Fault). IsRefusal o t) (sym is) some
+
+refused_any : (o : Option FileFault) (answer : Nem12Fault) → IsRefusal None answer → IsRefusal o answer
+refused_any o (File fault) h = absurd (cc)
+refused_any o Memory h = tt
+
+pub answered : {T : Type 0} (r : Result T Nem12Fault) (P Q : Type 0) (o : Option FileFault) → Q → MatchResult r (λ _. P) (IsRefusal None)
+    → MatchResult r (λ _. Q × P) (IsRefusal o)
+answered (Ok x) P Q o q h = (q, h)
+answered (Err answer) P Q o q h = refused_any o answer h
+
+pub answered_as : {T : Type 0} (r : Result T Nem12Fault) (P : Type 0) (o : Option FaultCode) (f : FaultCode → FileFault) (all : Option FileFault)
+    → all ≡ option_map f o → MatchResult r (λ _. (o ≡ None) × P) (IsRefusal (option_map f o)) → MatchResult r (λ _. (all ≡ None) × P) (IsRefusal all)
+answered_as (Ok x) P o f all e h = (e ∙ ap (option_map f) h.0, h.1)
+answered_as (Err answer) P o f all e h = subst (λ (p : Option FileFault). IsRefusal p answer) (sym e) h
+
+pub answered_run : {T : Type 0} (r : Result T Nem12Fault) (P : Type 0) (g : Governors) (number : ℕ) (line : List ℕ) (kind : Kind)
+    → kind ≡ a.IntervalEvent
+    → MatchResult r (λ _. (event_fault g line a.IntervalEvent ≡ None) × P) (IsRefusal (option_map (at_line number) (event_fault g line a.IntervalEvent)))
+    → MatchResult r (λ _. (event_fault g line kind ≡ None) × P) (IsRefusal (option_map (at_line number) (event_fault g line kind)))
+answered_run r P g number line kind same h =
+    subst (λ (k : Kind). MatchResult r (λ _. (event_fault g line k ≡ None) × P) (IsRefusal (option_map (at_line number) (event_fault g line k)))) (sym same) h

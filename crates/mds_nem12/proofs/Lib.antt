@@ -1,0 +1,12 @@
+pub mod Along
+pub mod Faultless
+pub mod Governs
+pub mod Judged
+pub mod Kept
+pub mod Lasts
+pub mod LinesRead
+pub mod Longer
+pub mod Numbered
+pub mod States
+pub mod Taken
+pub mod Tellings

@@ -1,0 +1,12 @@
+pub mod Answers
+pub mod BuilderSteps
+pub mod Delivered
+pub mod Faults
+pub mod FileReaderSteps
+pub mod Governing
+pub mod OpenDays
+pub mod Place
+pub mod ReadingSteps
+pub mod Said
+pub mod Statements
+pub mod Told

@@ -1,0 +1,18 @@
+//! The reader of NEM12 files (MDFF Specification): the first fault of a file, or what it states, one line after the other
+//! with at most one day in hand, or all of it as a delivery.
+#![tactic(auto)]
+
+mod delivery;
+mod file_reader;
+mod laws;
+mod reading;
+mod sink;
+#[cfg(test)]
+mod tests;
+
+pub use delivery::{Block, DeliveredDay, Delivery, Header};
+pub use file_reader::{FileReader, Nem12Fault};
+pub use laws::{fault_is_of_every_longer_text, one_run_of_a_day};
+pub use mds_days::{DayData, Tally};
+pub use reading::{ReadFault, read_lines, read_nem12};
+pub use sink::{Governing, StatementSink};

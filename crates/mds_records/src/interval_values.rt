@@ -1,0 +1,150 @@
+//! The values of a day, which are read once.
+
+ghost use Rattle.std.specs.Prelude.{◌≡◌, ◌<◌, ◌≤◌, ◌||◌, [], not, length, map, take, if◌then◌else◌, is_some, Some, IfOk, IfSome, IfNone, OnSome};
+ghost use Rattle.mds_lines.specs.Lines.{fields_of};
+ghost use Rattle.mds_records.specs.RecordSteps.{AreValues};
+ghost use Rattle.mds_records.specs.Records.{quantity_in};
+
+use mds_quantity::Quantity;
+use std::alloc::{AllocError, Global};
+use std::marker::Model;
+
+/// The most values that a day has: those of intervals of 5 minutes.
+const MOST: usize = 288;
+
+/// The values of a day's intervals, in order: none where a field is empty.
+#[derive(Drop)]
+pub struct IntervalValues {
+    slots: Vec<Option<Quantity>>,
+    /// How many of the slots are a day's, from the first on.
+    count: usize,
+}
+
+impl Model for IntervalValues {
+    ghost use Rattle.std.specs.Prelude.{◌≡◌, ◌≤◌, ℤ, List, Option, take, vec_len};
+
+    ghost Value = { List (Option ℤ) };
+
+    ghost view = { λ values. take values.count values.slots.items };
+
+    ghost invariant = { λ values. (vec_len values.slots ≡ 288) × (values.count ≤ 288) };
+}
+
+/// The first of the values that are no quantities.
+#[derive(Clone, Copy)]
+pub(crate) struct ValueFaults {
+    /// The field number of the first that is neither empty nor a quantity.
+    pub(crate) bad: Option<usize>,
+    /// The field number of the first that is empty.
+    pub(crate) empty: Option<usize>,
+}
+
+/// What the values of a day say together, and what follows them.
+#[derive(Clone, Copy)]
+pub(crate) struct DayValues<'a> {
+    /// What stands after the comma that ends the values.
+    pub(crate) rest: &'a [u8],
+    /// Their sum, in millionths.
+    pub(crate) sum: i128,
+    pub(crate) faults: ValueFaults,
+}
+
+impl IntervalValues {
+    /// No values, and room for those of any day: the only memory that it ever takes.
+    pub fn new(alloc: Global) -> Result<IntervalValues, AllocError>
+        ensures { IfOk result (λ values. values ≡ []) }
+    {
+        Ok(IntervalValues {
+            slots: vec![in alloc; None; MOST]?,
+            count: 0,
+        })
+    }
+
+    /// The values, at most 288.
+    pub fn as_slice(&self) -> &[Option<Quantity>]
+        ensures value { result.now ≡ self.now }
+        ensures few { length self.now ≤ 288 }
+    {
+        &self.slots[..self.count]
+    }
+
+    /// Reads so many values at the front of a text, in place of those that it held, or `None` where
+    /// no field follows them.
+    pub(crate) fn read<'a>(&mut self, text: &'a [u8], count: usize) -> Option<DayValues<'a>>
+        requires few { (0 < count) × (count ≤ 288) }
+        ensures none { IfNone result (length (fields_of text.now) ≤ count) }
+        ensures some { IfSome result (λ values. AreValues count (fields_of text.now) values) }
+        ensures held { OnSome result (self.new ≡ map quantity_in (take count (fields_of text.now))) }
+    {
+        let values = read_front(text, &mut self.slots, count)?;
+        self.count = count;
+        Some(values)
+    }
+}
+
+impl ValueFaults {
+    /// Notes the number of a value's field that is no quantity.
+    #[cold]
+    #[inline(never)]
+    fn note(&mut self, number: usize, is_empty: bool)
+        ensures bad { self.new.bad
+            ≡ (if is_some self.old.bad || is_empty then self.old.bad else Some number) }
+        ensures empty { self.new.empty
+            ≡ (if is_some self.old.empty || not is_empty then self.old.empty else Some number) }
+    {
+        if is_empty {
+            self.empty = self.empty.or(Some(number));
+        } else {
+            self.bad = self.bad.or(Some(number));
+        }
+    }
+}
+
+/// Reads so many values at the front of a text, each into its slot, the first into the first, or
+/// `None` where no field follows them.
+fn read_front<'a>(
+    text: &'a [u8],
+    slots: &mut [Option<Quantity>],
+    count: usize,
+) -> Option<DayValues<'a>>
+    requires few { (0 < count) × (count ≤ length slots.old) × (length slots.old ≤ 288) }
+    ensures none { IfNone result (length (fields_of text.now) ≤ count) }
+    ensures some { IfSome result (λ values. AreValues count (fields_of text.now) values) }
+    ensures held { OnSome result (take count slots.new ≡ map quantity_in (take count (fields_of text.now))) }
+{
+    read_values(text, &mut slots[..count])
+}
+
+/// Reads as many values at the front of a text as there are slots, each into its slot, or `None`
+/// where no field follows them. It stands apart from its caller, so that its loop keeps what it
+/// counts in registers.
+#[inline(never)]
+fn read_values<'a>(text: &'a [u8], slots: &mut [Option<Quantity>]) -> Option<DayValues<'a>>
+    requires few { (0 < length slots.old) × (length slots.old ≤ 288) }
+    ensures none { IfNone result (length (fields_of text.now) ≤ length slots.old) }
+    ensures some { IfSome result (λ values. AreValues (length slots.old) (fields_of text.now) values) }
+    ensures held { OnSome result (slots.new ≡ map quantity_in (take (length slots.old) (fields_of text.now))) }
+{
+    let mut at = 0;
+    let mut sum: i128 = 0;
+    let mut faults = ValueFaults {
+        bad: None,
+        empty: None,
+    };
+    for k in 0..slots.len() {
+        let (_, left) = text.split_at(at);
+        let (value, length) = Quantity::read_field(left);
+        match value {
+            Ok(quantity) => sum += i128::from(quantity.millionths()),
+            Err(_) => faults.note(k + 3, length == 0),
+        }
+        slots[k] = value.ok();
+        let end = at + length;
+        if end == text.len() {
+            return None;
+        }
+        at = end + 1;
+    }
+    let (_, rest) = text.split_at(at);
+    Some(DayValues { rest, sum, faults })
+}
