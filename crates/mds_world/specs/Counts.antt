@@ -1,0 +1,32 @@
+-- How many facts count, and how many of them come in (profile). What counts is each version and each period.
+use Rattle.std.specs.Prelude.{ℕ, Bool, true, false}
+use Rattle.std.specs.FinSet as set
+use Rattle.mds_world.specs.Facts.{Fact}
+use Rattle.mds_world.specs.Facts.Fact.{HeadIs, VersionIs, DetailIs, EventIs, PeriodIs, HolidayIs, JobIs}
+use Rattle.mds_world.specs.World.{World}
+
+-- it is a version or a period
+abbrev pub is_counted : Fact → Bool
+is_counted (HeadIs head) = false
+is_counted (VersionIs key reading) = true
+is_counted (DetailIs detail) = false
+is_counted (EventIs event) = false
+is_counted (PeriodIs key content) = true
+is_counted (HolidayIs day) = false
+is_counted (JobIs id content count) = false
+
+-- the facts of a World that count
+abbrev pub countable : World → World
+countable w = set.retain w is_counted
+
+-- how many these are
+abbrev pub counted : World → ℕ
+counted w = set.len (countable w)
+
+-- how many of those that are stated the World doesn't have yet
+abbrev pub added_by : World → World → ℕ
+added_by w stated = set.len (set.difference (countable stated) (countable w))
+
+-- how many of those that are stated it has
+abbrev pub known_by : World → World → ℕ
+known_by w stated = set.len (set.intersection (countable stated) (countable w))

@@ -1,0 +1,66 @@
+-- What the store knows, as facts (profile). A day stands by its number, a moment and an update by its seconds, and the
+-- length of intervals by its minutes.
+use Rattle.std.specs.Prelude.{ℕ, List, Option}
+use Rattle.mds_quantity.specs.declared.unit.Unit.{Unit as MeasureUnit}
+use Rattle.mds_names.specs.declared.stream.Stream.{Stream}
+use Rattle.mds_marks.specs.Reading.{ReadingValue}
+use Rattle.mds_terms.specs.Details.{DetailsValue}
+use Rattle.mds_terms.specs.Event.{EventValue}
+
+-- the head of a known day: the length of its intervals, and its unit
+pub record Head : Type 0 where
+  pub stream : Stream
+  pub day : ℕ
+  pub length : ℕ
+  pub unit : MeasureUnit
+
+-- an interval of a day, and when it was updated
+pub record Key : Type 0 where
+  pub stream : Stream
+  pub day : ℕ
+  pub interval : ℕ
+  pub update : ℕ
+
+-- the details of a meter, and the moment of the header that they came under
+pub record Detail : Type 0 where
+  pub stream : Stream
+  pub moment : ℕ
+  pub details : DetailsValue
+
+-- an accumulation: from one read to another, as it was updated
+pub record PeriodKey : Type 0 where
+  pub stream : Stream
+  pub register : List ℕ
+  pub start : ℕ
+  pub finish : ℕ
+  pub update : ℕ
+
+-- its other fields as they are kept, and the four texts of each of its notes
+pub record PeriodContent : Type 0 where
+  pub fields : List (List ℕ)
+  pub notes : List (List (List ℕ))
+
+-- a substitution job: its whole content
+pub record JobContent : Type 0 where
+  pub stream : Stream
+  pub day : ℕ
+  pub first : ℕ
+  pub last : ℕ
+  pub length : ℕ
+  pub unit : MeasureUnit
+  pub method : ℕ
+  pub flag : ℕ
+  pub code : Option ℕ
+  pub text : List ℕ
+  pub update : ℕ
+
+-- the head of a day, a version of a reading, a meter's details, an event, an accumulation, a holiday, or a substitution
+-- job with the count of what it made
+pub data Fact : Type 0 where
+  HeadIs : Head → Fact
+  VersionIs : Key → ReadingValue → Fact
+  DetailIs : Detail → Fact
+  EventIs : EventValue → Fact
+  PeriodIs : PeriodKey → PeriodContent → Fact
+  HolidayIs : (day : ℕ) → Fact
+  JobIs : (id : List ℕ) → JobContent → (count : ℕ) → Fact

@@ -1,0 +1,51 @@
+-- The World: what the store holds, as one set of facts, and the rules that it keeps (profile). Two equal facts are one,
+-- and nothing says in which order they came.
+use Rattle.std.specs.Prelude.{◌≡◌, ◌≤◌, ℕ, List}
+use Rattle.std.specs.FinSet as set
+use Rattle.std.specs.FinSet.{FinSet}
+use Rattle.mds_calendar.specs.Length.{count_of}
+use Rattle.mds_names.specs.declared.stream.Stream.{Stream}
+use Rattle.mds_marks.specs.Reading.{ReadingValue}
+use Rattle.mds_world.specs.Facts.{Head, Key, PeriodKey, PeriodContent, JobContent}
+use Rattle.mds_world.specs.Facts.Fact.{HeadIs, VersionIs, PeriodIs, JobIs}
+use Rattle.mds_world.specs.FactOrder.{fact_cmp}
+use Rattle.mds_world.specs.Sets.{◌∈◌}
+
+abbrev pub World : Type 0
+World = FinSet fact_cmp
+
+-- two Worlds together
+abbrev pub union : World → World → World
+union a b = set.union a b
+
+-- One head for each stream and day, one reading for each stream, day, interval and update, one content for each period.
+pub record Agrees (w : World) : Type 0 where
+  pub one_head : (a b : Head) → HeadIs a ∈ w → HeadIs b ∈ w → a.stream ≡ b.stream → a.day ≡ b.day → a ≡ b
+  pub one_reading : (key : Key) (a b : ReadingValue) → VersionIs key a ∈ w → VersionIs key b ∈ w → a ≡ b
+  pub one_content : (key : PeriodKey) (a b : PeriodContent) → PeriodIs key a ∈ w → PeriodIs key b ∈ w → a ≡ b
+
+-- a version is of a day whose head is there, and of one of its intervals
+abbrev pub HasHead : World → Key → Type 0
+HasHead w key =
+    (head : Head) × (HeadIs head ∈ w) × (head.stream ≡ key.stream) × (head.day ≡ key.day)
+    × (1 ≤ key.interval) × (key.interval ≤ count_of head.length)
+
+-- a head's day has a version
+abbrev pub HasVersion : World → Head → Type 0
+HasVersion w head =
+    (key : Key) × (reading : ReadingValue) × (VersionIs key reading ∈ w)
+    × (key.stream ≡ head.stream) × (key.day ≡ head.day)
+
+-- It agrees, a job has one content and one count, each version has its head, and each head a version.
+pub record IsLawful (w : World) : Type 0 where
+  pub agrees : Agrees w
+  pub one_job : (id : List ℕ) (a b : JobContent) (m n : ℕ) → JobIs id a m ∈ w → JobIs id b n ∈ w → (a ≡ b) × (m ≡ n)
+  pub headed : (key : Key) (reading : ReadingValue) → VersionIs key reading ∈ w → HasHead w key
+  pub versioned : (head : Head) → HeadIs head ∈ w → HasVersion w head
+
+-- The current reading of an interval: that of the version with the greatest update.
+pub record IsCurrent (w : World) (stream : Stream) (day interval update : ℕ) (reading : ReadingValue) : Type 0 where
+  pub held : VersionIs (record { stream = stream; day = day; interval = interval; update = update }) reading ∈ w
+  pub greatest : (other : ℕ) (of_other : ReadingValue)
+      → VersionIs (record { stream = stream; day = day; interval = interval; update = other }) of_other ∈ w
+      → other ≤ update

@@ -1,0 +1,46 @@
+//! Laws of the World. The functions do nothing.
+
+ghost use Rattle.std.specs.Prelude.{◌≡◌, ◌+◌, ◌++◌, ℕ, List};
+ghost use Rattle.mds_names.specs.declared.stream.Stream.{Stream};
+ghost use Rattle.mds_marks.specs.Reading.{ReadingValue};
+ghost use Rattle.mds_nem12.specs.Statements.{Statement};
+ghost use Rattle.mds_world.specs.Facts.{Fact};
+ghost use Rattle.mds_world.specs.Sets.{◌∈◌};
+ghost use Rattle.mds_world.specs.World.{World, Agrees, IsCurrent, union};
+ghost use Rattle.mds_world.specs.Counts.{counted, added_by, known_by};
+ghost use Rattle.mds_world.specs.Stated.{stated};
+
+/// What a World counts grows by just what is added.
+pub fn counts_grow()
+    ensures { (w s : World) → counted (union w s) ≡ counted w + added_by w s }
+{}
+
+/// Of the facts that come and count, each is known or added.
+pub fn known_or_added()
+    ensures { (w s : World) → counted s ≡ known_by w s + added_by w s }
+{}
+
+/// Facts that come once more add nothing and change nothing.
+pub fn repeated_facts_add_nothing()
+    ensures added { (w s : World) → added_by (union w s) s ≡ 0 }
+    ensures world { (w s : World) → union (union w s) s ≡ union w s }
+{}
+
+/// In whatever order facts come, and however the statements are split, the World is the same.
+pub fn any_order()
+    ensures worlds { (w a b : World) → union (union w a) b ≡ union (union w b) a }
+    ensures split { (xs ys : List Statement) → stated (xs ++ ys) ≡ union (stated xs) (stated ys) }
+{}
+
+/// In a World that agrees an interval has at most one current reading, of one update.
+pub fn one_current()
+    ensures { (w : World) (stream : Stream) (day interval update other : ℕ)
+        (reading another : ReadingValue) → Agrees w
+        → IsCurrent w stream day interval update reading
+        → IsCurrent w stream day interval other another → (update ≡ other) × (reading ≡ another) }
+{}
+
+/// A World within one that agrees agrees.
+pub fn parts_agree()
+    ensures { (w part : World) → ((fact : Fact) → fact ∈ part → fact ∈ w) → Agrees w → Agrees part }
+{}
