@@ -3,9 +3,14 @@
 //! `mds_bench FORM PATH MEGABYTES` writes a well formed NEM12 file of about that size, but of less
 //! than the million lines that a file may have. The forms stand at `Form`. `mds_bench values`
 //! reads ten million values and prints the time for one, `mds_bench readings` a hundred thousand
-//! days of 48 readings. `mds_bench lines PATH` reads a file's lines alone and prints how fast.
+//! days of 48 readings. `mds_bench lines PATH` reads a file's lines alone and prints how fast,
+//! `mds_bench deliver PATH` reads all of it. `mds_bench imports DAYS` takes a file of so many days
+//! into a store in memory.
 #![tactic(auto)]
 
+mod imports;
+
+use crate::imports::time_imports;
 use mds_calendar::Day;
 use mds_lines::{Counted, LineBuffer, LineReader};
 use mds_marks::Reading;
@@ -61,6 +66,10 @@ fn run(rt: &HostRuntime) -> io::Result<bool> {
         [what] if what.as_str() == "readings" => time_readings(rt)?,
         [what, path] if what.as_str() == "lines" => time_lines(rt, path.as_str())?,
         [what, path] if what.as_str() == "deliver" => time_delivery(rt, path.as_str())?,
+        [what, days] if what.as_str() == "imports" => match days.as_str().parse::<u32>() {
+            Ok(days) => time_imports(rt, u64::from(days))?,
+            Err(_) => return usage(rt),
+        },
         [form, path, size] => match (form_of(form.as_str()), size.as_str().parse::<u32>()) {
             (Some(form), Ok(size)) => make_file(rt, form, path.as_str(), u64::from(size))?,
             _ => return usage(rt),
@@ -88,7 +97,7 @@ fn form_of(name: &str) -> Option<Form> {
 
 fn usage(rt: &HostRuntime) -> io::Result<bool> {
     println!(rt;
-        "usage: mds_bench values | readings | lines PATH | deliver PATH | FORM PATH MEGABYTES"
+        "usage: mds_bench values | readings | lines PATH | deliver PATH | imports DAYS | FORM PATH MEGABYTES"
     )?;
     println!(rt; "FORM: plain, wide, five, mixed, runs, runs_five, block, details or empty")?;
     Ok(false)

@@ -7,6 +7,7 @@ pub mod Lasts
 pub mod LinesRead
 pub mod Longer
 pub mod Numbered
+pub mod Orderly
 pub mod States
 pub mod Taken
 pub mod Tellings

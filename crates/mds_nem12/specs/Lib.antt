@@ -5,6 +5,7 @@ pub mod Faults
 pub mod FileReaderSteps
 pub mod Governing
 pub mod OpenDays
+pub mod Orderly
 pub mod Place
 pub mod ReadingSteps
 pub mod Said

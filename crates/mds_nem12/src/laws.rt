@@ -1,12 +1,16 @@
 //! Laws of the definitions of a NEM12 file. The functions do nothing.
 
-ghost use Rattle.std.specs.Prelude.{◌≡◌, ◌≤◌, ◌++◌, ◌∷◌, [], ℕ, List, map, length, None, Some, IsTrue, Contains};
+ghost use Rattle.std.specs.Prelude.{◌≡◌, ◌<◌, ◌≤◌, ◌++◌, ◌∷◌, [], ℕ, List, map, length, None, Some, IsTrue, Contains};
+ghost use Rattle.std.specs.List.{All, AllPairs};
+ghost use Rattle.mds_calendar.specs.Length.{count_of, is_length};
 ghost use Rattle.mds_records.specs.declared.file.FileFault.{FileFault};
-ghost use Rattle.mds_lines.specs.Lines.{line_feed, line_pieces, line_text};
+ghost use Rattle.mds_lines.specs.Lines.{line_feed, line_pieces, line_text, most_lines};
 ghost use Rattle.mds_runs.specs.Runs.{holds};
 ghost use Rattle.mds_runs.specs.declared.cover.Run.{Run};
 ghost use Rattle.mds_nem12.specs.Faults.{fault_at, fault_of};
 ghost use Rattle.mds_nem12.specs.Governing.{runs_of};
+ghost use Rattle.mds_nem12.specs.Orderly.{days_of};
+ghost use Rattle.mds_nem12.specs.Statements.{statements_of};
 
 /// In a well formed file at most one run of a day holds an interval.
 pub fn one_run_of_a_day()
@@ -25,4 +29,18 @@ pub fn fault_is_of_every_longer_text()
         → fault_of (text ++ line_feed ∷ []) ≡ Some fault
         → fault.line ≤ length (line_pieces (text ++ line_feed ∷ []))
         → fault_of (text ++ line_feed ∷ more) ≡ Some fault }
+{}
+
+/// The days that a text states stand on ascending lines, each with a reading for each interval of
+/// its length. In a well formed file they are no more than a file has lines, and each length is
+/// that of an interval.
+pub fn days_are_orderly()
+    ensures lines { (text : List ℕ)
+        → AllPairs (λ a b. a.line < b.line) (days_of (statements_of text)) }
+    ensures whole { (text : List ℕ)
+        → All (λ day. length day.readings ≡ count_of day.length) (days_of (statements_of text)) }
+    ensures few { (text : List ℕ) → fault_of text ≡ None
+        → length (days_of (statements_of text)) ≤ most_lines }
+    ensures lengths { (text : List ℕ) → fault_of text ≡ None
+        → All (λ day. IsTrue (is_length day.length)) (days_of (statements_of text)) }
 {}

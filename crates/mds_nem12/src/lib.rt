@@ -12,7 +12,7 @@ mod tests;
 
 pub use delivery::{Block, DeliveredDay, Delivery, Header};
 pub use file_reader::{FileReader, Nem12Fault};
-pub use laws::{fault_is_of_every_longer_text, one_run_of_a_day};
+pub use laws::{days_are_orderly, fault_is_of_every_longer_text, one_run_of_a_day};
 pub use mds_days::{DayData, Tally};
 pub use reading::{ReadFault, read_lines, read_nem12};
 pub use sink::{Governing, StatementSink};

@@ -2,7 +2,11 @@
 -- NMIConfiguration, RegisterID, MDMDataStreamIdentifier, MeterSerialNumber and NextScheduledReadDate. That each may be
 -- empty is this project's profile.
 use Rattle.std.specs.Prelude.{◌≡◌, ℕ, Bool, if◌then◌else◌, List, [], ◌∷◌, Option, Some, None, option_map}
+use Rattle.std.specs.Cmp.Lexicographic.{slice_cmp}
 use Rattle.std.specs.List.{list_all}
+use Rattle.std.specs.Option.{option_cmp}
+use Rattle.std.specs.Ordering.{nat_cmp, on, then_cmp}
+use Rattle.std.specs.declared.cmp.Ordering.{Ordering}
 use Rattle.mds_calendar.specs.Calendar.{day_of}
 use Rattle.mds_terms.specs.Printable.{is_printable}
 use Rattle.mds_terms.specs.Parts.{joined, optional}
@@ -38,3 +42,12 @@ abbrev pub IsDetailsText : DetailsValue → List ℕ → Type 0
 IsDetailsText details text =
     (next : List ℕ) × (optional day_of next ≡ Some details.next)
     × (text ≡ joined (details.configuration ∷ details.register ∷ details.datastream ∷ details.meter ∷ next ∷ []))
+
+-- The order of details: field by field, texts by their bytes, an absent date first (profile).
+unfoldable pub details_cmp : DetailsValue → DetailsValue → Ordering
+details_cmp =
+    then_cmp (on (λ d. d.configuration) (slice_cmp nat_cmp))
+    (then_cmp (on (λ d. d.register) (slice_cmp nat_cmp))
+    (then_cmp (on (λ d. d.datastream) (slice_cmp nat_cmp))
+    (then_cmp (on (λ d. d.meter) (slice_cmp nat_cmp))
+    (on (λ d. d.next) (option_cmp nat_cmp)))))

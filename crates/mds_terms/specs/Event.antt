@@ -2,7 +2,11 @@
 -- ReadDateTime and IndexRead. That each may be empty, and which texts they are, is this project's profile.
 use Rattle.std.specs.Prelude.{◌≡◌, ℕ, Bool, true, ◌&&◌, ◌==◌, if◌then◌else◌, List, [], ◌∷◌, length, slice_index, Option, Some, None, option_and_then}
 use Rattle.std.specs.Char.{is_ascii_uppercase}
+use Rattle.std.specs.Cmp.Lexicographic.{slice_cmp}
 use Rattle.std.specs.List.{list_all}
+use Rattle.std.specs.Option.{option_cmp}
+use Rattle.std.specs.Ordering.{nat_cmp, on, then_cmp}
+use Rattle.std.specs.declared.cmp.Ordering.{Ordering}
 use Rattle.mds_calendar.specs.Calendar.{day_of, moment_of}
 use Rattle.mds_names.specs.Names.{is_name, nmi_length, nmi_of, suffix_length, suffix_of}
 use Rattle.mds_terms.specs.Printable.{is_printable}
@@ -68,3 +72,14 @@ IsEventText event text =
     × (optional moment_of moment ≡ Some event.moment)
     × (text
     ≡ joined (event.nmi ∷ event.suffix ∷ day ∷ trans_text event.trans ∷ event.ticket ∷ moment ∷ event.reading ∷ []))
+
+-- The order of events: field by field, texts by their bytes, what is absent first (profile).
+unfoldable pub event_cmp : EventValue → EventValue → Ordering
+event_cmp =
+    then_cmp (on (λ e. e.nmi) (slice_cmp nat_cmp))
+    (then_cmp (on (λ e. e.suffix) (slice_cmp nat_cmp))
+    (then_cmp (on (λ e. e.day) nat_cmp)
+    (then_cmp (on (λ e. e.trans) (option_cmp nat_cmp))
+    (then_cmp (on (λ e. e.ticket) (slice_cmp nat_cmp))
+    (then_cmp (on (λ e. e.moment) (option_cmp nat_cmp))
+    (on (λ e. e.reading) (slice_cmp nat_cmp)))))))

@@ -3,6 +3,7 @@ pub mod Details
 pub mod Event
 pub mod Parts
 pub mod Printable
+pub mod TermOrder
 pub use Rattle.mds_calendar.specs.Calendar
 pub use Rattle.mds_calendar.specs.Length
 pub use Rattle.mds_names.specs.Names

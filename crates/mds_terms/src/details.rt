@@ -1,20 +1,25 @@
 //! What is known of a meter.
 
-ghost use Rattle.std.specs.Prelude.{◌≡◌, ◌<◌, ◌+◌, ◌↔◌, ℕ, List, [], ◌∷◌, length, IsTrue, true, IfOk, OnOk, OnErr, Some, string_bytes, string_capacity, string_len};
+ghost use Rattle.std.specs.Prelude.{◌≡◌, ◌<◌, ◌+◌, ◌↔◌, ℕ, List, [], ◌∷◌, length, IsTrue, true, IfOk, OnOk, OnErr, Some, string_bytes, string_capacity, string_len, refl};
+ghost use Rattle.std.specs.Cmp.{eq_by_cmp_equiv, partial_equiv_from_equiv, partial_order_from_total};
 ghost use Rattle.std.specs.List.{slice_split, list_all};
+ghost use Rattle.std.specs.Ordering.{as_partial_cmp, eq_by_cmp};
 ghost use Rattle.mds_quantity.specs.Append.{Appends, AppendsPart};
 ghost use Rattle.mds_names.specs.Names.{is_comma};
 ghost use Rattle.mds_terms.specs.Printable.{is_printable};
-ghost use Rattle.mds_terms.specs.Details.{DetailsValue, is_details, details_of, IsDetailsText};
+ghost use Rattle.mds_terms.specs.Details.{DetailsValue, is_details, details_cmp, details_of, IsDetailsText};
+ghost use Rattle.mds_terms.specs.TermOrder.{details_total};
 
 use crate::details_ref::DetailsRef;
 use crate::parts::{day_digits, day_text, own_text, write_joined};
 use mds_calendar::{Day, one_day_text};
 use std::alloc::{AllocError, Global};
+use std::cmp::Ordering;
 use std::marker::Model;
 
-/// What is known of a meter: four printable texts, which are empty where they are absent, and its next scheduled read
-/// date.
+/// What is known of a meter: four printable texts, which are empty where they are absent, and its
+/// next scheduled read date. Its order goes field by field, texts by their bytes, and an absent
+/// date stands first.
 #[derive(Drop)]
 pub struct Details {
     configuration: String,
@@ -160,6 +165,58 @@ impl Details {
             && self.datastream() == other.datastream()
             && self.meter() == other.meter()
             && self.next() == other.next()
+    }
+
+    /// A law: details are equal where they say the same, and their order goes field by field.
+    #[tactic(auto, using(crate::specs::TermOrder::details_decided))]
+    pub fn one_order()
+        ensures equal { (a b : DetailsValue) → IsTrue (⟦<Details as PartialEq>⟧.eq a b) ↔ (a ≡ b) }
+        ensures order { (a b : DetailsValue) → ⟦<Details as Ord>⟧.cmp a b ≡ details_cmp a b }
+    {}
+}
+
+impl PartialEq for Details {
+    ghost eq = { eq_by_cmp details_cmp };
+
+    ghost laws = { partial_equiv_from_equiv (eq_by_cmp_equiv details_total) };
+
+    #[tactic(auto, using(crate::specs::TermOrder::details_decided))]
+    fn eq(&self, other: &Details) -> bool {
+        self.is_same(other)
+    }
+}
+
+impl Eq for Details {
+    ghost laws = { eq_by_cmp_equiv details_total };
+}
+
+impl PartialOrd for Details {
+    ghost partial_cmp = { as_partial_cmp details_cmp };
+
+    ghost laws = { partial_order_from_total details_total };
+
+    fn partial_cmp(&self, other: &Details) -> Option<Ordering> {
+        Some(self.cmp(other))
+    }
+}
+
+impl Ord for Details {
+    ghost cmp = { details_cmp };
+
+    ghost total = { details_total };
+
+    ghost matches_partial_cmp = { λ _ _. refl };
+
+    ghost matches_eq = { λ _ _. refl };
+
+    #[tactic(auto, unfolding(crate::specs::Details::details_cmp))]
+    fn cmp(&self, other: &Details) -> Ordering {
+        self.configuration()
+            .cmp(other.configuration())
+            .then_with(|| self.register().cmp(other.register()))
+            .then_with(|| self.datastream().cmp(other.datastream()))
+            .then_with(|| self.meter().cmp(other.meter()))
+            .then_with(|| self.next().cmp(&other.next()))
     }
 }
 

@@ -1,11 +1,14 @@
 //! What happened to a stream on a day.
 
-ghost use Rattle.std.specs.Prelude.{◌≡◌, ◌<◌, ◌+◌, ◌↔◌, ℕ, List, [], ◌∷◌, length, IsTrue, true, IfOk, OnOk, OnErr, Some, string_bytes, string_capacity, string_len};
+ghost use Rattle.std.specs.Prelude.{◌≡◌, ◌<◌, ◌+◌, ◌↔◌, ℕ, List, [], ◌∷◌, length, IsTrue, true, IfOk, OnOk, OnErr, Some, string_bytes, string_capacity, string_len, refl};
+ghost use Rattle.std.specs.Cmp.{eq_by_cmp_equiv, partial_equiv_from_equiv, partial_order_from_total};
 ghost use Rattle.std.specs.List.{slice_split};
+ghost use Rattle.std.specs.Ordering.{as_partial_cmp, eq_by_cmp};
 ghost use Rattle.mds_quantity.specs.Append.{Appends, AppendsPart};
 ghost use Rattle.mds_names.specs.Names.{is_comma};
-ghost use Rattle.mds_terms.specs.Event.{EventValue, is_event, event_of, trans_text as text_of_trans, IsEventText};
+ghost use Rattle.mds_terms.specs.Event.{EventValue, is_event, event_cmp, event_of, trans_text as text_of_trans, IsEventText};
 ghost use Rattle.mds_terms.specs.BorrowedTexts.{event_in, text_of};
+ghost use Rattle.mds_terms.specs.TermOrder.{event_total};
 
 use crate::event_ref::EventRef;
 use crate::parts::{
@@ -16,10 +19,12 @@ use crate::trans_code::TransCode;
 use mds_calendar::{Day, Moment, one_day_text, one_moment_text};
 use mds_names::{Nmi, Stream, Suffix};
 use std::alloc::{AllocError, Global};
+use std::cmp::Ordering;
 use std::marker::Model;
 
-/// What happened to a stream on a day, as a 500 record says it: a transaction, a service order, and what was read when.
-/// Each of these may be absent.
+/// What happened to a stream on a day, as a 500 record says it: a transaction, a service order, and
+/// what was read when. Each of these may be absent. Its order goes field by field, texts by their
+/// bytes, and what is absent stands first.
 #[derive(Drop)]
 pub struct Event {
     stream: Stream,
@@ -194,6 +199,60 @@ impl Event {
             && self.ticket() == other.ticket()
             && self.moment() == other.moment()
             && self.reading() == other.reading()
+    }
+
+    /// A law: events are equal where they say the same, and their order goes field by field.
+    #[tactic(auto, using(crate::specs::TermOrder::event_decided))]
+    pub fn one_order()
+        ensures equal { (a b : EventValue) → IsTrue (⟦<Event as PartialEq>⟧.eq a b) ↔ (a ≡ b) }
+        ensures order { (a b : EventValue) → ⟦<Event as Ord>⟧.cmp a b ≡ event_cmp a b }
+    {}
+}
+
+impl PartialEq for Event {
+    ghost eq = { eq_by_cmp event_cmp };
+
+    ghost laws = { partial_equiv_from_equiv (eq_by_cmp_equiv event_total) };
+
+    #[tactic(auto, using(crate::specs::TermOrder::event_decided))]
+    fn eq(&self, other: &Event) -> bool {
+        self.is_same(other)
+    }
+}
+
+impl Eq for Event {
+    ghost laws = { eq_by_cmp_equiv event_total };
+}
+
+impl PartialOrd for Event {
+    ghost partial_cmp = { as_partial_cmp event_cmp };
+
+    ghost laws = { partial_order_from_total event_total };
+
+    fn partial_cmp(&self, other: &Event) -> Option<Ordering> {
+        Some(self.cmp(other))
+    }
+}
+
+impl Ord for Event {
+    ghost cmp = { event_cmp };
+
+    ghost total = { event_total };
+
+    ghost matches_partial_cmp = { λ _ _. refl };
+
+    ghost matches_eq = { λ _ _. refl };
+
+    #[tactic(auto, unfolding(crate::specs::Event::event_cmp))]
+    fn cmp(&self, other: &Event) -> Ordering {
+        self.nmi()
+            .cmp(&other.nmi())
+            .then_with(|| self.suffix().cmp(&other.suffix()))
+            .then_with(|| self.day().cmp(&other.day()))
+            .then_with(|| self.trans().cmp(&other.trans()))
+            .then_with(|| self.ticket().cmp(other.ticket()))
+            .then_with(|| self.moment().cmp(&other.moment()))
+            .then_with(|| self.reading().cmp(other.reading()))
     }
 }
 

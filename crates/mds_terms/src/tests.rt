@@ -117,3 +117,55 @@ fn events(rt: HostRuntime) {
         }
     }
 }
+
+#[test]
+fn details_in_order(rt: HostRuntime) {
+    let ascending = [
+        ("", "2", "20240202"),
+        ("E1", "10", "20240202"),
+        ("E1", "2", ""),
+        ("E1", "2", "20240201"),
+    ];
+    let mut before: Option<Details> = None;
+    for (configuration, register, next) in ascending {
+        let (configuration, register) = (configuration.as_bytes(), register.as_bytes());
+        let read = Details::read(
+            rt.alloc(),
+            configuration,
+            register,
+            b"",
+            b"",
+            next.as_bytes(),
+        );
+        let details = read.expect(&rt, "memory").expect(&rt, "details");
+        assert!(rt; details == details.try_clone().expect(&rt, "memory"));
+        if let Some(before) = before {
+            assert!(rt; before < details && before != details);
+        }
+        before = Some(details);
+    }
+}
+
+#[test]
+fn events_in_order(rt: HostRuntime) {
+    let ascending = [
+        ("E1", "20240103", "O", "15"),
+        ("E2", "20240102", "O", "15"),
+        ("E2", "20240103", "", "15"),
+        ("E2", "20240103", "O", "15"),
+        ("E2", "20240103", "O", "2"),
+    ];
+    let mut before: Option<Event> = None;
+    for (suffix, day, trans, reading) in ascending {
+        let (suffix, day) = (suffix.as_bytes(), day.as_bytes());
+        let (trans, reading) = (trans.as_bytes(), reading.as_bytes());
+        let nmi = b"NEM1201009";
+        let read = Event::read(rt.alloc(), nmi, suffix, day, trans, b"", b"", reading);
+        let event = read.expect(&rt, "memory").expect(&rt, "an event");
+        assert!(rt; event == event.try_clone().expect(&rt, "memory"));
+        if let Some(before) = before {
+            assert!(rt; before < event && before != event);
+        }
+        before = Some(event);
+    }
+}

@@ -2,12 +2,13 @@
 
 ghost use Rattle.std.specs.Prelude.{◌≡◌, ◌↔◌, ℕ, IsTrue, true};
 ghost use Rattle.std.specs.Char.{is_ascii_uppercase};
+ghost use Rattle.std.specs.Ordering.{nat_cmp};
 ghost use Rattle.mds_terms.specs.Event.{letter_of};
 
 use std::marker::Model;
 
 /// The transaction code of a 500 record (TransCode): one capital letter.
-#[derive(Clone, Copy, Debug, PartialEq, Eq)]
+#[derive(Clone, Copy, Debug, PartialEq, Eq, PartialOrd, Ord)]
 pub struct TransCode {
     letter: u8,
 }
@@ -43,6 +44,7 @@ impl TransCode {
         ensures lawful { is_ascii_uppercase self ≡ true }
         ensures equal { (other : ℕ)
             → IsTrue (⟦<TransCode as PartialEq>⟧.eq self other) ↔ (self ≡ other) }
+        ensures order { (other : ℕ) → ⟦<TransCode as Ord>⟧.cmp self other ≡ nat_cmp self other }
     {
         self.letter
     }

@@ -11,7 +11,10 @@ use Rattle.mds_marks.specs.declared.mark.Mark.{Mark}
 use Rattle.mds_marks.specs.Reading.{ReadingValue}
 use Rattle.mds_terms.specs.Details.{DetailsValue}
 use Rattle.mds_terms.specs.Event.{EventValue}
-use Rattle.mds_world.specs.Facts.{Fact, Head, Key, Detail, PeriodKey, PeriodContent, JobContent}
+use Rattle.mds_world.specs.declared.facts.Key.{Key}
+use Rattle.mds_world.specs.declared.facts.Head.{Head}
+use Rattle.mds_world.specs.declared.facts.Detail.{Detail}
+use Rattle.mds_world.specs.Facts.{Fact, PeriodKey, PeriodContent, JobContent}
 use Rattle.mds_world.specs.Facts.Fact.{HeadIs, VersionIs, DetailIs, EventIs, PeriodIs, HolidayIs, JobIs}
 
 coded_text : Coded (List ℕ)
@@ -79,10 +82,10 @@ placed KA = refl
 placed A = refl
 placed Pf = refl
 
-coded_measure : Coded MeasureUnit
+pub coded_measure : Coded MeasureUnit
 coded_measure = code_by ℕ coded_ℕ place (unit_at units) placed
 
-coded_stream : Coded Stream
+pub coded_stream : Coded Stream
 coded_stream =
     code_by _ (coded× coded_text coded_text)
     (λ s. (s.nmi, s.suffix))
@@ -110,7 +113,7 @@ coded_mark =
     (λ p. record { quality = p.0; reason = p.1 })
     (λ _. refl)
 
-coded_reading : Coded ReadingValue
+pub coded_reading : Coded ReadingValue
 coded_reading =
     code_by _ (coded× coded_mark (coded_option coded_ℤ))
     (λ r. (r.mark, r.value))

@@ -4,28 +4,10 @@ use Rattle.std.specs.Prelude.{ℕ, List, Option}
 use Rattle.mds_quantity.specs.declared.unit.Unit.{Unit as MeasureUnit}
 use Rattle.mds_names.specs.declared.stream.Stream.{Stream}
 use Rattle.mds_marks.specs.Reading.{ReadingValue}
-use Rattle.mds_terms.specs.Details.{DetailsValue}
 use Rattle.mds_terms.specs.Event.{EventValue}
-
--- the head of a known day: the length of its intervals, and its unit
-pub record Head : Type 0 where
-  pub stream : Stream
-  pub day : ℕ
-  pub length : ℕ
-  pub unit : MeasureUnit
-
--- an interval of a day, and when it was updated
-pub record Key : Type 0 where
-  pub stream : Stream
-  pub day : ℕ
-  pub interval : ℕ
-  pub update : ℕ
-
--- the details of a meter, and the moment of the header that they came under
-pub record Detail : Type 0 where
-  pub stream : Stream
-  pub moment : ℕ
-  pub details : DetailsValue
+use Rattle.mds_world.specs.declared.facts.Detail.{Detail}
+use Rattle.mds_world.specs.declared.facts.Head.{Head}
+use Rattle.mds_world.specs.declared.facts.Key.{Key}
 
 -- an accumulation: from one read to another, as it was updated
 pub record PeriodKey : Type 0 where

@@ -1,7 +1,10 @@
 pub mod Counts
+pub mod Current
 pub mod FactCodes
 pub mod FactOrder
 pub mod Facts
+pub mod Lists
+pub mod Members
 pub mod Order
 pub mod Sets
 pub mod Stated

@@ -1,11 +1,12 @@
 -- Finite sets by their members, in any total order whose ties are equal.
-use Rattle.std.specs.Prelude.{◌≡◌, ◌≢◌, ◌⊎◌, ℕ, ◌+◌, List, [], ◌∷◌, ◌++◌, Bool, true, false, cond, not, ◌&&◌, ◌||◌, refl}
+use Rattle.std.specs.Prelude.{◌≡◌, ◌≢◌, ◌⊎◌, ℕ, ◌+◌, List, [], ◌∷◌, ◌++◌, length, Bool, true, false, cond, not, ◌&&◌, ◌||◌, refl}
 use Rattle.std.proofs.Common.{sym, ap, ◌∙◌, subst, inl, inr, arith}
 use Rattle.std.specs.declared.cmp.Ordering.{Ordering}
 use Rattle.std.specs.Ordering.{eq_by_cmp, is_eq}
 use Rattle.std.specs.Cmp.{IsTotalOrder, tied_itself, Equal-is}
 use Rattle.std.specs.FinSet as set
 use Rattle.std.specs.FinSet.{FinSet, IsAntisymmetric}
+use Rattle.mds_world.specs.Lists.{Apart, Member}
 
 -- it is a member of the set
 infix 4 ◌∈◌
@@ -256,3 +257,25 @@ module _ {K : Type 0} {R : K → K → Ordering} (o : IsTotalOrder R) (e : IsAnt
       (λ q h. (in_difference rest both q h).0)
       (λ q h. difference_in rest both q h (λ a. (in_difference s t q h).1 (in_intersection s t q a).1)) in
       ap set.len (sym whole) ∙ len_union both rest ∙ ap (λ d. set.len both + set.len d) apart
+
+  pub in_list : (ks : List K) (q : K) → q ∈ set.from_list {R = R} ks → Member q ks
+  in_list [] q h = not_in_empty q h
+  in_list (k ∷ ks) q h = elim (in_insert (set.from_list ks) k q h) [ inl a ↦ inl a | inr b ↦ inr (in_list ks q b) ]
+
+  pub list_in : (ks : List K) (q : K) → Member q ks → q ∈ set.from_list {R = R} ks
+  list_in [] q h = absurd h
+  list_in (k ∷ ks) q (inl a) = insert_here (set.from_list ks) k q a
+  list_in (k ∷ ks) q (inr b) = insert_other (set.from_list ks) k q (list_in ks q b)
+
+  -- a list without repeats has as many members as it is long
+  pub len_list : (ks : List K) → Apart ks → set.len (set.from_list {R = R} ks) ≡ length ks
+  len_list [] h = set.len-empty R
+  len_list (k ∷ ks) h = elim (decided (set.contains (set.from_list {R = R} ks) k)) [
+    | inl here ↦ absurd (h.0 (in_list ks k here))
+    | inr absent ↦
+        let none : set.contains (set.from_list {R = R} ks) k ≡ false =
+        same_bool _ _ (λ x. absurd (absent x)) (λ x. cc) in
+        set.len-insert o (set.from_list ks) k
+        ∙ ap (λ b. cond b (set.len (set.from_list {R = R} ks)) (set.len (set.from_list {R = R} ks) + 1)) none
+        ∙ omega (arith, len_list ks h.1)
+  ]

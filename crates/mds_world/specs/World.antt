@@ -1,13 +1,17 @@
 -- The World: what the store holds, as one set of facts, and the rules that it keeps (profile). Two equal facts are one,
 -- and nothing says in which order they came.
-use Rattle.std.specs.Prelude.{◌≡◌, ◌≤◌, ℕ, List}
+use Rattle.std.specs.Prelude.{◌≡◌, ◌⊎◌, ◌≤◌, ℕ, List}
 use Rattle.std.specs.FinSet as set
 use Rattle.std.specs.FinSet.{FinSet}
 use Rattle.mds_calendar.specs.Length.{count_of}
 use Rattle.mds_names.specs.declared.stream.Stream.{Stream}
 use Rattle.mds_marks.specs.Reading.{ReadingValue}
-use Rattle.mds_world.specs.Facts.{Head, Key, PeriodKey, PeriodContent, JobContent}
-use Rattle.mds_world.specs.Facts.Fact.{HeadIs, VersionIs, PeriodIs, JobIs}
+use Rattle.mds_terms.specs.Event.{EventValue}
+use Rattle.mds_world.specs.declared.facts.Detail.{Detail}
+use Rattle.mds_world.specs.declared.facts.Head.{Head}
+use Rattle.mds_world.specs.declared.facts.Key.{Key}
+use Rattle.mds_world.specs.Facts.{Fact, PeriodKey, PeriodContent, JobContent}
+use Rattle.mds_world.specs.Facts.Fact.{HeadIs, VersionIs, DetailIs, EventIs, PeriodIs, HolidayIs, JobIs}
 use Rattle.mds_world.specs.FactOrder.{fact_cmp}
 use Rattle.mds_world.specs.Sets.{◌∈◌}
 
@@ -49,3 +53,29 @@ pub record IsCurrent (w : World) (stream : Stream) (day interval update : ℕ) (
   pub greatest : (other : ℕ) (of_other : ReadingValue)
       → VersionIs (record { stream = stream; day = day; interval = interval; update = other }) of_other ∈ w
       → other ≤ update
+
+-- the fact is the head, or a version, of a day
+abbrev pub IsOn : Stream → ℕ → Fact → Type 0
+IsOn stream day (HeadIs head) = (head.stream ≡ stream) × (head.day ≡ day)
+IsOn stream day (VersionIs key reading) = (key.stream ≡ stream) × (key.day ≡ day)
+IsOn stream day (DetailIs detail) = ⊥
+IsOn stream day (EventIs event) = ⊥
+IsOn stream day (PeriodIs key content) = ⊥
+IsOn stream day (HolidayIs date) = ⊥
+IsOn stream day (JobIs id content count) = ⊥
+
+-- A known day has a head.
+abbrev pub IsKnownDay : World → Stream → ℕ → Type 0
+IsKnownDay w stream day = (head : Head) × (HeadIs head ∈ w) × (head.stream ≡ stream) × (head.day ≡ day)
+
+-- A known stream has a head, details or a period.
+abbrev pub IsKnownStream : World → Stream → Type 0
+IsKnownStream w stream =
+    ((head : Head) × (HeadIs head ∈ w) × (head.stream ≡ stream))
+    ⊎ (((detail : Detail) × (DetailIs detail ∈ w) × (detail.stream ≡ stream))
+    ⊎ ((key : PeriodKey) × (content : PeriodContent) × (PeriodIs key content ∈ w) × (key.stream ≡ stream)))
+
+-- the event is of a day of a stream
+abbrev pub IsEventOf : Stream → ℕ → EventValue → Type 0
+IsEventOf stream day event =
+    (event.nmi ≡ stream.nmi) × (event.suffix ≡ stream.suffix) × (event.day ≡ day)

@@ -1,0 +1,170 @@
+-- What an import commits.
+use Rattle.std.specs.Prelude.{◌≡◌, ◌↔◌, ℕ, List, ◌++◌, map, length, OnOk, Result, Ok, Err, is_ok, true}
+use Rattle.std.proofs.Common.{sym, ap, ◌∙◌, subst, inl, inr}
+use Rattle.std.specs.FinSet as set
+use Rattle.mds_nem12.specs.Statements.{Statement}
+use Rattle.mds_terms.specs.Event.{EventValue}
+use Rattle.mds_world.specs.declared.facts.Detail.{Detail}
+use Rattle.mds_world.specs.Counts.{added_by, countable, known_by}
+use Rattle.mds_world.specs.FactOrder.{fact_cmp}
+use Rattle.mds_world.specs.Facts.{Fact}
+use Rattle.mds_world.specs.Facts.Fact.{HeadIs, DetailIs, EventIs}
+use Rattle.mds_world.specs.Lists.{Apart, Member, in_map, member_append}
+use Rattle.mds_world.specs.Members.{in_list}
+use Rattle.mds_world.specs.Sets.{◌∈◌}
+use Rattle.mds_world.specs.Stated.{stated}
+use Rattle.mds_world.specs.World.{Agrees, IsLawful, World, union}
+use Rattle.mds_versions.specs.Content.{AreNew, content, content_facts, version_fact}
+use Rattle.mds_versions.specs.Drafts.{IfRefused}
+use Rattle.mds_versions.specs.Merge.{IsRefusal, Breaks, upto}
+use Rattle.mds_versions.specs.declared.additions.Additions.{Additions}
+use Rattle.mds_versions.specs.declared.draft.Stop.{Stop}
+use Rattle.mds_versions.specs.declared.draft.Stop.TheVariants.{Refused}
+use Rattle.mds_versions.specs.declared.refusal.Refusal.{Refusal}
+use Rattle.mds_service.proofs.TakenIn.{IsAdded, IsOther, added_absent, added_apart, added_whole, agrees_whole, countable_whole, kind, lawful_union}
+use Rattle.mds_service.specs.DayFacts.{of_days}
+use Rattle.mds_service.specs.Imports.{IsOfDays, IsSettled, IsText, day_statement, stated_world}
+use Rattle.mds_service.specs.declared.stated.Stated.{Stated}
+
+-- what is known before a commit
+pub record Comes (old : World) (s : Stated) (base : Additions) (known : ℕ) (details : List Detail)
+    (events : List EventValue) : Type 0 where
+  pub text : IsText s.days.items
+  pub settled : IsSettled old (stated (map day_statement s.days.items)) base known
+  pub apart_details : Apart (map DetailIs details)
+  pub just_details : (f : Fact) → Member f (map DetailIs details)
+      ↔ (Member f (map DetailIs s.details.items) × (f ∈ old → ⊥))
+  pub apart_events : Apart (map EventIs events)
+  pub just_events : (f : Fact) → Member f (map EventIs events)
+      ↔ (Member f (map EventIs s.events.items) × (f ∈ old → ⊥))
+
+details_kind : (details : List Detail) (f : Fact) → Member f (map DetailIs details) → kind f ≡ 1
+details_kind details f m = let r = in_map DetailIs details f m in ap kind r.2
+
+events_kind : (events : List EventValue) (f : Fact) → Member f (map EventIs events) → kind f ≡ 2
+events_kind events f m = let r = in_map EventIs events f m in ap kind r.2
+
+others : (s : Stated) (f : Fact)
+    → f ∈ set.from_list {R = fact_cmp} (map DetailIs s.details.items ++ map EventIs s.events.items) → IsOther f
+others s f h =
+    elim (member_append f (map DetailIs s.details.items) (map EventIs s.events.items) (in_list _ f h)) [
+      | inl a ↦ inl (details_kind s.details.items f a)
+      | inr a ↦ inr (events_kind s.events.items f a)
+    ]
+
+pub comes : (old mid late : World) (s : Stated) (base : Additions) (known : ℕ) (details : List Detail)
+    (events : List EventValue) → mid ≡ old → late ≡ mid → IsText s.days.items
+    → (IsOfDays (stated (map day_statement s.days.items))
+    → IsSettled old (stated (map day_statement s.days.items)) base known)
+    → Apart (map DetailIs details)
+    → ((f : Fact) → Member f (map DetailIs details) ↔ (Member f (map DetailIs s.details.items) × (f ∈ mid → ⊥)))
+    → Apart (map EventIs events)
+    → ((f : Fact) → Member f (map EventIs events) ↔ (Member f (map EventIs s.events.items) × (f ∈ late → ⊥)))
+    → Comes old s base known details events
+comes old mid late s base known details events one two text settles ad jd ae je = record {
+  text = text;
+  settled = settles (of_days s.days.items);
+  apart_details = ad;
+  just_details = subst (λ u. (f : Fact) → Member f (map DetailIs details)
+      ↔ (Member f (map DetailIs s.details.items) × (f ∈ u → ⊥))) one jd;
+  apart_events = ae;
+  just_events = subst (λ u. (f : Fact) → Member f (map EventIs events)
+      ↔ (Member f (map EventIs s.events.items) × (f ∈ u → ⊥))) (two ∙ one) je;
+}
+
+module _ (old : World) (s : Stated) (base : Additions) (known : ℕ) (details : List Detail) (events : List EventValue)
+    (x : Comes old s base known details events) where
+  is_added : IsAdded old (stated (map day_statement s.days.items)) (map HeadIs base.heads.items)
+      (map version_fact base.versions.items) (map DetailIs details) (map EventIs events)
+      (map DetailIs s.details.items) (map EventIs s.events.items)
+  is_added = record {
+    apart = x.settled.apart;
+    just = x.settled.just;
+    of_days = of_days s.days.items;
+    apart_details = x.apart_details;
+    just_details = x.just_details;
+    details_are = details_kind s.details.items;
+    apart_events = x.apart_events;
+    just_events = x.just_events;
+    events_are = events_kind s.events.items;
+  }
+
+  -- over the World as it is then
+  pub are_new : (now : World) (a : Additions) → now ≡ old → a.heads ≡ base.heads → a.versions ≡ base.versions
+      → a.details.items ≡ details → a.events.items ≡ events → AreNew now a
+  are_new now a e h v d t =
+      let all : content_facts a ≡ map HeadIs base.heads.items ++ map version_fact base.versions.items
+      ++ map DetailIs details ++ map EventIs events
+      = λ i. map HeadIs (h i).items ++ map version_fact (v i).items ++ map DetailIs (d i) ++ map EventIs (t i) in record {
+        apart = subst Apart (sym all) (added_apart _ _ _ _ _ _ _ _ is_added);
+        absent = λ f m i.
+            added_absent _ _ _ _ _ _ _ _ is_added f (subst (Member f) all m) (subst (λ u. f ∈ u) e i);
+      }
+
+  whole : (now : World) (a : Additions) → now ≡ old → a.heads ≡ base.heads → a.versions ≡ base.versions
+      → a.details.items ≡ details → a.events.items ≡ events
+      → union now (content a) ≡ union old (stated_world s)
+  whole now a e h v d t =
+      (λ i. union (e i) (set.from_list
+      (map HeadIs (h i).items ++ map version_fact (v i).items ++ map DetailIs (d i) ++ map EventIs (t i))))
+      ∙ added_whole _ _ _ _ _ _ _ _ is_added
+
+  lawful_whole : IsLawful old → Agrees (union old (stated (map day_statement s.days.items)))
+      → IsLawful (union old (stated_world s))
+  lawful_whole lawful agrees =
+      lawful_union old s.days.items _ x.text (others s) (of_days s.days.items) lawful agrees
+
+  pub lawful_commit : (now : World) (a : Additions) → now ≡ old → a.heads ≡ base.heads
+      → a.versions ≡ base.versions → a.details.items ≡ details → a.events.items ≡ events → IsLawful now
+      → (IsLawful old → Agrees (union old (stated (map day_statement s.days.items))))
+      → IsLawful (union now (content a))
+  lawful_commit now a e h v d t lawful agrees =
+      let was = subst IsLawful e lawful in
+      subst IsLawful (sym (whole now a e h v d t)) (lawful_whole was (agrees was))
+
+  -- what a commit leaves
+  pub left : (new now : World) (a : Additions) → new ≡ union now (content a) → now ≡ old → a.heads ≡ base.heads
+      → a.versions ≡ base.versions → a.details.items ≡ details → a.events.items ≡ events
+      → new ≡ union old (stated_world s)
+  left new now a is e h v d t = is ∙ whole now a e h v d t
+
+  pub lawful_left : (new : World) → new ≡ union old (stated_world s) → IsLawful old
+      → Agrees (union old (stated (map day_statement s.days.items))) → IsLawful new
+  lawful_left new is lawful agrees = subst IsLawful (sym is) (lawful_whole lawful agrees)
+
+  added_count : length base.versions.items ≡ added_by old (stated_world s)
+  added_count =
+      x.settled.added ∙ ap (λ c. set.len (set.difference c (countable old))) (sym (countable_whole _ _ (others s)))
+
+  known_is : known ≡ known_by old (stated_world s)
+  known_is =
+      x.settled.known_count
+      ∙ ap (λ c. set.len (set.intersection c (countable old))) (sym (countable_whole _ _ (others s)))
+
+  pub step : (facts new : World) (added : ℕ) → facts ≡ stated_world s → new ≡ union old (stated_world s)
+      → Agrees (union old (stated (map day_statement s.days.items))) → added ≡ length base.versions.items
+      → Agrees (union old facts) × (new ≡ union old facts) × (added ≡ added_by old facts) × (known ≡ known_by old facts)
+  step facts new added e is agrees n = (
+    subst (λ u. Agrees (union old u)) (sym e) (agrees_whole old _ _ (others s) agrees),
+    is ∙ ap (union old) (sym e),
+    n ∙ added_count ∙ ap (added_by old) (sym e),
+    known_is ∙ ap (known_by old) (sym e),
+  )
+
+-- the same lines refuse
+pub refusal_as : (w : World) (xs ys zs : List Statement) (stop : Stop) (refusal other : Refusal)
+    → xs ≡ ys → ((line : ℕ) → upto line xs ≡ upto line zs) → IfRefused stop (IsRefusal w zs)
+    → stop ≡ Refused refusal → other ≡ refusal → IsRefusal w ys other
+refusal_as w xs ys zs stop refusal other e same r is which =
+    let said : IsRefusal w zs refusal = subst (λ s. IfRefused s (IsRefusal w zs)) is r in
+    let each : (line : ℕ) → upto line zs ≡ upto line ys = λ line. sym (same line) ∙ ap (upto line) e in
+    let all : IsRefusal w ys refusal = record {
+      breaks = subst (λ u. Breaks (union w u) refusal.code refusal.interval) (each refusal.line) said.breaks;
+      before = λ line l. subst (λ u. Agrees (union w u)) (each line) (said.before line l);
+      no_field = said.no_field;
+    } in
+    subst (IsRefusal w ys) (sym which) all
+
+pub on_ok : {T E : Type 0} (r : Result T E) (P : Type 0) → OnOk r P → is_ok r ≡ true → P
+on_ok (Ok x) P h e = h
+on_ok (Err x) P h e = cc

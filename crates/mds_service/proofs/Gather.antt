@@ -1,0 +1,398 @@
+-- The drafts of a file's days, and the World with what the lines so far state.
+use Rattle.std.specs.Prelude.{◌≡◌, ◌↔◌, ◌⊎◌, ℕ, ◌<◌, List, [], ◌∷◌, ◌++◌, Bool, true, false, cond, length, get_or, take, map, Option, Some, None, Result, Ok, Err, OnOk, IfErr, is_err, is_some, refl}
+use Rattle.std.proofs.Common.{sym, ap, ◌∙◌, subst, inl, inr}
+use Rattle.std.specs.BTreeMap.{BTreeMap, WritesThrough, get, is_at}
+use Rattle.std.specs.Map.{lookup}
+use Rattle.std.specs.FinSet as set
+use Rattle.std.specs.Ordering.{is_eq}
+use Rattle.std.specs.declared.cmp.Ordering.{Ordering}
+use Rattle.mds_names.specs.declared.stream.Stream.{Stream}
+use Rattle.mds_marks.specs.Reading.{ReadingValue}
+use Rattle.mds_world.specs.declared.facts.Head.{Head}
+use Rattle.mds_world.specs.declared.facts.Key.{Key}
+use Rattle.mds_world.specs.declared.facts.StreamDay.{StreamDay}
+use Rattle.mds_world.specs.FactOrder.{exact, total}
+use Rattle.mds_world.specs.Facts.{Fact, PeriodContent, PeriodKey}
+use Rattle.mds_world.specs.Facts.Fact.{HeadIs, PeriodIs, VersionIs}
+use Rattle.mds_world.specs.Members.{in_union, union_left, union_right}
+use Rattle.mds_world.specs.Sets.{◌∈◌, decided, not_in_empty, same_bool}
+use Rattle.mds_world.specs.Stated.{stated}
+use Rattle.mds_world.specs.World.{Agrees, IsLawful, IsOn, World, union}
+use Rattle.mds_versions.specs.Books.{BookValue, IsDay, book_world}
+use Rattle.mds_versions.specs.Drafts.{DraftValue, IfRefused}
+use Rattle.mds_versions.specs.declared.draft.Stop.{Stop}
+use Rattle.mds_versions.specs.declared.draft.Stop.TheVariants.{Refused, Memory}
+use Rattle.mds_versions.specs.declared.refusal.Refusal.{Refusal}
+use Rattle.mds_versions.specs.Merge.{Breaks, HasLengths, HasReadings, HasUnits, IsRefusal, claim_statement}
+use Rattle.mds_versions.specs.declared.refusal.RefusalCode.{RefusalCode}
+use Rattle.mds_versions.specs.declared.refusal.RefusalCode.TheVariants.{LengthConflict, UnitConflict, VersionConflict, UnknownDay}
+use Rattle.mds_service.specs.DayFacts.{draft_in, line_on, of_days, on_one_day}
+use Rattle.mds_service.specs.DayOrder.{IsExact, day_cmp, day_exact}
+use Rattle.mds_service.specs.Imports.{AreDrafts, IsDraftOf, IsOfDays, IsText, MatchDraft, day_statement}
+use Rattle.mds_service.proofs.Lines.{refusal_at, stated_more}
+use Rattle.mds_service.specs.declared.stated.StatedDay.{StatedDay}
+
+-- what a day's draft was told before a claim: its book is the day's, and of the facts it has just those of the day
+pub record IsOpen (w facts : World) (s : Stream) (d : ℕ) (book : BookValue) (said : World) : Type 0 where
+  pub stream : book.stream ≡ s
+  pub day : book.day ≡ d
+  pub book_is : IsDay w book
+  pub told : (f : Fact) → (f ∈ said) ↔ ((f ∈ facts) × IsOn s d f)
+
+pub open_draft : (w facts : World) (s : Stream) (d : ℕ) (draft : DraftValue) → IsDraftOf w facts s d draft
+    → IsOpen w facts s d draft.book draft.said
+open_draft w facts s d draft x = record { stream = x.stream; day = x.day; book_is = x.book; told = x.said }
+
+pub open_new : (w facts : World) (s : Stream) (d : ℕ) (book : BookValue) (draft : DraftValue) → MatchDraft w facts s d None
+    → (book.stream ≡ s) × (book.day ≡ d) → IsDay w book → draft ≡ record { book = book; said = set.empty }
+    → IsOpen w facts s d draft.book draft.said
+open_new w facts s d book draft none of_day is e =
+    subst (λ k. IsOpen w facts s d k.book k.said) (sym e) (record {
+      stream = of_day.0;
+      day = of_day.1;
+      book_is = is;
+      told = λ f. ((λ h. absurd (not_in_empty total exact f h)), (λ p. absurd (none f p.0 p.1)));
+    })
+
+-- What one more line does, where its facts are of the day of the draft that it goes to.
+module _ (w facts one : World) (s : Stream) (d : ℕ) (on : (f : Fact) → f ∈ one → IsOn s d f) where
+  module _ (book : BookValue) (said : World) (x : IsOpen w facts s d book said) where
+    taken : (draft : DraftValue) → draft.book ≡ book → draft.said ≡ union said one
+        → Agrees (union (book_world draft.book) draft.said) → IsDraftOf w (union facts one) s d draft
+    taken draft e h agrees = record {
+      stream = ap (λ b. b.stream) e ∙ x.stream;
+      day = ap (λ b. b.day) e ∙ x.day;
+      book = subst (IsDay w) (sym e) x.book_is;
+      said = λ f. (
+        (λ m. elim (in_union said one f (subst (λ u. f ∈ u) h m)) [
+          | inl a ↦ let p = (x.told f).0 a in (union_left facts one f p.0, p.1)
+          | inr a ↦ (union_right facts one f a, on f a)
+        ]),
+        (λ p. subst (λ u. f ∈ u) (sym h) (elim (in_union facts one f p.0) [
+          | inl a ↦ union_left said one f ((x.told f).1 (a, p.1))
+          | inr a ↦ union_right said one f a
+        ])),
+      );
+      agrees = agrees;
+    }
+
+    small : World
+    small = union (book_world book) (union said one)
+
+    whole : World
+    whole = union w (union facts one)
+
+    sub : (f : Fact) → f ∈ small → f ∈ whole
+    unfolding small whole
+    sub f h = elim (in_union (book_world book) (union said one) f h) [
+      | inl a ↦ union_left w (union facts one) f (x.book_is.only f a)
+      | inr a ↦ union_right w (union facts one) f (elim (in_union said one f a) [
+        | inl b ↦ union_left facts one f ((x.told f).0 b).0
+        | inr b ↦ union_right facts one f b
+      ])
+    ]
+
+    here : (f : Fact) → f ∈ whole → IsOn s d f → f ∈ small
+    unfolding small whole
+    here f h p = elim (in_union w (union facts one) f h) [
+      | inl a ↦ union_left (book_world book) (union said one) f
+          (x.book_is.whole f (subst (λ t. IsOn t book.day f) (sym x.stream) (subst (λ e. IsOn s e f) (sym x.day) p)) a)
+      | inr a ↦ union_right (book_world book) (union said one) f (elim (in_union facts one f a) [
+        | inl b ↦ union_left said one f ((x.told f).1 (b, p))
+        | inr b ↦ union_right said one f b
+      ])
+    ]
+
+    split : (f : Fact) → f ∈ whole → (f ∈ union w facts) ⊎ (f ∈ one)
+    unfolding whole
+    split f h = elim (in_union w (union facts one) f h) [
+      | inl a ↦ inl (union_left w facts f a)
+      | inr a ↦ elim (in_union facts one f a) [ inl b ↦ inl (union_right w facts f b) | inr b ↦ inr b ]
+    ]
+
+    module _ (agrees : Agrees (union w facts)) where
+      -- of two heads of one day that differ, one is the line's
+      heads_here : (a b : Head) → HeadIs a ∈ whole → HeadIs b ∈ whole → a.stream ≡ b.stream → a.day ≡ b.day
+          → (a ≡ b → ⊥) → IsOn s d (HeadIs a) × IsOn s d (HeadIs b)
+      heads_here a b i j e f ne = elim (split (HeadIs a) i) [
+        | inl p ↦ elim (split (HeadIs b) j) [
+          | inl q ↦ absurd (ne (agrees.one_head a b p q e f))
+          | inr q ↦ let o = on (HeadIs b) q in ((e ∙ o.0, f ∙ o.1), o)
+        ]
+        | inr p ↦ let o = on (HeadIs a) p in (o, (sym e ∙ o.0, sym f ∙ o.1))
+      ]
+
+      lengths_up : HasLengths small → HasLengths whole
+      lengths_up q = (q.0, q.1, sub (HeadIs q.0) q.2, sub (HeadIs q.1) q.3, q.4, q.5, q.6)
+
+      lengths_down : HasLengths whole → HasLengths small
+      lengths_down q =
+          let n = heads_here q.0 q.1 q.2 q.3 q.4 q.5 (λ e. q.6 (ap (λ h. h.length) e)) in
+          (q.0, q.1, here (HeadIs q.0) q.2 n.0, here (HeadIs q.1) q.3 n.1, q.4, q.5, q.6)
+
+      units_up : HasUnits small → HasUnits whole
+      units_up q = (q.0, q.1, sub (HeadIs q.0) q.2, sub (HeadIs q.1) q.3, q.4, q.5, q.6)
+
+      units_down : HasUnits whole → HasUnits small
+      units_down q =
+          let n = heads_here q.0 q.1 q.2 q.3 q.4 q.5 (λ e. q.6 (ap (λ h. h.unit) e)) in
+          (q.0, q.1, here (HeadIs q.0) q.2 n.0, here (HeadIs q.1) q.3 n.1, q.4, q.5, q.6)
+
+      -- of two readings of one key that differ, one is the line's
+      readings_here : (key : Key) (a b : ReadingValue) → VersionIs key a ∈ whole → VersionIs key b ∈ whole
+          → (a ≡ b → ⊥) → (key.stream ≡ s) × (key.day ≡ d)
+      readings_here key a b i j ne = elim (split (VersionIs key a) i) [
+        | inl p ↦ elim (split (VersionIs key b) j) [
+          | inl q ↦ absurd (ne (agrees.one_reading key a b p q))
+          | inr q ↦ on (VersionIs key b) q
+        ]
+        | inr p ↦ on (VersionIs key a) p
+      ]
+
+      contents_agree : (key : PeriodKey) (a b : PeriodContent) → PeriodIs key a ∈ whole → PeriodIs key b ∈ whole → a ≡ b
+      contents_agree key a b i j = elim (split (PeriodIs key a) i) [
+        | inl p ↦ elim (split (PeriodIs key b) j) [
+          | inl q ↦ agrees.one_content key a b p q
+          | inr q ↦ absurd (on (PeriodIs key b) q)
+        ]
+        | inr p ↦ absurd (on (PeriodIs key a) p)
+      ]
+
+      readings_up : (i : ℕ) → HasReadings small i → HasReadings whole i
+      readings_up i (inl q) = inl (q.0, q.1, q.2, sub (VersionIs q.0 q.1) q.3, sub (VersionIs q.0 q.2) q.4, q.5, q.6)
+      readings_up i (inr q) = inr (q.0, q.1, q.2, sub (PeriodIs q.0 q.1) q.3, sub (PeriodIs q.0 q.2) q.4, q.5, q.6)
+
+      readings_down : (i : ℕ) → HasReadings whole i → HasReadings small i
+      readings_down i (inl q) =
+          let n = readings_here q.0 q.1 q.2 q.3 q.4 q.6 in
+          inl (q.0, q.1, q.2, here (VersionIs q.0 q.1) q.3 n, here (VersionIs q.0 q.2) q.4 n, q.5, q.6)
+      readings_down i (inr q) = absurd (q.6 (contents_agree q.0 q.1 q.2 q.3 q.4))
+
+      breaks_opaque : (code : RefusalCode) (i : ℕ) → Breaks small code i → Breaks whole code i
+      breaks_opaque LengthConflict i b = (lengths_up b.0, b.1)
+      breaks_opaque UnitConflict i b = ((λ q. b.0 (lengths_down q)), units_up b.1, b.2)
+      breaks_opaque VersionConflict i b = (
+        (λ q. b.0 (lengths_down q)),
+        (λ q. b.1 (units_down q)),
+        readings_up i b.2,
+        (λ j l q. b.3 j l (readings_down j q)),
+      )
+      breaks_opaque UnknownDay i b = absurd b
+
+      -- what breaks a rule in a day's part breaks it in the whole
+      breaks_up : (code : RefusalCode) (i : ℕ) → Breaks (union (book_world book) (union said one)) code i
+          → Breaks (union w (union facts one)) code i
+      unfolding small whole
+      breaks_up code i b = breaks_opaque code i b
+
+  -- the other drafts stay as they are
+  more : (stream : Stream) (day : ℕ) (o : Option DraftValue) → MatchDraft w facts stream day o
+      → ((f : Fact) → f ∈ one → IsOn stream day f → ⊥) → MatchDraft w (union facts one) stream day o
+  more stream day None m n = λ f h p. elim (in_union facts one f h) [ inl a ↦ m f a p | inr a ↦ n f a p ]
+  more stream day (Some draft) m n = record {
+    stream = m.stream;
+    day = m.day;
+    book = m.book;
+    said = λ f. (
+      (λ h. let p = (m.said f).0 h in (union_left facts one f p.0, p.1)),
+      (λ h. elim (in_union facts one f h.0) [ inl a ↦ (m.said f).1 (a, h.1) | inr a ↦ absurd (n f a h.1) ]),
+    );
+    agrees = m.agrees;
+  }
+
+-- A draft is put at its day.
+put : (cmp : StreamDay → StreamDay → Ordering) → IsExact cmp → (w facts one : World) (key : StreamDay)
+    (old new : BTreeMap StreamDay DraftValue) (draft : DraftValue)
+    → ((f : Fact) → f ∈ one → IsOn key.stream key.day f) → AreDrafts cmp w facts old
+    → ((q : StreamDay) → get cmp new q ≡ cond (is_eq (cmp key q)) (Some draft) (get cmp old q))
+    → IsDraftOf w (union facts one) key.stream key.day draft → AreDrafts cmp w (union facts one) new
+put cmp law w facts one key old new draft on x u is = λ stream day.
+    let q : StreamDay = record { stream = stream; day = day } in
+    subst (MatchDraft w (union facts one) stream day) (sym (u q)) (elim (decided (is_eq (cmp key q))) [
+      | inl e ↦
+          let same : key ≡ q = law.one key q e in
+          subst (λ b. MatchDraft w (union facts one) stream day (cond b (Some draft) (get cmp old q))) (sym e)
+          (subst (λ k. IsDraftOf w (union facts one) k.stream k.day draft) same is)
+      | inr n ↦
+          let off : is_eq (cmp key q) ≡ false = same_bool _ _ (λ e. absurd (n e)) (λ e. cc) in
+          subst (λ b. MatchDraft w (union facts one) stream day (cond b (Some draft) (get cmp old q))) (sym off)
+          (more w facts one key.stream key.day on stream day (get cmp old q) (x stream day)
+          (λ f h p.
+          let e = on_one_day key.stream stream key.day day f (on f h) p in
+          let same : key ≡ q = λ i. record { stream = e.0 i; day = e.1 i } in
+          n (subst (λ k. is_eq (cmp key k) ≡ true) same (law.tied key))))
+    ])
+
+-- what a claim states of its draft's day is what its line states
+same_line : (x : StatedDay) (s : Stream) (d : ℕ) → s ≡ x.stream → d ≡ x.day
+    → stated (claim_statement s d x.claim ∷ []) ≡ stated (day_statement x ∷ [])
+same_line x s d e f = λ i. stated (claim_statement (e i) (f i) x.claim ∷ [])
+
+-- A line's claim is taken into its day's draft.
+pub step_taken : (cmp : StreamDay → StreamDay → Ordering) → IsExact cmp → (w facts : World) (x : StatedDay)
+    (old new : BTreeMap StreamDay DraftValue) (book : BookValue) (said : World) (draft : DraftValue)
+    → AreDrafts cmp w facts old → IsOpen w facts x.stream x.day book said
+    → (draft.book ≡ book) × (draft.said ≡ union said (stated (claim_statement book.stream book.day x.claim ∷ [])))
+    × Agrees (union (book_world draft.book) draft.said)
+    → ((q : StreamDay) → get cmp new q
+    ≡ cond (is_eq (cmp (record { stream = x.stream; day = x.day }) q)) (Some draft) (get cmp old q))
+    → AreDrafts cmp w (union facts (stated (day_statement x ∷ []))) new
+step_taken cmp law w facts x old new book said draft drafts opened t u =
+    put cmp law w facts (stated (day_statement x ∷ [])) (record { stream = x.stream; day = x.day }) old new draft
+    (line_on x) drafts u
+    (taken w facts (stated (day_statement x ∷ [])) x.stream x.day (line_on x) book said opened draft t.0
+    (t.1 ∙ ap (union said) (same_line x book.stream book.day opened.stream opened.day)) t.2)
+
+-- A line's claim that its day's draft refuses.
+pub step_refused : (w facts : World) (x : StatedDay) (book : BookValue) (said : World)
+    → IsOpen w facts x.stream x.day book said → Agrees (union w facts) → (code : RefusalCode) (i : ℕ)
+    → Breaks (union (book_world book) (union said (stated (claim_statement book.stream book.day x.claim ∷ [])))) code i
+    → Breaks (union w (union facts (stated (day_statement x ∷ [])))) code i
+step_refused w facts x book said opened agrees code i b =
+    breaks_up w facts (stated (day_statement x ∷ [])) x.stream x.day (line_on x) book said opened agrees code i
+    (subst (λ u. Breaks (union (book_world book) (union said u)) code i)
+    (same_line x book.stream book.day opened.stream opened.day) b)
+
+-- Where each day agrees, all agree.
+module _ (cmp : StreamDay → StreamDay → Ordering) (w facts : World) (drafts : BTreeMap StreamDay DraftValue)
+    (x : AreDrafts cmp w facts drafts) (of : IsOfDays facts) (g : Agrees w) where
+  day_agrees : (s : Stream) (d : ℕ) (o : Option DraftValue) → MatchDraft w facts s d o → (f : Fact) → f ∈ facts
+      → IsOn s d f → (part : World) × Agrees part × ((k : Fact) → k ∈ union w facts → IsOn s d k → k ∈ part)
+  day_agrees s d None m f h on = absurd (m f h on)
+  day_agrees s d (Some draft) m f h on =
+      (union (book_world draft.book) draft.said, m.agrees, draft_in w facts s d draft m)
+
+  part_of : (s : Stream) (d : ℕ) (f : Fact) → f ∈ facts → IsOn s d f
+      → (part : World) × Agrees part × ((k : Fact) → k ∈ union w facts → IsOn s d k → k ∈ part)
+  part_of s d f h on = day_agrees s d (get cmp drafts (record { stream = s; day = d })) (x s d) f h on
+
+  pub drafts_agree : Agrees (union w facts)
+  drafts_agree = record {
+    one_head = λ a b i j e f. elim (in_union w facts (HeadIs a) i) [
+      | inl p ↦ elim (in_union w facts (HeadIs b) j) [
+        | inl q ↦ g.one_head a b p q e f
+        | inr q ↦
+            let n = part_of b.stream b.day (HeadIs b) q (refl, refl) in
+            n.1.one_head a b (n.2 (HeadIs a) i (e, f)) (n.2 (HeadIs b) j (refl, refl)) e f
+      ]
+      | inr p ↦
+          let n = part_of a.stream a.day (HeadIs a) p (refl, refl) in
+          n.1.one_head a b (n.2 (HeadIs a) i (refl, refl)) (n.2 (HeadIs b) j (sym e, sym f)) e f
+    ];
+    one_reading = λ key a b i j. elim (in_union w facts (VersionIs key a) i) [
+      | inl p ↦ elim (in_union w facts (VersionIs key b) j) [
+        | inl q ↦ g.one_reading key a b p q
+        | inr q ↦
+            let n = part_of key.stream key.day (VersionIs key b) q (refl, refl) in
+            n.1.one_reading key a b (n.2 (VersionIs key a) i (refl, refl)) (n.2 (VersionIs key b) j (refl, refl))
+      ]
+      | inr p ↦
+          let n = part_of key.stream key.day (VersionIs key a) p (refl, refl) in
+          n.1.one_reading key a b (n.2 (VersionIs key a) i (refl, refl)) (n.2 (VersionIs key b) j (refl, refl))
+    ];
+    one_content = λ key a b i j. elim (in_union w facts (PeriodIs key a) i) [
+      | inl p ↦ elim (in_union w facts (PeriodIs key b) j) [
+        | inl q ↦ g.one_content key a b p q
+        | inr q ↦ let o = of (PeriodIs key b) q in absurd o.2
+      ]
+      | inr p ↦ let o = of (PeriodIs key a) p in absurd o.2
+    ];
+  }
+
+pub ok_by : {T E : Type 0} (r : Result T E) (b : Bool) (P : Type 0) → OnOk r P → b ≡ is_err r → b ≡ false → P
+ok_by (Ok x) b P h e f = h
+ok_by (Err e) b P h i f = cc
+
+-- What a claim is refused for is read otherwise.
+pub if_refused : (stop : Stop) (P Q : Refusal → Type 0) → IfRefused stop P → ((r : Refusal) → P r → Q r) → IfRefused stop Q
+if_refused (Refused refusal) P Q h f = f refusal h
+if_refused Memory P Q h f = tt
+
+-- the map after what `get_mut` lent was written
+pub written : (key : StreamDay) (old new : BTreeMap StreamDay DraftValue) (found draft : DraftValue)
+    → Some found ≡ get day_cmp old key → WritesThrough day_cmp (day_cmp key) old draft new
+    → (q : StreamDay) → get day_cmp new q ≡ cond (is_eq (day_cmp key q)) (Some draft) (get day_cmp old q)
+written key old new found draft e h = (h.3 (ap is_some (sym e))).0
+
+-- A line's claim goes to the draft that `get_mut` found.
+pub found_taken : (w : World) (x : StatedDay) (old new : BTreeMap StreamDay DraftValue) (found draft : DraftValue)
+    (result : Result (Unit {0}) Stop) → Some found ≡ get day_cmp old (record { stream = x.stream; day = x.day })
+    → WritesThrough day_cmp (day_cmp (record { stream = x.stream; day = x.day })) old draft new
+    → OnOk result ((draft.book ≡ found.book)
+    × (draft.said ≡ union found.said (stated (claim_statement found.book.stream found.book.day x.claim ∷ [])))
+    × Agrees (union (book_world draft.book) draft.said))
+    → OnOk result ((facts : World) → AreDrafts day_cmp w facts old
+    → AreDrafts day_cmp w (union facts (stated (day_statement x ∷ []))) new)
+found_taken w x old new found draft (Ok u) e h t = λ facts drafts.
+    step_taken day_cmp day_exact w facts x old new found.book found.said draft drafts
+    (open_draft w facts x.stream x.day found (subst (MatchDraft w facts x.stream x.day) (sym e) (drafts x.stream x.day)))
+    t (written (record { stream = x.stream; day = x.day }) old new found draft e h)
+found_taken w x old new found draft (Err stop) e h t = tt
+
+-- The draft that `get_mut` found refuses a line's claim.
+pub found_refused : (w : World) (x : StatedDay) (old : BTreeMap StreamDay DraftValue) (found : DraftValue)
+    (result : Result (Unit {0}) Stop) → Some found ≡ get day_cmp old (record { stream = x.stream; day = x.day })
+    → IfErr result (λ stop. IfRefused stop (λ refusal. (refusal.line ≡ x.claim.line) × (refusal.field ≡ 0)
+    × Breaks (union (book_world found.book) (union found.said
+    (stated (claim_statement found.book.stream found.book.day x.claim ∷ [])))) refusal.code refusal.interval))
+    → IfErr result (λ stop. IfRefused stop (λ refusal. (refusal.line ≡ x.claim.line) × (refusal.field ≡ 0)
+    × ((facts : World) → AreDrafts day_cmp w facts old → Agrees (union w facts)
+    → Breaks (union w (union facts (stated (day_statement x ∷ [])))) refusal.code refusal.interval)))
+found_refused w x old found (Ok u) e h = tt
+found_refused w x old found (Err Memory) e h = tt
+found_refused w x old found (Err (Refused refusal)) e h = (
+  h.0,
+  h.1,
+  λ facts drafts agrees.
+      step_refused w facts x found.book found.said
+      (open_draft w facts x.stream x.day found (subst (MatchDraft w facts x.stream x.day) (sym e) (drafts x.stream x.day)))
+      agrees refusal.code refusal.interval h.2,
+)
+
+-- One more line is in the drafts.
+pub drafts_more : (w v : World) (days : List StatedDay) (x : StatedDay) (old new : BTreeMap StreamDay DraftValue)
+    → v ≡ w → AreDrafts day_cmp w (stated (map day_statement days)) old
+    → ((facts : World) → AreDrafts day_cmp v facts old
+    → AreDrafts day_cmp v (union facts (stated (day_statement x ∷ []))) new)
+    → AreDrafts day_cmp w (stated (map day_statement (days ++ x ∷ []))) new
+drafts_more w v days x old new e h f =
+    subst (λ u. AreDrafts day_cmp w u new) (sym (stated_more days x))
+    (subst (λ u. AreDrafts day_cmp u (union (stated (map day_statement days)) (stated (day_statement x ∷ []))) new) e
+    (f (stated (map day_statement days))
+    (subst (λ u. AreDrafts day_cmp u (stated (map day_statement days)) old) (sym e) h)))
+
+pub days_agree : (w : World) (days : List StatedDay) (drafts : BTreeMap StreamDay DraftValue)
+    → AreDrafts day_cmp w (stated (map day_statement days)) drafts → IsLawful w
+    → Agrees (union w (stated (map day_statement days)))
+days_agree w days drafts x lawful =
+    drafts_agree day_cmp w (stated (map day_statement days)) drafts x (of_days days) lawful.agrees
+
+-- no draft is there at the start
+pub no_drafts : (w : World) (drafts : BTreeMap StreamDay DraftValue) → drafts.entries ≡ []
+    → AreDrafts day_cmp w (stated (map day_statement [])) drafts
+no_drafts w drafts e = λ stream day.
+    subst (λ es. MatchDraft w (stated []) stream day (lookup (is_at (day_cmp (record { stream = stream; day = day }))) es))
+    (sym e) (λ f h on. absurd (not_in_empty total exact f h))
+
+-- A text's first line whose draft refuses it.
+pub refused_here : (w v : World) (days before : List StatedDay) (x : StatedDay) (drafts : BTreeMap StreamDay DraftValue)
+    (refusal : Refusal) → v ≡ w → IsText days → before ≡ take (length before) days
+    → (length before < length days) × (x ≡ get_or days (length before) x)
+    → AreDrafts day_cmp w (stated (map day_statement before)) drafts → IsLawful w
+    → (refusal.line ≡ x.claim.line) × (refusal.field ≡ 0)
+    × ((facts : World) → AreDrafts day_cmp v facts drafts → Agrees (union v facts)
+    → Breaks (union v (union facts (stated (day_statement x ∷ [])))) refusal.code refusal.interval)
+    → IsRefusal w (map day_statement days) refusal
+refused_here w v days before x drafts refusal e text front here h lawful t =
+    let agrees = days_agree w before drafts h lawful in
+    let breaks = subst (λ u. Breaks (union u (union (stated (map day_statement before)) (stated (day_statement x ∷ []))))
+    refusal.code refusal.interval) e (t.2 (stated (map day_statement before))
+    (subst (λ u. AreDrafts day_cmp u (stated (map day_statement before)) drafts) (sym e) h)
+    (subst (λ u. Agrees (union u (stated (map day_statement before)))) (sym e) agrees)) in
+    refusal_at w days (length before) x refusal text.lines here.0
+    (subst (λ ds. Agrees (union w (stated (map day_statement ds)))) front agrees)
+    (t.0 ∙ ap (λ d. d.claim.line) here.1) t.1
+    (subst (λ ds. Breaks (union w (union (stated (map day_statement ds))
+    (stated (day_statement (get_or days (length before) x) ∷ [])))) refusal.code refusal.interval) front
+    (subst (λ d. Breaks (union w (union (stated (map day_statement before)) (stated (day_statement d ∷ []))))
+    refusal.code refusal.interval) here.1 breaks))

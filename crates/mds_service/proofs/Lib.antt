@@ -1,0 +1,9 @@
+pub mod DayFacts
+pub mod Gather
+pub mod LaidOut
+pub mod Lines
+pub mod Runs
+mod Adding
+mod Committed
+mod Sifting
+mod TakenIn

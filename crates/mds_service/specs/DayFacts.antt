@@ -1,0 +1,121 @@
+-- The facts of a file's days, and those of the drafts of its days.
+use Rattle.std.specs.Prelude.{◌≡◌, ℕ, ◌+◌, List, [], ◌∷◌, ◌++◌, map, Option, Some, None, refl}
+use Rattle.std.proofs.Common.{sym, ap, ◌∙◌, subst, inl, inr}
+use Rattle.std.proofs.lemmas.Grind.{flat_map-append}
+use Rattle.std.specs.List.{flat_map}
+use Rattle.std.specs.FinSet as set
+use Rattle.mds_quantity.specs.declared.unit.Unit.{Unit as MeasureUnit}
+use Rattle.mds_names.specs.declared.stream.Stream.{Stream}
+use Rattle.mds_marks.specs.Reading.{ReadingValue}
+use Rattle.mds_nem12.specs.Statements.{DayStatement, Statement}
+use Rattle.mds_world.specs.FactOrder.{exact, total}
+use Rattle.mds_world.specs.Facts.{Fact}
+use Rattle.mds_world.specs.Facts.Fact.{HeadIs, VersionIs, DetailIs, EventIs, PeriodIs, HolidayIs, JobIs}
+use Rattle.mds_world.specs.Lists.{Member, flat_in, in_flat, in_map, map_in, member_append}
+use Rattle.mds_world.specs.Members.{in_list, in_union, list_in, union_left, union_right}
+use Rattle.mds_world.specs.Sets.{◌∈◌, list_append}
+use Rattle.mds_world.specs.Stated.{facts_of, stated, versions_from}
+use Rattle.mds_world.specs.World.{IsOn, World, union}
+use Rattle.mds_versions.specs.Books.{BookValue, book_facts, book_world, head_facts, row_fact}
+use Rattle.mds_versions.specs.Drafts.{DraftValue}
+use Rattle.mds_versions.specs.declared.day_book.Version.{Version}
+use Rattle.mds_service.specs.Imports.{IsDraftOf, IsOfDays, day_statement}
+use Rattle.mds_service.specs.declared.stated.StatedDay.{StatedDay}
+
+-- a fact is of one day at most
+pub on_one_day : (s t : Stream) (d e : ℕ) (f : Fact) → IsOn s d f → IsOn t e f → (s ≡ t) × (d ≡ e)
+on_one_day s t d e (HeadIs head) a b = (sym a.0 ∙ b.0, sym a.1 ∙ b.1)
+on_one_day s t d e (VersionIs key reading) a b = (sym a.0 ∙ b.0, sym a.1 ∙ b.1)
+on_one_day s t d e (DetailIs detail) a b = absurd a
+on_one_day s t d e (EventIs event) a b = absurd a
+on_one_day s t d e (PeriodIs key content) a b = absurd a
+on_one_day s t d e (HolidayIs day) a b = absurd a
+on_one_day s t d e (JobIs id content count) a b = absurd a
+
+versions_on : (day : DayStatement) (interval : ℕ) (readings : List ReadingValue) (f : Fact)
+    → Member f (versions_from day interval readings) → IsOn day.stream day.date f
+versions_on day interval [] f m = absurd m
+versions_on day interval (reading ∷ rest) f (inl e) = subst (IsOn day.stream day.date) (sym e) (refl, refl)
+versions_on day interval (reading ∷ rest) f (inr m) = versions_on day (interval + 1) rest f m
+
+-- what a line claims is of its day
+pub claimed_on : (day : StatedDay) (f : Fact) → Member f (facts_of (day_statement day)) → IsOn day.stream day.day f
+claimed_on day f (inl e) = subst (IsOn day.stream day.day) (sym e) (refl, refl)
+claimed_on day f (inr m) = versions_on (record {
+  line = day.claim.line;
+  stream = day.stream;
+  date = day.day;
+  length = day.claim.length;
+  unit = day.claim.unit;
+  update = day.claim.update;
+  readings = day.claim.readings.items;
+}) 1 day.claim.readings.items f m
+
+-- each fact of a file's days is of one of them
+pub in_days : (days : List StatedDay) (f : Fact) → f ∈ stated (map day_statement days)
+    → (day : StatedDay) × Member day days × Member f (facts_of (day_statement day))
+in_days days f h =
+    let a = in_flat facts_of (map day_statement days) f (in_list (flat_map facts_of (map day_statement days)) f h) in
+    let b = in_map day_statement days a.0 a.1 in
+    (b.0, b.1, subst (λ x. Member f (facts_of x)) b.2 a.2)
+
+pub days_in : (days : List StatedDay) (f : Fact) (day : StatedDay) → Member day days
+    → Member f (facts_of (day_statement day)) → f ∈ stated (map day_statement days)
+days_in days f day m n =
+    list_in (flat_map facts_of (map day_statement days)) f
+    (flat_in facts_of (map day_statement days) f (day_statement day) (map_in day_statement days day m) n)
+
+-- each is a head or a version
+pub of_days : (days : List StatedDay) → IsOfDays (stated (map day_statement days))
+of_days days f h = let a = in_days days f h in (a.0.stream, a.0.day, claimed_on a.0 f a.2)
+
+-- the facts of one line are of its day
+pub line_on : (day : StatedDay) (f : Fact) → f ∈ stated (day_statement day ∷ []) → IsOn day.stream day.day f
+line_on day f h =
+    elim (member_append f (facts_of (day_statement day)) [] (in_list (flat_map facts_of (day_statement day ∷ [])) f h)) [
+      | inl a ↦ claimed_on day f a
+      | inr a ↦ absurd a
+    ]
+
+-- what longer lists state
+pub stated_append : (xs ys : List Statement) → stated (xs ++ ys) ≡ union (stated xs) (stated ys)
+stated_append xs ys = ap set.from_list (flat_map-append facts_of xs ys) ∙ list_append total exact _ _
+
+rows_on : (s : Stream) (d : ℕ) (rows : List (ℕ × Version)) (f : Fact) → Member f (map (row_fact s d) rows) → IsOn s d f
+rows_on s d [] f m = absurd m
+rows_on s d (row ∷ rows) f (inl e) = subst (IsOn s d) (sym e) (refl, refl)
+rows_on s d (row ∷ rows) f (inr m) = rows_on s d rows f m
+
+head_on : (s : Stream) (d : ℕ) (head : Option (ℕ × MeasureUnit)) (f : Fact) → Member f (head_facts s d head) → IsOn s d f
+head_on s d None f m = absurd m
+head_on s d (Some form) f (inl e) = subst (IsOn s d) (sym e) (refl, refl)
+head_on s d (Some form) f (inr m) = absurd m
+
+-- what a book says is of its day
+pub book_on : (book : BookValue) (f : Fact) → f ∈ book_world book → IsOn book.stream book.day f
+book_on book f h =
+    elim (member_append f (head_facts book.stream book.day book.head) (map (row_fact book.stream book.day) book.rows)
+    (in_list (book_facts book) f h)) [
+      | inl a ↦ head_on book.stream book.day book.head f a
+      | inr a ↦ rows_on book.stream book.day book.rows f a
+    ]
+
+-- A draft and its day: the World of its book and of what it was told is just the day's part of both.
+module _ (w facts : World) (s : Stream) (d : ℕ) (draft : DraftValue) (x : IsDraftOf w facts s d draft) where
+  pub on_book : (f : Fact) → IsOn s d f → IsOn draft.book.stream draft.book.day f
+  on_book f h = subst (λ t. IsOn t draft.book.day f) (sym x.stream) (subst (λ e. IsOn s e f) (sym x.day) h)
+
+  pub draft_in : (f : Fact) → f ∈ union w facts → IsOn s d f → f ∈ union (book_world draft.book) draft.said
+  draft_in f h on = elim (in_union w facts f h) [
+    | inl a ↦ union_left (book_world draft.book) draft.said f (x.book.whole f (on_book f on) a)
+    | inr a ↦ union_right (book_world draft.book) draft.said f ((x.said f).1 (a, on))
+  ]
+
+  pub in_draft : (f : Fact) → f ∈ union (book_world draft.book) draft.said → (f ∈ union w facts) × IsOn s d f
+  in_draft f h = elim (in_union (book_world draft.book) draft.said f h) [
+    | inl a ↦ (
+      union_left w facts f (x.book.only f a),
+      subst (λ t. IsOn t d f) x.stream (subst (λ e. IsOn draft.book.stream e f) x.day (book_on draft.book f a)),
+    )
+    | inr a ↦ let p = (x.said f).0 a in (union_right w facts f p.0, p.1)
+  ]

@@ -1,0 +1,75 @@
+-- What a file states, laid out flat, and the drafts of its days.
+use Rattle.std.specs.Prelude.{◌≡◌, ◌↔◌, ℕ, ◌<◌, ◌≤◌, List, [], ◌++◌, map, length, IsTrue, Option, Some, None}
+use Rattle.std.specs.BTreeMap.{BTreeMap, get}
+use Rattle.std.specs.List.{All, AllPairs}
+use Rattle.std.specs.FinSet as set
+use Rattle.std.specs.declared.cmp.Ordering.{Ordering}
+use Rattle.mds_calendar.specs.Length.{count_of, is_length}
+use Rattle.mds_lines.specs.Lines.{most_lines}
+use Rattle.mds_names.specs.declared.stream.Stream.{Stream}
+use Rattle.mds_nem12.specs.Statements.{Statement}
+use Rattle.mds_world.specs.declared.facts.StreamDay.{StreamDay}
+use Rattle.mds_world.specs.Counts.{added_by, known_by}
+use Rattle.mds_world.specs.Facts.{Fact}
+use Rattle.mds_world.specs.Facts.Fact.{HeadIs, DetailIs, EventIs}
+use Rattle.mds_world.specs.Lists.{Apart}
+use Rattle.mds_world.specs.Sets.{◌∈◌}
+use Rattle.mds_world.specs.Stated.{stated}
+use Rattle.mds_world.specs.World.{Agrees, IsOn, World, union}
+use Rattle.mds_versions.specs.Books.{IsDay, book_world}
+use Rattle.mds_versions.specs.Content.{version_fact}
+use Rattle.mds_versions.specs.Drafts.{DraftValue}
+use Rattle.mds_versions.specs.Merge.{claim_statement}
+use Rattle.mds_versions.specs.declared.additions.Additions.{Additions}
+use Rattle.mds_service.specs.declared.stated.Stated.{Stated}
+use Rattle.mds_service.specs.declared.stated.StatedDay.{StatedDay}
+
+abbrev pub day_statement : StatedDay → Statement
+day_statement day = claim_statement day.stream day.day day.claim
+
+-- all that is stated
+abbrev pub stated_world : Stated → World
+stated_world s =
+    union (stated (map day_statement s.days.items))
+    (set.from_list (map DetailIs s.details.items ++ map EventIs s.events.items))
+
+-- The days of a text: each with a reading for each interval, in the order of their lines, and no more than a file has
+-- lines.
+pub record IsText (days : List StatedDay) : Type 0 where
+  pub whole : All (λ day. IsTrue (is_length day.claim.length)
+      × (length day.claim.readings.items ≡ count_of day.claim.length)) days
+  pub lines : AllPairs (λ a b. a.claim.line < b.claim.line) days
+  pub few : length days ≤ most_lines
+
+-- the draft has the day's book, and of the facts just those of its day
+pub record IsDraftOf (w facts : World) (s : Stream) (d : ℕ) (draft : DraftValue) : Type 0 where
+  pub stream : draft.book.stream ≡ s
+  pub day : draft.book.day ≡ d
+  pub book : IsDay w draft.book
+  pub said : (f : Fact) → (f ∈ draft.said) ↔ ((f ∈ facts) × IsOn s d f)
+  pub agrees : Agrees (union (book_world draft.book) draft.said)
+
+abbrev pub MatchDraft : World → World → Stream → ℕ → Option DraftValue → Type 0
+MatchDraft w facts stream day None = (f : Fact) → f ∈ facts → IsOn stream day f → ⊥
+MatchDraft w facts stream day (Some draft) = IsDraftOf w facts stream day draft
+
+-- Each day that the facts are of has its draft, and no other day has one.
+abbrev pub AreDrafts : (StreamDay → StreamDay → Ordering) → World → World → BTreeMap StreamDay DraftValue → Type 0
+AreDrafts cmp w facts drafts =
+    (stream : Stream) (day : ℕ)
+    → MatchDraft w facts stream day (get cmp drafts (record { stream = stream; day = day }))
+
+-- each of the facts is a head or a version
+abbrev pub IsOfDays : World → Type 0
+IsOfDays facts = (f : Fact) → f ∈ facts → (stream : Stream) × (day : ℕ) × IsOn stream day f
+
+-- What is added of the facts of days: those that the World doesn't have, each once, and how many it has of those that
+-- count.
+pub record IsSettled (w facts : World) (additions : Additions) (known : ℕ) : Type 0 where
+  pub no_details : additions.details.items ≡ []
+  pub no_events : additions.events.items ≡ []
+  pub apart : Apart (map HeadIs additions.heads.items ++ map version_fact additions.versions.items)
+  pub just : set.from_list (map HeadIs additions.heads.items ++ map version_fact additions.versions.items)
+      ≡ set.difference facts w
+  pub added : length additions.versions.items ≡ added_by w facts
+  pub known_count : known ≡ known_by w facts

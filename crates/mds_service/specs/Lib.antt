@@ -1,0 +1,6 @@
+pub mod DayFacts
+pub mod DayOrder
+pub mod Imports
+pub mod Machine
+pub mod Readings
+pub mod StatedSteps

@@ -1,0 +1,188 @@
+//! Queries. None changes what is kept.
+
+ghost use Rattle.std.specs.Prelude.{◌≡◌, ◌↔◌, ◌≤◌, IfOk, IsTrue, map};
+ghost use Rattle.mds_calendar.specs.Length.{count_of};
+ghost use Rattle.mds_world.specs.Current.{IsReading, no_reading as bare_n};
+ghost use Rattle.mds_world.specs.World.{IsLawful};
+ghost use Rattle.mds_versions.specs.Books.{book_world};
+ghost use Rattle.mds_service.specs.Machine.{DayStep, StreamsStep, VersionsStep};
+ghost use Rattle.mds_service.specs.Readings.{AreReadings};
+
+use crate::request::{Answer, DayAnswer, StreamAnswer, VersionsAnswer};
+use mds_marks::{Mark, Quality, Reading, Reason};
+use mds_terms::{Day, Length, Stream};
+use mds_versions::{DayBook, Keeper, Refusal, RefusalCode, Version};
+use std::alloc::{AllocError, Global};
+
+/// The refusal of a day that isn't known, or of an interval that it doesn't have.
+const UNKNOWN_DAY: Refusal = Refusal {
+    code: RefusalCode::UnknownDay,
+    line: 0,
+    field: 0,
+    interval: 0,
+};
+
+/// A day's current readings, its form and its events.
+pub(crate) fn day<K: Keeper>(alloc: Global, keeper: &mut K, stream: Stream, day: Day) -> Answer
+    ensures before { K.sound keeper.new → K.sound keeper.old }
+    ensures same { K.sound keeper.new → K.world keeper.new ≡ K.world keeper.old }
+    ensures step { K.sound keeper.new → IsLawful (K.world keeper.old)
+        → DayStep (K.world keeper.old) stream day result (K.world keeper.new) }
+{
+    let Ok(book) = keeper.day(copy_of(&stream), day) else {
+        return Answer::Unavailable;
+    };
+    let Some(form) = book.head() else {
+        return Answer::Refused(UNKNOWN_DAY);
+    };
+    let (length, unit) = form;
+    // A lawful day that is known has a version.
+    book.is_lawful();
+    let Some(update) = book.latest_update() else {
+        unreachable!();
+    };
+    let Ok(readings) = current_readings(alloc, &book, length) else {
+        return Answer::Unavailable;
+    };
+    let Ok(events) = keeper.events(copy_of(&stream), day) else {
+        return Answer::Unavailable;
+    };
+    Answer::Day(DayAnswer {
+        stream,
+        day,
+        length,
+        unit,
+        update,
+        readings,
+        events,
+    })
+}
+
+/// All versions of an interval.
+pub(crate) fn versions<K: Keeper>(
+    alloc: Global,
+    keeper: &mut K,
+    stream: Stream,
+    day: Day,
+    interval: u16,
+) -> Answer
+    ensures before { K.sound keeper.new → K.sound keeper.old }
+    ensures same { K.sound keeper.new → K.world keeper.new ≡ K.world keeper.old }
+    ensures step { K.sound keeper.new → IsLawful (K.world keeper.old)
+        → VersionsStep (K.world keeper.old) stream day interval result (K.world keeper.new) }
+{
+    let Ok(book) = keeper.day(copy_of(&stream), day) else {
+        return Answer::Unavailable;
+    };
+    let Some(head) = book.head() else {
+        return Answer::Refused(UNKNOWN_DAY);
+    };
+    if !has_interval(head.0, interval) {
+        return Answer::Refused(UNKNOWN_DAY);
+    }
+    let Ok(versions) = copies(alloc, book.versions(interval)) else {
+        return Answer::Unavailable;
+    };
+    Answer::Versions(VersionsAnswer {
+        stream,
+        day,
+        interval,
+        versions,
+    })
+}
+
+/// The known streams with their current details.
+pub(crate) fn streams<K: Keeper>(alloc: Global, keeper: &mut K) -> Answer
+    ensures before { K.sound keeper.new → K.sound keeper.old }
+    ensures same { K.sound keeper.new → K.world keeper.new ≡ K.world keeper.old }
+    ensures step { K.sound keeper.new → StreamsStep (K.world keeper.old) result (K.world keeper.new) }
+{
+    let Ok(streams) = keeper.streams() else {
+        return Answer::Unavailable;
+    };
+    let Ok(mut answers) = Vec::with_capacity(alloc, streams.len()) else {
+        return Answer::Unavailable;
+    };
+    for stream in &streams {
+        let Ok(details) = keeper.details(copy_of(stream)) else {
+            return Answer::Unavailable;
+        };
+        let answer = StreamAnswer {
+            stream: copy_of(stream),
+            details,
+        };
+        let Ok(()) = answers.push(answer) else {
+            unreachable!();
+        };
+    }
+    Answer::Streams(answers)
+}
+
+/// Copies of the current readings of a day of this length, in the order of its intervals.
+fn current_readings(
+    alloc: Global,
+    book: &DayBook,
+    length: Length,
+) -> Result<Vec<Reading>, AllocError>
+    ensures { IfOk result (λ readings. AreReadings
+        (book_world book.now) book.now.stream book.now.day (count_of length) readings.items) }
+{
+    let count = length.count();
+    let mut readings = Vec::with_capacity(alloc, count)?;
+    for i in 0..count {
+        readings.push(current_reading(alloc, book, i as u16 + 1)?)?;
+    }
+    Ok(readings)
+}
+
+/// A copy of the current reading of an interval, or bare N where it has no version.
+fn current_reading(alloc: Global, book: &DayBook, interval: u16) -> Result<Reading, AllocError>
+    ensures { IfOk result (IsReading (book_world book.now) book.now.stream book.now.day interval) }
+{
+    match book.current(interval) {
+        Some(version) => version.reading.try_clone(),
+        None => Ok(no_reading(alloc)),
+    }
+}
+
+/// Bare N: quality N, without a method, a reason or a value.
+fn no_reading(alloc: Global) -> Reading
+    ensures { result ≡ bare_n }
+{
+    let mark = Mark {
+        quality: Quality::new(b'N', 0).unwrap(),
+        reason: Reason::new(None, String::new(alloc)).unwrap(),
+    };
+    Reading::new(mark, None).unwrap()
+}
+
+/// Copies of versions, without the number of their interval.
+fn copies(alloc: Global, rows: &[(u16, Version)]) -> Result<Vec<Version>, AllocError>
+    ensures { IfOk result (λ versions. versions.items ≡ map (λ row. row.1) rows.now) }
+{
+    let mut versions = Vec::with_capacity(alloc, rows.len())?;
+    for row in rows {
+        versions.push(Version {
+            update: row.1.update,
+            reading: row.1.reading.try_clone()?,
+        })?;
+    }
+    Ok(versions)
+}
+
+/// Whether a day of this length has such an interval.
+fn has_interval(length: Length, interval: u16) -> bool
+    ensures { IsTrue result ↔ ((1 ≤ interval) × (interval ≤ count_of length)) }
+{
+    0 < interval && usize::from(interval) <= length.count()
+}
+
+/// The same stream.
+fn copy_of(stream: &Stream) -> Stream
+    ensures { result ≡ stream.now }
+{
+    Stream {
+        nmi: stream.nmi,
+        suffix: stream.suffix,
+    }
+}

@@ -1,0 +1,80 @@
+//! Requests, and their answers.
+
+use mds_marks::Reading;
+use mds_quantity::Unit;
+use mds_records::{FileFault, FileKind};
+use mds_terms::{Day, Details, Event, Length, Moment, Stream};
+use mds_versions::{Refusal, Version};
+
+/// What the machine is asked. Nothing is asked of a request: the bytes of an import may be any.
+#[derive(Drop)]
+pub enum Request {
+    /// To take in what a file states.
+    Import {
+        kind: FileKind,
+        bytes: Vec<u8>,
+    },
+    /// For a day's current readings.
+    Day {
+        stream: Stream,
+        day: Day,
+    },
+    /// For all versions of an interval, which is numbered from 1.
+    Versions {
+        stream: Stream,
+        day: Day,
+        interval: u16,
+    },
+    /// For the known streams.
+    Streams,
+}
+
+/// What the machine answers.
+#[derive(Drop)]
+pub enum Answer {
+    /// The file is taken in: so many of its versions are new, and so many were there.
+    Imported { added: u64, known: u64 },
+    Day(DayAnswer),
+    Versions(VersionsAnswer),
+    /// The known streams, in the order of their bytes.
+    Streams(Vec<StreamAnswer>),
+    /// The file isn't well formed. Nothing is changed.
+    File(FileFault),
+    /// A rule is broken. Nothing is changed.
+    Refused(Refusal),
+    /// There is no answer now, for want of memory or of the store. Nothing is changed.
+    Unavailable,
+}
+
+/// A known day.
+#[derive(Drop)]
+pub struct DayAnswer {
+    pub stream: Stream,
+    pub day: Day,
+    pub length: Length,
+    pub unit: Unit,
+    /// The greatest update among the readings.
+    pub update: Moment,
+    /// The current reading of each interval, in order; bare N where there is none.
+    pub readings: Vec<Reading>,
+    /// The events of the day, each once.
+    pub events: Vec<Event>,
+}
+
+/// All versions of an interval.
+#[derive(Drop)]
+pub struct VersionsAnswer {
+    pub stream: Stream,
+    pub day: Day,
+    pub interval: u16,
+    /// By ascending update.
+    pub versions: Vec<Version>,
+}
+
+/// A known stream.
+#[derive(Drop)]
+pub struct StreamAnswer {
+    pub stream: Stream,
+    /// The current details.
+    pub details: Details,
+}

@@ -1,0 +1,314 @@
+-- What the claims of a day add to its book, or at which line they are refused.
+use Rattle.std.proofs.Common.{◌≡◌, ◌≢◌, ℕ, zero, suc, ◌+◌, ◌<◌, ◌≤◌, List, [], ◌∷◌, ◌++◌, length, map, take, get_or, refl, sym, ap, ◌∙◌, subst, inl, inr, arith}
+use Rattle.std.specs.Prelude.{Bool, true, false, cond, nat_le, ◌⊎◌}
+use Rattle.std.specs.FinSet as set
+use Rattle.std.specs.List.{All, filter, flat_map}
+use Rattle.std.proofs.lemmas.Bool.Decides.{nat_tests}
+use Rattle.std.proofs.lemmas.Grind.{flat_map-append}
+use Rattle.std.proofs.lemmas.List.{append-nil, length-map}
+use Rattle.std.proofs.lemmas.Option.{get_or_from_slice_get}
+use Rattle.mds_calendar.specs.Length.{count_of}
+use Rattle.mds_names.specs.declared.stream.Stream.{Stream}
+use Rattle.mds_nem12.specs.Statements.{Statement}
+use Rattle.mds_nem12.specs.Statements.Statement.{DayOf}
+use Rattle.mds_world.specs.Counts.{countable, is_counted}
+use Rattle.mds_world.specs.FactOrder.{exact, fact_cmp, total}
+use Rattle.mds_world.specs.Facts.{Fact}
+use Rattle.mds_world.specs.Facts.Fact.{HeadIs, DetailIs, EventIs}
+use Rattle.mds_world.specs.Lists.{Apart, Member, member_append, append_right, flat_in, in_flat, in_map}
+use Rattle.mds_world.specs.Members.{same_by, in_union, union_left, union_right, in_list, list_in, len_list}
+use Rattle.mds_world.specs.Sets.{◌∈◌, decided, difference_in, in_difference, in_retain, list_append, retain_in, union_empty}
+use Rattle.mds_world.specs.Stated.{facts_of, stated}
+use Rattle.mds_world.specs.World.{Agrees, IsLawful, World, union}
+use Rattle.mds_versions.specs.Books.{BookValue, book_world}
+use Rattle.mds_versions.specs.Content.{content, content_facts, version_fact}
+use Rattle.mds_versions.specs.Drafts.{AreAscending, DraftValue, IfRefused, IsPlan, Settles}
+use Rattle.mds_versions.specs.Merge.{Breaks, IsRefusal, claim_statement, claim_statements, is_upto, upto}
+use Rattle.mds_versions.specs.declared.additions.Additions.{Additions}
+use Rattle.mds_versions.specs.declared.claim.Claim.{Claim}
+use Rattle.mds_versions.specs.declared.draft.Stop.{Stop}
+use Rattle.mds_versions.specs.declared.draft.Stop.TheVariants.{Refused, Memory}
+use Rattle.mds_versions.specs.declared.refusal.Refusal.{Refusal}
+use Rattle.mds_versions.proofs.Rows.{member_get}
+
+stated_append : (xs ys : List Statement) → stated (xs ++ ys) ≡ union (stated xs) (stated ys)
+stated_append xs ys = ap set.from_list (flat_map-append facts_of xs ys) ∙ list_append total exact _ _
+
+agrees_sub : (a b : World) → ((f : Fact) → f ∈ a → f ∈ b) → Agrees b → Agrees a
+agrees_sub a b s g = record {
+  one_head = λ x y i j. g.one_head x y (s _ i) (s _ j);
+  one_reading = λ key x y i j. g.one_reading key x y (s _ i) (s _ j);
+  one_content = λ key x y i j. g.one_content key x y (s _ i) (s _ j);
+}
+
+take_one_more : {X : Type 0} (xs : List X) (i : ℕ) (d : X) → i < length xs → take (suc i) xs ≡ take i xs ++ get_or xs i d ∷ []
+take_one_more [] i d h = absurd (omega arith)
+take_one_more (x ∷ xs) zero d h = refl
+take_one_more (x ∷ xs) (suc i) d h = ap (λ l. x ∷ l) (take_one_more xs i d (omega arith))
+
+take_all : {X : Type 0} (xs : List X) → take (length xs) xs ≡ xs
+take_all [] = refl
+take_all (x ∷ xs) = ap (λ l. x ∷ l) (take_all xs)
+
+map_at : {X Y : Type 0} (f : X → Y) (xs : List X) (i : ℕ) (d : X) → get_or (map f xs) i (f d) ≡ f (get_or xs i d)
+map_at f [] i d = refl
+map_at f (x ∷ xs) zero d = refl
+map_at f (x ∷ xs) (suc i) d = map_at f xs i d
+
+-- each line is below those after it
+abbrev Rising : List Claim → Type 0
+Rising [] = Unit {0}
+Rising (c ∷ cs) = ((x : Claim) → Member x cs → c.line < x.line) × Rising cs
+
+rising : (cs : List Claim) → AreAscending cs → Rising cs
+rising [] a = tt
+rising (c ∷ cs) a = (
+  (λ x m.
+      let g = member_get cs x m in
+      let h : c.line < (get_or cs g.0 x).line = a 0 (suc g.0) x (omega arith) (omega (arith, g.1)) in
+      subst (λ y. c.line < y.line) (get_or_from_slice_get cs g.0 x x g.2) h),
+  rising cs (λ i j d l h. a (suc i) (suc j) d (omega arith) (omega arith)),
+)
+
+at_member : (cs : List Claim) (i : ℕ) (d : Claim) → i < length cs → Member (get_or cs i d) cs
+at_member [] i d h = absurd (omega arith)
+at_member (c ∷ cs) zero d h = inl refl
+at_member (c ∷ cs) (suc i) d h = inr (at_member cs i d (omega arith))
+
+not_upto : (a b : ℕ) → b < a → nat_le a b ≡ false
+not_upto a b h = grind (arith, nat_tests)
+
+is_up : (a b : ℕ) → a ≤ b → nat_le a b ≡ true
+is_up a b h = grind (arith, nat_tests)
+
+member_cond : {X : Type 0} (t : Bool) (y x : X) (xs : List X) → Member y (cond t (x ∷ xs) xs) → (y ≡ x) ⊎ Member y xs
+member_cond true y x xs m = m
+member_cond false y x xs m = inr m
+
+module _ (stream : Stream) (day : ℕ) where
+  said : List Claim → List Statement
+  said cs = map (claim_statement stream day) cs
+
+  none_upto : (line : ℕ) (cs : List Claim) → ((x : Claim) → Member x cs → line < x.line)
+      → filter (is_upto line) (map (claim_statement stream day) cs) ≡ []
+  none_upto line [] h = refl
+  none_upto line (c ∷ cs) h =
+      ap (λ t. cond t (claim_statement stream day c ∷ filter (is_upto line) (map (claim_statement stream day) cs))
+      (filter (is_upto line) (map (claim_statement stream day) cs))) (not_upto c.line line (h c (inl refl)))
+      ∙ none_upto line cs (λ x m. h x (inr m))
+
+  upto_at : (cs : List Claim) (i : ℕ) (d : Claim) → Rising cs → i < length cs
+      → filter (is_upto (get_or cs i d).line) (map (claim_statement stream day) cs) ≡ take (suc i) (map (claim_statement stream day) cs)
+  upto_at [] i d r h = absurd (omega arith)
+  upto_at (c ∷ cs) zero d r h =
+      ap (λ t. cond t (claim_statement stream day c ∷ filter (is_upto c.line) (map (claim_statement stream day) cs))
+      (filter (is_upto c.line) (map (claim_statement stream day) cs))) (is_up c.line c.line (omega arith))
+      ∙ ap (λ l. claim_statement stream day c ∷ l) (none_upto c.line cs r.0)
+  upto_at (c ∷ cs) (suc i) d r h =
+      let below : c.line < (get_or cs i d).line = r.0 (get_or cs i d) (at_member cs i d (omega arith)) in
+      ap (λ t. cond t (claim_statement stream day c ∷ filter (is_upto (get_or cs i d).line) (map (claim_statement stream day) cs))
+      (filter (is_upto (get_or cs i d).line) (map (claim_statement stream day) cs))) (is_up c.line (get_or cs i d).line (omega arith))
+      ∙ ap (λ l. claim_statement stream day c ∷ l) (upto_at cs i d r.1 (omega arith))
+
+  upto_below : (cs : List Claim) (i : ℕ) (d : Claim) (line : ℕ) → Rising cs → i < length cs → line < (get_or cs i d).line
+      → (s : Statement) → Member s (filter (is_upto line) (map (claim_statement stream day) cs)) → Member s (take i (map (claim_statement stream day) cs))
+  upto_below [] i d line r h l s m = absurd m
+  upto_below (c ∷ cs) zero d line r h l s m =
+      subst (λ k. Member s k) (none_upto line (c ∷ cs) (λ x n. elim n [
+        | inl e ↦ subst (λ y. line < y.line) (sym e) l
+        | inr k ↦ let b = r.0 x k in omega (arith, l, b)
+      ])) m
+  upto_below (c ∷ cs) (suc i) d line r h l s m = elim (member_cond (nat_le c.line line) s _ _ m) [
+    | inl e ↦ inl e
+    | inr n ↦ inr (upto_below cs i d line r.1 (omega arith) l s n)
+  ]
+
+-- a book, and the claims so far
+pub record IsPlanning (b : BookValue) (claims : List Claim) (i : ℕ) (d : DraftValue) : Type 0 where
+  pub book : d.book ≡ b
+  pub so_far : d.said ≡ stated (take i (claim_statements b.stream b.day claims))
+  pub agrees : Agrees (union (book_world b) d.said)
+
+pub start_planning : (b : BookValue) (claims : List Claim) (d : DraftValue) (copy : BookValue) → d ≡ record { book = copy; said = set.empty } → copy ≡ b
+    → IsLawful (book_world b) → IsPlanning b claims 0 d
+start_planning b claims d copy e same lawful = record {
+  book = ap (λ x. x.book) e ∙ same;
+  so_far = ap (λ x. x.said) e;
+  agrees = subst Agrees (sym (ap (λ x. union (book_world b) x.said) e ∙ union_empty total exact (book_world b))) lawful.agrees;
+}
+
+-- a claim's copy states what it does
+pub same_statement : (stream : Stream) (day : ℕ) (copy claim : Claim) → (copy.line ≡ claim.line) × (copy.length ≡ claim.length) × (copy.unit ≡ claim.unit)
+    × (copy.update ≡ claim.update) × (copy.readings.items ≡ claim.readings.items) → claim_statement stream day copy ≡ claim_statement stream day claim
+same_statement stream day copy claim e = λ i. DayOf (record {
+  line = e.0 i;
+  stream = stream;
+  date = day;
+  length = e.1 i;
+  unit = e.2 i;
+  update = e.3 i;
+  readings = e.4 i;
+})
+
+module _ (b : BookValue) (claims : List Claim) (i : ℕ) (d : DraftValue) (is : IsPlanning b claims i d) (item copy : Claim)
+    (below : i < length claims) (at : item ≡ get_or claims i item)
+    (same : (copy.line ≡ item.line) × (copy.length ≡ item.length) × (copy.unit ≡ item.unit)
+    × (copy.update ≡ item.update) × (copy.readings.items ≡ item.readings.items)) where
+  -- the facts so far with those of the claim
+  with_claim : union d.said (stated (claim_statement d.book.stream d.book.day copy ∷ []))
+      ≡ stated (take (suc i) (claim_statements b.stream b.day claims))
+  with_claim =
+      (λ j. union (is.so_far j) (stated (claim_statement (is.book j).stream (is.book j).day copy ∷ [])))
+      ∙ ap (λ s. union (stated (take i (claim_statements b.stream b.day claims))) (stated (s ∷ [])))
+      (same_statement b.stream b.day copy item same ∙ ap (claim_statement b.stream b.day) at
+      ∙ sym (map_at (claim_statement b.stream b.day) claims i item))
+      ∙ sym (stated_append (take i (claim_statements b.stream b.day claims)) (get_or (claim_statements b.stream b.day claims) i (claim_statement b.stream b.day item) ∷ []))
+      ∙ ap stated (sym (take_one_more (claim_statements b.stream b.day claims) i (claim_statement b.stream b.day item)
+      (omega (arith, below, length-map claims (claim_statement b.stream b.day)))))
+
+  pub planning_more : (next : DraftValue)
+      → (next.book ≡ d.book) × (next.said ≡ union d.said (stated (claim_statement d.book.stream d.book.day copy ∷ [])))
+      × Agrees (union (book_world next.book) next.said) → IsPlanning b claims (i + 1) next
+  planning_more next t =
+      let one : suc i ≡ i + 1 = omega arith in
+      record {
+        book = t.0 ∙ is.book;
+        so_far = t.1 ∙ with_claim ∙ ap (λ n. stated (take n (claim_statements b.stream b.day claims))) one;
+        agrees = subst (λ x. Agrees (union (book_world x) next.said)) (t.0 ∙ is.book) t.2;
+      }
+
+  pub planning_refused : AreAscending claims → (refusal : Refusal) → (refusal.line ≡ copy.line) × (refusal.field ≡ 0)
+      × Breaks (union (book_world d.book) (union d.said (stated (claim_statement d.book.stream d.book.day copy ∷ [])))) refusal.code refusal.interval
+      → IsRefusal (book_world b) (claim_statements b.stream b.day claims) refusal
+  planning_refused up refusal q =
+      let line : refusal.line ≡ (get_or claims i item).line = q.0 ∙ same.0 ∙ ap (λ c. c.line) at in
+      record {
+        breaks = subst (λ w. Breaks w refusal.code refusal.interval)
+            ((λ j. union (book_world (is.book j)) (with_claim j))
+            ∙ ap (λ l. union (book_world b) (stated l)) (sym (ap (λ n. filter (is_upto n) (claim_statements b.stream b.day claims)) line
+            ∙ upto_at b.stream b.day claims i item (rising claims up) below))) q.2;
+        before = λ n l. agrees_sub _ _ (λ f m. elim (in_union _ _ f m) [
+          | inl a ↦ union_left _ _ f a
+          | inr a ↦ union_right _ _ f (subst (λ w. f ∈ w) (sym is.so_far) (earlier n (subst (λ k. n < k) line l) f a))
+        ]) is.agrees;
+        no_field = q.1;
+      }
+    where
+      earlier : (n : ℕ) → n < (get_or claims i item).line → (f : Fact) → f ∈ upto n (claim_statements b.stream b.day claims)
+          → f ∈ stated (take i (claim_statements b.stream b.day claims))
+      earlier n l f a =
+          let m = in_flat facts_of (filter (is_upto n) (claim_statements b.stream b.day claims)) f
+          (in_list (flat_map facts_of (filter (is_upto n) (claim_statements b.stream b.day claims))) f a) in
+          list_in (flat_map facts_of (take i (claim_statements b.stream b.day claims))) f
+          (flat_in facts_of (take i (claim_statements b.stream b.day claims)) f m.0
+          (upto_below b.stream b.day claims i item n (rising claims up) below l m.0 m.1) m.2)
+
+  pub planning_stop : AreAscending claims → (stop : Stop) → IfRefused stop (λ refusal. (refusal.line ≡ copy.line) × (refusal.field ≡ 0)
+      × Breaks (union (book_world d.book) (union d.said (stated (claim_statement d.book.stream d.book.day copy ∷ [])))) refusal.code refusal.interval)
+      → IfRefused stop (IsRefusal (book_world b) (claim_statements b.stream b.day claims))
+  planning_stop up (Refused refusal) q = planning_refused up refusal q
+  planning_stop up Memory q = tt
+
+  pub copy_whole : All (λ claim. length claim.readings.items ≡ count_of claim.length) claims → length copy.readings.items ≡ count_of copy.length
+  copy_whole whole =
+      ap length same.4 ∙ ap (λ c. length c.readings.items) at ∙ whole i item below ∙ ap (λ c. count_of c.length) (sym at) ∙ ap count_of (sym same.1)
+
+-- what is put behind nothing
+nil_left : {X : Type 0} (xs ys : List X) → xs ++ ys ≡ [] → xs ≡ []
+nil_left [] ys e = refl
+nil_left (x ∷ xs) ys e = cc
+
+nil_right : {X : Type 0} (xs ys : List X) → xs ++ ys ≡ [] → ys ≡ []
+nil_right [] ys e = e
+nil_right (x ∷ xs) ys e = cc
+
+nil_map : {X Y : Type 0} (f : X → Y) (xs : List X) → map f xs ≡ [] → xs ≡ []
+nil_map f [] e = refl
+nil_map f (x ∷ xs) e = cc
+
+added_facts : (d : DraftValue) (old new : Additions) (known : ℕ) (s : Settles d old new known) → content_facts old ≡ []
+    → (content_facts new ≡ map HeadIs s.heads ++ map version_fact s.versions) × (new.versions.items ≡ s.versions)
+added_facts d old new known s e =
+    let H = map HeadIs old.heads.items in
+    let V = map version_fact old.versions.items in
+    let D = map DetailIs old.details.items in
+    let E = map EventIs old.events.items in
+    let e3 : (H ++ V) ++ D ≡ [] = nil_left ((H ++ V) ++ D) E e in
+    let e2 : H ++ V ≡ [] = nil_left (H ++ V) D e3 in
+    let hs : old.heads.items ≡ [] = nil_map HeadIs old.heads.items (nil_left H V e2) in
+    let vs : old.versions.items ≡ [] = nil_map version_fact old.versions.items (nil_right H V e2) in
+    let ds : old.details.items ≡ [] = nil_map DetailIs old.details.items (nil_right (H ++ V) D e3) in
+    let es : old.events.items ≡ [] = nil_map EventIs old.events.items (nil_right ((H ++ V) ++ D) E e) in
+    let h : new.heads.items ≡ s.heads = s.more_heads ∙ ap (λ l. l ++ s.heads) hs in
+    let v : new.versions.items ≡ s.versions = s.more_versions ∙ ap (λ l. l ++ s.versions) vs in
+    let x : new.details.items ≡ [] = ap (λ k. k.items) s.same_details ∙ ds in
+    let y : new.events.items ≡ [] = ap (λ k. k.items) s.same_events ∙ es in (
+      (λ i. map HeadIs (h i) ++ map version_fact (v i) ++ map DetailIs (x i) ++ map EventIs (y i))
+          ∙ append-nil ((map HeadIs s.heads ++ map version_fact s.versions) ++ []) ∙ append-nil (map HeadIs s.heads ++ map version_fact s.versions),
+      v,
+    )
+
+apart_tail : (xs ys : List Fact) → Apart (xs ++ ys) → Apart ys
+apart_tail [] ys a = a
+apart_tail (x ∷ xs) ys a = apart_tail xs ys a.1
+
+pub planned : (b : BookValue) (claims : List Claim) (i : ℕ) (d : DraftValue) → IsPlanning b claims i d → length claims ≤ i → i ≤ length claims
+    → (old new : Additions) (known : ℕ) → content_facts old ≡ [] → Settles d old new known
+    → IsPlan (book_world b) (claim_statements b.stream b.day claims) new
+planned b claims i d is low high old new known none s = record {
+  agrees = subst (λ w. Agrees (union (book_world b) w)) all is.agrees;
+  whole = ap (union (book_world b)) added ∙ rest_in ∙ ap (union (book_world b)) all;
+  new = record {
+    apart = subst Apart (sym facts.0) s.apart;
+    absent = λ f m h. (in_difference total exact d.said (book_world b) f (subst (λ w. f ∈ w) added (list_in (content_facts new) f m))).1 h;
+  };
+  counted = ap length facts.1 ∙ sym (length-map s.versions version_fact)
+      ∙ sym (len_list (map version_fact s.versions) (apart_tail (map HeadIs s.heads) (map version_fact s.versions) s.apart))
+      ∙ ap set.len counts ∙ ap (λ w. set.len (set.difference (countable w) (countable (book_world b)))) all;
+}
+  where
+    facts : (content_facts new ≡ map HeadIs s.heads ++ map version_fact s.versions) × (new.versions.items ≡ s.versions)
+    facts = added_facts d old new known s none
+
+    all : d.said ≡ stated (claim_statements b.stream b.day claims)
+    all =
+        let end : i ≡ length (claim_statements b.stream b.day claims) = omega (arith, low, high, length-map claims (claim_statement b.stream b.day)) in
+        is.so_far ∙ ap (λ n. stated (take n (claim_statements b.stream b.day claims))) end ∙ ap stated (take_all (claim_statements b.stream b.day claims))
+
+    added : content new ≡ set.difference d.said (book_world b)
+    added = ap (set.from_list {R = fact_cmp}) facts.0 ∙ s.just ∙ ap (λ x. set.difference d.said (book_world x)) is.book
+
+    rest_in : union (book_world b) (set.difference d.said (book_world b)) ≡ union (book_world b) d.said
+    rest_in = same_by _ _
+        (λ f m. elim (in_union _ _ f m) [
+          | inl a ↦ union_left _ _ f a
+          | inr a ↦ union_right _ _ f (in_difference total exact _ _ f a).0
+        ])
+        (λ f m. elim (in_union _ _ f m) [
+          | inl a ↦ union_left _ _ f a
+          | inr a ↦ elim (decided (set.contains (book_world b) f)) [
+            | inl h ↦ union_left _ _ f h
+            | inr n ↦ union_right _ _ f (difference_in total exact _ _ f a n)
+          ]
+        ])
+
+    counts : set.from_list (map version_fact s.versions) ≡ set.difference (countable d.said) (countable (book_world b))
+    counts = same_by _ _
+        (λ f m.
+        let n = in_list (map version_fact s.versions) f m in
+        let p = in_map version_fact s.versions f n in
+        let one : is_counted f ≡ true = ap is_counted p.2 in
+        let w = in_difference total exact d.said (book_world b) f (subst (λ w. f ∈ w) (s.just ∙ ap (λ x. set.difference d.said (book_world x)) is.book)
+        (list_in (map HeadIs s.heads ++ map version_fact s.versions) f (append_right f (map HeadIs s.heads) (map version_fact s.versions) n))) in
+        difference_in total exact _ _ f (retain_in total exact d.said is_counted f w.0 one)
+        (λ h. w.1 (in_retain total exact (book_world b) is_counted f h).0))
+        (λ f m.
+        let w = in_difference total exact _ _ f m in
+        let c = in_retain total exact d.said is_counted f w.0 in
+        let out : set.contains (book_world b) f ≢ true = λ h. w.1 (retain_in total exact (book_world b) is_counted f h c.1) in
+        let n = in_list (map HeadIs s.heads ++ map version_fact s.versions) f (subst (λ x. f ∈ x)
+        (sym (s.just ∙ ap (λ x. set.difference d.said (book_world x)) is.book)) (difference_in total exact d.said (book_world b) f c.0 out)) in
+        list_in (map version_fact s.versions) f (elim (member_append f (map HeadIs s.heads) (map version_fact s.versions) n) [
+          | inl k ↦ let p = in_map HeadIs s.heads f k in let z : is_counted f ≡ false = ap is_counted p.2 in let y = c.1 in cc
+          | inr k ↦ k
+        ]))

@@ -1,0 +1,466 @@
+-- What a draft adds to the book, and how much of it is there.
+use Rattle.std.proofs.Common.{◌≡◌, ◌≢◌, ℕ, zero, suc, ◌+◌, ◌≤◌, List, [], ◌∷◌, ◌++◌, length, map, Option, Some, None, refl, sym, ap, ◌∙◌, subst, inl, inr, arith, append_assoc}
+use Rattle.std.specs.Prelude.{Bool, true, false, cond, not, Result, Ok, Err, OnOk, IfOk}
+use Rattle.std.specs.BTreeMap.{BTreeMap}
+use Rattle.std.specs.List.{slice_get}
+use Rattle.std.proofs.lemmas.List.{append-nil, length-append, length-map, map-append}
+use Rattle.std.proofs.Math.Nat.{div-le_self}
+use Rattle.std.specs.FinSet as set
+use Rattle.std.specs.declared.alloc.Global.{Global}
+use Rattle.std.specs.declared.vec.Vec.{Vec}
+use Rattle.mds_quantity.specs.declared.unit.Unit.{Unit as MeasureUnit}
+use Rattle.mds_names.specs.declared.stream.Stream.{Stream}
+use Rattle.mds_marks.specs.Reading.{ReadingValue}
+use Rattle.mds_world.specs.declared.facts.Head.{Head}
+use Rattle.mds_world.specs.declared.facts.Key.{Key}
+use Rattle.mds_world.specs.Counts.{countable, is_counted}
+use Rattle.mds_world.specs.FactOrder.{exact, total}
+use Rattle.mds_world.specs.Facts.{Fact}
+use Rattle.mds_world.specs.Facts.Fact.{HeadIs, VersionIs}
+use Rattle.mds_world.specs.Lists.{Apart, Member, member_append, append_left, append_right, apart_append, in_map, map_in}
+use Rattle.mds_world.specs.Members.{same_by, in_list, list_in, len_list}
+use Rattle.mds_world.specs.Sets.{◌∈◌, difference_in, in_difference, in_intersection, intersection_in, in_retain, not_true, retain_in, true_not}
+use Rattle.mds_world.specs.Stated.{stated}
+use Rattle.mds_versions.specs.Books.{BookValue, book_world}
+use Rattle.mds_versions.specs.Claims.{AreShort, fresh_all, fresh_heads, fresh_versions, held_all, held_count, is_held, key_of}
+use Rattle.mds_versions.specs.Content.{version_fact}
+use Rattle.mds_versions.specs.Drafts.{DraftValue, Settles}
+use Rattle.mds_versions.specs.DraftSteps.{IsDraft, claimed_statements, draft_value}
+use Rattle.mds_versions.specs.declared.additions.Additions.{Additions}
+use Rattle.mds_versions.proofs.Rows.{same_some}
+use Rattle.mds_versions.proofs.Taken.{head_in_book, head_of, in_book, in_said, said_here}
+
+-- of one update: what is done and what is left are all
+pub record IsUpdateSettled (b : BookValue) (update : ℕ) (readings : List ReadingValue) (old now : List (Key × ReadingValue))
+    (known interval : ℕ) (rest : List ReadingValue) : Type 0 where
+  pub versions : now ++ fresh_versions b update (interval + 1) rest ≡ old ++ fresh_versions b update 1 readings
+  pub counted : known + held_count b update (interval + 1) rest ≡ held_count b update 1 readings
+  pub place : interval + length rest ≡ length readings
+
+pub held_few : (b : BookValue) (update interval : ℕ) (rs : List ReadingValue) → held_count b update interval rs ≤ length rs
+held_few b update interval [] = omega arith
+held_few b update interval (r ∷ rs) = go (is_held b update interval r) (held_few b update (interval + 1) rs)
+  where
+    go : (t : Bool) → held_count b update (interval + 1) rs ≤ length rs → cond t 1 0 + held_count b update (interval + 1) rs ≤ suc (length rs)
+    go true h = omega arith
+    go false h = omega arith
+
+module _ (b : BookValue) (update : ℕ) (readings : List ReadingValue) (old now : List (Key × ReadingValue)) (known interval : ℕ)
+    (rest : List ReadingValue) (is : IsUpdateSettled b update readings old now known interval rest) where
+  module _ (r : ReadingValue) (later : List ReadingValue) (step : rest ≡ r ∷ later) where
+    pub interval_fits : interval + 1 ≤ length readings
+    interval_fits = omega (arith, is.place, ap length step)
+
+    counted : known + (cond (is_held b update (interval + 1) r) 1 0 + held_count b update (interval + 1 + 1) later) ≡ held_count b update 1 readings
+    counted = ap (λ l. known + held_count b update (interval + 1) l) (sym step) ∙ is.counted
+
+    versions : now ++ cond (is_held b update (interval + 1) r) (fresh_versions b update (interval + 1 + 1) later)
+        ((key_of b (interval + 1) update, r) ∷ fresh_versions b update (interval + 1 + 1) later) ≡ old ++ fresh_versions b update 1 readings
+    versions = ap (λ l. now ++ fresh_versions b update (interval + 1) l) (sym step) ∙ is.versions
+
+    place : interval + 1 + length later ≡ length readings
+    place = omega (arith, is.place, ap length step)
+
+    pub known_fits : true ≡ is_held b update (interval + 1) r → known + 1 ≤ length readings
+    known_fits e =
+        let c : known + (1 + held_count b update (interval + 1 + 1) later) ≡ held_count b update 1 readings =
+        ap (λ t. known + (cond t 1 0 + held_count b update (interval + 1 + 1) later)) e ∙ counted in
+        let f = held_few b update 1 readings in
+        omega arith
+
+    pub update_held : true ≡ is_held b update (interval + 1) r → IsUpdateSettled b update readings old now (known + 1) (interval + 1) later
+    update_held e = record {
+      versions = ap (λ t. now ++ cond t (fresh_versions b update (interval + 1 + 1) later)
+          ((key_of b (interval + 1) update, r) ∷ fresh_versions b update (interval + 1 + 1) later)) e ∙ versions;
+      counted =
+          let c : known + (1 + held_count b update (interval + 1 + 1) later) ≡ held_count b update 1 readings =
+          ap (λ t. known + (cond t 1 0 + held_count b update (interval + 1 + 1) later)) e ∙ counted in
+          omega arith;
+      place = place;
+    }
+
+    pub update_fresh : (next : List (Key × ReadingValue)) → false ≡ is_held b update (interval + 1) r
+        → next ≡ now ++ (key_of b (interval + 1) update, r) ∷ [] → IsUpdateSettled b update readings old next known (interval + 1) later
+    update_fresh next e push = record {
+      versions = ap (λ l. l ++ fresh_versions b update (interval + 1 + 1) later) push
+          ∙ append_assoc now ((key_of b (interval + 1) update, r) ∷ []) (fresh_versions b update (interval + 1 + 1) later)
+          ∙ ap (λ t. now ++ cond t (fresh_versions b update (interval + 1 + 1) later)
+          ((key_of b (interval + 1) update, r) ∷ fresh_versions b update (interval + 1 + 1) later)) e ∙ versions;
+      counted =
+          let c : known + (0 + held_count b update (interval + 1 + 1) later) ≡ held_count b update 1 readings =
+          ap (λ t. known + (cond t 1 0 + held_count b update (interval + 1 + 1) later)) e ∙ counted in
+          omega arith;
+      place = place;
+    }
+
+  pub update_versions : rest ≡ [] → now ≡ old ++ fresh_versions b update 1 readings
+  update_versions e = sym (append-nil now) ∙ ap (λ l. now ++ fresh_versions b update (interval + 1) l) (sym e) ∙ is.versions
+
+  pub update_known : rest ≡ [] → known ≡ held_count b update 1 readings
+  update_known e =
+      let c : known + 0 ≡ held_count b update 1 readings = ap (λ l. known + held_count b update (interval + 1) l) (sym e) ∙ is.counted in
+      omega arith
+
+pub length_none : {X : Type 0} (xs : List X) → length xs ≡ 0 → xs ≡ []
+length_none [] e = refl
+length_none (x ∷ xs) e = absurd (omega arith)
+
+pub start_update : (b : BookValue) (update : ℕ) (readings : List ReadingValue) (old : List (Key × ReadingValue)) (rest : List ReadingValue)
+    → rest ≡ readings → IsUpdateSettled b update readings old old 0 0 rest
+start_update b update readings old rest e = record {
+  versions = ap (λ l. old ++ fresh_versions b update 1 l) e;
+  counted = let h : held_count b update 1 rest ≡ held_count b update 1 readings = ap (held_count b update 1) e in omega arith;
+  place = omega (arith, ap length e);
+}
+
+pub pushed : (b : BookValue) (now next : List (Key × ReadingValue)) (stream : Stream) (day interval update : ℕ) (r : ReadingValue)
+    → stream ≡ b.stream → day ≡ b.day
+    → next ≡ now ++ (record { stream = stream; day = day; interval = interval; update = update }, r) ∷ []
+    → next ≡ now ++ (key_of b interval update, r) ∷ []
+pushed b now next stream day interval update r s d e =
+    e ∙ (λ i. now ++ (record { stream = s i; day = d i; interval = interval; update = update }, r) ∷ [])
+
+-- of an update's readings those of which it is wanted that the book has them, or that it doesn't
+abbrev pub picked : (Bool → Bool) → BookValue → ℕ → ℕ → List ReadingValue → List (Key × ReadingValue)
+picked want b update interval [] = []
+picked want b update interval (r ∷ rs) =
+    cond (want (is_held b update interval r)) ((key_of b interval update, r) ∷ picked want b update (interval + 1) rs)
+    (picked want b update (interval + 1) rs)
+
+abbrev pub has : Bool → Bool
+has t = t
+
+cond_right : {X : Type 0} (t : Bool) (p x : X) (xs : List X) → Member p xs → Member p (cond t (x ∷ xs) xs)
+cond_right true p x xs m = inr m
+cond_right false p x xs m = m
+
+cond_not : {X : Type 0} (t : Bool) (x y : X) → cond t x y ≡ cond (not t) y x
+cond_not true x y = refl
+cond_not false x y = refl
+
+fresh_picked : (b : BookValue) (update interval : ℕ) (rs : List ReadingValue) → fresh_versions b update interval rs ≡ picked not b update interval rs
+fresh_picked b update interval [] = refl
+fresh_picked b update interval (r ∷ rs) =
+    ap (λ l. cond (is_held b update interval r) l ((key_of b interval update, r) ∷ l)) (fresh_picked b update (interval + 1) rs)
+    ∙ cond_not (is_held b update interval r) _ _
+
+one_more : {X : Type 0} (t : Bool) (x : X) (xs : List X) (n : ℕ) → n ≡ length xs → cond t 1 0 + n ≡ length (cond t (x ∷ xs) xs)
+one_more true x xs n e = omega arith
+one_more false x xs n e = omega arith
+
+held_picked : (b : BookValue) (update interval : ℕ) (rs : List ReadingValue) → held_count b update interval rs ≡ length (picked has b update interval rs)
+held_picked b update interval [] = refl
+held_picked b update interval (r ∷ rs) =
+    one_more (is_held b update interval r) (key_of b interval update, r) (picked has b update (interval + 1) rs) _ (held_picked b update (interval + 1) rs)
+
+-- what a picked version is
+abbrev IsPicked : (Bool → Bool) → BookValue → ℕ → ℕ → List ReadingValue → Key × ReadingValue → Type 0
+IsPicked want b update interval rs p =
+    (k : ℕ) × (slice_get rs k ≡ Some p.1) × (p.0 ≡ key_of b (interval + k) update) × (want (is_held b update (interval + k) p.1) ≡ true)
+
+from_picked : (want : Bool → Bool) (b : BookValue) (update interval : ℕ) (rs : List ReadingValue) (p : Key × ReadingValue)
+    → Member p (picked want b update interval rs) → IsPicked want b update interval rs p
+from_picked want b update interval [] p m = absurd m
+from_picked want b update interval (r ∷ rs) p m = go (want (is_held b update interval r)) refl (from_picked want b update (interval + 1) rs p) m
+  where
+    later : IsPicked want b update (interval + 1) rs p → IsPicked want b update interval (r ∷ rs) p
+    later n =
+        let z : interval + 1 + n.0 ≡ interval + suc n.0 = omega arith in
+        (suc n.0, n.1, n.2 ∙ ap (λ i. key_of b i update) z, ap (λ i. want (is_held b update i p.1)) (sym z) ∙ n.3)
+
+    go : (t : Bool) → want (is_held b update interval r) ≡ t → (Member p (picked want b update (interval + 1) rs) → IsPicked want b update (interval + 1) rs p)
+        → Member p (cond t ((key_of b interval update, r) ∷ picked want b update (interval + 1) rs) (picked want b update (interval + 1) rs))
+        → IsPicked want b update interval (r ∷ rs) p
+    go true e rec (inl f) =
+        let z : interval ≡ interval + 0 = omega arith in (
+          0,
+          ap (λ q. Some q.1) (sym f),
+          ap (λ q. q.0) f ∙ ap (λ i. key_of b i update) z,
+          (λ i. want (is_held b update (sym z i) ((f i).1))) ∙ e,
+        )
+    go true e rec (inr m) = later (rec m)
+    go false e rec m = later (rec m)
+
+to_picked : (want : Bool → Bool) (b : BookValue) (update interval : ℕ) (rs : List ReadingValue) (k : ℕ) (r : ReadingValue)
+    → slice_get rs k ≡ Some r → want (is_held b update (interval + k) r) ≡ true
+    → Member (key_of b (interval + k) update, r) (picked want b update interval rs)
+to_picked want b update interval [] k r e w = cc
+to_picked want b update interval (x ∷ rs) zero r e w = go (want (is_held b update interval x)) (at ∙ w)
+  where
+    z : interval ≡ interval + 0
+    z = omega arith
+
+    s : x ≡ r
+    s = same_some x r e
+
+    at : want (is_held b update interval x) ≡ want (is_held b update (interval + 0) r)
+    at = λ i. want (is_held b update (z i) (s i))
+
+    go : (t : Bool) → t ≡ true → Member (key_of b (interval + 0) update, r) (cond t ((key_of b interval update, x) ∷ picked want b update (interval + 1) rs) (picked want b update (interval + 1) rs))
+    go true f = inl (λ i. (key_of b (sym z i) update, sym s i))
+    go false f = cc
+to_picked want b update interval (x ∷ rs) (suc k) r e w =
+    let z : interval + 1 + k ≡ interval + suc k = omega arith in
+    cond_right (want (is_held b update interval x)) _ _ _
+    (subst (λ i. Member (key_of b i update, r) (picked want b update (interval + 1) rs)) z
+    (to_picked want b update (interval + 1) rs k r e (ap (λ i. want (is_held b update i r)) z ∙ w)))
+
+version_inj : (p q : Key × ReadingValue) → version_fact p ≡ version_fact q → p ≡ q
+version_inj p q e = let k : p.0 ≡ q.0 = cc in let r : p.1 ≡ q.1 = cc in λ i. (k i, r i)
+
+picked_apart : (want : Bool → Bool) (b : BookValue) (update interval : ℕ) (rs : List ReadingValue) → Apart (map version_fact (picked want b update interval rs))
+picked_apart want b update interval [] = tt
+picked_apart want b update interval (r ∷ rs) = go (want (is_held b update interval r)) (picked_apart want b update (interval + 1) rs)
+  where
+    absent : Member (version_fact (key_of b interval update, r)) (map version_fact (picked want b update (interval + 1) rs)) → ⊥
+    absent m =
+        let n = in_map version_fact (picked want b update (interval + 1) rs) _ m in
+        let is = from_picked want b update (interval + 1) rs n.0 n.1 in
+        let i : interval ≡ interval + 1 + is.0 = ap (λ q. q.0.interval) (version_inj _ n.0 n.2) ∙ ap (λ k. k.interval) is.2 in
+        omega arith
+
+    go : (t : Bool) → Apart (map version_fact (picked want b update (interval + 1) rs))
+        → Apart (map version_fact (cond t ((key_of b interval update, r) ∷ picked want b update (interval + 1) rs) (picked want b update (interval + 1) rs)))
+    go true a = (absent, a)
+    go false a = a
+
+-- of all updates
+abbrev pub picked_all : (Bool → Bool) → BookValue → List (ℕ × Vec ReadingValue Global) → List (Key × ReadingValue)
+picked_all want b [] = []
+picked_all want b (e ∷ es) = picked want b e.0 1 e.1.items ++ picked_all want b es
+
+all_picked : (b : BookValue) (es : List (ℕ × Vec ReadingValue Global)) → fresh_all b es ≡ picked_all not b es
+all_picked b [] = refl
+all_picked b (e ∷ es) = λ i. fresh_picked b e.0 1 e.1.items i ++ all_picked b es i
+
+all_held : (b : BookValue) (es : List (ℕ × Vec ReadingValue Global)) → held_all b es ≡ length (picked_all has b es)
+all_held b [] = refl
+all_held b (e ∷ es) =
+    (λ i. held_picked b e.0 1 e.1.items i + all_held b es i) ∙ sym (length-append (picked has b e.0 1 e.1.items) (picked_all has b es))
+
+abbrev IsOfAll : (Bool → Bool) → BookValue → List (ℕ × Vec ReadingValue Global) → Key × ReadingValue → Type 0
+IsOfAll want b es p =
+    (entry : ℕ × Vec ReadingValue Global) × Member entry es × (k : ℕ) × (slice_get entry.1.items k ≡ Some p.1)
+    × (p.0 ≡ key_of b (k + 1) entry.0) × (want (is_held b entry.0 (k + 1) p.1) ≡ true)
+
+from_all : (want : Bool → Bool) (b : BookValue) (es : List (ℕ × Vec ReadingValue Global)) (p : Key × ReadingValue)
+    → Member p (picked_all want b es) → IsOfAll want b es p
+from_all want b [] p m = absurd m
+from_all want b (e ∷ es) p m = elim (member_append p (picked want b e.0 1 e.1.items) (picked_all want b es) m) [
+  | inl n ↦ let is = from_picked want b e.0 1 e.1.items p n in
+      let z : 1 + is.0 ≡ is.0 + 1 = omega arith in
+      (e, inl refl, is.0, is.1, is.2 ∙ ap (λ i. key_of b i e.0) z, ap (λ i. want (is_held b e.0 i p.1)) (sym z) ∙ is.3)
+  | inr n ↦ let is = from_all want b es p n in (is.0, inr is.1, is.2, is.3, is.4, is.5)
+]
+
+to_all : (want : Bool → Bool) (b : BookValue) (es : List (ℕ × Vec ReadingValue Global)) (entry : ℕ × Vec ReadingValue Global) → Member entry es
+    → (k : ℕ) (r : ReadingValue) → slice_get entry.1.items k ≡ Some r → want (is_held b entry.0 (k + 1) r) ≡ true
+    → Member (key_of b (k + 1) entry.0, r) (picked_all want b es)
+to_all want b [] entry m k r e w = absurd m
+to_all want b (x ∷ es) entry (inl f) k r e w =
+    append_left _ (picked want b x.0 1 x.1.items) (picked_all want b es)
+    (subst (λ y. Member (key_of b (k + 1) entry.0, r) (picked want b y.0 1 y.1.items)) f
+    (subst (λ i. Member (key_of b i entry.0, r) (picked want b entry.0 1 entry.1.items)) z
+    (to_picked want b entry.0 1 entry.1.items k r e (ap (λ i. want (is_held b entry.0 i r)) z ∙ w))))
+  where
+    z : 1 + k ≡ k + 1
+    z = omega arith
+to_all want b (x ∷ es) entry (inr m) k r e w =
+    append_right _ (picked want b x.0 1 x.1.items) (picked_all want b es) (to_all want b es entry m k r e w)
+
+all_apart : (want : Bool → Bool) (b : BookValue) (es : List (ℕ × Vec ReadingValue Global)) → Apart (map (λ entry. entry.0) es)
+    → Apart (map version_fact (picked_all want b es))
+all_apart want b [] a = tt
+all_apart want b (e ∷ es) a =
+    subst Apart (sym (map-append version_fact (picked want b e.0 1 e.1.items) (picked_all want b es)))
+    (apart_append (map version_fact (picked want b e.0 1 e.1.items)) (map version_fact (picked_all want b es))
+    (picked_apart want b e.0 1 e.1.items) (all_apart want b es a.1) (λ f m n.
+    let p = in_map version_fact (picked want b e.0 1 e.1.items) f m in
+    let q = in_map version_fact (picked_all want b es) f n in
+    let is = from_picked want b e.0 1 e.1.items p.0 p.1 in
+    let of = from_all want b es q.0 q.1 in
+    let same = version_inj p.0 q.0 (sym p.2 ∙ q.2) in
+    let key : e.0 ≡ of.0.0 = sym (ap (λ k. k.update) is.2) ∙ ap (λ x. x.0.update) same ∙ ap (λ k. k.update) of.4 in
+    a.0 (subst (λ u. Member u (map (λ entry. entry.0) es)) (sym key) (map_in (λ (entry : ℕ × Vec ReadingValue Global). entry.0) es of.0 of.1))))
+
+-- the loop over the updates
+pub record IsSettled (b : BookValue) (es : List (ℕ × Vec ReadingValue Global)) (old now : List (Key × ReadingValue)) (known : ℕ)
+    (rest : List (ℕ × Vec ReadingValue Global)) : Type 0 where
+  pub versions : now ++ fresh_all b rest ≡ old ++ fresh_all b es
+  pub counted : known + held_all b rest ≡ held_all b es
+  pub within : (entry : ℕ × Vec ReadingValue Global) → Member entry rest → Member entry es
+
+pub start_settled : (b : BookValue) (es rest : List (ℕ × Vec ReadingValue Global)) (old : List (Key × ReadingValue)) → rest ≡ es
+    → IsSettled b es old old 0 rest
+start_settled b es rest old e = record {
+  versions = ap (λ l. old ++ fresh_all b l) e;
+  counted = let h : held_all b rest ≡ held_all b es = ap (held_all b) e in omega arith;
+  within = λ entry m. subst (λ l. Member entry l) e m;
+}
+
+pub one_settled : (b : BookValue) (es : List (ℕ × Vec ReadingValue Global)) (old now next : List (Key × ReadingValue)) (known held sum : ℕ)
+    (rest later : List (ℕ × Vec ReadingValue Global)) (update : ℕ) (readings : Vec ReadingValue Global) → IsSettled b es old now known rest
+    → rest ≡ (update, readings) ∷ later → next ≡ now ++ fresh_versions b update 1 readings.items → held ≡ held_count b update 1 readings.items
+    → sum ≡ known + held → IsSettled b es old next sum later
+one_settled b es old now next known held sum rest later update readings is step push count more = record {
+  versions = ap (λ l. l ++ fresh_all b later) push ∙ append_assoc now (fresh_versions b update 1 readings.items) (fresh_all b later)
+      ∙ ap (λ l. now ++ fresh_all b l) (sym step) ∙ is.versions;
+  counted =
+      let h : known + (held_count b update 1 readings.items + held_all b later) ≡ held_all b es = ap (λ l. known + held_all b l) (sym step) ∙ is.counted in
+      omega arith;
+  within = λ entry m. is.within entry (subst (λ l. Member entry l) (sym step) (inr m));
+}
+
+pub all_settled : (b : BookValue) (es : List (ℕ × Vec ReadingValue Global)) (old now : List (Key × ReadingValue)) (known : ℕ)
+    (rest : List (ℕ × Vec ReadingValue Global)) → IsSettled b es old now known rest → rest ≡ []
+    → (now ≡ old ++ fresh_all b es) × (known ≡ held_all b es)
+all_settled b es old now known rest is e = (
+  sym (append-nil now) ∙ ap (λ l. now ++ fresh_all b l) (sym e) ∙ is.versions,
+  (let h : known + 0 ≡ held_all b es = ap (λ l. known + held_all b l) (sym e) ∙ is.counted in omega arith),
+)
+
+pub readings_short : (b : BookValue) (es : List (ℕ × Vec ReadingValue Global)) → AreShort es
+    → (old now : List (Key × ReadingValue)) (known : ℕ) (rest later : List (ℕ × Vec ReadingValue Global)) (update : ℕ) (readings : Vec ReadingValue Global)
+    → IsSettled b es old now known rest → rest ≡ (update, readings) ∷ later → length readings.items ≤ 1440
+readings_short b es short old now known rest later update readings is step =
+    short (update, readings) (is.within (update, readings) (subst (λ l. Member (update, readings) l) (sym step) (inl refl)))
+
+pub all_short : (b : BookValue) (form : Option (ℕ × MeasureUnit)) (claimed : BTreeMap ℕ (Vec ReadingValue Global)) → IsDraft b form claimed
+    → AreShort claimed.entries
+all_short b form claimed d entry m = go form refl
+  where
+    go : (o : Option (ℕ × MeasureUnit)) → form ≡ o → length entry.1.items ≤ 1440
+    go None e = absurd (subst (λ es. Member entry es) (d.none e) m)
+    go (Some known) e = omega (arith, d.whole known e entry m, div-le_self 1440 known.0)
+
+-- the head and the versions that a draft adds
+module _ (b : BookValue) (form : Option (ℕ × MeasureUnit)) (claimed : BTreeMap ℕ (Vec ReadingValue Global)) (d : IsDraft b form claimed) where
+  from_heads : (head form : Option (ℕ × MeasureUnit)) (h : Head) → Member h (fresh_heads b.stream b.day head form)
+      → (head ≡ None) × (known : ℕ × MeasureUnit) × (form ≡ Some known) × (h ≡ head_of b known)
+  from_heads (Some k) f h m = absurd m
+  from_heads None None h m = absurd m
+  from_heads None (Some known) h (inl e) = (refl, known, refl, e)
+  from_heads None (Some known) h (inr z) = absurd z
+
+  heads_apart : (head form : Option (ℕ × MeasureUnit)) → Apart (map HeadIs (fresh_heads b.stream b.day head form))
+  heads_apart (Some k) f = tt
+  heads_apart None None = tt
+  heads_apart None (Some known) = ((λ m. m), tt)
+
+  claimed_form : (entry : ℕ × Vec ReadingValue Global) → Member entry claimed.entries → (known : ℕ × MeasureUnit) × (form ≡ Some known)
+  claimed_form entry m = go form refl
+    where
+      go : (o : Option (ℕ × MeasureUnit)) → form ≡ o → (known : ℕ × MeasureUnit) × (form ≡ Some known)
+      go None e = absurd (subst (λ es. Member entry es) (d.none e) m)
+      go (Some known) e = (known, e)
+
+  to_facts : (f : Fact) → f ∈ stated (claimed_statements b form claimed.entries) → set.contains (book_world b) f ≢ true
+      → Member f (map HeadIs (fresh_heads b.stream b.day b.head form) ++ map version_fact (picked_all not b claimed.entries))
+  to_facts f i out =
+      let n = in_said b form claimed.entries f i in
+      elim n.4 [
+        | inl e ↦ append_left f (map HeadIs (fresh_heads b.stream b.day b.head form)) (map version_fact (picked_all not b claimed.entries))
+            (head_case n.0 n.1 e b.head refl)
+        | inr v ↦ append_right f (map HeadIs (fresh_heads b.stream b.day b.head form)) (map version_fact (picked_all not b claimed.entries))
+            (subst (λ g. Member g (map version_fact (picked_all not b claimed.entries))) (sym v.3)
+            (map_in version_fact (picked_all not b claimed.entries) (key_of b (v.0 + 1) n.2.0, v.1)
+            (to_all not b claimed.entries n.2 n.3 v.0 v.1 v.2
+            (true_not (is_held b n.2.0 (v.0 + 1) v.1) (λ h. out (ap (set.contains (book_world b)) v.3 ∙ h))))))
+      ]
+    where
+      head_case : (known : ℕ × MeasureUnit) → form ≡ Some known → f ≡ HeadIs (head_of b known) → (o : Option (ℕ × MeasureUnit)) → b.head ≡ o
+          → Member f (map HeadIs (fresh_heads b.stream b.day o form))
+      head_case known e is (Some other) h =
+          let same : other ≡ known = same_some other known (sym (d.known other h) ∙ e) in
+          absurd (out (ap (set.contains (book_world b)) is ∙ head_in_book b known (h ∙ ap Some same)))
+      head_case known e is None h =
+          subst (λ o. Member f (map HeadIs (fresh_heads b.stream b.day None o))) (sym e) (inl is)
+
+  from_facts : (f : Fact) → Member f (map HeadIs (fresh_heads b.stream b.day b.head form) ++ map version_fact (picked_all not b claimed.entries))
+      → (f ∈ stated (claimed_statements b form claimed.entries)) × (set.contains (book_world b) f ≢ true)
+  from_facts f m = elim (member_append f (map HeadIs (fresh_heads b.stream b.day b.head form)) (map version_fact (picked_all not b claimed.entries)) m) [
+    | inl n ↦ let p = in_map HeadIs (fresh_heads b.stream b.day b.head form) f n in
+        let q = from_heads b.head form p.0 p.1 in
+        let is : f ≡ HeadIs (head_of b q.1) = p.2 ∙ ap HeadIs q.3 in (
+          elim (d.told q.1 q.2) [
+            | inl h ↦ let z = q.0 in cc
+            | inr n ↦ said_here b form claimed d q.1 q.2 n.0 n.1 f (inl is)
+          ],
+          (λ h. elim (in_book b f h) [ inl k ↦ let z = q.0 in let y = k.1 in cc | inr r ↦ let e = r.2 in cc ]),
+        )
+    | inr n ↦ let p = in_map version_fact (picked_all not b claimed.entries) f n in
+        let q = from_all not b claimed.entries p.0 p.1 in
+        let is : f ≡ VersionIs (key_of b (q.2 + 1) q.0.0) p.0.1 = p.2 ∙ ap (λ k. VersionIs k p.0.1) q.4 in
+        let k = claimed_form q.0 q.1 in (
+          said_here b form claimed d k.0 k.1 q.0 q.1 f (inr (q.2, p.0.1, q.3, is)),
+          (λ h. not_true (is_held b q.0.0 (q.2 + 1) p.0.1) q.5 (ap (set.contains (book_world b)) (sym is) ∙ h)),
+        )
+  ]
+
+  just : set.from_list (map HeadIs (fresh_heads b.stream b.day b.head form) ++ map version_fact (picked_all not b claimed.entries))
+      ≡ set.difference (stated (claimed_statements b form claimed.entries)) (book_world b)
+  just = same_by _ _
+      (λ f i. let p = from_facts f (in_list (map HeadIs (fresh_heads b.stream b.day b.head form) ++ map version_fact (picked_all not b claimed.entries)) f i) in
+      difference_in total exact _ _ f p.0 p.1)
+      (λ f i. let p = in_difference total exact _ _ f i in
+      list_in (map HeadIs (fresh_heads b.stream b.day b.head form) ++ map version_fact (picked_all not b claimed.entries)) f (to_facts f p.0 p.1))
+
+  apart : Apart (map HeadIs (fresh_heads b.stream b.day b.head form) ++ map version_fact (picked_all not b claimed.entries))
+  apart = apart_append (map HeadIs (fresh_heads b.stream b.day b.head form)) (map version_fact (picked_all not b claimed.entries))
+      (heads_apart b.head form) (all_apart not b claimed.entries d.once) (λ f m n.
+      let p = in_map HeadIs (fresh_heads b.stream b.day b.head form) f m in
+      let q = in_map version_fact (picked_all not b claimed.entries) f n in
+      let e = sym p.2 ∙ q.2 in cc)
+
+  held_facts : set.from_list (map version_fact (picked_all has b claimed.entries))
+      ≡ set.intersection (countable (stated (claimed_statements b form claimed.entries))) (countable (book_world b))
+  held_facts = same_by _ _
+      (λ f i.
+      let p = in_map version_fact (picked_all has b claimed.entries) f (in_list (map version_fact (picked_all has b claimed.entries)) f i) in
+      let q = from_all has b claimed.entries p.0 p.1 in
+      let is : f ≡ VersionIs (key_of b (q.2 + 1) q.0.0) p.0.1 = p.2 ∙ ap (λ k. VersionIs k p.0.1) q.4 in
+      let k = claimed_form q.0 q.1 in
+      let counts : is_counted f ≡ true = ap is_counted is in
+      intersection_in total exact _ _ f
+      (retain_in total exact _ is_counted f (said_here b form claimed d k.0 k.1 q.0 q.1 f (inr (q.2, p.0.1, q.3, is))) counts)
+      (retain_in total exact _ is_counted f (ap (set.contains (book_world b)) is ∙ q.5) counts))
+      (λ f i.
+      let p = in_intersection total exact _ _ f i in
+      let s = in_retain total exact _ is_counted f p.0 in
+      let w = in_retain total exact _ is_counted f p.1 in
+      let n = in_said b form claimed.entries f s.0 in
+      list_in (map version_fact (picked_all has b claimed.entries)) f (elim n.4 [
+        | inl e ↦ let z : is_counted f ≡ false = ap is_counted e in cc (s.1)
+        | inr v ↦ subst (λ g. Member g (map version_fact (picked_all has b claimed.entries))) (sym v.3)
+            (map_in version_fact (picked_all has b claimed.entries) (key_of b (v.0 + 1) n.2.0, v.1)
+            (to_all has b claimed.entries n.2 n.3 v.0 v.1 v.2 (ap (set.contains (book_world b)) (sym v.3) ∙ w.0)))
+      ]))
+
+  counts : held_all b claimed.entries
+      ≡ set.len (set.intersection (countable (stated (claimed_statements b form claimed.entries))) (countable (book_world b)))
+  counts = all_held b claimed.entries ∙ sym (length-map (picked_all has b claimed.entries) version_fact)
+      ∙ sym (len_list (map version_fact (picked_all has b claimed.entries)) (all_apart has b claimed.entries d.once)) ∙ ap set.len held_facts
+
+  pub settles : (v : DraftValue) → draft_value b form claimed ≡ v → (old new : Additions) (known : ℕ)
+      → new.heads.items ≡ old.heads.items ++ fresh_heads b.stream b.day b.head form
+      → (new.versions.items ≡ old.versions.items ++ fresh_all b claimed.entries) × (known ≡ held_all b claimed.entries)
+      → new.details ≡ old.details → new.events ≡ old.events → Settles v old new known
+  settles v is old new known hs vs ds es = subst (λ x. Settles x old new known) is (record {
+    heads = fresh_heads b.stream b.day b.head form;
+    versions = picked_all not b claimed.entries;
+    more_heads = hs;
+    more_versions = vs.0 ∙ ap (λ l. old.versions.items ++ l) (all_picked b claimed.entries);
+    same_details = ds;
+    same_events = es;
+    apart = apart;
+    just = just;
+    known_count = vs.1 ∙ counts;
+  })
+
+  pub settles_end : {E : Type 0} (v : DraftValue) → draft_value b form claimed ≡ v → (old new : Additions) (result : Result ℕ E)
+      → new.heads.items ≡ old.heads.items ++ fresh_heads b.stream b.day b.head form
+      → OnOk result (new.versions.items ≡ old.versions.items ++ fresh_all b claimed.entries)
+      → IfOk result (λ known. known ≡ held_all b claimed.entries)
+      → new.details ≡ old.details → new.events ≡ old.events → IfOk result (λ known. Settles v old new known)
+  settles_end v is old new (Ok known) hs vs ks ds es = settles v is old new known hs (vs, ks) ds es
+  settles_end v is old new (Err error) hs vs ks ds es = tt

@@ -1,0 +1,14 @@
+pub mod BookFacts
+pub mod BookOrder
+pub mod BookPlaces
+pub mod BookRows
+pub mod Books
+pub mod Claims
+pub mod Content
+pub mod DraftSteps
+pub mod Drafts
+pub mod Merge
+pub mod Queries
+pub mod Stored
+pub mod StoredNotes
+pub mod StoredSteps

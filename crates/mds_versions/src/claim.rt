@@ -1,0 +1,42 @@
+//! What a line claims of a day.
+
+ghost use Rattle.std.specs.Prelude.{◌≡◌, IfOk};
+
+use mds_marks::Reading;
+use mds_quantity::Unit;
+use mds_terms::{Length, Moment};
+use std::alloc::{AllocError, Global};
+
+/// What a line of a file claims of a day of a stream: its length of intervals and unit, and under
+/// an update the reading of each interval.
+#[derive(Drop)]
+pub struct Claim {
+    /// The number of the line, from 1.
+    pub line: u64,
+    pub length: Length,
+    pub unit: Unit,
+    pub update: Moment,
+    /// One for each interval, in order.
+    pub readings: Vec<Reading>,
+}
+
+impl Claim {
+    /// The same claim once more.
+    pub fn try_clone(&self, alloc: Global) -> Result<Claim, AllocError>
+        ensures { IfOk result (λ claim. (claim.line ≡ self.now.line) × (claim.length ≡ self.now.length)
+            × (claim.unit ≡ self.now.unit) × (claim.update ≡ self.now.update)
+            × (claim.readings.items ≡ self.now.readings.items)) }
+    {
+        let mut readings = Vec::with_capacity(alloc, self.readings.len())?;
+        for reading in &self.readings {
+            readings.push(reading.try_clone()?)?;
+        }
+        Ok(Claim {
+            line: self.line,
+            length: self.length,
+            unit: self.unit,
+            update: self.update,
+            readings,
+        })
+    }
+}

@@ -1,0 +1,53 @@
+-- What is current: of an interval, of a day, and of a stream (profile). Each is a greatest one of the facts, whenever
+-- they came.
+use Rattle.std.specs.Prelude.{◌≡◌, ◌⊎◌, ◌≤◌, ℕ, [], None, true}
+use Rattle.std.specs.Ordering.{is_le, nat_cmp, ordering_then}
+use Rattle.mds_names.specs.declared.stream.Stream.{Stream}
+use Rattle.mds_marks.specs.Reading.{ReadingValue}
+use Rattle.mds_terms.specs.Details.{DetailsValue, details_cmp}
+use Rattle.mds_world.specs.Facts.Fact.{DetailIs, VersionIs}
+use Rattle.mds_world.specs.Sets.{◌∈◌}
+use Rattle.mds_world.specs.World.{IsCurrent, World}
+
+-- an interval has no version
+abbrev pub HasNoVersion : World → Stream → ℕ → ℕ → Type 0
+HasNoVersion w stream day interval =
+    (update : ℕ) (reading : ReadingValue)
+    → VersionIs (record { stream = stream; day = day; interval = interval; update = update }) reading ∈ w → ⊥
+
+-- bare N: quality N without a method, no code, no text and no value
+abbrev pub no_reading : ReadingValue
+no_reading = record {
+  mark = record { quality = record { flag = 78; method = 0 }; reason = record { code = None; text = [] } };
+  value = None;
+}
+
+-- The reading of an interval: the current one, and bare N where there is no version.
+abbrev pub IsReading : World → Stream → ℕ → ℕ → ReadingValue → Type 0
+IsReading w stream day interval reading =
+    ((update : ℕ) × IsCurrent w stream day interval update reading)
+    ⊎ (HasNoVersion w stream day interval × (reading ≡ no_reading))
+
+-- The greatest update among a day's current readings.
+pub record IsLatest (w : World) (stream : Stream) (day update : ℕ) : Type 0 where
+  pub held : (interval : ℕ) × (reading : ReadingValue) × IsCurrent w stream day interval update reading
+  pub greatest : (interval other : ℕ) (reading : ReadingValue) → IsCurrent w stream day interval other reading
+      → other ≤ update
+
+-- The details of a stream of the greatest pair: of the latest header, and among those the greatest field by field.
+pub record IsGreatestDetail (w : World) (stream : Stream) (moment : ℕ) (details : DetailsValue) : Type 0 where
+  pub held : DetailIs (record { stream = stream; moment = moment; details = details }) ∈ w
+  pub greatest : (other : ℕ) (of_other : DetailsValue)
+      → DetailIs (record { stream = stream; moment = other; details = of_other }) ∈ w
+      → is_le (ordering_then (nat_cmp other moment) (details_cmp of_other details)) ≡ true
+
+-- five empty ones
+abbrev pub no_details : DetailsValue
+no_details = record { configuration = []; register = []; datastream = []; meter = []; next = None }
+
+-- The current details of a stream: those of the greatest pair, and five empty ones where there are none.
+abbrev pub IsCurrentDetails : World → Stream → DetailsValue → Type 0
+IsCurrentDetails w stream details =
+    ((moment : ℕ) × IsGreatestDetail w stream moment details)
+    ⊎ (((moment : ℕ) (other : DetailsValue)
+    → DetailIs (record { stream = stream; moment = moment; details = other }) ∈ w → ⊥) × (details ≡ no_details))
