@@ -1,8 +1,10 @@
-# `make` builds the program and checks a sample file; `make test` runs the gate; `make bench` measures.
+# `make` builds the program and imports a sample into a store; `make test` runs the gate; `make bench` measures.
 .PHONY: all test bench
 
 all: bin/mdstore
-	bin/mdstore check examples/day.nem12
+	bin/mdstore init --store week.db || true
+	bin/mdstore import --store week.db examples/week.nem12
+	@if command -v sqlite3 > /dev/null; then sqlite3 week.db < examples/days.sql; fi
 
 SOURCES := $(shell find crates -path '*/out' -prune -o -type f -print) crates.txt HANDLES
 
@@ -13,6 +15,7 @@ bin/mdstore: $(SOURCES)
 
 test:
 	rt ci
+	tests/program crates/mdstore/out/mdstore
 
 bench: bin/mdstore
 	bench/run

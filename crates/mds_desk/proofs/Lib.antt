@@ -1,3 +1,4 @@
+pub mod Codes
 pub mod Reports
 pub mod Texts
 pub mod Writing

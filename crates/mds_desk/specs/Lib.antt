@@ -1,4 +1,5 @@
 pub mod Answer
+pub mod Performed
 pub mod Program
 pub mod Report
 pub mod Requests

@@ -1,8 +1,12 @@
 -- What the program prints, and the status that it ends with (profile).
-use Rattle.std.specs.Prelude.{ℕ, if◌then◌else◌, List, [], ◌∷◌, ◌++◌, codes, bytes_eq, Option, Some, None, Result, Ok, Err}
+use Rattle.std.specs.Prelude.{ℕ, if◌then◌else◌, List, [], ◌∷◌, ◌++◌, codes, bytes_eq, Option, Some, None, Result, Ok, Err, Bool, false, ◌==◌}
 use Rattle.mds_records.specs.Printed.{fault_text}
+use Rattle.mds_store.specs.declared.starting.StoreFault.{StoreFault}
+use Rattle.mds_store.specs.declared.starting.StoreFault.TheVariants as store
 use Rattle.mds_desk.specs.declared.checking.CheckFault.{CheckFault}
 use Rattle.mds_desk.specs.declared.checking.CheckFault.TheVariants as check
+use Rattle.mds_desk.specs.declared.performing.PerformFault.{PerformFault}
+use Rattle.mds_desk.specs.declared.performing.PerformFault.TheVariants as perform
 use Rattle.mds_desk.specs.declared.program.Outcome.{Outcome}
 use Rattle.mds_desk.specs.declared.program.Outcome.TheVariants as outcome
 use Rattle.mds_desk.specs.declared.program.Status.{Status}
@@ -16,36 +20,62 @@ status_code status.Usage = 2
 status_code status.Unavailable = 3
 
 -- what a check comes to
-abbrev pub outcome_of : {T : Type 0} → Result T CheckFault → Outcome
-outcome_of (Ok done) = outcome.Done
-outcome_of (Err (check.File fault)) = outcome.Fault fault
-outcome_of (Err check.Read) = outcome.NoInput
-outcome_of (Err check.Write) = outcome.NoOutput
-outcome_of (Err check.Memory) = outcome.NoMemory
+abbrev pub of_check : {T : Type 0} → Result T CheckFault → Outcome
+of_check (Ok done) = outcome.Done
+of_check (Err (check.File fault)) = outcome.Fault fault
+of_check (Err check.Read) = outcome.NoInput
+of_check (Err check.Write) = outcome.NoOutput
+of_check (Err check.Memory) = outcome.Unavailable
+
+-- what a request comes to
+abbrev pub of_request : Result Status PerformFault → Outcome
+of_request (Ok s) = outcome.Answered s
+of_request (Err perform.Write) = outcome.NoOutput
+of_request (Err perform.Memory) = outcome.Unavailable
+
+-- what the want of a store comes to
+abbrev pub of_store : StoreFault → Outcome
+of_store store.Unavailable = outcome.Unavailable
+of_store store.OtherSchema = outcome.OtherSchema
 
 -- the status of it
 abbrev pub status_of : Outcome → Status
 status_of outcome.Done = status.Done
+status_of outcome.Created = status.Done
+status_of (outcome.Answered s) = s
 status_of (outcome.Fault fault) = status.Fault
 status_of outcome.Usage = status.Usage
+status_of outcome.NoText = status.Usage
 status_of outcome.NoInput = status.Unavailable
 status_of outcome.NoOutput = status.Unavailable
-status_of outcome.NoMemory = status.Unavailable
+status_of outcome.Unavailable = status.Unavailable
+status_of outcome.OtherSchema = status.Unavailable
 
--- what is printed of it: a line or nothing
+-- what is still to be printed of it: a line or nothing
 abbrev pub outcome_text : Outcome → List ℕ
 outcome_text outcome.Done = []
+outcome_text outcome.Created = codes "created\n"
+outcome_text (outcome.Answered s) = []
 outcome_text (outcome.Fault fault) = fault_text fault ++ codes "\n"
-outcome_text outcome.Usage = codes "usage: mdstore check FILE (- is standard input)\n"
+outcome_text outcome.Usage = []
+outcome_text outcome.NoText = codes "a word is not UTF-8\n"
 outcome_text outcome.NoInput = codes "cannot read file\n"
 outcome_text outcome.NoOutput = []
-outcome_text outcome.NoMemory = codes "U1\n"
+outcome_text outcome.Unavailable = codes "U1\n"
+outcome_text outcome.OtherSchema = codes "U3\n"
 
--- What words ask for: no words, or `check -`, that standard input is checked, and `check` with another word that the
--- file of this name is. Other words ask for nothing.
+-- a word that begins with -
+abbrev pub is_option : List ℕ → Bool
+is_option [] = false
+is_option (letter ∷ letters) = letter == 45
+
+-- What words ask for: no words, or `check -`, that standard input is checked, and `check` with another word that doesn't
+-- begin with - that the file of this name is. Other words ask for something else.
 abbrev pub requested : List (List ℕ) → Option (Option (List ℕ))
 requested [] = Some None
 requested (command ∷ []) = None
 requested (command ∷ name ∷ []) =
-    if bytes_eq command (codes "check") then Some (if bytes_eq name (codes "-") then None else Some name) else None
+    if bytes_eq command (codes "check")
+    then (if bytes_eq name (codes "-") then Some None else if is_option name then None else Some (Some name))
+    else None
 requested (command ∷ name ∷ more ∷ words) = None

@@ -9,6 +9,7 @@ ghost use Rattle.mds_lines.specs.Reads.{Reads, block};
 ghost use Rattle.mds_desk.specs.Answer.{is_read_fault, is_write_fault};
 ghost use Rattle.mds_desk.specs.Report.{IsFaultOf, IsReportOf};
 
+use crate::output::write_whole;
 use crate::report::Report;
 use mds_lines::{Sink, Source};
 use mds_nem12::{ReadFault, read_lines};
@@ -72,7 +73,10 @@ pub fn check<R: Source, W: Sink>(
         × (length (concat given) ≤ most_lines * (longest_line + 1) + block) }
 {
     let text = report(alloc, kind, reader)?;
-    write_whole(text.as_bytes(), writer)
+    match write_whole(text.as_bytes(), writer) {
+        Ok(()) => Ok(()),
+        Err(_) => Err(CheckFault::Write),
+    }
 }
 
 /// What is to be printed of a file.
@@ -93,23 +97,4 @@ fn report<R: Source>(alloc: Global, kind: FileKind, reader: &mut R) -> Result<St
         Err(ReadFault::Read) => Err(CheckFault::Read),
         Err(ReadFault::Memory) => Err(CheckFault::Memory),
     }
-}
-
-/// Writes all of a text.
-fn write_whole<W: Sink>(text: &[u8], writer: &mut W) -> Result<(), CheckFault>
-    requires { W.failures writer.old < 2 ^ 64 - 1 }
-    ensures done { OnOk result (AppendsKnown (W.contents writer.old) (W.contents writer.new) text.now) }
-    ensures part { IfErr result (λ fault. (fault ≡ CheckFault.Write)
-        × (n : ℕ) × (n < length text.now)
-        × AppendsKnown (W.contents writer.old) (W.contents writer.new) (take n text.now)) }
-    ensures writer { W.failures writer.new ≡ W.failures writer.old + (if is_ok result then 0 else 1) }
-{
-    let mut rest = text;
-    while !rest.is_empty() {
-        match writer.write(rest) {
-            Ok(count) => rest = &rest[count..],
-            Err(_) => return Err(CheckFault::Write),
-        }
-    }
-    Ok(())
 }

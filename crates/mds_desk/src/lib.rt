@@ -2,10 +2,15 @@
 #![tactic(auto)]
 
 mod checking;
+mod output;
+mod performing;
 mod program;
 mod report;
+mod storing;
 #[cfg(test)]
 mod tests;
+mod words;
 
 pub use checking::{CheckFault, check};
+pub use performing::{PerformFault, perform};
 pub use program::{Outcome, Request, Status, run};

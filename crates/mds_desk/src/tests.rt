@@ -1,4 +1,5 @@
 mod made;
+mod performing;
 mod slow;
 mod small;
 
@@ -43,15 +44,15 @@ fn checked<R: Read + Drop, W: Write + Drop>(
 fn printed<R: Read + Drop>(alloc: Global, reader: R) -> Result<(Vec<u8>, u8), AllocError> {
     let mut out = Vec::new(alloc);
     let (answer, _, _) = checked(alloc, reader, &mut out);
-    let outcome = Outcome::new(answer);
+    let outcome = Outcome::of_check(answer);
     let last = format!(in alloc; "{outcome}")?;
     out.extend_from_slice(last.as_bytes())?;
     Ok((out, outcome.status().code()))
 }
 
 /// A file that a short text stands for: `@` for a header, `#` for a 200 record of 30 minutes and `%` for one of 5, `~` for a
-/// good end of a 300 record, `$` for the end of data, and a value between two `*` for 48 of it, after `<` for 47 and after
-/// `>` for 287.
+/// good end of a 300 record, `$` for the end of data, and a value between two `*` for 48 of it, after `<` for 47,
+/// after `>` for 287, after `(` for 6 and after `)` for 41.
 fn file_of(alloc: Global, short: &[u8]) -> Result<Vec<u8>, AllocError> {
     let mut file = Vec::new(alloc);
     for (k, piece) in short.split(|byte| *byte == b'*').enumerate() {
@@ -59,6 +60,8 @@ fn file_of(alloc: Global, short: &[u8]) -> Result<Vec<u8>, AllocError> {
             _ if k % 2 == 0 => (0, piece),
             [b'<', value @ ..] => (47, value),
             [b'>', value @ ..] => (287, value),
+            [b'(', value @ ..] => (6, value),
+            [b')', value @ ..] => (41, value),
             value => (48, value),
         };
         for _ in 0..times {

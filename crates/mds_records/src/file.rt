@@ -57,13 +57,12 @@ impl FaultCode {
     pub fn one_equality()
         ensures { (a b : AFaultCode) → IsTrue (⟦<FaultCode as PartialEq>⟧.eq a b) ↔ (a ≡ b) }
     {}
-}
 
-impl fmt::Display for FaultCode {
-    ghost output = { λ code. Some (code_text code) };
-
-    fn fmt<W: fmt::Write>(&self, f: &mut fmt::Formatter<W>) -> fmt::Result {
-        f.write_str(match self {
+    /// Its code, as `L5`.
+    pub fn text(self) -> &'static str
+        ensures { result.now ≡ code_text self }
+    {
+        match self {
             FaultCode::NotText => "L1",
             FaultCode::UnknownRecord => "L2",
             FaultCode::OutOfPlace => "L3",
@@ -76,7 +75,15 @@ impl fmt::Display for FaultCode {
             FaultCode::TooLarge => "L10",
             FaultCode::WrongFile => "L11",
             FaultCode::NoValue => "L12",
-        })
+        }
+    }
+}
+
+impl fmt::Display for FaultCode {
+    ghost output = { λ code. Some (code_text code) };
+
+    fn fmt<W: fmt::Write>(&self, f: &mut fmt::Formatter<W>) -> fmt::Result {
+        f.write_str(self.text())
     }
 }
 

@@ -9,8 +9,6 @@ mod request;
 mod service;
 mod settling;
 mod stated;
-#[cfg(test)]
-mod tests;
 
 pub use request::{Answer, DayAnswer, Request, StreamAnswer, VersionsAnswer};
 pub use service::{apply, run};

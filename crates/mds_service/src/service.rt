@@ -1,6 +1,6 @@
 //! One request, and a list of requests.
 
-ghost use Rattle.std.specs.Prelude.{◌≡◌, IfOk, OnErr};
+ghost use Rattle.std.specs.Prelude.{◌≡◌, IfOk, OnErr, length};
 ghost use Rattle.mds_world.specs.World.{IsLawful};
 ghost use Rattle.mds_service.specs.Machine.{Run, Step};
 
@@ -47,6 +47,9 @@ pub fn run<K: Keeper>(
 ) -> Result<Vec<Answer>, AllocError>
     // A keeper that is sound in the end was sound throughout.
     ensures before { K.sound keeper.new → K.sound keeper.old }
+
+    // Each request has its answer.
+    ensures count { IfOk result (λ answers. length answers.items ≡ length requests.now) }
 
     // Every answer, and what is kept in the end, is that of the machine.
     ensures run { IfOk result (λ answers. K.sound keeper.new → IsLawful (K.world keeper.old)

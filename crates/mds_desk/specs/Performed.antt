@@ -1,0 +1,54 @@
+-- What a command prints of an answer, and the status that it ends with (profile).
+use Rattle.std.specs.Prelude.{ℕ, List, [], ◌++◌, ◌==◌, if◌then◌else◌, codes, decimal, Bool, true, false, Result, Ok, Err}
+use Rattle.mds_records.specs.Printed.{fault_text}
+use Rattle.mds_versions.specs.declared.refusal.Refusal.{Refusal}
+use Rattle.mds_versions.specs.declared.refusal.RefusalCode.{RefusalCode}
+use Rattle.mds_versions.specs.declared.refusal.RefusalCode.TheVariants.{LengthConflict, UnitConflict, UnknownDay, VersionConflict}
+use Rattle.mds_service.specs.declared.request.Answer.{Answer}
+use Rattle.mds_service.specs.declared.request.Answer.TheVariants as told
+use Rattle.mds_desk.specs.declared.performing.PerformFault.{PerformFault}
+use Rattle.mds_desk.specs.declared.performing.PerformFault.TheVariants.{Memory, Write}
+use Rattle.mds_desk.specs.declared.program.Status.{Status}
+use Rattle.mds_desk.specs.declared.program.Status.TheVariants as status
+
+abbrev pub code_text : RefusalCode → List ℕ
+code_text LengthConflict = codes "M1"
+code_text UnitConflict = codes "M2"
+code_text VersionConflict = codes "M3"
+code_text UnknownDay = codes "M10"
+
+-- a number behind its name, where it isn't 0
+abbrev pub place_text : List ℕ → ℕ → List ℕ
+place_text name n = if n == 0 then [] else (name ++ decimal n)
+
+-- the code, and line, field and interval where they are told
+abbrev pub refusal_text : Refusal → List ℕ
+refusal_text r =
+    code_text r.code ++ place_text (codes " line ") r.line ++ place_text (codes " field ") r.field
+    ++ place_text (codes " interval ") r.interval
+
+-- what is printed of an answer, as a line; no command asks for a day, for versions or for streams yet
+abbrev pub answer_text : Answer → List ℕ
+answer_text (told.Imported added known) =
+    codes "added " ++ decimal added ++ codes " known " ++ decimal known ++ codes "\n"
+answer_text (told.File fault) = fault_text fault ++ codes "\n"
+answer_text (told.Refused refusal) = refusal_text refusal ++ codes "\n"
+answer_text told.Unavailable = codes "U1\n"
+answer_text (told.Day answer) = []
+answer_text (told.Versions answer) = []
+answer_text (told.Streams answers) = []
+
+abbrev pub answer_status : Answer → Status
+answer_status (told.Imported added known) = status.Done
+answer_status (told.File fault) = status.Fault
+answer_status (told.Refused refusal) = status.Fault
+answer_status told.Unavailable = status.Unavailable
+answer_status (told.Day answer) = status.Done
+answer_status (told.Versions answer) = status.Done
+answer_status (told.Streams answers) = status.Done
+
+-- it answers that the writer failed
+abbrev pub is_write_failure : {T : Type 0} → Result T PerformFault → Bool
+is_write_failure (Ok status) = false
+is_write_failure (Err Write) = true
+is_write_failure (Err Memory) = false

@@ -1,0 +1,196 @@
+//! One request over a store, for whoever asked by a command.
+
+ghost use Rattle.std.specs.Prelude.{◌≡◌, ◌+◌, ◌-◌, ◌<◌, ◌≤◌, ◌^◌, ◌++◌, ℕ, Err, IfErr, IfOk, if◌then◌else◌, is_ok, codes, decimal, length, take};
+ghost use Rattle.std.specs.Io.KnownBytes.{Appends as AppendsKnown, Keeps};
+ghost use Rattle.mds_service.specs.Machine.{Step};
+ghost use Rattle.mds_service.specs.declared.request.Answer.{Answer as AnAnswer};
+ghost use Rattle.mds_world.specs.World.{IsLawful};
+ghost use Rattle.mds_records.specs.Printed.{fault_text};
+ghost use Rattle.mds_desk.specs.Performed.{answer_status, answer_text, code_text, is_write_failure, place_text, refusal_text};
+
+use crate::output::write_whole;
+use crate::program::Status;
+use arrayvec::ArrayString;
+use itoa::Buffer;
+use mds_lines::Sink;
+use mds_records::FileFault;
+use mds_service::{Answer, Request, run};
+use mds_versions::{Keeper, Refusal, RefusalCode};
+use std::alloc::Global;
+
+/// Room for a line. The longest is a refusal's, of at most 87 bytes.
+const LONGEST: usize = 100;
+
+/// A line that is put together on the stack, so that it takes no memory.
+type Line = ArrayString<LONGEST>;
+
+/// Why not everything was printed.
+#[derive(Clone, Copy, Debug, PartialEq, Eq)]
+pub enum PerformFault {
+    /// The writer failed. Some front of the text was written, and the request was done.
+    Write,
+    /// There was no memory. The request wasn't done, and nothing was written.
+    Memory,
+}
+
+/// Does one request over a keeper, writes what a command prints of its answer, and answers the status to end with.
+pub fn perform<K: Keeper, W: Sink>(
+    alloc: Global,
+    keeper: &mut K,
+    request: &Request,
+    writer: &mut W,
+) -> Result<Status, PerformFault>
+    requires { W.failures writer.old < 2 ^ 64 - 1 }
+
+    // A keeper that is sound in the end was sound throughout.
+    ensures before { K.sound keeper.new → K.sound keeper.old }
+
+    // A step of the machine was done, and its answer printed, whole and nothing else.
+    ensures done { IfOk result (λ status. K.sound keeper.new → IsLawful (K.world keeper.old)
+        → (answer : AnAnswer) × Step (K.world keeper.old) request.now answer (K.world keeper.new)
+        × (status ≡ answer_status answer)
+        × AppendsKnown (W.contents writer.old) (W.contents writer.new) (answer_text answer)) }
+
+    // Where the writer fails the step was done all the same, and a part of its answer was printed.
+    ensures part { result ≡ Err PerformFault.Write → K.sound keeper.new → IsLawful (K.world keeper.old)
+        → (answer : AnAnswer) × Step (K.world keeper.old) request.now answer (K.world keeper.new)
+        × (n : ℕ) × (n < length (answer_text answer))
+        × AppendsKnown (W.contents writer.old) (W.contents writer.new) (take n (answer_text answer)) }
+
+    // Without memory nothing was done or written.
+    ensures memory { result ≡ Err PerformFault.Memory → (keeper.new ≡ keeper.old)
+        × Keeps (W.contents writer.old) (W.contents writer.new) }
+
+    // And the World is lawful after it.
+    ensures lawful { K.sound keeper.new → IsLawful (K.world keeper.old) → IsLawful (K.world keeper.new) }
+
+    // `Write` is answered just where the writer failed, once.
+    ensures writer { W.failures writer.new ≡ W.failures writer.old + (if is_write_failure result then 1 else 0) }
+{
+    let Ok(answers) = run(alloc, keeper, std::slice::from_ref(request)) else {
+        return Err(PerformFault::Memory);
+    };
+    let [answer] = answers.as_slice() else {
+        unreachable!();
+    };
+    print_answer(answer, writer)
+}
+
+/// Writes what a command prints of an answer, and answers the status to end with. It takes no
+/// memory, since the request is done by now.
+fn print_answer<W: Sink>(answer: &Answer, writer: &mut W) -> Result<Status, PerformFault>
+    requires { W.failures writer.old < 2 ^ 64 - 1 }
+    ensures done { IfOk result (λ status. (status ≡ answer_status answer.now)
+        × AppendsKnown (W.contents writer.old) (W.contents writer.new) (answer_text answer.now)) }
+    ensures part { IfErr result (λ fault. (fault ≡ PerformFault.Write)
+        × (n : ℕ) × (n < length (answer_text answer.now))
+        × AppendsKnown (W.contents writer.old) (W.contents writer.new) (take n (answer_text answer.now))) }
+    ensures writer { W.failures writer.new ≡ W.failures writer.old + (if is_ok result then 0 else 1) }
+{
+    let line = answer_line(answer);
+    match write_whole(line.as_str().as_bytes(), writer) {
+        Ok(()) => Ok(status_of(answer)),
+        Err(_) => Err(PerformFault::Write),
+    }
+}
+
+/// The status to end with after an answer.
+fn status_of(answer: &Answer) -> Status
+    ensures { result ≡ answer_status answer.now }
+{
+    match answer {
+        Answer::Imported { .. } | Answer::Day(_) | Answer::Versions(_) | Answer::Streams(_) => {
+            Status::Done
+        }
+        Answer::File(_) | Answer::Refused(_) => Status::Fault,
+        Answer::Unavailable => Status::Unavailable,
+    }
+}
+
+/// The line that is printed of an answer.
+fn answer_line(answer: &Answer) -> Line
+    ensures { result.bytes ≡ answer_text answer.now }
+{
+    match answer {
+        Answer::Imported { added, known } => imported_line(*added, *known),
+        Answer::File(fault) => fault_line(fault),
+        Answer::Refused(refusal) => refusal_line(refusal),
+        Answer::Unavailable => unavailable_line(),
+        Answer::Day(_) | Answer::Versions(_) | Answer::Streams(_) => Line::new(),
+    }
+}
+
+fn imported_line(added: u64, known: u64) -> Line
+    ensures { result.bytes ≡ codes "added " ++ decimal added ++ codes " known " ++ decimal known ++ codes "\n" }
+{
+    let mut line = Line::new();
+    push_number(&mut line, "added ", added);
+    push_number(&mut line, " known ", known);
+    line.push_str("\n");
+    line
+}
+
+#[tactic(auto, using(crate::proofs::Codes::code_short))]
+fn fault_line(fault: &FileFault) -> Line
+    ensures { result.bytes ≡ fault_text fault.now ++ codes "\n" }
+{
+    let mut line = Line::new();
+    line.push_str(fault.code.text());
+    push_number(&mut line, " line ", fault.line);
+    push_place(&mut line, " field ", fault.field as u64);
+    line.push_str("\n");
+    line
+}
+
+fn refusal_line(refusal: &Refusal) -> Line
+    ensures { result.bytes ≡ refusal_text refusal.now ++ codes "\n" }
+{
+    let mut line = Line::new();
+    line.push_str(refusal_code(refusal.code));
+    push_place(&mut line, " line ", refusal.line);
+    push_place(&mut line, " field ", refusal.field);
+    push_place(&mut line, " interval ", u64::from(refusal.interval));
+    line.push_str("\n");
+    line
+}
+
+fn unavailable_line() -> Line
+    ensures { result.bytes ≡ codes "U1\n" }
+{
+    let mut line = Line::new();
+    line.push_str("U1\n");
+    line
+}
+
+/// Appends a number behind its name.
+fn push_number(line: &mut Line, name: &str, number: u64)
+    requires { length line.old.bytes + length name.now + 20 ≤ LONGEST }
+    ensures bytes { line.new.bytes ≡ line.old.bytes ++ name.now ++ decimal number }
+    ensures short { length line.new.bytes ≤ length line.old.bytes + length name.now + 20 }
+{
+    line.push_str(name);
+    line.push_str(Buffer::new().format(number));
+}
+
+/// Appends a number behind its name where it isn't 0.
+fn push_place(line: &mut Line, name: &str, number: u64)
+    requires { length line.old.bytes + length name.now + 20 ≤ LONGEST }
+    ensures bytes { line.new.bytes ≡ line.old.bytes ++ place_text name.now number }
+    ensures short { length line.new.bytes ≤ length line.old.bytes + length name.now + 20 }
+{
+    if number != 0 {
+        push_number(line, name, number);
+    }
+}
+
+fn refusal_code(code: RefusalCode) -> &'static str
+    ensures text { result.now ≡ code_text code }
+    ensures short { length result.now ≤ 3 }
+{
+    match code {
+        RefusalCode::LengthConflict => "M1",
+        RefusalCode::UnitConflict => "M2",
+        RefusalCode::VersionConflict => "M3",
+        RefusalCode::UnknownDay => "M10",
+    }
+}

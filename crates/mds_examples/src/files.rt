@@ -1,0 +1,49 @@
+//! Files, by short texts that stand for them.
+
+use std::alloc::{AllocError, Global};
+
+/// A file that short pieces of text stand for: `@` is a header, `#` a 200 record of 30 minutes in kWh, `$`
+/// the end of data, and `;` the end of a line; values are as `values_of` says.
+pub(crate) fn file_of(alloc: Global, pieces: &[&str]) -> Result<Vec<u8>, AllocError> {
+    let mut file = String::new(alloc);
+    for piece in pieces {
+        for c in piece.chars() {
+            push_short(&mut file, c)?;
+        }
+    }
+    Ok(file.into_bytes())
+}
+
+/// Appends what a character stands for.
+fn push_short(file: &mut String, c: char) -> Result<(), AllocError> {
+    match c {
+        '@' => file.push_str("100,NEM12,202401030000,MDP1,RETAILER\n"),
+        '#' => file.push_str("200,NEM1201009,E1,1,E1,N1,01009,kWh,30,\n"),
+        '$' => file.push_str("900\n"),
+        ';' => file.push('\n'),
+        other => match values_of(other) {
+            (0, _) => file.push(other),
+            (count, value) => {
+                for _ in 0..count {
+                    file.push_str(value)?;
+                }
+                Ok(())
+            }
+        },
+    }
+}
+
+/// How many values a character stands for, and which.
+fn values_of(c: char) -> (u16, &'static str) {
+    match c {
+        '*' => (48, "1.5,"),
+        '+' => (48, "9,"),
+        '=' => (48, "2,"),
+        '<' => (6, "1.5,"),
+        '>' => (41, "1.5,"),
+        '%' => (96, "1,"),
+        '^' => (287, "1,"),
+        '&' => (288, "1,"),
+        _ => (0, ""),
+    }
+}

@@ -1,0 +1,75 @@
+//! The examples over the keeper in memory.
+
+use crate::{EARLIER, EXAMPLES, FIRST, first_wrong, request_of, text_of};
+use mds_service::{Answer, apply, run};
+use mds_versions::MemoryKeeper;
+use std::test::Fail;
+
+#[test]
+fn the_examples_hold(rt: HostRuntime) -> Result<(), Fail> {
+    let alloc = rt.alloc();
+    for rows in EXAMPLES {
+        let mut keeper = MemoryKeeper::new(alloc);
+        assert_eq!(rt; first_wrong(alloc, &mut keeper, rows)?, None);
+    }
+    Ok(())
+}
+
+/// The answers of a list are those of its requests one after the other.
+#[test]
+fn a_list_of_requests_is_done(rt: HostRuntime) -> Result<(), Fail> {
+    let alloc = rt.alloc();
+    for rows in EXAMPLES {
+        let mut keeper = MemoryKeeper::new(alloc);
+        let mut requests = Vec::new(alloc);
+        for (what, text, interval, _) in rows {
+            requests.push(request_of(alloc, what, text, *interval)?)?;
+        }
+        let told = run(alloc, &mut keeper, &requests)?;
+        assert_eq!(rt; told.len(), rows.len());
+        for (answer, (_, _, _, wanted)) in told.iter().zip(rows) {
+            assert_eq!(rt; text_of(alloc, answer)?.as_str(), *wanted);
+        }
+    }
+    Ok(())
+}
+
+// Under `--fail-alloc` each allocation here is refused in turn. A request that is unavailable has
+// changed nothing: where it is put again it is answered as if it came first.
+#[test]
+fn memory_is_wanting(rt: HostRuntime) -> Result<(), Fail> {
+    let alloc = rt.alloc();
+    let mut keeper = MemoryKeeper::new(alloc);
+    let (Ok(first), Ok(earlier), Ok(day)) = (
+        request_of(alloc, "import", FIRST, 0),
+        request_of(alloc, "import", EARLIER, 0),
+        request_of(alloc, "day", &["20240101"], 0),
+    ) else {
+        return Ok(());
+    };
+    for (request, wanted, again) in [
+        (first, "added 48 known 0", "added 0 known 48"),
+        (earlier, "added 48 known 0", "added 0 known 48"),
+        (
+            day,
+            "30 kWh 20240102010203 1:A,,,1.5 48",
+            "30 kWh 20240102010203 1:A,,,1.5 48",
+        ),
+    ] {
+        let one = apply(alloc, &mut keeper, &request);
+        let two = apply(alloc, &mut keeper, &request);
+        let was_wanting = matches!(one, Answer::Unavailable);
+        let (Ok(one), Ok(two)) = (text_of(alloc, &one), text_of(alloc, &two)) else {
+            return Ok(());
+        };
+        if was_wanting {
+            assert_eq!(rt; two.as_str(), wanted);
+        } else {
+            assert_eq!(rt; one.as_str(), wanted);
+            if two.as_str() != "unavailable" {
+                assert_eq!(rt; two.as_str(), again);
+            }
+        }
+    }
+    Ok(())
+}

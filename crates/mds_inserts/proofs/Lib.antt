@@ -1,0 +1,3 @@
+pub mod FactLemmas
+pub mod PutLemmas
+pub mod RowLemmas

@@ -1,0 +1,17 @@
+use Rattle.std.proofs.Common.{◌≡◌, map, take}
+use Rattle.sqlite.specs.Held.{state}
+use Rattle.sqlite.specs.State.{HasCleanDisk, KeepsCommit, Survives}
+use Rattle.mds_world.specs.Facts.Fact.{EventIs}
+use Rattle.mds_tables.specs.Stores.{PutsThere}
+use Rattle.mds_inserts.proofs.putting.put_events.Given as goal
+
+abbrev pub invariant-loop-event : goal.invariant-loop-event
+invariant-loop-event g l =
+    let old = state g.S.Store l.fn.tx.conn.now in
+    let now = state g.S.Store l.tx.conn.now in
+    record {
+      same : l.tx.conn.ghost_name ≡ l.initial.tx.conn.ghost_name;
+      survives : Survives old now (λ _. ⊥);
+      kept : HasCleanDisk now → KeepsCommit old now;
+      puts : PutsThere old now (map EventIs (take l.event-index l.events));
+    }

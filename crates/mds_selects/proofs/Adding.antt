@@ -1,0 +1,164 @@
+-- Sets to which rows add.
+use Rattle.std.specs.Prelude.{◌≡◌, ◌↔◌, ◌⊎◌, ◌<◌, ◌≤◌, ◌+◌, ℕ, length, slice_index_or, take, Bool, true, false, cond, List, [], ◌∷◌, ◌++◌}
+use Rattle.std.proofs.Common.{sym, ap, subst, inl, inr, refl, ◌∙◌}
+use Rattle.std.proofs.lemmas.List.{take_more, take_all}
+use Rattle.std.specs.BTreeMap.{is_at}
+use Rattle.std.specs.BTreeSet.{BTreeSet, contains}
+use Rattle.std.specs.Cmp.{IsTotalOrder, Equal-is, tied_itself}
+use Rattle.std.specs.FinSet.{IsAntisymmetric}
+use Rattle.std.specs.List.{AllPairs, list_any}
+use Rattle.std.specs.List.Sorted.{IsStrictlySortedBy}
+use Rattle.std.specs.declared.cmp.Ordering.{Ordering}
+use Rattle.std.specs.declared.cmp.Ordering.TheVariants.{Less, Equal}
+use Rattle.sqlite_value.specs.Order.{Row, bytes}
+use Rattle.mds_names.specs.declared.stream.Stream.{Stream}
+use Rattle.mds_terms.specs.Event.{EventValue}
+use Rattle.mds_world.specs.Facts.Fact.{EventIs}
+use Rattle.mds_world.specs.Lists.{Apart, Member, append_left, append_right, member_append}
+use Rattle.mds_world.specs.Sets.{or_left, or_right, split_or}
+use Rattle.mds_versions.proofs.Ascending as up
+use Rattle.mds_selects.specs.Added.{AreAdded, IsAdded, SaysEvent, SaysStream}
+use Rattle.mds_selects.specs.Shown.{AreStreamsIn}
+
+module _ {K : Type 0} {R : K → K → Ordering} (o : IsTotalOrder R) where
+  -- the keys of a set come in order, and once each
+  pub ascends : (ks : List K) → IsStrictlySortedBy R ks → AllPairs (λ a b. R a b ≡ Less) ks
+  ascends ks s = up.pairs R ks (up.from_sorted R ks s)
+
+  strict : (k : K) → R k k ≡ Less → ⊥
+  strict k l = let same : R k k ≡ Equal = tied_itself o k in cc
+
+  pub once : (ks : List K) → IsStrictlySortedBy R ks → Apart ks
+  once ks s = up.apart R strict ks (up.from_sorted R ks s)
+
+module _ {K : Type 0} {R : K → K → Ordering} (o : IsTotalOrder R) (e : IsAntisymmetric R) where
+  is_here : (q k : K) → is_at (R q) k ≡ true → q ≡ k
+  is_here q k h = e q k ((Equal-is (R q k)).0 h)
+
+  here_is : (q k : K) → q ≡ k → is_at (R q) k ≡ true
+  here_is q k i = subst (λ x. is_at (R q) x ≡ true) i ((Equal-is (R q q)).1 (tied_itself o q))
+
+  found : (q : K) (ks : List K) → list_any (is_at (R q)) ks ≡ true → Member q ks
+  found q [] h = cc
+  found q (k ∷ ks) h = elim (split_or (is_at (R q) k) _ h) [
+    | inl a ↦ inl (is_here q k a)
+    | inr b ↦ inr (found q ks b)
+  ]
+
+  finds : (q : K) (ks : List K) → Member q ks → list_any (is_at (R q)) ks ≡ true
+  finds q [] m = absurd m
+  finds q (k ∷ ks) (inl i) = or_left (is_at (R q) k) _ (here_is q k i)
+  finds q (k ∷ ks) (inr m) = or_right (is_at (R q) k) _ (finds q ks m)
+
+  kept : (x q : K) (old : BTreeSet K) (b : Bool) → contains R old q ≡ true → cond b true (contains R old q) ≡ true
+  kept x q old true h = refl
+  kept x q old false h = h
+
+  split : (x q : K) (old : BTreeSet K) (b : Bool) → is_at (R x) q ≡ b → true ≡ cond b true (contains R old q)
+      → Member q old.keys ⊎ (q ≡ x)
+  split x q old true i t = inr (sym (is_here x q i))
+  split x q old false i t = inl (found q old.keys (sym t))
+
+  -- the keys after one more is inserted
+  pub inserted : (old new : BTreeSet K) (x : K)
+      → ((q : K) → contains R new q ≡ cond (is_at (R x) q) true (contains R old q))
+      → (q : K) → Member q new.keys ↔ (Member q old.keys ⊎ (q ≡ x))
+  inserted old new x h q = (
+    (λ m. split x q old (is_at (R x) q) refl (sym (finds q new.keys m) ∙ h q)),
+    (λ p. elim p [
+      | inl m ↦ found q new.keys (h q ∙ kept x q old (is_at (R x) q) (finds q old.keys m))
+      | inr i ↦ found q new.keys (h q ∙ ap (λ b. cond b true (contains R old q)) (here_is x q (sym i)))
+    ]),
+  )
+
+-- a row says one stream, and one event
+pub one_stream : (row : Row) (a b : Stream) → SaysStream row a → SaysStream row b → a ≡ b
+one_stream row a b p q =
+    let nmi : a.nmi ≡ b.nmi = ap bytes (sym p.0 ∙ q.0) in
+    let suffix : a.suffix ≡ b.suffix = ap bytes (sym p.1 ∙ q.1) in
+    λ i. record { nmi = nmi i; suffix = suffix i }
+
+pub one_event : (row : Row) (a b : EventValue) → SaysEvent row a → SaysEvent row b → a ≡ b
+one_event row a b p q = let same : EventIs a ≡ EventIs b = sym p ∙ q in cc
+
+module _ {K : Type 0} (Says : Row → K → Type 0) where
+  -- a row that says just this one
+  pub adds_one : (old new : List K) (row : Row) (x : K) → ((q : K) → Member q new ↔ (Member q old ⊎ (q ≡ x)))
+      → Says row x → ((q : K) → Says row q → q ≡ x) → IsAdded Says old row new
+  adds_one old new row x h says only q = (
+    (λ m. elim ((h q).0 m) [ inl n ↦ inl n | inr i ↦ inr (subst (Says row) (sym i) says) ]),
+    (λ p. elim p [ inl n ↦ (h q).1 (inl n) | inr s ↦ (h q).1 (inr (only q s)) ]),
+  )
+
+  pub adds_none : (ks : List K) → AreAdded Says ks [] ks
+  adds_none ks q = ((λ m. inl m), (λ p. elim p [ inl m ↦ m | inr r ↦ absurd r.1 ]))
+
+  adds_push : (old mid new : List K) (rows : List Row) (row : Row) → AreAdded Says old rows mid
+      → IsAdded Says mid row new → AreAdded Says old (rows ++ row ∷ []) new
+  adds_push old mid new rows row before h q = (
+    (λ m. elim ((h q).0 m) [
+      | inl n ↦ elim ((before q).0 n) [
+        | inl k ↦ inl k
+        | inr r ↦ inr (r.0, append_left r.0 rows (row ∷ []) r.1, r.2)
+      ]
+      | inr s ↦ inr (row, append_right row rows (row ∷ []) (inl refl), s)
+    ]),
+    (λ p. elim p [
+      | inl n ↦ (h q).1 (inl ((before q).1 (inl n)))
+      | inr r ↦ elim (member_append r.0 rows (row ∷ []) r.1) [
+        | inl m ↦ (h q).1 (inl ((before q).1 (inr (r.0, m, r.2))))
+        | inr m ↦ elim m [ inl i ↦ (h q).1 (inr (subst (λ x. Says x q) i r.2)) | inr z ↦ absurd z ]
+      ]
+    ]),
+  )
+
+  -- one row more
+  pub adds_more : (old mid new : List K) (rows : List Row) (i : ℕ) (row : Row) → i < length rows
+      → row ≡ slice_index_or rows i row → AreAdded Says old (take i rows) mid
+      → IsAdded Says mid row new → AreAdded Says old (take (i + 1) rows) new
+  adds_more old mid new rows i row l is before h =
+      subst (λ rs. AreAdded Says old rs new)
+      (sym (take_more rows i row l ∙ ap (λ x. take i rows ++ x ∷ []) (sym is)))
+      (adds_push old mid new (take i rows) row before h)
+
+  -- all of them
+  pub adds_all : (old new : List K) (rows : List Row) (i : ℕ) → length rows ≤ i → AreAdded Says old (take i rows) new
+      → AreAdded Says old rows new
+  adds_all old new rows i l a = subst (λ rs. AreAdded Says old rs new) (take_all i rows l) a
+
+  -- one of the rows says it
+  abbrev pub IsSaid : List Row → K → Type 0
+  IsSaid rows q = (row : Row) × Member row rows × Says row q
+
+  -- all that is in a set that was empty
+  pub just : (old new : List K) (rows : List Row) → old ≡ [] → AreAdded Says old rows new
+      → (q : K) → Member q new ↔ IsSaid rows q
+  just old new rows none add q = (
+    (λ m. elim ((add q).0 m) [ inl k ↦ absurd (subst (Member q) none k) | inr r ↦ r ]),
+    (λ r. (add q).1 (inr r)),
+  )
+
+  -- and of two lists of rows
+  pub just_two : (old mid new : List K) (rows more : List Row) → old ≡ [] → AreAdded Says old rows mid
+      → AreAdded Says mid more new → (q : K) → Member q new ↔ (IsSaid rows q ⊎ IsSaid more q)
+  just_two old mid new rows more none one two q = (
+    (λ m. elim ((two q).0 m) [ inl k ↦ inl ((just old mid rows none one q).0 k) | inr r ↦ inr r ]),
+    (λ p. elim p [
+      | inl r ↦ (two q).1 (inl ((just old mid rows none one q).1 r))
+      | inr r ↦ (two q).1 (inr r)
+    ]),
+  )
+
+pub streams_in : (heads details : List Row) (streams : List Stream)
+    → ((q : Stream) → Member q streams ↔ (IsSaid SaysStream heads q ⊎ IsSaid SaysStream details q))
+    → AreStreamsIn heads details streams
+streams_in heads details streams all q = (
+  (λ m. elim ((all q).0 m) [
+    | inl t ↦ inl (t.0, t.1, t.2.0, t.2.1)
+    | inr t ↦ inr (t.0, t.1, t.2.0, t.2.1)
+  ]),
+  (λ p. elim p [
+    | inl t ↦ (all q).1 (inl (t.0, t.1, (t.2, t.3)))
+    | inr t ↦ (all q).1 (inr (t.0, t.1, (t.2, t.3)))
+  ]),
+)

@@ -1,0 +1,14 @@
+pub mod Adding
+pub mod Asked
+pub mod DetailLemmas
+pub mod KeyLemmas
+pub mod Latest
+pub mod Listed
+pub mod MemberLemmas
+pub mod Named
+pub mod OneNumber
+pub mod QueryLemmas
+pub mod SelectLemmas
+pub mod SelectTexts
+pub mod TypedLemmas
+pub mod TypedRows

@@ -1,0 +1,487 @@
+-- What rows that a query shows say of a World.
+use Rattle.std.specs.Prelude.{◌≡◌, ◌≢◌, ◌↔◌, ◌<◌, ◌^◌, ◌+◌, ℕ, List, [], ◌∷◌, ◌++◌, length, map, slice_index_or, take, Option, Some, None, refl}
+use Rattle.std.proofs.Common.{sym, ap, subst, inl, inr, ◌∙◌, arith}
+use Rattle.std.proofs.lemmas.List.{take_more}
+use Rattle.std.specs.List.{AllPairs}
+use Rattle.std.specs.declared.cmp.Ordering.TheVariants.{Less}
+use Rattle.sqlite.specs.declared.types.Value.TheVariants.{Int, Null, Text}
+use Rattle.sqlite_catalog.specs.Listing.{IsSound}
+use Rattle.sqlite_rules.specs.Edit.{id_in}
+use Rattle.sqlite_trees.specs.Tree.{Trees}
+use Rattle.sqlite_value.specs.Order.{Row, bytes, column}
+use Rattle.mds_quantity.specs.declared.unit.Unit.{Unit as MeasureUnit}
+use Rattle.mds_names.specs.declared.stream.Stream.{Stream}
+use Rattle.mds_terms.specs.Event.{EventValue}
+use Rattle.mds_world.specs.declared.facts.Detail.{Detail}
+use Rattle.mds_world.specs.declared.facts.Head.{Head}
+use Rattle.mds_world.specs.Facts.{Fact}
+use Rattle.mds_world.specs.Facts.Fact.{DetailIs, EventIs, HeadIs, HolidayIs, JobIs, PeriodIs, VersionIs}
+use Rattle.mds_world.specs.Lists.{Apart, Member}
+use Rattle.mds_world.specs.Sets.{◌∈◌}
+use Rattle.mds_world.specs.World.{IsEventOf, IsOn}
+use Rattle.mds_versions.specs.Books.{row_fact}
+use Rattle.mds_versions.specs.Queries.{AreEventsOf, AreKnownStreams, stream_cmp}
+use Rattle.mds_versions.specs.declared.day_book.Version.{Version}
+use Rattle.mds_tables.specs.Cells as cells
+use Rattle.mds_tables.specs.RowFacts.{detail_fact, event_fact, head_fact, int_at, letter_in, natural, natural_at, optional, optional_at, stream_in, text_at, unit_named, version_fact, world_in}
+use Rattle.mds_tables.specs.Stores.{Begins, Selects}
+use Rattle.mds_tables.specs.Tables.{schema_1}
+use Rattle.mds_selects.specs.Found.{AreRowsOf, IsHeadOf}
+use Rattle.mds_selects.specs.Shown.{AreEventsIn, AreStreamsIn, AreVersionsIn, IsOnlyHead, SaysVersion, ShowsStream}
+use Rattle.mds_selects.proofs.Named.{Names, no_period, of_detail, of_event, of_head, of_version}
+use Rattle.mds_selects.proofs.TypedRows.{HasKeyCells, begins_at, begins_by, detail_row, event_row, head_row, small, small_letter, small_option, letter_back, optional_back, some_cell, version_row}
+
+-- ---- rows that begin with a stream and a day
+
+module _ (s : Stream) (r : Row) where
+  pub on_stream : Begins (cells.stream_cells s) r → stream_in r ≡ s
+  on_stream b =
+      let nmi : text_at r 1 ≡ s.nmi = ap bytes (begins_at (cells.stream_cells s) r b 0 (omega arith)) in
+      let suffix : text_at r 2 ≡ s.suffix = ap bytes (begins_at (cells.stream_cells s) r b 1 (omega arith)) in
+      λ i. record { nmi = nmi i; suffix = suffix i }
+
+  pub stream_on : HasKeyCells r → stream_in r ≡ s → Begins (cells.stream_cells s) r
+  stream_on it e = begins_by (cells.stream_cells s) r (
+    it.nmi ∙ ap (λ (x : Stream). Text x.nmi) e,
+    (λ n. cc),
+    (it.suffix ∙ ap (λ (x : Stream). Text x.suffix) e, (λ n. cc), tt),
+  )
+
+module _ (s : Stream) (day : ℕ) (r : Row) where
+  on_day : Begins (cells.day_cells s day) r → (stream_in r ≡ s) × (natural_at r 3 ≡ day)
+  on_day b =
+      let nmi : text_at r 1 ≡ s.nmi = ap bytes (begins_at (cells.day_cells s day) r b 0 (omega arith)) in
+      let suffix : text_at r 2 ≡ s.suffix = ap bytes (begins_at (cells.day_cells s day) r b 1 (omega arith)) in
+      let on : natural_at r 3 ≡ day =
+      ap (λ v. natural (id_in v)) (begins_at (cells.day_cells s day) r b 2 (omega arith)) in
+      ((λ i. record { nmi = nmi i; suffix = suffix i }), on)
+
+  day_on : day < 2 ^ 63 → HasKeyCells r → stream_in r ≡ s → natural_at r 3 ≡ day → Begins (cells.day_cells s day) r
+  day_on low it e d = begins_by (cells.day_cells s day) r (
+    it.nmi ∙ ap (λ (x : Stream). Text x.nmi) e,
+    (λ n. cc),
+    (
+      it.suffix ∙ ap (λ (x : Stream). Text x.suffix) e,
+      (λ n. cc),
+      (it.number ∙ ap Int (small (int_at r 3) day d low), (λ n. cc), tt),
+    ),
+  )
+
+-- ---- rows that are shown, as facts
+
+module _ (read : Row → Fact) where
+  -- one of the rows that are shown names the fact
+  abbrev pub Tells : List Row → Fact → Type 0
+  Tells rows f = (row : Row) × Member row rows × (read (Null ∷ row) ≡ f)
+
+  module _ (tree : ℕ) (key : Row) (places : List ℕ) (trees : Trees) (rows : List Row)
+      (sel : Selects tree key places trees rows)
+      (whole : (r : Row) → read (Null ∷ map (column r) places) ≡ read r)
+      (On : Fact → Type 0)
+      (on : (r : Row) → Member r (trees tree) → Begins key r ↔ On (read r)) where
+    pub told : (f : Fact) → Tells rows f → Names read (trees tree) f × On f
+    told f t =
+        let s = (sel t.0).0 t.1 in
+        let is : read s.0 ≡ f = sym (whole s.0) ∙ ap (λ r. read (Null ∷ r)) (sym s.3) ∙ t.2 in
+        ((s.0, s.1, is), subst On is ((on s.0 s.1).0 s.2))
+
+    pub tells : (f : Fact) → Names read (trees tree) f → On f → Tells rows f
+    tells f n o = (
+      map (column n.0) places,
+      (sel (map (column n.0) places)).1 (n.0, n.1, (on n.0 n.1).1 (subst On (sym n.2) o), refl),
+      whole n.0 ∙ n.2,
+    )
+
+-- one row more, with its version
+one_more : (rows : List Row) (vs : List (ℕ × Version)) (row : Row) (v : ℕ × Version) → AreVersionsIn rows vs
+    → SaysVersion row v → AreVersionsIn (rows ++ row ∷ []) (vs ++ v ∷ [])
+one_more [] [] row v are says = (says, tt)
+one_more [] (w ∷ vs) row v are says = absurd are
+one_more (r ∷ rows) [] row v are says = absurd are
+one_more (r ∷ rows) (w ∷ vs) row v are says = (are.0, one_more rows vs row v are.1 says)
+
+pub listed_more : (rows : List Row) (i : ℕ) (row : Row) (vs new : List (ℕ × Version)) (v : ℕ × Version) → i < length rows
+    → row ≡ slice_index_or rows i row → AreVersionsIn (take i rows) vs → SaysVersion row v → new ≡ vs ++ v ∷ []
+    → AreVersionsIn (take (i + 1) rows) new
+listed_more rows i row vs new v l is are says more =
+    let rest : take (i + 1) rows ≡ take i rows ++ row ∷ [] =
+    take_more rows i row l ∙ ap (λ x. take i rows ++ x ∷ []) (sym is) in
+    subst (λ rs. AreVersionsIn rs new) (sym rest)
+    (subst (AreVersionsIn (take i rows ++ row ∷ [])) (sym more) (one_more (take i rows) vs row v are says))
+
+module _ (s : Stream) (day : ℕ) (low : day < 2 ^ 63) (trees : Trees) (sound : IsSound schema_1 trees) where
+  head_on : (r : Row) → Member r (trees 2) → Begins (cells.day_cells s day) r ↔ IsOn s day (head_fact r)
+  head_on r m = ((λ b. on_day s day r b), (λ o. day_on s day r low (head_row trees sound r m) o.0 o.1))
+
+  version_on : (r : Row) → Member r (trees 4) → Begins (cells.day_cells s day) r ↔ IsOn s day (version_fact r)
+  version_on r m = ((λ b. on_day s day r b), (λ o. day_on s day r low (version_row trees sound r m) o.0 o.1))
+
+  -- the head of a day
+  pub finds_head : (rows : List Row) → Selects 2 (cells.day_cells s day) (1 ∷ 2 ∷ 3 ∷ 4 ∷ 5 ∷ []) trees rows
+      → (form : Option (ℕ × MeasureUnit)) → IsOnlyHead rows form → IsHeadOf (world_in trees) s day form
+  finds_head rows sel None none head = (
+    (λ p.
+        let t = tells head_fact 2 _ (1 ∷ 2 ∷ 3 ∷ 4 ∷ 5 ∷ []) trees rows sel (λ r. refl) (IsOn s day) head_on (HeadIs head)
+        ((of_head trees head).0 p.0) (p.1, p.2) in
+        absurd (subst (Member t.0) none t.1)),
+    (λ m. absurd m),
+  )
+  finds_head rows sel (Some form) one head =
+      let t = told head_fact 2 _ (1 ∷ 2 ∷ 3 ∷ 4 ∷ 5 ∷ []) trees rows sel (λ r. refl) (IsOn s day) head_on (HeadIs one.0)
+      (one.1, subst (Member one.1) (sym one.2) (inl refl), one.3) in
+      let on : (one.0.stream ≡ s) × (one.0.day ≡ day) = t.1 in
+      let same : one.0 ≡ record { stream = s; day = day; length = form.0; unit = form.1 } =
+      λ i. record { stream = on.0 i; day = on.1 i; length = one.4 i; unit = one.5 i } in (
+        (λ p.
+            let u = tells head_fact 2 _ (1 ∷ 2 ∷ 3 ∷ 4 ∷ 5 ∷ []) trees rows sel (λ r. refl) (IsOn s day) head_on (HeadIs head)
+            ((of_head trees head).0 p.0) (p.1, p.2) in
+            let here : Member u.0 (one.1 ∷ []) = subst (Member u.0) one.2 u.1 in
+            elim here [
+              | inl e ↦ inl (sym u.2 ∙ ap (λ r. head_fact (Null ∷ r)) e ∙ one.3 ∙ ap HeadIs same)
+              | inr z ↦ absurd z
+            ]),
+        (λ m. elim m [
+          | inl e ↦
+              let is : HeadIs one.0 ≡ HeadIs head = ap HeadIs same ∙ sym e in
+              let o : IsOn s day (HeadIs head) = subst (IsOn s day) is t.1 in
+              (subst (λ f. f ∈ world_in trees) is ((of_head trees one.0).1 t.0), o.0, o.1)
+          | inr z ↦ absurd z
+        ]),
+      )
+
+  version_is : (row : Row) (v : ℕ × Version) → SaysVersion row v → IsOn s day (version_fact (Null ∷ row))
+      → version_fact (Null ∷ row) ≡ row_fact s day v
+  version_is row v says on =
+      let o : (says.0.stream ≡ s) × (says.0.day ≡ day) = subst (IsOn s day) says.1 on in
+      says.1 ∙ ap (λ k. VersionIs k v.1.reading)
+      (λ i. record { stream = o.0 i; day = o.1 i; interval = says.2 i; update = says.3 i })
+
+  -- the versions of rows of a day are those that the rows tell
+  listed : (rows : List Row) (vs : List (ℕ × Version)) → AreVersionsIn rows vs
+      → ((f : Fact) → Tells version_fact rows f → IsOn s day f)
+      → (f : Fact) → Tells version_fact rows f ↔ Member f (map (row_fact s day) vs)
+  listed [] [] are on f = ((λ t. absurd t.1), (λ m. absurd m))
+  listed [] (v ∷ vs) are on f = absurd are
+  listed (row ∷ rows) [] are on f = absurd are
+  listed (row ∷ rows) (v ∷ vs) are on f =
+      let is : version_fact (Null ∷ row) ≡ row_fact s day v =
+      version_is row v are.0 (on (version_fact (Null ∷ row)) (row, inl refl, refl)) in
+      let rest = listed rows vs are.1 (λ g t. on g (t.0, inr t.1, t.2)) f in (
+        (λ t. elim t.1 [
+          | inl e ↦ inl (sym t.2 ∙ ap (λ r. version_fact (Null ∷ r)) e ∙ is)
+          | inr m ↦ inr (rest.0 (t.0, m, t.2))
+        ]),
+        (λ m. elim m [
+          | inl e ↦ (row, inl refl, is ∙ sym e)
+          | inr n ↦ let t = rest.1 n in (t.0, inr t.1, t.2)
+        ]),
+      )
+
+  -- the versions of a day
+  pub finds_versions : (rows : List Row)
+      → Selects 4 (cells.day_cells s day) (1 ∷ 2 ∷ 3 ∷ 4 ∷ 5 ∷ 6 ∷ 7 ∷ 8 ∷ 9 ∷ []) trees rows
+      → (vs : List (ℕ × Version)) → AreVersionsIn rows vs → AreRowsOf (world_in trees) s day vs
+  finds_versions rows sel vs are key reading =
+      let to = told version_fact 4 _ (1 ∷ 2 ∷ 3 ∷ 4 ∷ 5 ∷ 6 ∷ 7 ∷ 8 ∷ 9 ∷ []) trees rows sel (λ r. refl) (IsOn s day) version_on in
+      let list = listed rows vs are (λ f t. (to f t).1) (VersionIs key reading) in (
+        (λ p. list.0 (tells version_fact 4 _ (1 ∷ 2 ∷ 3 ∷ 4 ∷ 5 ∷ 6 ∷ 7 ∷ 8 ∷ 9 ∷ []) trees rows sel (λ r. refl) (IsOn s day)
+            version_on (VersionIs key reading) ((of_version trees key reading).0 p.0) (p.1, p.2))),
+        (λ m.
+            let t = to (VersionIs key reading) (list.1 m) in
+            let o : (key.stream ≡ s) × (key.day ≡ day) = t.1 in
+            ((of_version trees key reading).1 t.0, o.0, o.1)),
+      )
+
+-- the fact is an event of a day
+abbrev pub IsEventOn : Stream → ℕ → Fact → Type 0
+IsEventOn s day (HeadIs head) = ⊥
+IsEventOn s day (VersionIs key reading) = ⊥
+IsEventOn s day (DetailIs detail) = ⊥
+IsEventOn s day (EventIs event) = IsEventOf s day event
+IsEventOn s day (PeriodIs key content) = ⊥
+IsEventOn s day (HolidayIs date) = ⊥
+IsEventOn s day (JobIs id content count) = ⊥
+
+module _ (s : Stream) (day : ℕ) (low : day < 2 ^ 63) (trees : Trees) (sound : IsSound schema_1 trees) where
+  event_on : (r : Row) → Member r (trees 8) → Begins (cells.day_cells s day) r ↔ IsEventOn s day (event_fact r)
+  event_on r m = (
+    (λ b. let o = on_day s day r b in (ap (λ (x : Stream). x.nmi) o.0, ap (λ (x : Stream). x.suffix) o.0, o.1)),
+    (λ o. day_on s day r low (event_row trees sound r m).keyed (λ i. record { nmi = o.0 i; suffix = o.1 i }) o.2),
+  )
+
+  -- the events of a day
+  pub finds_events : (rows : List Row)
+      → Selects 8 (cells.day_cells s day) (1 ∷ 2 ∷ 3 ∷ 4 ∷ 5 ∷ 6 ∷ 7 ∷ []) trees rows
+      → (events : List EventValue) → AreEventsIn rows events → Apart events
+      → AreEventsOf (world_in trees) s day events
+  finds_events rows sel events are apart = record {
+    each = λ event. (
+      (λ m.
+          let t = told event_fact 8 _ (1 ∷ 2 ∷ 3 ∷ 4 ∷ 5 ∷ 6 ∷ 7 ∷ []) trees rows sel (λ r. refl) (IsEventOn s day) event_on
+          (EventIs event) ((are event).0 m) in
+          ((of_event trees event).1 t.0, t.1)),
+      (λ p. (are event).1 (tells event_fact 8 _ (1 ∷ 2 ∷ 3 ∷ 4 ∷ 5 ∷ 6 ∷ 7 ∷ []) trees rows sel (λ r. refl) (IsEventOn s day)
+          event_on (EventIs event) ((of_event trees event).0 p.0) p.1)),
+    );
+    apart = apart;
+  }
+
+-- ---- one row that has all cells
+
+abbrev detail_at : Row → Detail
+detail_at r = record {
+  stream = stream_in r;
+  moment = natural_at r 3;
+  details = record {
+    configuration = text_at r 4;
+    register = text_at r 5;
+    datastream = text_at r 6;
+    meter = text_at r 7;
+    next = optional_at r 8;
+  };
+}
+
+abbrev event_at : Row → EventValue
+event_at r = record {
+  nmi = text_at r 1;
+  suffix = text_at r 2;
+  day = natural_at r 3;
+  trans = letter_in (text_at r 4);
+  ticket = text_at r 5;
+  moment = optional_at r 6;
+  reading = text_at r 7;
+}
+
+abbrev head_at : Row → Head
+head_at r = record { stream = stream_in r; day = natural_at r 3; length = natural_at r 4; unit = unit_named (text_at r 5) }
+
+detail_is : (r : Row) (d : Detail) → detail_fact r ≡ DetailIs d → detail_at r ≡ d
+detail_is r d e = cc
+
+event_is : (r : Row) (v : EventValue) → event_fact r ≡ EventIs v → event_at r ≡ v
+event_is r v e = cc
+
+head_is : (r : Row) (h : Head) → head_fact r ≡ HeadIs h → head_at r ≡ h
+head_is r h e = cc
+
+any_shown : (rows : List Row) (r : Row) → Member r rows → rows ≢ []
+any_shown [] r m = absurd m
+any_shown (x ∷ xs) r m = λ e. cc
+
+first_shown : (rows : List Row) → rows ≢ [] → (r : Row) × Member r rows
+first_shown [] n = absurd (n refl)
+first_shown (x ∷ xs) n = (x, inl refl)
+
+module _ (trees : Trees) (sound : IsSound schema_1 trees) where
+  module _ (d : Detail) (low : d.moment < 2 ^ 63) (next : (n : ℕ) → d.details.next ≡ Some n → n < 2 ^ 63) where
+    detail_begins : (r : Row) → Member r (trees 6) → Begins (cells.detail_cells d) r ↔ (detail_fact r ≡ DetailIs d)
+    detail_begins r m =
+        let it = detail_row trees sound r m in (
+          (λ b.
+              let at = begins_at (cells.detail_cells d) r b in
+              let nmi : text_at r 1 ≡ d.stream.nmi = ap bytes (at 0 (omega arith)) in
+              let suffix : text_at r 2 ≡ d.stream.suffix = ap bytes (at 1 (omega arith)) in
+              let moment : natural_at r 3 ≡ d.moment = ap (λ v. natural (id_in v)) (at 2 (omega arith)) in
+              let configuration : text_at r 4 ≡ d.details.configuration = ap bytes (at 3 (omega arith)) in
+              let register : text_at r 5 ≡ d.details.register = ap bytes (at 4 (omega arith)) in
+              let datastream : text_at r 6 ≡ d.details.datastream = ap bytes (at 5 (omega arith)) in
+              let meter : text_at r 7 ≡ d.details.meter = ap bytes (at 6 (omega arith)) in
+              let day : optional_at r 8 ≡ d.details.next =
+              ap (λ v. optional (id_in v)) (at 7 (omega arith)) ∙ optional_back d.details.next in
+              λ i. DetailIs (record {
+                stream = record { nmi = nmi i; suffix = suffix i };
+                moment = moment i;
+                details = record {
+                  configuration = configuration i;
+                  register = register i;
+                  datastream = datastream i;
+                  meter = meter i;
+                  next = day i;
+                };
+              })),
+          (λ e.
+              let same = detail_is r d e in
+              begins_by (cells.detail_cells d) r (
+                it.keyed.nmi ∙ ap (λ (x : Detail). Text x.stream.nmi) same,
+                (λ n. cc),
+                (
+                  it.keyed.suffix ∙ ap (λ (x : Detail). Text x.stream.suffix) same,
+                  (λ n. cc),
+                  (
+                    it.keyed.number ∙ ap Int (small (int_at r 3) d.moment (ap (λ (x : Detail). x.moment) same) low),
+                    (λ n. cc),
+                    (
+                      it.configuration ∙ ap (λ (x : Detail). Text x.details.configuration) same,
+                      (λ n. cc),
+                      (
+                        it.register ∙ ap (λ (x : Detail). Text x.details.register) same,
+                        (λ n. cc),
+                        (
+                          it.datastream ∙ ap (λ (x : Detail). Text x.details.datastream) same,
+                          (λ n. cc),
+                          (
+                            it.meter ∙ ap (λ (x : Detail). Text x.details.meter) same,
+                            (λ n. cc),
+                            (
+                              it.next ∙ small_option (int_at r 8) d.details.next (ap (λ (x : Detail). x.details.next) same) next,
+                              (λ n. some_cell d.details.next n),
+                              tt,
+                            ),
+                          ),
+                        ),
+                      ),
+                    ),
+                  ),
+                ),
+              )),
+        )
+
+    -- whether the details are kept
+    pub finds_details : (rows : List Row) → Selects 6 (cells.detail_cells d) (1 ∷ []) trees rows
+        → rows ≢ [] ↔ (DetailIs d ∈ world_in trees)
+    finds_details rows sel = (
+      (λ n.
+          let f = first_shown rows n in
+          let s = (sel f.0).0 f.1 in
+          (of_detail trees d).1 (s.0, s.1, (detail_begins s.0 s.1).0 s.2)),
+      (λ h.
+          let n = (of_detail trees d).0 h in
+          any_shown rows (column n.0 1 ∷ [])
+          ((sel (column n.0 1 ∷ [])).1 (n.0, n.1, (detail_begins n.0 n.1).1 n.2, refl))),
+    )
+
+  module _ (v : EventValue) (low : v.day < 2 ^ 63) (trans : (n : ℕ) → v.trans ≡ Some n → n < 2 ^ 63)
+      (moment : (n : ℕ) → v.moment ≡ Some n → n < 2 ^ 63) where
+    event_begins : (r : Row) → Member r (trees 8) → Begins (cells.event_cells v) r ↔ (event_fact r ≡ EventIs v)
+    event_begins r m =
+        let it = event_row trees sound r m in (
+          (λ b.
+              let at = begins_at (cells.event_cells v) r b in
+              let nmi : text_at r 1 ≡ v.nmi = ap bytes (at 0 (omega arith)) in
+              let suffix : text_at r 2 ≡ v.suffix = ap bytes (at 1 (omega arith)) in
+              let day : natural_at r 3 ≡ v.day = ap (λ c. natural (id_in c)) (at 2 (omega arith)) in
+              let letter : letter_in (text_at r 4) ≡ v.trans =
+              ap (λ c. letter_in (bytes c)) (at 3 (omega arith)) ∙ letter_back v.trans in
+              let ticket : text_at r 5 ≡ v.ticket = ap bytes (at 4 (omega arith)) in
+              let read_at : optional_at r 6 ≡ v.moment =
+              ap (λ c. optional (id_in c)) (at 5 (omega arith)) ∙ optional_back v.moment in
+              let index : text_at r 7 ≡ v.reading = ap bytes (at 6 (omega arith)) in
+              λ i. EventIs (record {
+                nmi = nmi i;
+                suffix = suffix i;
+                day = day i;
+                trans = letter i;
+                ticket = ticket i;
+                moment = read_at i;
+                reading = index i;
+              })),
+          (λ e.
+              let same = event_is r v e in
+              begins_by (cells.event_cells v) r (
+                it.keyed.nmi ∙ ap (λ (x : EventValue). Text x.nmi) same,
+                (λ n. cc),
+                (
+                  it.keyed.suffix ∙ ap (λ (x : EventValue). Text x.suffix) same,
+                  (λ n. cc),
+                  (
+                    it.keyed.number ∙ ap Int (small (int_at r 3) v.day (ap (λ (x : EventValue). x.day) same) low),
+                    (λ n. cc),
+                    (
+                      it.trans ∙ ap Text (small_letter (text_at r 4) v.trans (ap (λ (x : EventValue). x.trans) same) trans),
+                      (λ n. cc),
+                      (
+                        it.ticket ∙ ap (λ (x : EventValue). Text x.ticket) same,
+                        (λ n. cc),
+                        (
+                          it.moment ∙ small_option (int_at r 6) v.moment (ap (λ (x : EventValue). x.moment) same) moment,
+                          (λ n. some_cell v.moment n),
+                          (it.reading ∙ ap (λ (x : EventValue). Text x.reading) same, (λ n. cc), tt),
+                        ),
+                      ),
+                    ),
+                  ),
+                ),
+              )),
+        )
+
+    -- whether the event is kept
+    pub finds_event : (rows : List Row) → Selects 8 (cells.event_cells v) (1 ∷ []) trees rows
+        → rows ≢ [] ↔ (EventIs v ∈ world_in trees)
+    finds_event rows sel = (
+      (λ n.
+          let f = first_shown rows n in
+          let s = (sel f.0).0 f.1 in
+          (of_event trees v).1 (s.0, s.1, (event_begins s.0 s.1).0 s.2)),
+      (λ h.
+          let n = (of_event trees v).0 h in
+          any_shown rows (column n.0 1 ∷ [])
+          ((sel (column n.0 1 ∷ [])).1 (n.0, n.1, (event_begins n.0 n.1).1 n.2, refl))),
+    )
+
+  -- ---- streams
+
+  -- a row that is shown as its stream
+  names_stream : (r shown : Row) (s : Stream) → shown ≡ column r 1 ∷ column r 2 ∷ [] → column shown 0 ≡ Text s.nmi
+      → column shown 1 ≡ Text s.suffix → stream_in r ≡ s
+  names_stream r shown s is nmi suffix =
+      let one : text_at r 1 ≡ s.nmi = ap (λ x. bytes (column x 0)) (sym is) ∙ ap bytes nmi in
+      let two : text_at r 2 ≡ s.suffix = ap (λ x. bytes (column x 1)) (sym is) ∙ ap bytes suffix in
+      λ i. record { nmi = one i; suffix = two i }
+
+  module _ (rows : List Row) (s : Stream) where
+    pub head_streams : Selects 2 [] (1 ∷ 2 ∷ []) trees rows
+        → ShowsStream rows s ↔ ((head : Head) × (HeadIs head ∈ world_in trees) × (head.stream ≡ s))
+    head_streams sel = (
+      (λ t.
+          let f = (sel t.0).0 t.1 in
+          (head_at f.0, (of_head trees (head_at f.0)).1 (f.0, f.1, refl), names_stream f.0 t.0 s f.3 t.2 t.3)),
+      (λ p.
+          let n = (of_head trees p.0).0 p.1 in
+          let same = head_is n.0 p.0 n.2 in
+          let on : stream_in n.0 ≡ s = ap (λ (x : Head). x.stream) same ∙ p.2 in
+          let it = head_row trees sound n.0 n.1 in (
+            column n.0 1 ∷ column n.0 2 ∷ [],
+            (sel (column n.0 1 ∷ column n.0 2 ∷ [])).1 (n.0, n.1, refl, refl),
+            it.nmi ∙ ap (λ (x : Stream). Text x.nmi) on,
+            it.suffix ∙ ap (λ (x : Stream). Text x.suffix) on,
+          )),
+    )
+
+    pub detail_streams : Selects 6 [] (1 ∷ 2 ∷ []) trees rows
+        → ShowsStream rows s ↔ ((detail : Detail) × (DetailIs detail ∈ world_in trees) × (detail.stream ≡ s))
+    detail_streams sel = (
+      (λ t.
+          let f = (sel t.0).0 t.1 in
+          (detail_at f.0, (of_detail trees (detail_at f.0)).1 (f.0, f.1, refl), names_stream f.0 t.0 s f.3 t.2 t.3)),
+      (λ p.
+          let n = (of_detail trees p.0).0 p.1 in
+          let same = detail_is n.0 p.0 n.2 in
+          let on : stream_in n.0 ≡ s = ap (λ (x : Detail). x.stream) same ∙ p.2 in
+          let it = (detail_row trees sound n.0 n.1).keyed in (
+            column n.0 1 ∷ column n.0 2 ∷ [],
+            (sel (column n.0 1 ∷ column n.0 2 ∷ [])).1 (n.0, n.1, refl, refl),
+            it.nmi ∙ ap (λ (x : Stream). Text x.nmi) on,
+            it.suffix ∙ ap (λ (x : Stream). Text x.suffix) on,
+          )),
+    )
+
+  -- the known streams: the rows name no period
+  pub finds_streams : (heads details : List Row) → Selects 2 [] (1 ∷ 2 ∷ []) trees heads
+      → Selects 6 [] (1 ∷ 2 ∷ []) trees details → (streams : List Stream) → AreStreamsIn heads details streams
+      → AllPairs (λ a b. stream_cmp a b ≡ Less) streams → AreKnownStreams (world_in trees) streams
+  finds_streams heads details of_heads of_details streams are up = record {
+    each = λ s. (
+      (λ m. elim ((are s).0 m) [
+        | inl h ↦ inl ((head_streams heads s of_heads).0 h)
+        | inr d ↦ inr (inl ((detail_streams details s of_details).0 d))
+      ]),
+      (λ k. elim k [
+        | inl h ↦ (are s).1 (inl ((head_streams heads s of_heads).1 h))
+        | inr d ↦ elim d [
+          | inl d ↦ (are s).1 (inr ((detail_streams details s of_details).1 d))
+          | inr p ↦ absurd (no_period trees p.0 p.1 p.2)
+        ]
+      ]),
+    );
+    ascending = up;
+  }

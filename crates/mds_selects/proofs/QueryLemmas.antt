@@ -1,0 +1,164 @@
+-- What a query of one table does to a connection, and finds.
+use Rattle.std.proofs.Common.{◌≡◌, inl, inr, ℕ, List, [], ◌∷◌, true, false, Option, Some, None, Ok, Err, Result, IfOk, IfErr, OnErr, codes, refl, sym, subst}
+use Rattle.std.specs.List.{AllByRecursion}
+use Rattle.sqlite_value.specs.declared.keys.Key.{Key}
+use Rattle.sqlite_value.specs.Order.{Row}
+use Rattle.sqlite_trees.specs.Tree.{Trees}
+use Rattle.sqlite_sql.specs.Term.{Term}
+use Rattle.sqlite.specs.Clock.{timed}
+use Rattle.sqlite.specs.Command.TheVariants.{Select}
+use Rattle.sqlite.specs.Listing.{reads_listing, understood}
+use Rattle.sqlite.specs.Program.{overlay}
+use Rattle.sqlite.specs.Schema.{Schema}
+use Rattle.sqlite.specs.State.{FailsToQuery, FailsToShow, IsUnchanged, Shown, ShowsRows, State}
+use Rattle.sqlite.specs.declared.error.Error.{Error}
+use Rattle.sqlite.proofs.Callers.{IsPlain, command_of, reads_as}
+use Rattle.sqlite.specs.Table.{Table}
+use Rattle.sqlite_catalog.specs.Listing.{IsSound}
+use Rattle.sqlite_schema.specs.Rules.{passes as keeps_rule}
+use Rattle.sqlite_schema.specs.declared.schema.Column.{Column}
+use Rattle.sqlite_schema.specs.declared.schema.Constraint.TheVariants.{Datatype, NotNull}
+use Rattle.mds_names.specs.declared.stream.Stream.{Stream}
+use Rattle.mds_terms.specs.Event.{EventValue}
+use Rattle.mds_world.specs.declared.facts.Detail.{Detail}
+use Rattle.mds_world.specs.Lists.{Member}
+use Rattle.mds_tables.specs.Cells.{day_cells, detail_cells, event_cells, optional_cell, stream_cells}
+use Rattle.mds_tables.specs.Stores.{ChangesNothing, Finds, Selects, SelectsAll}
+use Rattle.mds_tables.specs.Tables.{detail_table, event_table, head_table, number, schema_1, version_table}
+use Rattle.mds_tables.proofs.CallLemmas.{not_run}
+use Rattle.mds_selects.proofs.KeyLemmas.{tests}
+use Rattle.mds_selects.proofs.MemberLemmas.{all_has, selects, selects_all}
+use Rattle.mds_selects.proofs.SelectLemmas.{Picks, picks}
+use Rattle.mds_selects.proofs.SelectTexts.{columns_at, from_one}
+use Rattle.mds_selects.proofs.TypedLemmas.{AreFor, AreTyped, IsFor, both}
+
+module _ (sql : List ℕ) (params : Row) (old new : State) (schema : Schema) (has : old.now.schema ≡ schema)
+    (plain : IsPlain (understood schema sql)) where
+  there : IsPlain (understood old.now.schema sql)
+  there = subst (λ s. IsPlain (understood s sql)) (sym has) plain
+
+  shown_same : (rows : List Row) → Shown sql params old new rows → IsUnchanged old new
+  unfolding Shown
+  shown_same rows h =
+      let none = (subst IsPlain h.1.is there).0 in
+      (subst (ShowsRows old new sql h.0 (timed params h.0.formats h.1.now) rows) none h.2).3
+
+  fails_same : (e : Error) → FailsToQuery sql params old new e → ChangesNothing old new
+  unfolding FailsToQuery
+  fails_same e (inl h) = not_run old new sql params e h
+  fails_same e (inr h) =
+      let none = (subst IsPlain h.1.is there).0 in
+      inl (subst (FailsToShow old new sql h.0 (timed params h.0.formats h.1.now) e) none h.2).3
+
+-- the text is one query of a table
+abbrev AsksFor : List ℕ → ℕ → List Term → List Term → List (Term × Key) → List (List ℕ) → Type 0
+AsksFor sql tree test project order names =
+    command_of (understood schema_1 sql)
+    ≡ Select (record { lets = []; body = from_one tree test project order }) names
+
+module _ (sql : List ℕ) (plain : IsPlain (understood schema_1 sql) × (reads_listing schema_1 sql ≡ false)) where
+  -- a query that fails changes nothing
+  pub fails : {V : Type 0} (old new : State) (params : Row) → old.now.schema ≡ schema_1 → (r : Result V Error)
+      → IfErr r (FailsToQuery sql params old new) → OnErr r (ChangesNothing old new)
+  fails old new params has (Ok v) h = tt
+  fails old new params has (Err e) h = fails_same sql params old new schema_1 has plain.0 e h
+
+  module _ (tree : ℕ) (test project : List Term) (order : List (Term × Key)) (names : List (List ℕ))
+      (is : AsksFor sql tree test project order names) (low : (db : Trees) → overlay db [] tree ≡ db tree) where
+    -- What is shown of a query's rows in any sound database is found.
+    pub finds : {V : Type 0} (old new : State) (params : Row) (items : V → List Row) (Says : List Row → Trees → Type 0)
+        → ((db : Trees) → IsSound schema_1 db → (rows : List Row) → Picks tree test project order db params rows
+        → Says rows db)
+        → (r : Result V Error) → IfOk r (λ v. Shown sql params old new (items v))
+        → IfOk r (λ v. Finds old new (Says (items v)))
+    finds old new params items Says says (Err e) h = tt
+    finds old new params items Says says (Ok v) h = record {
+      same = λ has. shown_same sql params old new schema_1 has plain.0 (items v) h;
+      shows = λ has sound.
+          let read = reads_as sql params old new schema_1 has _ is plain.0 plain.1 (items v) h in
+          says old.now.trees (rw has at sound) (items v)
+          (picks tree test project order old.now.trees params (items v) (low old.now.trees) read.answer);
+    }
+
+-- ---- the types of the tables
+
+module _ (db : Trees) (sound : IsSound schema_1 db) (row : Row) where
+  kept : (table : Table) (rows : List Row) → AllByRecursion (λ r. keeps_rule Datatype schema_1 db table r ≡ true) rows
+      → AllByRecursion (λ r. keeps_rule NotNull schema_1 db table r ≡ true) rows → Member row rows
+      → (keeps_rule Datatype schema_1 db table row ≡ true) × (keeps_rule NotNull schema_1 db table row ≡ true)
+  kept table rows fits there m = (
+    all_has (λ r. keeps_rule Datatype schema_1 db table r ≡ true) rows row fits m,
+    all_has (λ r. keeps_rule NotNull schema_1 db table r ≡ true) rows row there m,
+  )
+
+  pub head_typed : Member row (db 2) → AreTyped head_table.columns row
+  head_typed m =
+      let it = kept head_table (db 2) (sound.obeys.rules Datatype).1.0 (sound.obeys.rules NotNull).1.0 m in
+      record { typed = (both _ _ it.0).0; present = it.1 }
+
+  pub version_typed : Member row (db 4) → AreTyped version_table.columns row
+  version_typed m =
+      let it = kept version_table (db 4) (sound.obeys.rules Datatype).1.1.0 (sound.obeys.rules NotNull).1.1.0 m in
+      record { typed = (both _ _ it.0).0; present = it.1 }
+
+  pub detail_typed : Member row (db 6) → AreTyped detail_table.columns row
+  detail_typed m =
+      let it = kept detail_table (db 6) (sound.obeys.rules Datatype).1.1.1.0 (sound.obeys.rules NotNull).1.1.1.0 m in
+      record { typed = (both _ _ it.0).0; present = it.1 }
+
+  pub event_typed : Member row (db 8) → AreTyped event_table.columns row
+  event_typed m =
+      let fits = (sound.obeys.rules Datatype).1.1.1.1.0 in
+      let it = kept event_table (db 8) fits (sound.obeys.rules NotNull).1.1.1.1.0 m in
+      record { typed = (both _ _ it.0).0; present = it.1 }
+
+-- ---- the keys of the queries
+
+optional_for : (name : List ℕ) (o : Option ℕ) → IsFor (number name) (optional_cell o)
+optional_for name None = (name, refl)
+optional_for name (Some n) = (name, refl)
+
+pub head_for : (s : Stream) (day : ℕ) → AreFor head_table.columns (day_cells s day)
+head_for s day = ((codes "nmi", refl), ((codes "suffix", refl), ((codes "day", refl), tt)))
+
+pub version_for : (s : Stream) (day : ℕ) → AreFor version_table.columns (day_cells s day)
+version_for s day = ((codes "nmi", refl), ((codes "suffix", refl), ((codes "day", refl), tt)))
+
+pub details_for : (s : Stream) → AreFor detail_table.columns (stream_cells s)
+details_for s = ((codes "nmi", refl), ((codes "suffix", refl), tt))
+
+pub detail_for : (d : Detail) → AreFor detail_table.columns (detail_cells d)
+detail_for d =
+    ((codes "nmi", refl), ((codes "suffix", refl), ((codes "moment", refl), ((codes "configuration", refl), ((codes "register", refl), ((codes "datastream", refl), ((codes "meter", refl), (optional_for (codes "next") d.details.next, tt))))))))
+
+pub events_for : (s : Stream) (day : ℕ) → AreFor event_table.columns (day_cells s day)
+events_for s day = ((codes "nmi", refl), ((codes "suffix", refl), ((codes "day", refl), tt)))
+
+pub event_for : (e : EventValue) → AreFor event_table.columns (event_cells e)
+event_for e =
+    ((codes "nmi", refl), ((codes "suffix", refl), ((codes "day", refl), ((codes "trans", refl), ((codes "ticket", refl), (optional_for (codes "moment") e.moment, ((codes "reading", refl), tt)))))))
+
+-- ---- the queries by a key, and of all rows
+
+module _ (sql : List ℕ) (plain : IsPlain (understood schema_1 sql) × (reads_listing schema_1 sql ≡ false)) (tree : ℕ)
+    (places : List ℕ) (names : List (List ℕ)) (low : (db : Trees) → overlay db [] tree ≡ db tree) where
+  pub finds_rows : {V : Type 0} (key : Row)
+      → AsksFor sql tree (tests 0 key) (columns_at places) [] names
+      → (cs : List Column) → AreFor cs key
+      → ((db : Trees) → IsSound schema_1 db → (row : Row) → Member row (db tree) → AreTyped cs row)
+      → (old new : State) (items : V → List Row) (r : Result V Error)
+      → IfOk r (λ v. Shown sql key old new (items v))
+      → IfOk r (λ v. Finds old new (λ trees. Selects tree key places trees (items v)))
+  finds_rows key is cs of typed old new items r h =
+      finds sql plain tree (tests 0 key) (columns_at places) [] names is low old new key items
+      (λ rows trees. Selects tree key places trees rows)
+      (λ db sound rows p. selects tree places [] db key cs of (typed db sound) rows p) r h
+
+  pub finds_every : {V : Type 0}
+      → AsksFor sql tree [] (columns_at places) [] names
+      → (old new : State) (items : V → List Row) (r : Result V Error)
+      → IfOk r (λ v. Shown sql [] old new (items v))
+      → IfOk r (λ v. Finds old new (λ trees. SelectsAll tree places trees (items v)))
+  finds_every is old new items r h =
+      finds sql plain tree [] (columns_at places) [] names is low old new [] items
+      (λ rows trees. SelectsAll tree places trees rows) (λ db sound rows p. selects_all tree places db rows p) r h

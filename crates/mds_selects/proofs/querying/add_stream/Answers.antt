@@ -1,0 +1,12 @@
+use Rattle.std.proofs.lemmas.Result.{on_ok_weaker}
+use Rattle.mds_versions.proofs.Places.{stream_exact}
+use Rattle.mds_selects.specs.Added.{SaysStream}
+use Rattle.mds_selects.proofs.Adding.{adds_one, one_stream}
+use Rattle.mds_selects.proofs.querying.add_stream.Goals as goal
+
+pub returns : goal.returns
+returns c =
+    on_ok_weaker c.put.result
+    (λ h. adds_one SaysStream c.args.found.now.keys c.put.new.found.keys c.args.row.now c.in-Some.stream h c.in-Some.ensures
+    (λ q s. one_stream c.args.row.now q c.in-Some.stream s c.in-Some.ensures))
+    (c.put.ensures stream_exact)

@@ -1,0 +1,17 @@
+use Rattle.std.proofs.Common.{subst}
+use Rattle.std.proofs.lemmas.List.{take_all}
+use Rattle.std.proofs.lemmas.List.Elements.{All-more}
+use Rattle.std.specs.List.{All}
+use Rattle.sqlite_value.specs.Order.{Row}
+use Rattle.mds_selects.specs.Shown.{IsDetailRow}
+use Rattle.mds_selects.proofs.querying.are_detail_rows.Goals as goal
+
+pub loop-i-preserved : goal.loop-i-preserved
+loop-i-preserved c =
+    All-more (λ row. IsDetailRow row) c.args.rows.now c.loop-i.i c.index-rows-i.result c.loop-i-test.true c.loop-i.invariant
+    (subst (λ row. IsDetailRow row) c.index-rows-i.is (c.is_detail_row-is_lawful.ensures c.if-not-is_lawful.false))
+
+pub returns : goal.returns
+returns c = λ t.
+    subst (λ rows. All (λ (row : Row). IsDetailRow row) rows)
+    (take_all c.loop-i.i c.args.rows.now c.loop-i-test.false) c.loop-i.invariant

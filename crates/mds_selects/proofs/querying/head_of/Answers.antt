@@ -1,0 +1,24 @@
+use Rattle.std.proofs.Common.{arith, subst}
+use Rattle.std.specs.Prelude.{IfOk}
+use Rattle.std.proofs.lemmas.Result.{IfOk-weaker}
+use Rattle.sqlite.specs.Held.{state}
+use Rattle.mds_selects.specs.Shown.{IsOnlyHead}
+use Rattle.mds_selects.proofs.Asked.{shows, sound, tables_held}
+use Rattle.mds_selects.proofs.Listed.{finds_head}
+use Rattle.mds_selects.proofs.querying.head_of.Goals as goal
+
+pub returns-clause-found : goal.returns-clause-found
+returns-clause-found g c clean holds =
+    let old = state g.S.Store c.args.conn.now in
+    let mid = state g.S.Store c.ready.new.conn in
+    let new = state g.S.Store c.head_rows.new.conn in
+    let rows = c.in-Ok-head_rows.rows.items in
+    let ready = c.in-Ok.ensures.ok in
+    let earlier = c.ready.ensures.survives.clean in
+    let later = c.head_rows.ensures.clean in
+    let held = tables_held old holds in
+    IfOk-weaker c.only_head.result (IsOnlyHead rows) _
+    (finds_head c.args.stream.now c.args.day (omega (arith, c.number.ensures.last)) old.committed.trees
+    (sound old mid new ready earlier later clean held) rows
+    (shows old mid new ready earlier later clean held _ (c.in-Ok-head_rows.ensures.ok clean)))
+    (subst (λ rs. IfOk c.only_head.result (IsOnlyHead rs)) c.deref.ensures.value c.only_head.ensures)

@@ -1,0 +1,19 @@
+use Rattle.sqlite.specs.Held.{state}
+use Rattle.mds_selects.proofs.DetailLemmas.{finds_details}
+use Rattle.mds_selects.proofs.QueryLemmas.{fails}
+use Rattle.mds_selects.proofs.SelectTexts.{select_details, select_details_plain}
+use Rattle.mds_selects.proofs.rows.details_rows.Goals as goal
+
+pub returns-clause-ok : goal.returns-clause-ok
+returns-clause-ok g c clean =
+    let old = state g.S.Store c.args.conn.now in
+    let new = state g.S.Store c.query_all.new.self in
+    finds_details c.args.stream.now old new (λ v. v.items) c.query_all.result
+    (rw c.stream_cells.ensures at (c.query_all.ensures.ok clean))
+
+pub returns-clause-err : goal.returns-clause-err
+returns-clause-err g c clean has =
+    let old = state g.S.Store c.args.conn.now in
+    let new = state g.S.Store c.query_all.new.self in
+    fails select_details select_details_plain old new _ has
+    c.query_all.result (c.query_all.ensures.err clean)

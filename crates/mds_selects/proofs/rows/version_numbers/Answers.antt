@@ -1,0 +1,20 @@
+use Rattle.std.proofs.Common.{[], ◌∷◌, refl}
+use Rattle.sqlite.specs.Held.{state}
+use Rattle.mds_selects.proofs.QueryLemmas.{fails, finds_every}
+use Rattle.mds_selects.proofs.SelectTexts.{select_version, select_version_is, select_version_plain}
+use Rattle.mds_selects.proofs.rows.version_numbers.Goals as goal
+
+pub returns-clause-ok : goal.returns-clause-ok
+returns-clause-ok g c clean =
+    let old = state g.S.Store c.args.conn.now in
+    let new = state g.S.Store c.query_all.new.self in
+    finds_every select_version select_version_plain 0 (1 ∷ []) _ (λ db. refl) select_version_is
+    old new (λ v. v.items) c.query_all.result
+    (c.query_all.ensures.ok clean)
+
+pub returns-clause-err : goal.returns-clause-err
+returns-clause-err g c clean has =
+    let old = state g.S.Store c.args.conn.now in
+    let new = state g.S.Store c.query_all.new.self in
+    fails select_version select_version_plain old new _ has
+    c.query_all.result (c.query_all.ensures.err clean)

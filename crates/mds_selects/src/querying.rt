@@ -1,0 +1,490 @@
+//! What is asked of a store, found by queries. A store that can't answer, or holds a row that the store didn't write,
+//! is unavailable.
+
+ghost use Rattle.std.specs.Prelude.{◌≡◌, ◌≢◌, ◌⊎◌, ◌<◌, ◌≤◌, ◌^◌, ◌↔◌, ℕ, [], ◌∷◌, false, map, pos, All, IfOk, IsTrue, OnOk, Some};
+ghost use Rattle.std.specs.Bool.{MatchBool};
+ghost use Rattle.std.specs.FinSet.{IsAntisymmetric};
+ghost use Rattle.std.specs.List.{AllPairs};
+ghost use Rattle.std.specs.declared.cmp.Ordering.TheVariants.{Less};
+ghost use Rattle.sqlite.specs.declared.types.Value.TheVariants.{Int};
+ghost use Rattle.sqlite.specs.Held.{state};
+ghost use Rattle.sqlite.specs.State.{HasCleanDisk, KeepsCommit};
+ghost use Rattle.sqlite_trees.specs.View.{doubt};
+ghost use Rattle.mds_world.specs.Current.{IsCurrentDetails, no_details};
+ghost use Rattle.mds_world.specs.Facts.Fact.{DetailIs, EventIs};
+ghost use Rattle.mds_world.specs.Lists.{Apart, Member};
+ghost use Rattle.mds_world.specs.Sets.{◌∈◌};
+ghost use Rattle.mds_versions.specs.Queries.{AreEventsOf, AreKnownStreams, stream_cmp};
+ghost use Rattle.mds_tables.specs.RowFacts.{int_at};
+ghost use Rattle.mds_tables.specs.Stores.{Holds, HoldsTables, world_of};
+ghost use Rattle.mds_selects.specs.Found.{AreRowsOf, IsHeadOf};
+ghost use Rattle.mds_selects.specs.Shown.{AreEventsIn, AreFirstDetails, AreStreamsIn, AreVersionsIn, IsDetailRow, IsOnlyHead, SaysVersion};
+ghost use Rattle.mds_selects.specs.Added.{AreAdded, IsAdded, SaysEvent, SaysStream};
+
+use crate::rows::{
+    detail_stream_rows, details_rows, event_rows, head_rows, head_stream_rows, same_details_rows,
+    same_event_rows, version_numbers, version_rows,
+};
+use crate::terms::{detail_in, event_at, head_in, is_detail_row, stream_in, version_in};
+use mds_quantity::Unit;
+use mds_tables::{letter_of, ready};
+use mds_terms::{Day, Details, Event, Length, Moment, Stream, TransCode};
+use mds_versions::{Unavailable, Version};
+use mds_world::Detail;
+use sqlite::types::ValueRef;
+use sqlite::{Alter, Connection, Row};
+use std::alloc::Global;
+use std::collections::BTreeSet;
+
+/// Whether mds_schema says 1 and nothing else, in a database that has the tables of schema 1.
+pub fn is_version_1<S: Alter>(conn: &mut Connection<S>) -> Result<bool, Unavailable>
+    requires { conn.old.in_transaction ≡ false }
+    ensures found { HasCleanDisk (state S.Store conn.new) → HoldsTables (state S.Store conn.old)
+        → IfOk result (λ is. MatchBool is
+        (map (λ row. int_at row 1) ((state S.Store conn.old).committed.trees 0) ≡ pos 1 ∷ [])
+        (map (λ row. int_at row 1) ((state S.Store conn.old).committed.trees 0) ≢ pos 1 ∷ [])) }
+    ensures open { HasCleanDisk (state S.Store conn.new) → HoldsTables (state S.Store conn.old)
+        → OnOk result (IsTrue (state S.Store conn.old).is_open × IsTrue (state S.Store conn.new).is_open) }
+    ensures kept { HasCleanDisk (state S.Store conn.new) → HoldsTables (state S.Store conn.old)
+        → KeepsCommit (state S.Store conn.old) (state S.Store conn.new) }
+    ensures mode { conn.new.in_transaction ≡ false }
+    ensures clean { doubt (state S.Store conn.old).is_clean ≤ doubt (state S.Store conn.new).is_clean }
+{
+    let Ok(_) = ready(conn) else {
+        return Err(Unavailable);
+    };
+    let Ok(rows) = version_numbers(conn) else {
+        return Err(Unavailable);
+    };
+    Ok(is_one(&rows))
+}
+
+/// Whether there is one row, and it says 1.
+fn is_one(rows: &[Row]) -> bool
+    ensures { MatchBool result (rows.now ≡ (Int (pos 1) ∷ []) ∷ []) (rows.now ≢ (Int (pos 1) ∷ []) ∷ []) }
+{
+    match rows {
+        [row] => is_number_1(row),
+        _ => false,
+    }
+}
+
+/// Whether a row is the number 1 alone.
+fn is_number_1(row: &Row) -> bool
+    ensures { MatchBool result (row.now ≡ Int (pos 1) ∷ []) (row.now ≢ Int (pos 1) ∷ []) }
+{
+    row.column_count() == 1 && matches!(row.get_ref(0), Ok(ValueRef::Int(1)))
+}
+
+/// The length and unit of a day, where it is known.
+pub fn head_of<S: Alter>(
+    conn: &mut Connection<S>,
+    stream: &Stream,
+    day: Day,
+) -> Result<Option<(Length, Unit)>, Unavailable>
+    requires { conn.old.in_transaction ≡ false }
+    ensures found { HasCleanDisk (state S.Store conn.new) → Holds (state S.Store conn.old)
+        → IfOk result (IsHeadOf (world_of (state S.Store conn.old)) stream.now day) }
+    ensures kept { HasCleanDisk (state S.Store conn.new) → Holds (state S.Store conn.old)
+        → KeepsCommit (state S.Store conn.old) (state S.Store conn.new) }
+    ensures mode { conn.new.in_transaction ≡ false }
+    ensures clean { doubt (state S.Store conn.old).is_clean ≤ doubt (state S.Store conn.new).is_clean }
+{
+    let Ok(_) = ready(conn) else {
+        return Err(Unavailable);
+    };
+    let Ok(rows) = head_rows(conn, stream, day) else {
+        return Err(Unavailable);
+    };
+    let _ = day.number();
+    only_head(&rows)
+}
+
+/// The length and unit of the one head among rows.
+fn only_head(rows: &[Row]) -> Result<Option<(Length, Unit)>, Unavailable>
+    ensures { IfOk result (IsOnlyHead rows.now) }
+{
+    match rows {
+        [] => Ok(None),
+        [row] => match head_in(row) {
+            Some(head) => Ok(Some((head.length, head.unit))),
+            None => Err(Unavailable),
+        },
+        _ => Err(Unavailable),
+    }
+}
+
+/// The versions of a day, each with its interval.
+pub fn versions_of<S: Alter>(
+    alloc: Global,
+    conn: &mut Connection<S>,
+    stream: &Stream,
+    day: Day,
+) -> Result<Vec<(u16, Version)>, Unavailable>
+    requires { conn.old.in_transaction ≡ false }
+    ensures found { HasCleanDisk (state S.Store conn.new) → Holds (state S.Store conn.old)
+        → IfOk result (λ rows. AreRowsOf (world_of (state S.Store conn.old)) stream.now day rows.items) }
+    ensures kept { HasCleanDisk (state S.Store conn.new) → Holds (state S.Store conn.old)
+        → KeepsCommit (state S.Store conn.old) (state S.Store conn.new) }
+    ensures mode { conn.new.in_transaction ≡ false }
+    ensures clean { doubt (state S.Store conn.old).is_clean ≤ doubt (state S.Store conn.new).is_clean }
+{
+    let Ok(_) = ready(conn) else {
+        return Err(Unavailable);
+    };
+    let Ok(rows) = version_rows(conn, stream, day) else {
+        return Err(Unavailable);
+    };
+    let _ = day.number();
+    all_versions(alloc, &rows)
+}
+
+/// The versions of rows, each with its interval.
+fn all_versions(alloc: Global, rows: &[Row]) -> Result<Vec<(u16, Version)>, Unavailable>
+    ensures { IfOk result (λ versions. AreVersionsIn rows.now versions.items) }
+{
+    let Ok(mut versions) = Vec::with_capacity(alloc, rows.len()) else {
+        return Err(Unavailable);
+    };
+    for i in 0..rows.len() {
+        let Ok(version) = version_at(alloc, &rows[i]) else {
+            return Err(Unavailable);
+        };
+        let Ok(_) = versions.push(version) else {
+            return Err(Unavailable);
+        };
+    }
+    Ok(versions)
+}
+
+/// The version of a row, with its interval.
+fn version_at(alloc: Global, row: &Row) -> Result<(u16, Version), Unavailable>
+    ensures { IfOk result (SaysVersion row.now) }
+{
+    let Ok(it) = version_in(alloc, row) else {
+        return Err(Unavailable);
+    };
+    let (key, reading) = it;
+    let version = Version {
+        update: key.update,
+        reading,
+    };
+    Ok((key.interval, version))
+}
+
+/// The current details of a stream.
+pub fn current_details<S: Alter>(
+    alloc: Global,
+    conn: &mut Connection<S>,
+    stream: &Stream,
+) -> Result<Details, Unavailable>
+    requires { conn.old.in_transaction ≡ false }
+    ensures found { HasCleanDisk (state S.Store conn.new) → Holds (state S.Store conn.old)
+        → IfOk result (IsCurrentDetails (world_of (state S.Store conn.old)) stream.now) }
+    ensures kept { HasCleanDisk (state S.Store conn.new) → Holds (state S.Store conn.old)
+        → KeepsCommit (state S.Store conn.old) (state S.Store conn.new) }
+    ensures mode { conn.new.in_transaction ≡ false }
+    ensures clean { doubt (state S.Store conn.old).is_clean ≤ doubt (state S.Store conn.new).is_clean }
+{
+    let Ok(_) = ready(conn) else {
+        return Err(Unavailable);
+    };
+    let Ok(rows) = details_rows(conn, stream) else {
+        return Err(Unavailable);
+    };
+    first_details(alloc, &rows)
+}
+
+/// The details of the first row, and empty ones where there is none.
+fn first_details(alloc: Global, rows: &[Row]) -> Result<Details, Unavailable>
+    ensures first { IfOk result (AreFirstDetails rows.now) }
+    ensures all { IfOk result (λ details. All (λ row. IsDetailRow row) rows.now) }
+{
+    let are_lawful = are_detail_rows(rows);
+    if !are_lawful {
+        return Err(Unavailable);
+    }
+    match rows {
+        [first, ..] => details_at(alloc, first),
+        [] => empty_details(alloc),
+    }
+}
+
+/// The details of a row.
+fn details_at(alloc: Global, row: &Row) -> Result<Details, Unavailable>
+    ensures { IfOk result (λ details. AreFirstDetails (row.now ∷ []) details) }
+{
+    let Ok(detail) = detail_in(alloc, row) else {
+        return Err(Unavailable);
+    };
+    Ok(detail.details)
+}
+
+/// Whether all rows are ones of details that the store writes.
+fn are_detail_rows(rows: &[Row]) -> bool
+    ensures { IsTrue result → All (λ row. IsDetailRow row) rows.now }
+{
+    for i in 0..rows.len() {
+        let is_lawful = is_detail_row(&rows[i]);
+        if !is_lawful {
+            return false;
+        }
+    }
+    true
+}
+
+/// Details of which nothing is known.
+#[tactic(auto, unfolding(mds_terms::specs::Details::details_of))]
+fn empty_details(alloc: Global) -> Result<Details, Unavailable>
+    ensures { IfOk result (λ details. details ≡ no_details) }
+{
+    match Details::read(alloc, b"", b"", b"", b"", b"") {
+        Ok(Some(details)) => Ok(details),
+        _ => Err(Unavailable),
+    }
+}
+
+/// Whether these details are kept, current or not.
+pub fn has_details<S: Alter>(conn: &mut Connection<S>, detail: &Detail) -> Result<bool, Unavailable>
+    requires { conn.old.in_transaction ≡ false }
+    ensures found { HasCleanDisk (state S.Store conn.new) → Holds (state S.Store conn.old)
+        → IfOk result (λ has. IsTrue has ↔ (DetailIs detail.now ∈ world_of (state S.Store conn.old))) }
+    ensures kept { HasCleanDisk (state S.Store conn.new) → Holds (state S.Store conn.old)
+        → KeepsCommit (state S.Store conn.old) (state S.Store conn.new) }
+    ensures mode { conn.new.in_transaction ≡ false }
+    ensures clean { doubt (state S.Store conn.old).is_clean ≤ doubt (state S.Store conn.new).is_clean }
+{
+    let Ok(_) = ready(conn) else {
+        return Err(Unavailable);
+    };
+    let Ok(rows) = same_details_rows(conn, detail) else {
+        return Err(Unavailable);
+    };
+    are_small(detail);
+    Ok(has_any(&rows))
+}
+
+/// The events of a day, each once.
+pub fn events_of<S: Alter>(
+    alloc: Global,
+    conn: &mut Connection<S>,
+    stream: &Stream,
+    day: Day,
+) -> Result<Vec<Event>, Unavailable>
+    requires { conn.old.in_transaction ≡ false }
+    ensures found { HasCleanDisk (state S.Store conn.new) → Holds (state S.Store conn.old)
+        → IfOk result (λ events. AreEventsOf (world_of (state S.Store conn.old)) stream.now day events.items) }
+    ensures kept { HasCleanDisk (state S.Store conn.new) → Holds (state S.Store conn.old)
+        → KeepsCommit (state S.Store conn.old) (state S.Store conn.new) }
+    ensures mode { conn.new.in_transaction ≡ false }
+    ensures clean { doubt (state S.Store conn.old).is_clean ≤ doubt (state S.Store conn.new).is_clean }
+{
+    let Ok(_) = ready(conn) else {
+        return Err(Unavailable);
+    };
+    let Ok(rows) = event_rows(conn, stream, day) else {
+        return Err(Unavailable);
+    };
+    let _ = day.number();
+    all_events(alloc, &rows)
+}
+
+/// The events of rows, each once.
+fn all_events(alloc: Global, rows: &[Row]) -> Result<Vec<Event>, Unavailable>
+    ensures each { IfOk result (λ events. AreEventsIn rows.now events.items) }
+    ensures apart { IfOk result (λ events. Apart events.items) }
+{
+    let mut found = BTreeSet::new(alloc);
+    let Ok(_) = add_events(alloc, &mut found, rows) else {
+        return Err(Unavailable);
+    };
+    in_order(alloc, found)
+}
+
+/// Adds the events of rows.
+fn add_events(alloc: Global, found: &mut BTreeSet<Event>, rows: &[Row]) -> Result<(), Unavailable>
+    ensures { OnOk result (AreAdded SaysEvent found.old.keys rows.now found.new.keys) }
+{
+    for i in 0..rows.len() {
+        let Ok(_) = add_event(alloc, found, &rows[i]) else {
+            return Err(Unavailable);
+        };
+    }
+    Ok(())
+}
+
+/// Adds the event of a row.
+fn add_event(alloc: Global, found: &mut BTreeSet<Event>, row: &Row) -> Result<(), Unavailable>
+    ensures { OnOk result (IsAdded SaysEvent found.old.keys row.now found.new.keys) }
+{
+    let Ok(event) = event_at(alloc, row) else {
+        return Err(Unavailable);
+    };
+    put(found, event)
+}
+
+/// Puts one more into a set.
+fn put<T: Ord + Drop>(found: &mut BTreeSet<T>, item: T) -> Result<(), Unavailable>
+    ensures { IsAntisymmetric T.cmp → OnOk result ((q : T) → Member q found.new.keys ↔ (Member q found.old.keys ⊎ (q ≡ item))) }
+{
+    match found.insert(item) {
+        Ok(_) => Ok(()),
+        Err(_) => Err(Unavailable),
+    }
+}
+
+/// All of a set, in their order.
+fn in_order<T: Ord + Drop>(alloc: Global, found: BTreeSet<T>) -> Result<Vec<T>, Unavailable>
+    ensures same { IfOk result (λ all. all.items ≡ found.keys) }
+    ensures ascending { IfOk result (λ all. AllPairs (λ a b. T.cmp a b ≡ Less) all.items) }
+    ensures apart { IfOk result (λ all. Apart all.items) }
+{
+    match found.into_iter().collect(alloc) {
+        Ok(all) => Ok(all),
+        Err(_) => Err(Unavailable),
+    }
+}
+
+/// Whether the event is kept.
+pub fn has_event<S: Alter>(conn: &mut Connection<S>, event: &Event) -> Result<bool, Unavailable>
+    requires { conn.old.in_transaction ≡ false }
+    ensures found { HasCleanDisk (state S.Store conn.new) → Holds (state S.Store conn.old)
+        → IfOk result (λ has. IsTrue has ↔ (EventIs event.now ∈ world_of (state S.Store conn.old))) }
+    ensures kept { HasCleanDisk (state S.Store conn.new) → Holds (state S.Store conn.old)
+        → KeepsCommit (state S.Store conn.old) (state S.Store conn.new) }
+    ensures mode { conn.new.in_transaction ≡ false }
+    ensures clean { doubt (state S.Store conn.old).is_clean ≤ doubt (state S.Store conn.new).is_clean }
+{
+    let Ok(_) = ready(conn) else {
+        return Err(Unavailable);
+    };
+    let (nmi, suffix) = (event.nmi(), event.suffix());
+    let (letter, count) = letter_of(event);
+    let Ok(rows) = same_event_rows(
+        conn,
+        event,
+        nmi.text().as_bytes(),
+        suffix.text().as_bytes(),
+        &letter[..count],
+    ) else {
+        return Err(Unavailable);
+    };
+    has_small_numbers(event);
+    Ok(has_any(&rows))
+}
+
+/// Whether there are rows.
+fn has_any(rows: &[Row]) -> bool
+    ensures { IsTrue result ↔ (rows.now ≢ []) }
+{
+    !rows.is_empty()
+}
+
+/// The numbers of details are far below the greatest that a column can hold.
+fn are_small(detail: &Detail)
+    ensures moment { detail.now.moment < 2 ^ 63 }
+    ensures next { (n : ℕ) → detail.now.details.next ≡ Some n → n < 2 ^ 63 }
+{
+    let _ = detail.moment.seconds();
+    is_small_day(detail.details.next());
+}
+
+/// The numbers of an event are far below the greatest that a column can hold.
+fn has_small_numbers(event: &Event)
+    ensures day { event.now.day < 2 ^ 63 }
+    ensures trans { (n : ℕ) → event.now.trans ≡ Some n → n < 2 ^ 63 }
+    ensures moment { (n : ℕ) → event.now.moment ≡ Some n → n < 2 ^ 63 }
+{
+    let _ = event.day().number();
+    is_small_letter(event.trans());
+    is_small_moment(event.moment());
+}
+
+/// So is the number of a day.
+fn is_small_day(day: Option<Day>)
+    ensures { (n : ℕ) → day ≡ Some n → n < 2 ^ 63 }
+{
+    if let Some(day) = day {
+        let _ = day.number();
+    }
+}
+
+/// So is that of a moment.
+fn is_small_moment(moment: Option<Moment>)
+    ensures { (n : ℕ) → moment ≡ Some n → n < 2 ^ 63 }
+{
+    if let Some(moment) = moment {
+        let _ = moment.seconds();
+    }
+}
+
+/// So is that of a letter.
+fn is_small_letter(code: Option<TransCode>)
+    ensures { (n : ℕ) → code ≡ Some n → n < 2 ^ 63 }
+{
+    if let Some(code) = code {
+        let _ = code.letter();
+    }
+}
+
+/// The known streams, in the order of their bytes, each once.
+pub fn streams<S: Alter>(
+    alloc: Global,
+    conn: &mut Connection<S>,
+) -> Result<Vec<Stream>, Unavailable>
+    requires { conn.old.in_transaction ≡ false }
+    ensures found { HasCleanDisk (state S.Store conn.new) → Holds (state S.Store conn.old)
+        → IfOk result (λ streams. AreKnownStreams (world_of (state S.Store conn.old)) streams.items) }
+    ensures kept { HasCleanDisk (state S.Store conn.new) → Holds (state S.Store conn.old)
+        → KeepsCommit (state S.Store conn.old) (state S.Store conn.new) }
+    ensures mode { conn.new.in_transaction ≡ false }
+    ensures clean { doubt (state S.Store conn.old).is_clean ≤ doubt (state S.Store conn.new).is_clean }
+{
+    let Ok(_) = ready(conn) else {
+        return Err(Unavailable);
+    };
+    let Ok(heads) = head_stream_rows(conn) else {
+        return Err(Unavailable);
+    };
+    let Ok(details) = detail_stream_rows(conn) else {
+        return Err(Unavailable);
+    };
+    all_streams(alloc, &heads, &details)
+}
+
+/// The streams of two lists of rows, ascending, each once.
+fn all_streams(alloc: Global, heads: &[Row], details: &[Row]) -> Result<Vec<Stream>, Unavailable>
+    ensures each { IfOk result (λ streams. AreStreamsIn heads.now details.now streams.items) }
+    ensures ascending { IfOk result (λ streams. AllPairs (λ a b. stream_cmp a b ≡ Less) streams.items) }
+{
+    let mut found = BTreeSet::new(alloc);
+    let Ok(_) = add_streams(&mut found, heads) else {
+        return Err(Unavailable);
+    };
+    let Ok(_) = add_streams(&mut found, details) else {
+        return Err(Unavailable);
+    };
+    in_order(alloc, found)
+}
+
+/// Adds the streams of rows.
+fn add_streams(found: &mut BTreeSet<Stream>, rows: &[Row]) -> Result<(), Unavailable>
+    ensures { OnOk result (AreAdded SaysStream found.old.keys rows.now found.new.keys) }
+{
+    for i in 0..rows.len() {
+        let Ok(_) = add_stream(found, &rows[i]) else {
+            return Err(Unavailable);
+        };
+    }
+    Ok(())
+}
+
+/// Adds the stream of a row.
+fn add_stream(found: &mut BTreeSet<Stream>, row: &Row) -> Result<(), Unavailable>
+    ensures { OnOk result (IsAdded SaysStream found.old.keys row.now found.new.keys) }
+{
+    let Some(stream) = stream_in(row) else {
+        return Err(Unavailable);
+    };
+    put(found, stream)
+}

@@ -1,0 +1,102 @@
+-- A day's book, from the head and the versions that are found one after the other.
+use Rattle.std.specs.Prelude.{◌≡◌, ℕ, ◌≤◌, map, Option, Some, None, IfOk, IfSome, IsTrue, refl}
+use Rattle.std.specs.Option.{ok_or}
+use Rattle.std.proofs.Common.{sym, ap, subst, inl, inr, arith}
+use Rattle.sqlite.specs.Effect.{Database}
+use Rattle.sqlite.specs.State.{HasCleanDisk, KeepsCommit, State}
+use Rattle.sqlite_trees.specs.View.{doubt}
+use Rattle.mds_quantity.specs.declared.unit.Unit.{Unit as MeasureUnit}
+use Rattle.mds_names.specs.declared.stream.Stream.{Stream}
+use Rattle.mds_world.specs.declared.facts.Head.{Head}
+use Rattle.mds_world.specs.declared.facts.Key.{Key}
+use Rattle.mds_world.specs.Facts.{Fact}
+use Rattle.mds_world.specs.Facts.Fact.{DetailIs, EventIs, HeadIs, HolidayIs, JobIs, PeriodIs, VersionIs}
+use Rattle.mds_world.specs.Lists.{Member, append_left, append_right, map_in}
+use Rattle.mds_world.specs.Members.{list_in}
+use Rattle.mds_world.specs.Sets.{◌∈◌}
+use Rattle.mds_world.specs.World.{IsOn, World}
+use Rattle.mds_versions.specs.declared.keeper.Unavailable.{Unavailable}
+use Rattle.mds_versions.specs.Books.{BookValue, IsDay, book_facts, book_world, head_facts, row_fact}
+use Rattle.mds_versions.specs.BookFacts.{from_book}
+use Rattle.mds_tables.specs.RowFacts.{world_in}
+use Rattle.mds_tables.specs.Stores.{Holds, IsStore, world_of}
+use Rattle.mds_selects.specs.Found.{AreRowsOf, IsHeadOf}
+
+-- what was not changed holds as it did
+pub holds_on : (old new : State) → doubt old.is_clean ≤ doubt new.is_clean → (HasCleanDisk new → KeepsCommit old new)
+    → Holds old → Holds new
+holds_on old new less kept holds clean is_open =
+    let before : HasCleanDisk old = omega arith in
+    subst IsStore (sym ((kept clean).committed is_open)) (holds before ((kept clean).was_open is_open))
+
+-- the head of a day is one of the World
+head_there : (w : World) (stream : Stream) (day : ℕ) (known : Option (ℕ × MeasureUnit)) → IsHeadOf w stream day known
+    → (f : Fact) → Member f (head_facts stream day known) → f ∈ w
+head_there w stream day None heads f m = absurd m
+head_there w stream day (Some form) heads f (inl e) =
+    let head : Head = record { stream = stream; day = day; length = form.0; unit = form.1 } in
+    subst (λ g. g ∈ w) (sym e) ((heads head).1 (inl refl)).0
+head_there w stream day (Some form) heads f (inr m) = absurd m
+
+module _ (w : World) (book : BookValue) (heads : IsHeadOf w book.stream book.day book.head)
+    (rows : AreRowsOf w book.stream book.day book.rows) where
+  on_day : (f : Fact) → IsOn book.stream book.day f → f ∈ w → f ∈ book_world book
+  on_day (HeadIs head) on m =
+      list_in (book_facts book) (HeadIs head)
+      (append_left (HeadIs head) (head_facts book.stream book.day book.head)
+      (map (row_fact book.stream book.day) book.rows) ((heads head).0 (m, on.0, on.1)))
+  on_day (VersionIs key reading) on m =
+      list_in (book_facts book) (VersionIs key reading)
+      (append_right (VersionIs key reading) (head_facts book.stream book.day book.head)
+      (map (row_fact book.stream book.day) book.rows) ((rows key reading).0 (m, on.0, on.1)))
+  on_day (DetailIs detail) on m = absurd on
+  on_day (EventIs event) on m = absurd on
+  on_day (PeriodIs key content) on m = absurd on
+  on_day (HolidayIs date) on m = absurd on
+  on_day (JobIs id content count) on m = absurd on
+
+  of_day : (f : Fact) → f ∈ book_world book → f ∈ w
+  of_day f h = elim (from_book book f h) [
+    | inl a ↦ head_there w book.stream book.day book.head heads f a
+    | inr b ↦
+        let key : Key = record { stream = book.stream; day = book.day; interval = b.0.0; update = b.0.1.update } in
+        subst (λ g. g ∈ w) (sym b.2)
+        ((rows key b.0.1.reading).1 (map_in (row_fact book.stream book.day) book.rows b.0 b.1)).0
+  ]
+
+  -- its head and its versions are all that the World has of a day
+  pub is_day : IsDay w book
+  is_day = record { whole = on_day; only = of_day }
+
+-- a book that says the same is the same day's
+pub same_day : (w : World) (book other : BookValue) → book.stream ≡ other.stream → book.day ≡ other.day
+    → book_world book ≡ book_world other → IsDay w other → IsDay w book
+same_day w book other stream day says is = record {
+  whole = λ f on h.
+      subst (λ v. f ∈ v) (sym says)
+      (is.whole f (subst (λ d. IsOn other.stream d f) day (subst (λ s. IsOn s book.day f) stream on)) h);
+  only = λ f h. is.only f (subst (λ v. f ∈ v) says h);
+}
+
+-- where a book was made of it, it is what is answered
+pub if_made : (w : World) (other : BookValue) (made : Option BookValue) (fault : Unavailable)
+    → IfSome made (λ book. (book.stream ≡ other.stream) × (book.day ≡ other.day) × (book.head ≡ other.head)
+    × (book_world book ≡ book_world other))
+    → IsDay w other → IfOk (ok_or made fault) (IsDay w)
+if_made w other None fault says is = tt
+if_made w other (Some book) fault says is = same_day w book other says.0 says.1 says.3 is
+
+module _ (old mid new : State) (less : doubt old.is_clean ≤ doubt mid.is_clean)
+    (less_then : doubt mid.is_clean ≤ doubt new.is_clean) (kept : HasCleanDisk mid → KeepsCommit old mid)
+    (kept_then : HasCleanDisk new → KeepsCommit mid new) (clean : HasCleanDisk new) (is_open : IsTrue new.is_open) where
+  between : HasCleanDisk mid
+  between = omega (arith, less_then)
+
+  -- the versions are those of the World in which the head was found
+  pub day_found : (book : BookValue) → IsHeadOf (world_of old) book.stream book.day book.head
+      → AreRowsOf (world_of mid) book.stream book.day book.rows → IsDay (world_of old) book
+  day_found book heads rows =
+      let same : mid.committed ≡ old.committed = (kept between).committed ((kept_then clean).was_open is_open) in
+      is_day (world_of old) book heads
+      (subst (λ (w : World). AreRowsOf w book.stream book.day book.rows)
+      (ap (λ (db : Database). world_in db.trees) same) rows)

@@ -1,0 +1,28 @@
+-- What making a store, and knowing one, answer (profile).
+use Rattle.std.specs.Prelude.{◌≡◌, IsTrue}
+use Rattle.std.specs.FinSet as set
+use Rattle.sqlite.specs.State.{KeepsCommit, State}
+use Rattle.mds_tables.specs.Stores.{IsStore, world_of}
+use Rattle.mds_tables.specs.Tables.{no_schema}
+use Rattle.mds_store.specs.declared.starting.StoreFault.{StoreFault}
+use Rattle.mds_store.specs.declared.starting.StoreFault.TheVariants.{OtherSchema, Unavailable}
+
+-- The database was empty, and is a store that keeps nothing.
+pub record IsCreated (old new : State) : Type 0 where
+  pub was_open : IsTrue old.is_open
+  pub was_empty : old.now.schema ≡ no_schema
+  pub is_open : IsTrue new.is_open
+  pub store : IsStore new.committed
+  pub keeps_nothing : world_of new ≡ set.empty
+
+-- The database was a store, and keeps what it kept.
+pub record IsAdopted (old new : State) : Type 0 where
+  pub was_open : IsTrue old.is_open
+  pub is_open : IsTrue new.is_open
+  pub store : IsStore old.committed
+  pub same : new.committed ≡ old.committed
+
+-- Nothing was changed; U3 only where the database isn't the one that is wanted.
+abbrev pub IsRefused : Type 0 → State → State → StoreFault → Type 0
+IsRefused Wanted old new OtherSchema = KeepsCommit old new × (IsTrue new.is_open → Wanted → ⊥)
+IsRefused Wanted old new Unavailable = KeepsCommit old new

@@ -1,0 +1,87 @@
+//! A keeper over tables.
+
+ghost use Rattle.std.specs.Prelude.{◌≡◌, false, IsTrue};
+ghost use Rattle.sqlite.specs.Held.{state};
+ghost use Rattle.sqlite.specs.State.{HasCleanDisk};
+ghost use Rattle.mds_tables.specs.Stores.{Holds, world_of};
+ghost use Rattle.mds_store.specs.Props.{Holds-prop};
+
+use mds_inserts::commit;
+use mds_selects::{
+    current_details, events_of, has_details, has_event, head_of, streams, versions_of,
+};
+use mds_terms::{Day, Details, Event, Stream};
+use mds_versions::{Additions, DayBook, Keeper, Unavailable};
+use mds_world::Detail;
+use sqlite::{Alter, Connection};
+use std::alloc::Global;
+
+/// Keeps a World in the tables of schema 1, a row for each fact.
+#[derive(Drop)]
+pub struct RowKeeper<S: Alter> {
+    alloc: Global,
+    conn: Connection<S>,
+    // It is in no transaction.
+    pub ghost autocommit: { conn.in_transaction ≡ false },
+    // While the disk is honest and the connection open, what is committed is a store.
+    pub ghost holds: { Holds (state S.Store conn) } by { Holds-prop (state S.Store conn) },
+}
+
+impl<S: Alter> RowKeeper<S> {
+    /// Over a connection that is in no transaction and holds a store.
+    pub(crate) fn over(alloc: Global, conn: Connection<S>) -> RowKeeper<S>
+        requires autocommit { conn.in_transaction ≡ false }
+        requires holds { Holds (state S.Store conn) }
+        ensures { result.conn ≡ conn }
+    {
+        RowKeeper { alloc, conn }
+    }
+
+    /// The connection again, in no transaction and with the same tables.
+    pub fn into_connection(self) -> Connection<S>
+        ensures same { result ≡ self.conn }
+        ensures autocommit { result.in_transaction ≡ false }
+        ensures holds { Holds (state S.Store result) }
+    {
+        let RowKeeper { alloc: _, conn } = self;
+        conn
+    }
+}
+
+impl<S: Alter> Keeper for RowKeeper<S> {
+    // What the rows of the tables name, as they were last committed.
+    ghost world = { λ k. world_of (state S.Store k.conn) };
+
+    // The disk gave back what was written to it, and the connection is open.
+    ghost sound = { λ k. HasCleanDisk (state S.Store k.conn) × IsTrue (state S.Store k.conn).is_open };
+
+    fn day(&mut self, stream: Stream, day: Day) -> Result<DayBook, Unavailable> {
+        let head = head_of(&mut self.conn, &stream, day)?;
+        let versions = versions_of(self.alloc, &mut self.conn, &stream, day)?;
+        DayBook::new(stream, day, head, versions).ok_or(Unavailable)
+    }
+
+    fn streams(&mut self) -> Result<Vec<Stream>, Unavailable> {
+        streams(self.alloc, &mut self.conn)
+    }
+
+    fn details(&mut self, stream: Stream) -> Result<Details, Unavailable> {
+        current_details(self.alloc, &mut self.conn, &stream)
+    }
+
+    fn has_details(&mut self, detail: &Detail) -> Result<bool, Unavailable> {
+        has_details(&mut self.conn, detail)
+    }
+
+    fn events(&mut self, stream: Stream, day: Day) -> Result<Vec<Event>, Unavailable> {
+        events_of(self.alloc, &mut self.conn, &stream, day)
+    }
+
+    fn has_event(&mut self, event: &Event) -> Result<bool, Unavailable> {
+        has_event(&mut self.conn, event)
+    }
+
+    fn commit(&mut self, additions: Additions) -> Result<(), Unavailable> {
+        commit(&mut self.conn, &additions).map_err(|_| Unavailable)
+    }
+}

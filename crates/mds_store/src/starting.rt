@@ -1,0 +1,82 @@
+//! How a store is made in a database, and known in one.
+
+ghost use Rattle.std.specs.Prelude.{◌≡◌, ◌≢◌, IfErr, IfOk};
+ghost use Rattle.std.specs.Bool.{MatchBool};
+ghost use Rattle.sqlite.specs.Held.{state};
+ghost use Rattle.sqlite.specs.State.{HasCleanDisk};
+ghost use Rattle.mds_tables.specs.Stores.{IsStore};
+ghost use Rattle.mds_tables.specs.Tables.{no_schema};
+ghost use Rattle.mds_store.specs.Starting.{IsAdopted, IsCreated, IsRefused};
+
+use crate::row_keeper::RowKeeper;
+use mds_selects::is_version_1;
+use mds_tables::{has_schema_1, make_tables};
+use sqlite::{Alter, Connection};
+use sqlite_schema::schema::Schema;
+use std::alloc::Global;
+
+/// Why a database isn't a store that can be used.
+#[derive(Clone, Copy, Debug, PartialEq, Eq)]
+pub enum StoreFault {
+    /// The store can't answer now, for want of memory or a fault of the disk, or its connection is in a transaction
+    /// (U1).
+    Unavailable,
+    /// The database isn't a store of schema 1; or a store was to be made, and it isn't empty (U3).
+    OtherSchema,
+}
+
+/// Makes a store, which keeps nothing, in a database that is empty. On a refusal the connection comes back, and nothing
+/// was changed.
+pub fn create<S: Alter>(
+    alloc: Global,
+    conn: Connection<S>,
+) -> Result<RowKeeper<S>, (StoreFault, Connection<S>)>
+    ensures ok { IfOk result (λ keeper. HasCleanDisk (state S.Store keeper.conn)
+        → IsCreated (state S.Store conn) (state S.Store keeper.conn)) }
+    ensures err { IfErr result (λ e. HasCleanDisk (state S.Store e.1)
+        → IsRefused ((state S.Store conn).now.schema ≡ no_schema) (state S.Store conn) (state S.Store e.1) e.0) }
+{
+    let mut conn = conn;
+    if !conn.is_autocommit() {
+        return Err((StoreFault::Unavailable, conn));
+    }
+    if !is_empty(conn.schema()) {
+        return Err((StoreFault::OtherSchema, conn));
+    }
+    match make_tables(&mut conn) {
+        Ok(()) => Ok(RowKeeper::over(alloc, conn)),
+        Err(_) => Err((StoreFault::Unavailable, conn)),
+    }
+}
+
+/// Whether a database has nothing in it.
+fn is_empty(schema: &Schema) -> bool
+    ensures { MatchBool result (schema.now ≡ no_schema) (schema.now ≢ no_schema) }
+{
+    schema.tables.is_empty() && schema.indexes.is_empty() && schema.views.is_empty()
+}
+
+/// Takes a database that is a store of schema 1: it keeps the World that its rows name, whoever wrote them. On a refusal
+/// the connection comes back, and nothing was changed.
+pub fn adopt<S: Alter>(
+    alloc: Global,
+    conn: Connection<S>,
+) -> Result<RowKeeper<S>, (StoreFault, Connection<S>)>
+    ensures ok { IfOk result (λ keeper. HasCleanDisk (state S.Store keeper.conn)
+        → IsAdopted (state S.Store conn) (state S.Store keeper.conn)) }
+    ensures err { IfErr result (λ e. HasCleanDisk (state S.Store e.1)
+        → IsRefused (IsStore (state S.Store conn).now) (state S.Store conn) (state S.Store e.1) e.0) }
+{
+    let mut conn = conn;
+    if !conn.is_autocommit() {
+        return Err((StoreFault::Unavailable, conn));
+    }
+    if !has_schema_1(conn.schema()) {
+        return Err((StoreFault::OtherSchema, conn));
+    }
+    match is_version_1(&mut conn) {
+        Ok(true) => Ok(RowKeeper::over(alloc, conn)),
+        Ok(false) => Err((StoreFault::OtherSchema, conn)),
+        Err(_) => Err((StoreFault::Unavailable, conn)),
+    }
+}

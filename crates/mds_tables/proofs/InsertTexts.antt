@@ -1,0 +1,80 @@
+-- What the texts that add rows mean.
+use Rattle.std.proofs.Common.{◌≡◌, List, ℕ, [], ◌∷◌, codes, refl}
+use Rattle.sqlite.specs.Command.TheVariants.{Insert}
+use Rattle.sqlite.specs.Listing.{understood}
+use Rattle.sqlite.specs.Source.TheVariants.{Values}
+use Rattle.sqlite.specs.Term.{Term, lit, col}
+use Rattle.sqlite.specs.declared.types.Value.TheVariants.{Null}
+use Rattle.sqlite.proofs.Callers.{IsPlain, command_of}
+use Rattle.sqlite_tied.specs.Compute.{everything}
+use Rattle.mds_tables.specs.Tables.{schema_1}
+
+abbrev pub insert_schema : List ℕ
+insert_schema = codes "INSERT INTO mds_schema (version) VALUES (?1)"
+
+abbrev pub schema_terms : List Term
+schema_terms = lit Null ∷ col 0 0 ∷ []
+
+pub insert_schema_is : command_of (understood schema_1 insert_schema) ≡ Insert 0 (Values schema_terms 2)
+unfolding understood everything
+insert_schema_is = refl
+
+pub insert_schema_plain : IsPlain (understood schema_1 insert_schema)
+unfolding understood everything
+insert_schema_plain = (refl, refl)
+
+abbrev pub insert_head : List ℕ
+insert_head = codes "INSERT INTO mds_head (nmi, suffix, day, length, unit) VALUES (?1, ?2, ?3, ?4, ?5)"
+
+abbrev pub head_terms : List Term
+head_terms = lit Null ∷ col 0 0 ∷ col 0 1 ∷ col 0 2 ∷ col 0 3 ∷ col 0 4 ∷ []
+
+pub insert_head_is : command_of (understood schema_1 insert_head) ≡ Insert 1 (Values head_terms 6)
+unfolding understood everything
+insert_head_is = refl
+
+pub insert_head_plain : IsPlain (understood schema_1 insert_head)
+unfolding understood everything
+insert_head_plain = (refl, refl)
+
+abbrev pub insert_version : List ℕ
+insert_version = codes "INSERT INTO mds_version (nmi, suffix, day, slot, moment, quality, code, note, amount) VALUES (?1, ?2, ?3, ?4, ?5, ?6, ?7, ?8, ?9)"
+
+abbrev pub version_terms : List Term
+version_terms = lit Null ∷ col 0 0 ∷ col 0 1 ∷ col 0 2 ∷ col 0 3 ∷ col 0 4 ∷ col 0 5 ∷ col 0 6 ∷ col 0 7 ∷ col 0 8 ∷ []
+
+pub insert_version_is : command_of (understood schema_1 insert_version) ≡ Insert 2 (Values version_terms 10)
+unfolding understood everything
+insert_version_is = refl
+
+pub insert_version_plain : IsPlain (understood schema_1 insert_version)
+unfolding understood everything
+insert_version_plain = (refl, refl)
+
+abbrev pub insert_detail : List ℕ
+insert_detail = codes "INSERT INTO mds_detail (nmi, suffix, moment, configuration, register, datastream, meter, next) VALUES (?1, ?2, ?3, ?4, ?5, ?6, ?7, ?8)"
+
+abbrev pub detail_terms : List Term
+detail_terms = lit Null ∷ col 0 0 ∷ col 0 1 ∷ col 0 2 ∷ col 0 3 ∷ col 0 4 ∷ col 0 5 ∷ col 0 6 ∷ col 0 7 ∷ []
+
+pub insert_detail_is : command_of (understood schema_1 insert_detail) ≡ Insert 3 (Values detail_terms 9)
+unfolding understood everything
+insert_detail_is = refl
+
+pub insert_detail_plain : IsPlain (understood schema_1 insert_detail)
+unfolding understood everything
+insert_detail_plain = (refl, refl)
+
+abbrev pub insert_event : List ℕ
+insert_event = codes "INSERT INTO mds_event (nmi, suffix, day, trans, ticket, moment, reading) VALUES (?1, ?2, ?3, ?4, ?5, ?6, ?7)"
+
+abbrev pub event_terms : List Term
+event_terms = lit Null ∷ col 0 0 ∷ col 0 1 ∷ col 0 2 ∷ col 0 3 ∷ col 0 4 ∷ col 0 5 ∷ col 0 6 ∷ []
+
+pub insert_event_is : command_of (understood schema_1 insert_event) ≡ Insert 4 (Values event_terms 8)
+unfolding understood everything
+insert_event_is = refl
+
+pub insert_event_plain : IsPlain (understood schema_1 insert_event)
+unfolding understood everything
+insert_event_plain = (refl, refl)

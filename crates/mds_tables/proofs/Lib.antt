@@ -1,0 +1,9 @@
+pub mod CallLemmas
+pub mod CreateLemmas
+pub mod CreateTexts
+pub mod Creates
+pub mod InsertLemmas
+pub mod InsertTexts
+pub mod KnownLemmas
+pub mod SayLemmas
+pub mod SetLemmas

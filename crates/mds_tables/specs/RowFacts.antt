@@ -1,0 +1,113 @@
+-- What the rows of tables say, as facts (profile). A row of a tree is its rowid, and then its columns, numbered from 1.
+-- Each row of these tables names one fact, whoever wrote it.
+use Rattle.std.specs.Prelude.{ℕ, ◌+◌, ◌^◌, ℤ, pos, negsuc, List, [], ◌∷◌, ◌++◌, map, Option, Some, None, unwrap_or, ◌==◌, if◌then◌else◌}
+use Rattle.std.proofs.Common.{suc, zero}
+use Rattle.std.specs.FinSet as set
+use Rattle.sqlite_rules.specs.Edit.{id_in}
+use Rattle.sqlite_trees.specs.Tree.{Trees}
+use Rattle.sqlite_value.specs.Order.{Row, bytes, column}
+use Rattle.mds_quantity.specs.Unit.{unit_of}
+use Rattle.mds_quantity.specs.declared.unit.Unit.{Unit as MeasureUnit}
+use Rattle.mds_quantity.specs.declared.unit.Unit.TheVariants.{MWh}
+use Rattle.mds_names.specs.declared.stream.Stream.{Stream}
+use Rattle.mds_marks.specs.Quality.{QualityValue, null, quality_of}
+use Rattle.mds_marks.specs.Reading.{ReadingValue}
+use Rattle.mds_world.specs.Facts.{Fact}
+use Rattle.mds_world.specs.Facts.Fact.{DetailIs, EventIs, HeadIs, HolidayIs, VersionIs}
+use Rattle.mds_world.specs.World.{World}
+
+abbrev pub text_at : Row → ℕ → List ℕ
+text_at row at = bytes (column row at)
+
+abbrev pub int_at : Row → ℕ → ℤ
+int_at row at = id_in (column row at)
+
+-- A whole number as a count. One below 0, which the store never writes, is taken as one above all that it writes.
+abbrev pub natural : ℤ → ℕ
+natural (pos n) = n
+natural (negsuc n) = 2 ^ 63 + n
+
+-- -1 stands for an absent one
+abbrev pub optional : ℤ → Option ℕ
+optional (pos n) = Some n
+optional (negsuc zero) = None
+optional (negsuc (suc n)) = Some (2 ^ 63 + n)
+
+abbrev pub natural_at : Row → ℕ → ℕ
+natural_at row at = natural (int_at row at)
+
+abbrev pub optional_at : Row → ℕ → Option ℕ
+optional_at row at = optional (int_at row at)
+
+-- the stream that the first two columns name
+abbrev pub stream_in : Row → Stream
+stream_in row = record { nmi = text_at row 1; suffix = text_at row 2 }
+
+-- The unit of a text. A text that is none, which the store never writes, is taken as MWh.
+abbrev pub unit_named : List ℕ → MeasureUnit
+unit_named text = unwrap_or (unit_of text) MWh
+
+abbrev pub head_fact : Row → Fact
+head_fact row =
+    HeadIs (record { stream = stream_in row; day = natural_at row 3; length = natural_at row 4; unit = unit_named (text_at row 5) })
+
+-- The quality of a text. A text that is none, which the store never writes, is taken as bare N.
+abbrev pub quality_named : List ℕ → QualityValue
+quality_named text = unwrap_or (quality_of text) (record { flag = null; method = 0 })
+
+-- a reading of quality N has no value, whatever the amount
+abbrev pub reading_in : QualityValue → Option ℕ → List ℕ → ℤ → ReadingValue
+reading_in quality code text amount = record {
+  mark = record { quality = quality; reason = record { code = code; text = text } };
+  value = if quality.flag == null then None else Some amount;
+}
+
+abbrev pub version_fact : Row → Fact
+version_fact row =
+    VersionIs (record { stream = stream_in row; day = natural_at row 3; interval = natural_at row 4; update = natural_at row 5 })
+    (reading_in (quality_named (text_at row 6)) (optional_at row 7) (text_at row 8) (int_at row 9))
+
+abbrev pub detail_fact : Row → Fact
+detail_fact row = DetailIs (record {
+  stream = stream_in row;
+  moment = natural_at row 3;
+  details = record {
+    configuration = text_at row 4;
+    register = text_at row 5;
+    datastream = text_at row 6;
+    meter = text_at row 7;
+    next = optional_at row 8;
+  };
+})
+
+-- A transaction code, which is absent where its text is empty. A longer text, which the store never writes, is taken as
+-- a letter that there isn't.
+abbrev pub letter_in : List ℕ → Option ℕ
+letter_in [] = None
+letter_in (letter ∷ []) = Some letter
+letter_in (letter ∷ other ∷ more) = Some (2 ^ 63)
+
+abbrev pub event_fact : Row → Fact
+event_fact row = EventIs (record {
+  nmi = text_at row 1;
+  suffix = text_at row 2;
+  day = natural_at row 3;
+  trans = letter_in (text_at row 4);
+  ticket = text_at row 5;
+  moment = optional_at row 6;
+  reading = text_at row 7;
+})
+
+-- a holiday is its day alone
+abbrev pub holiday_fact : Row → Fact
+holiday_fact row = HolidayIs (natural_at row 1)
+
+-- the facts of the rows of each table, one table after the other
+abbrev pub facts_in : Trees → List Fact
+facts_in trees =
+    map head_fact (trees 2) ++ map version_fact (trees 4) ++ map detail_fact (trees 6) ++ map event_fact (trees 8)
+    ++ map holiday_fact (trees 12)
+
+-- The World that the rows of the tables name.
+abbrev pub world_in : Trees → World
+world_in trees = set.from_list (facts_in trees)

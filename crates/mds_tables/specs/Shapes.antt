@@ -1,0 +1,17 @@
+-- Parts of what a table is, as a comparison takes them.
+use Rattle.std.specs.Prelude.{◌≡◌, ℕ, false, List, [], ◌∷◌, None}
+use Rattle.sqlite.specs.Table.{Table}
+
+-- the PRIMARY KEY, and the one key
+pub record HasKey (table : Table) (primary key : List ℕ) : Type 0 where
+  pub primary_is : table.primary ≡ primary
+  pub uniques : table.uniques ≡ key ∷ []
+  pub orders : table.orders ≡ (record { digits = 0 }) ∷ []
+
+-- nothing but columns, keys and references
+pub record IsBare (table : Table) : Type 0 where
+  pub key : table.key ≡ None
+  pub checks : table.checks ≡ []
+  pub computed : table.computed ≡ []
+  pub stamps : table.stamps ≡ record { places = []; terms = []; formats = [] }
+  pub uncounted : table.is_counted ≡ false

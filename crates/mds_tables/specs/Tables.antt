@@ -1,0 +1,156 @@
+-- The tables of schema 1 (profile), as the library lists them. A table and the index of its key have trees of their own,
+-- numbered in the order in which they are made, which stands here alone.
+use Rattle.std.specs.Prelude.{ℕ, ◌+◌, true, false, List, [], ◌∷◌, None, codes}
+use Rattle.sqlite.specs.Collation.TheVariants.{Binary}
+use Rattle.sqlite.specs.Kind.TheVariants.{Integer, Text}
+use Rattle.sqlite.specs.Schema.{Schema}
+use Rattle.sqlite.specs.Table.{Table}
+use Rattle.sqlite.specs.declared.types.Value.TheVariants.{Null}
+use Rattle.sqlite_schema.specs.declared.schema.Action.TheVariants.{NoAction}
+use Rattle.sqlite_schema.specs.declared.schema.Column.{Column}
+use Rattle.sqlite_schema.specs.declared.schema.Index.{Index}
+use Rattle.sqlite_schema.specs.declared.schema.Kind.{Kind}
+use Rattle.sqlite_schema.specs.declared.schema.Reference.{Reference}
+
+-- a column of a type, NOT NULL and of a STRICT table
+abbrev pub needed : List ℕ → Kind → Column
+needed name kind =
+    record { name = name; kind = kind; is_strict = true; not_null = true; default = Null; collation = Binary }
+
+abbrev pub text : List ℕ → Column
+text name = needed name Text
+
+abbrev pub number : List ℕ → Column
+number name = needed name Integer
+
+-- a table with one key, which is its PRIMARY KEY or not
+abbrev pub keyed_table : List ℕ → ℕ → List Column → List ℕ → List ℕ → Table
+keyed_table name tree columns primary key = record {
+  name = name;
+  tree = tree;
+  columns = columns;
+  key = None;
+  primary = primary;
+  uniques = key ∷ [];
+  orders = (record { digits = 0 }) ∷ [];
+  checks = [];
+  references = [];
+  computed = [];
+  stamps = record { places = []; terms = []; formats = [] };
+  is_counted = false;
+}
+
+-- one whose PRIMARY KEY are these of its columns, numbered from 1
+abbrev pub table_of : List ℕ → ℕ → List Column → List ℕ → Table
+table_of name tree columns key = keyed_table name tree columns key key
+
+-- one of a single column, which is UNIQUE
+abbrev pub single_table : List ℕ → ℕ → Column → Table
+single_table name tree column = keyed_table name tree (column ∷ []) [] (1 ∷ [])
+
+-- the index of a table's key
+abbrev pub key_index : List ℕ → ℕ → List ℕ → Index
+key_index name table key = record {
+  name = name;
+  tree = table + 1;
+  table = table;
+  columns = key;
+  order = record { digits = 0 };
+  is_unique = true;
+}
+
+abbrev pub day_key : List ℕ
+day_key = 1 ∷ 2 ∷ 3 ∷ []
+
+abbrev pub version_key : List ℕ
+version_key = 1 ∷ 2 ∷ 3 ∷ 4 ∷ 5 ∷ []
+
+abbrev pub detail_key : List ℕ
+detail_key = 1 ∷ 2 ∷ 3 ∷ 4 ∷ 5 ∷ 6 ∷ 7 ∷ 8 ∷ []
+
+abbrev pub event_key : List ℕ
+event_key = 1 ∷ 2 ∷ 3 ∷ 4 ∷ 5 ∷ 6 ∷ 7 ∷ []
+
+abbrev pub period_key : List ℕ
+period_key = 1 ∷ 2 ∷ 3 ∷ 4 ∷ 5 ∷ 6 ∷ []
+
+abbrev pub schema_table : Table
+schema_table = single_table (codes "mds_schema") 0 (number (codes "version"))
+
+abbrev pub head_table : Table
+head_table =
+    table_of (codes "mds_head") 2
+    (text (codes "nmi") ∷ text (codes "suffix") ∷ number (codes "day") ∷ number (codes "length") ∷ text (codes "unit")
+    ∷ [])
+    day_key
+
+-- a version's day has a head
+abbrev pub to_head : Reference
+to_head = record {
+  columns = day_key;
+  parent = codes "mds_head";
+  parent_columns = codes "nmi" ∷ codes "suffix" ∷ codes "day" ∷ [];
+  on_delete = NoAction;
+  on_update = NoAction;
+  is_deferred = false;
+}
+
+abbrev pub version_table : Table
+version_table = record (table_of (codes "mds_version") 4
+    (text (codes "nmi") ∷ text (codes "suffix") ∷ number (codes "day") ∷ number (codes "slot")
+    ∷ number (codes "moment") ∷ text (codes "quality") ∷ number (codes "code") ∷ text (codes "note")
+    ∷ number (codes "amount") ∷ [])
+    version_key) { references = to_head ∷ [] }
+
+abbrev pub detail_table : Table
+detail_table =
+    table_of (codes "mds_detail") 6
+    (text (codes "nmi") ∷ text (codes "suffix") ∷ number (codes "moment") ∷ text (codes "configuration")
+    ∷ text (codes "register") ∷ text (codes "datastream") ∷ text (codes "meter") ∷ number (codes "next") ∷ [])
+    detail_key
+
+abbrev pub event_table : Table
+event_table =
+    table_of (codes "mds_event") 8
+    (text (codes "nmi") ∷ text (codes "suffix") ∷ number (codes "day") ∷ text (codes "trans") ∷ text (codes "ticket")
+    ∷ number (codes "moment") ∷ text (codes "reading") ∷ [])
+    event_key
+
+abbrev pub period_table : Table
+period_table =
+    table_of (codes "mds_period") 10
+    (text (codes "nmi") ∷ text (codes "suffix") ∷ text (codes "register") ∷ number (codes "start")
+    ∷ number (codes "finish") ∷ number (codes "moment") ∷ text (codes "body") ∷ [])
+    period_key
+
+abbrev pub holiday_table : Table
+holiday_table = single_table (codes "mds_holiday") 12 (number (codes "day"))
+
+abbrev pub job_table : Table
+job_table =
+    table_of (codes "mds_job") 14
+    (text (codes "id") ∷ text (codes "body") ∷ number (codes "total") ∷ [])
+    (1 ∷ [])
+
+abbrev pub tables_1 : List Table
+tables_1 =
+    schema_table ∷ head_table ∷ version_table ∷ detail_table ∷ event_table ∷ period_table ∷ holiday_table ∷ job_table
+    ∷ []
+
+abbrev pub indexes_1 : List Index
+indexes_1 =
+    key_index (codes "sqlite_autoindex_mds_schema_1") 0 (1 ∷ [])
+    ∷ key_index (codes "sqlite_autoindex_mds_head_1") 2 day_key
+    ∷ key_index (codes "sqlite_autoindex_mds_version_1") 4 version_key
+    ∷ key_index (codes "sqlite_autoindex_mds_detail_1") 6 detail_key
+    ∷ key_index (codes "sqlite_autoindex_mds_event_1") 8 event_key
+    ∷ key_index (codes "sqlite_autoindex_mds_period_1") 10 period_key
+    ∷ key_index (codes "sqlite_autoindex_mds_holiday_1") 12 (1 ∷ [])
+    ∷ key_index (codes "sqlite_autoindex_mds_job_1") 14 (1 ∷ [])
+    ∷ []
+
+abbrev pub no_schema : Schema
+no_schema = record { tables = []; indexes = []; views = [] }
+
+abbrev pub schema_1 : Schema
+schema_1 = record { tables = tables_1; indexes = indexes_1; views = [] }

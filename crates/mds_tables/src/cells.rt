@@ -1,0 +1,154 @@
+//! The columns of rows, lent from the terms that they say.
+
+ghost use Rattle.std.specs.Prelude.{◌≡◌, ◌≤◌, pos, take, unwrap_or};
+ghost use Rattle.sqlite.specs.Values.{bound};
+ghost use Rattle.sqlite.specs.declared.types.Value.TheVariants.{Int};
+ghost use Rattle.mds_marks.specs.Quality.{quality_text};
+ghost use Rattle.mds_tables.specs.Cells as row;
+
+use mds_marks::Reading;
+use mds_terms::{Day, Event, Moment, Stream};
+use mds_world::{Detail, Head, Key};
+use sqlite::types::ValueRef;
+
+/// The columns that name a stream.
+pub fn stream_cells<'a>(stream: &'a Stream) -> [ValueRef<'a>; 2]
+    ensures { bound result ≡ row.stream_cells stream.now }
+{
+    [
+        ValueRef::Text(stream.nmi.text().as_bytes()),
+        ValueRef::Text(stream.suffix.text().as_bytes()),
+    ]
+}
+
+/// The columns that name a day of a stream.
+pub fn day_cells<'a>(stream: &'a Stream, day: Day) -> [ValueRef<'a>; 3]
+    ensures { bound result ≡ row.day_cells stream.now day }
+{
+    [
+        ValueRef::Text(stream.nmi.text().as_bytes()),
+        ValueRef::Text(stream.suffix.text().as_bytes()),
+        ValueRef::Int(day.number()),
+    ]
+}
+
+/// The columns of a head.
+pub fn head_cells<'a>(head: &'a Head) -> [ValueRef<'a>; 5]
+    ensures { bound result ≡ row.head_cells head.now }
+{
+    [
+        ValueRef::Text(head.stream.nmi.text().as_bytes()),
+        ValueRef::Text(head.stream.suffix.text().as_bytes()),
+        ValueRef::Int(head.day.number()),
+        ValueRef::Int(head.length.minutes()),
+        ValueRef::Text(head.unit.text().as_bytes()),
+    ]
+}
+
+/// The columns of a version, of which the text of its quality is given.
+pub fn version_cells<'a>(key: &'a Key, reading: &'a Reading, quality: &'a [u8]) -> [ValueRef<'a>; 9]
+    requires { quality.now ≡ quality_text reading.now.mark.quality }
+    ensures { bound result ≡ row.version_cells key.now reading.now }
+{
+    [
+        ValueRef::Text(key.stream.nmi.text().as_bytes()),
+        ValueRef::Text(key.stream.suffix.text().as_bytes()),
+        ValueRef::Int(key.day.number()),
+        ValueRef::Int(i64::from(key.interval)),
+        ValueRef::Int(key.update.seconds()),
+        ValueRef::Text(quality),
+        ValueRef::Int(code_cell(reading)),
+        ValueRef::Text(reading.mark().reason.text().as_bytes()),
+        ValueRef::Int(amount_cell(reading)),
+    ]
+}
+
+/// The code of a reading's reason, and -1 where it has none.
+fn code_cell(reading: &Reading) -> i64
+    ensures { Int result ≡ row.optional_cell reading.now.mark.reason.code }
+{
+    match reading.mark().reason.code() {
+        Some(code) => i64::from(code),
+        None => -1,
+    }
+}
+
+/// The value of a reading in millionths, and 0 where it has none.
+fn amount_cell(reading: &Reading) -> i64
+    ensures { result ≡ unwrap_or reading.now.value (pos 0) }
+{
+    match reading.value() {
+        Some(value) => value.millionths(),
+        None => 0,
+    }
+}
+
+/// The columns of details.
+pub fn detail_cells<'a>(detail: &'a Detail) -> [ValueRef<'a>; 8]
+    ensures { bound result ≡ row.detail_cells detail.now }
+{
+    [
+        ValueRef::Text(detail.stream.nmi.text().as_bytes()),
+        ValueRef::Text(detail.stream.suffix.text().as_bytes()),
+        ValueRef::Int(detail.moment.seconds()),
+        ValueRef::Text(detail.details.configuration().as_bytes()),
+        ValueRef::Text(detail.details.register().as_bytes()),
+        ValueRef::Text(detail.details.datastream().as_bytes()),
+        ValueRef::Text(detail.details.meter().as_bytes()),
+        ValueRef::Int(next_cell(detail.details.next())),
+    ]
+}
+
+/// The number of a day, and -1 where there is none.
+fn next_cell(day: Option<Day>) -> i64
+    ensures { Int result ≡ row.optional_cell day }
+{
+    match day {
+        Some(day) => day.number(),
+        None => -1,
+    }
+}
+
+/// The columns of an event, of which the text of its transaction code is given.
+pub fn event_cells<'a>(
+    event: &'a Event,
+    nmi: &'a [u8],
+    suffix: &'a [u8],
+    letter: &'a [u8],
+) -> [ValueRef<'a>; 7]
+    requires nmi { nmi.now ≡ event.now.nmi }
+    requires suffix { suffix.now ≡ event.now.suffix }
+    requires letter { letter.now ≡ row.letter_text event.now.trans }
+    ensures { bound result ≡ row.event_cells event.now }
+{
+    [
+        ValueRef::Text(nmi),
+        ValueRef::Text(suffix),
+        ValueRef::Int(event.day().number()),
+        ValueRef::Text(letter),
+        ValueRef::Text(event.ticket().as_bytes()),
+        ValueRef::Int(moment_cell(event.moment())),
+        ValueRef::Text(event.reading().as_bytes()),
+    ]
+}
+
+/// The seconds of a moment, and -1 where there is none.
+fn moment_cell(moment: Option<Moment>) -> i64
+    ensures { Int result ≡ row.optional_cell moment }
+{
+    match moment {
+        Some(moment) => moment.seconds(),
+        None => -1,
+    }
+}
+
+/// The letter of an event's transaction code, and how many letters it is.
+pub fn letter_of(event: &Event) -> ([u8; 1], usize)
+    ensures text { take result.1 result.0 ≡ row.letter_text event.now.trans }
+    ensures count { result.1 ≤ 1 }
+{
+    match event.trans() {
+        Some(code) => ([code.letter()], 1),
+        None => ([0], 0),
+    }
+}

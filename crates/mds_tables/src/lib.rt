@@ -1,0 +1,14 @@
+//! The tables of a store in SQL: what they are, what their rows say, and how they are made and known again.
+#![tactic(auto)]
+
+mod cells;
+mod known;
+mod making;
+mod readiness;
+
+pub use cells::{
+    day_cells, detail_cells, event_cells, head_cells, letter_of, stream_cells, version_cells,
+};
+pub use known::has_schema_1;
+pub use making::make_tables;
+pub use readiness::ready;
