@@ -1,10 +1,10 @@
 //! Times imports into a keeper in memory.
 
 use crate::{Form, write_day, write_details};
+use mds_memory::MemoryKeeper;
 use mds_nem12::read_nem12;
 use mds_records::FileKind;
 use mds_service::{Answer, Request, apply};
-use mds_versions::MemoryKeeper;
 use std::io;
 use std::io::Write;
 use std::time::Instant;

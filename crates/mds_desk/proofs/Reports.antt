@@ -6,8 +6,8 @@ use Rattle.mds_records.specs.declared.file.FileFault.{FileFault}
 use Rattle.mds_records.specs.declared.file.FileKind.{FileKind}
 use Rattle.mds_records.specs.declared.file.FileKind.TheVariants.{Nem12}
 use Rattle.mds_nem12.specs.Faults.{fault_of}
-use Rattle.mds_nem12.specs.Statements.{DayStatement, Statement}
-use Rattle.mds_nem12.specs.Statements.Statement.{HeaderOf, DetailsOf, DayOf, EventOf}
+use Rattle.mds_statements.specs.Statements.{DayStatement, Statement}
+use Rattle.mds_statements.specs.Statements.Statement.{HeaderOf, DetailsOf, DayOf, EventOf}
 use Rattle.mds_desk.specs.Report.{day_line, IsFaultOf, IsReport}
 
 -- the lines of statements and of further ones

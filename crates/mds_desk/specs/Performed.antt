@@ -1,11 +1,15 @@
 -- What a command prints of an answer, and the status that it ends with (profile).
-use Rattle.std.specs.Prelude.{ℕ, List, [], ◌++◌, ◌==◌, if◌then◌else◌, codes, decimal, Bool, true, false, Result, Ok, Err}
+use Rattle.std.specs.Prelude.{◌≡◌, ℕ, List, [], ◌∷◌, ◌++◌, ◌==◌, if◌then◌else◌, codes, decimal, Bool, true, false, Result, Ok, Err}
 use Rattle.mds_records.specs.Printed.{fault_text}
 use Rattle.mds_versions.specs.declared.refusal.Refusal.{Refusal}
 use Rattle.mds_versions.specs.declared.refusal.RefusalCode.{RefusalCode}
 use Rattle.mds_versions.specs.declared.refusal.RefusalCode.TheVariants.{LengthConflict, UnitConflict, UnknownDay, VersionConflict}
+use Rattle.mds_world.specs.World.{IsLawful, World}
+use Rattle.mds_service.specs.declared.request.Request.{Request}
 use Rattle.mds_service.specs.declared.request.Answer.{Answer}
 use Rattle.mds_service.specs.declared.request.Answer.TheVariants as told
+use Rattle.mds_service.specs.Crashes.{MayLeave}
+use Rattle.mds_service.specs.Machine.{Step}
 use Rattle.mds_desk.specs.declared.performing.PerformFault.{PerformFault}
 use Rattle.mds_desk.specs.declared.performing.PerformFault.TheVariants.{Memory, Write}
 use Rattle.mds_desk.specs.declared.program.Status.{Status}
@@ -46,6 +50,13 @@ answer_status told.Unavailable = status.Unavailable
 answer_status (told.Day answer) = status.Done
 answer_status (told.Versions answer) = status.Done
 answer_status (told.Streams answers) = status.Done
+
+-- From a World the machine does one step, to a lawful World that is kept where the keeper is sound; and a crash leaves that, or
+-- that with the whole request where the answer was Unavailable.
+abbrev pub Does : World → Request → Answer → Type 0 → World → (World → Type 0) → Type 0
+Does old request answer is_sound new may_leave =
+    (w : World) × IsLawful w × Step old request answer w × (is_sound → new ≡ w)
+    × ((left : World) → may_leave left → MayLeave w (request ∷ []) (answer ∷ []) left)
 
 -- it answers that the writer failed
 abbrev pub is_write_failure : {T : Type 0} → Result T PerformFault → Bool

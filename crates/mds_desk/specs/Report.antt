@@ -9,8 +9,9 @@ use Rattle.mds_records.specs.declared.file.FileKind.{FileKind}
 use Rattle.mds_records.specs.declared.file.FileKind.TheVariants.{Nem12}
 use Rattle.mds_days.specs.Readings.{amounts, total}
 use Rattle.mds_nem12.specs.Faults.{fault_of}
-use Rattle.mds_nem12.specs.Statements.{DayStatement, Statement, statements_of}
-use Rattle.mds_nem12.specs.Statements.Statement.{DayOf}
+use Rattle.mds_statements.specs.Statements.{DayStatement, Statement}
+use Rattle.mds_nem12.specs.Statements.{statements_of}
+use Rattle.mds_statements.specs.Statements.Statement.{DayOf}
 
 -- the line of a day, by the text of its date
 abbrev pub day_line : DayStatement → List ℕ → List ℕ

@@ -2,11 +2,10 @@
 
 ghost use Rattle.std.specs.Prelude.{◌≡◌, ◌+◌, ◌-◌, ◌<◌, ◌≤◌, ◌^◌, ◌++◌, ℕ, Err, IfErr, IfOk, if◌then◌else◌, is_ok, codes, decimal, length, take};
 ghost use Rattle.std.specs.Io.KnownBytes.{Appends as AppendsKnown, Keeps};
-ghost use Rattle.mds_service.specs.Machine.{Step};
 ghost use Rattle.mds_service.specs.declared.request.Answer.{Answer as AnAnswer};
 ghost use Rattle.mds_world.specs.World.{IsLawful};
 ghost use Rattle.mds_records.specs.Printed.{fault_text};
-ghost use Rattle.mds_desk.specs.Performed.{answer_status, answer_text, code_text, is_write_failure, place_text, refusal_text};
+ghost use Rattle.mds_desk.specs.Performed.{Does, answer_status, answer_text, code_text, is_write_failure, place_text, refusal_text};
 
 use crate::output::write_whole;
 use crate::program::Status;
@@ -42,27 +41,27 @@ pub fn perform<K: Keeper, W: Sink>(
 ) -> Result<Status, PerformFault>
     requires { W.failures writer.old < 2 ^ 64 - 1 }
 
-    // A keeper that is sound in the end was sound throughout.
+    // A keeper that is honest, or sound, in the end was so throughout.
+    ensures outside { K.honest keeper.new → K.honest keeper.old }
     ensures before { K.sound keeper.new → K.sound keeper.old }
 
     // A step of the machine was done, and its answer printed, whole and nothing else.
-    ensures done { IfOk result (λ status. K.sound keeper.new → IsLawful (K.world keeper.old)
-        → (answer : AnAnswer) × Step (K.world keeper.old) request.now answer (K.world keeper.new)
+    ensures done { IfOk result (λ status. K.honest keeper.new → K.sound keeper.old → IsLawful (K.world keeper.old)
+        → (answer : AnAnswer)
+        × Does (K.world keeper.old) request.now answer (K.sound keeper.new) (K.world keeper.new) (K.may_leave keeper.new)
         × (status ≡ answer_status answer)
         × AppendsKnown (W.contents writer.old) (W.contents writer.new) (answer_text answer)) }
 
     // Where the writer fails the step was done all the same, and a part of its answer was printed.
-    ensures part { result ≡ Err PerformFault.Write → K.sound keeper.new → IsLawful (K.world keeper.old)
-        → (answer : AnAnswer) × Step (K.world keeper.old) request.now answer (K.world keeper.new)
+    ensures part { result ≡ Err PerformFault.Write → K.honest keeper.new → K.sound keeper.old
+        → IsLawful (K.world keeper.old) → (answer : AnAnswer)
+        × Does (K.world keeper.old) request.now answer (K.sound keeper.new) (K.world keeper.new) (K.may_leave keeper.new)
         × (n : ℕ) × (n < length (answer_text answer))
         × AppendsKnown (W.contents writer.old) (W.contents writer.new) (take n (answer_text answer)) }
 
     // Without memory nothing was done or written.
     ensures memory { result ≡ Err PerformFault.Memory → (keeper.new ≡ keeper.old)
         × Keeps (W.contents writer.old) (W.contents writer.new) }
-
-    // And the World is lawful after it.
-    ensures lawful { K.sound keeper.new → IsLawful (K.world keeper.old) → IsLawful (K.world keeper.new) }
 
     // `Write` is answered just where the writer failed, once.
     ensures writer { W.failures writer.new ≡ W.failures writer.old + (if is_write_failure result then 1 else 0) }

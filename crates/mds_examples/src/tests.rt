@@ -1,8 +1,8 @@
 //! The examples over the keeper in memory.
 
 use crate::{EARLIER, EXAMPLES, FIRST, first_wrong, request_of, text_of};
+use mds_memory::MemoryKeeper;
 use mds_service::{Answer, apply, run};
-use mds_versions::MemoryKeeper;
 use std::test::Fail;
 
 #[test]

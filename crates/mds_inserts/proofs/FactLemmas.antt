@@ -1,6 +1,6 @@
 -- The fact that a row of these columns says is the one that it was made from.
 use Rattle.std.proofs.Common.{◌≡◌, ℕ, ℤ, pos, Bool, true, false, cond, not, ◌&&◌, ◌==◌, ◌∷◌, Option, Some, None, IsTrue, is_none, is_some, unwrap_or, refl, ap, ◌∙◌}
-use Rattle.sqlite.specs.declared.types.Value.TheVariants.{Int}
+use Rattle.sqlite.specs.declared.types.Value.{Value}
 use Rattle.sqlite_rules.specs.Edit.{id_in}
 use Rattle.mds_quantity.specs.Unit.{unit_of, unit_text}
 use Rattle.mds_quantity.specs.declared.unit.Unit.TheVariants.{MWh}
@@ -25,18 +25,18 @@ pub letter_back : (o : Option ℕ) → letter_in (letter_text o) ≡ o
 letter_back None = refl
 letter_back (Some letter) = refl
 
-pub head_back : (id : ℤ) (h : Head) → unit_of (unit_text h.unit) ≡ Some h.unit
-    → head_fact (Int id ∷ head_cells h) ≡ HeadIs h
+pub head_back : (id : Value) (h : Head) → unit_of (unit_text h.unit) ≡ Some h.unit
+    → head_fact (id ∷ head_cells h) ≡ HeadIs h
 head_back id h reads =
     let unit : unit_named (unit_text h.unit) ≡ h.unit = ap (λ o. unwrap_or o MWh) reads in
     λ i. HeadIs (record { stream = h.stream; day = h.day; length = h.length; unit = unit i })
 
-pub detail_back : (id : ℤ) (d : Detail) → detail_fact (Int id ∷ detail_cells d) ≡ DetailIs d
+pub detail_back : (id : Value) (d : Detail) → detail_fact (id ∷ detail_cells d) ≡ DetailIs d
 detail_back id d =
     let next = optional_back d.details.next in
     λ i. DetailIs (record d { details = record d.details { next = next i } })
 
-pub event_back : (id : ℤ) (e : EventValue) → event_fact (Int id ∷ event_cells e) ≡ EventIs e
+pub event_back : (id : Value) (e : EventValue) → event_fact (id ∷ event_cells e) ≡ EventIs e
 event_back id e =
     let trans = letter_back e.trans in
     let moment = optional_back e.moment in
@@ -66,9 +66,9 @@ lawful_value r known =
     let parts = split_and (is_mark r.mark && is_value r.value) (is_reading flag r.value) known in
     (split_and (not (flag == variable)) (cond (flag == null) (is_none r.value) (is_some r.value)) parts.1).1
 
-pub version_back : (id : ℤ) (k : Key) (r : ReadingValue)
+pub version_back : (id : Value) (k : Key) (r : ReadingValue)
     → ((q : QualityValue) → IsTrue (is_quality q.flag q.method) → quality_of (quality_text q) ≡ Some q)
-    → IsTrue (is_lawful r) → version_fact (Int id ∷ version_cells k r) ≡ VersionIs k r
+    → IsTrue (is_lawful r) → version_fact (id ∷ version_cells k r) ≡ VersionIs k r
 version_back id k r reads known =
     let quality : quality_named (quality_text r.mark.quality) ≡ r.mark.quality =
     ap (λ o. unwrap_or o (record { flag = null; method = 0 })) (reads r.mark.quality (lawful_quality r known)) in

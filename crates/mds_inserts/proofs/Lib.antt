@@ -1,3 +1,4 @@
+pub mod CommitLemmas
 pub mod FactLemmas
 pub mod PutLemmas
 pub mod RowLemmas

@@ -1,6 +1,7 @@
 -- Rows that are put into the tables in a transaction.
-use Rattle.std.proofs.Common.{◌≡◌, ◌≤◌, ◌<◌, ◌+◌, ◌++◌, ◌/◌, ◌==◌, ℕ, List, [], ◌∷◌, length, map, take, get_or, slice_get, IsTrue, Some, None, Ok, Err, Result, OnOk, Option, refl, sym, ap, subst, ◌∙◌, arith}
-use Rattle.std.proofs.lemmas.List.{take_more, map-append}
+use Rattle.std.proofs.Common.{◌≡◌, ◌≤◌, ◌<◌, ◌+◌, ◌++◌, ◌/◌, ◌==◌, ℕ, List, [], ◌∷◌, drop, length, map, take, get_or, slice_get, IsPermutation, IsTrue, Some, None, Ok, Err, Result, OnOk, Option, refl, sym, ap, subst, ◌∙◌, arith}
+use Rattle.std.proofs.lemmas.List.{append-nil, map-append, take_more}
+use Rattle.std.proofs.lemmas.List.Sorted.{IsPermutation-refl}
 use Rattle.sqlite.specs.Command.TheVariants.{Insert}
 use Rattle.sqlite.specs.Does.{Does}
 use Rattle.sqlite.specs.Effect.{value_rows}
@@ -8,7 +9,8 @@ use Rattle.sqlite.specs.Listing.{understood}
 use Rattle.sqlite.specs.Source.TheVariants.{Values}
 use Rattle.sqlite.specs.State.{ExecutesInside, HasCleanDisk, State, mode_of}
 use Rattle.sqlite.specs.Table.{Table}
-use Rattle.sqlite.specs.declared.types.Value.TheVariants.{Null}
+use Rattle.sqlite.specs.declared.types.Value.{Value}
+use Rattle.sqlite.specs.declared.types.Value.TheVariants.{Int, Null}
 use Rattle.sqlite.specs.Kind.TheVariants.{Integer}
 use Rattle.sqlite.proofs.Callers.{IsPlain, command_of, runs_as, statement_of}
 use Rattle.sqlite_catalog.specs.Listing.{IsSound}
@@ -18,31 +20,29 @@ use Rattle.sqlite_rules.specs.Cast.{cast, cast_all}
 use Rattle.sqlite_schema.specs.declared.schema.Action.TheVariants.{NoAction}
 use Rattle.sqlite_schema.specs.declared.schema.Keys.TheVariants.{Enforced}
 use Rattle.sqlite_sql.specs.Term.{Term}
+use Rattle.sqlite_trees.specs.Tree.{Trees}
 use Rattle.sqlite_trees.specs.View.{doubt}
 use Rattle.sqlite_value.specs.Order.{Row}
 use Rattle.mds_quantity.specs.Unit.{unit_of, unit_text}
 use Rattle.mds_marks.specs.Quality.{QualityValue, is_quality, quality_of, quality_text}
 use Rattle.mds_marks.specs.Reading.{ReadingValue, is_lawful}
 use Rattle.mds_terms.specs.Event.{EventValue}
-use Rattle.mds_world.specs.FactOrder.{exact, total}
 use Rattle.mds_world.specs.Facts.{Fact}
-use Rattle.mds_world.specs.Facts.Fact.{DetailIs, EventIs, HeadIs, VersionIs}
-use Rattle.mds_world.specs.World.{union}
+use Rattle.mds_world.specs.Facts.Fact.{DetailIs, EventIs, HeadIs}
 use Rattle.mds_world.specs.declared.facts.Detail.{Detail}
 use Rattle.mds_world.specs.declared.facts.Head.{Head}
 use Rattle.mds_world.specs.declared.facts.Key.{Key}
-use Rattle.mds_versions.specs.Content.{content_facts, version_fact}
+use Rattle.mds_versions.specs.Content as content
 use Rattle.mds_versions.specs.declared.additions.Additions.{Additions}
-use Rattle.mds_tables.proofs.InsertLemmas.{Adds, adds, cast_int, either, simple}
+use Rattle.mds_tables.proofs.InsertLemmas.{Adds as OneMore, adds, cast_int, either, simple}
 use Rattle.mds_tables.proofs.InsertTexts.{detail_terms, event_terms, head_terms, insert_detail, insert_detail_is, insert_detail_plain, insert_event, insert_event_is, insert_event_plain, insert_head, insert_head_is, insert_head_plain, insert_version, insert_version_is, insert_version_plain, version_terms}
-use Rattle.mds_tables.proofs.SetLemmas.{union_none}
 use Rattle.mds_tables.specs.Cells.{detail_cells, event_cells, head_cells, optional_cell, version_cells}
-use Rattle.mds_tables.specs.RowFacts.{world_in}
-use Rattle.mds_tables.specs.Stores.{Puts, PutsThere}
-use Rattle.mds_tables.specs.Tables.{detail_table, event_table, head_table, schema_1, version_table}
+use Rattle.mds_tables.specs.RowFacts.{detail_fact, event_fact, head_fact, version_fact}
+use Rattle.mds_tables.specs.Stores.{Adds, Gains}
+use Rattle.mds_tables.specs.Tables.{detail_table, event_table, head_table, schema_1, tables_1, version_table}
+use Rattle.mds_inserts.specs.Writing.{KeepsOthers, Part, Puts, PutsAll, PutsThere, detail_part, event_part, head_part, version_part}
 use Rattle.mds_inserts.proofs.FactLemmas.{detail_back, event_back, head_back, version_back}
-use Rattle.mds_inserts.proofs.RowLemmas.{Says, append_of, of, says_detail, says_event, says_head, says_version}
-use Rattle.mds_world.specs.Sets.{union_assoc}
+use Rattle.mds_inserts.proofs.RowLemmas.{gains_kept, gains_more, gains_one, kept_gains, say_more, world_after}
 
 -- no foreign key of these tables acts
 idle : (tree : ℕ) (news : List Row) → works schema_1 Enforced 0 tree [] news ≡ []
@@ -56,14 +56,18 @@ cast_optional (Some n) = cast_int _
 module _ (table : Table) (at : ℕ) (text : List ℕ) (terms : List Term) (width : ℕ)
     (placed : slice_get schema_1.tables at ≡ Some (simple table))
     (is : command_of (understood schema_1 text) ≡ Insert at (Values terms width))
-    (plain : IsPlain (understood schema_1 text)) where
-  puts_row : (old new : State) (values : Row) (count : ℕ) (f : Fact)
-      → value_rows (values ++ []) width (length terms / width) terms ≡ (Null ∷ values) ∷ []
-      → cast_all table.columns values ≡ values
-      → (Adds schema_1 old.now.trees new.now.trees table values → Says old.now.trees new.now.trees f)
-      → old.now.schema ≡ schema_1 → ExecutesInside 0 text values old new (Ok count) → Puts old new (f ∷ [])
-  puts_row old new values count f one kept says has ran =
+    (plain : IsPlain (understood schema_1 text))
+    {A : Type 0} (cells : A → Row) (fact : A → Fact) (read : Row → Fact) where
+  abbrev part : Part A
+  part = record { tree = table.tree; cells = cells; fact = fact; read = read }
+
+  puts_row : (old new : State) (item : A) (count : ℕ)
+      → value_rows (cells item ++ []) width (length terms / width) terms ≡ (Null ∷ cells item) ∷ []
+      → cast_all table.columns (cells item) ≡ cells item
+      → old.now.schema ≡ schema_1 → ExecutesInside 0 text (cells item) old new (Ok count) → Puts part old new (item ∷ [])
+  puts_row old new item count one kept has ran =
       let db = old.now.trees in
+      let values = cells item in
       let w = runs_as text values old new schema_1 has _ is plain count ran.0 in
       let stated = statement_of text (understood schema_1 text) in
       let does =
@@ -72,124 +76,184 @@ module _ (table : Table) (at : ℕ) (text : List ℕ) (terms : List Term) (width
       let it =
       adds old.step_limit Enforced schema_1 table values db values terms width one kept (idle table.tree)
       (mode_of old) stated at w.tally new.now refl placed does in
-      let said : Says db new.now.trees f = says it.1 in
+      let put : OneMore schema_1 db new.now.trees table values = it.1 in
       record {
         schema = it.0;
-        version = said.version;
-        added = said.world;
+        rows =
+            subst (λ rows. IsPermutation (map (drop 1) (db table.tree) ++ values ∷ []) (map (drop 1) rows)) (sym put.rows)
+            (gains_one (Int (next_rowid (db table.tree))) values (db table.tree) put.fresh);
+        others = put.others;
         committed = ran.1.committed_is;
         sound = subst (λ s. IsSound s new.now.trees) it.0 w.sound;
       }
 
-  puts_there : (old new : State) (values : Row) (count : ℕ) (f : Fact)
-      → value_rows (values ++ []) width (length terms / width) terms ≡ (Null ∷ values) ∷ []
-      → cast_all table.columns values ≡ values
-      → (Adds schema_1 old.now.trees new.now.trees table values → Says old.now.trees new.now.trees f)
-      → (HasCleanDisk new → ExecutesInside 0 text values old new (Ok count)) → PutsThere old new (f ∷ [])
-  puts_there old new values count f one kept says runs = record {
+  puts_there : (old new : State) (item : A) (count : ℕ)
+      → value_rows (cells item ++ []) width (length terms / width) terms ≡ (Null ∷ cells item) ∷ []
+      → cast_all table.columns (cells item) ≡ cells item
+      → ((id : Value) → read (id ∷ cells item) ≡ fact item)
+      → (HasCleanDisk new → ExecutesInside 0 text (cells item) old new (Ok count)) → PutsThere part old new (item ∷ [])
+  puts_there old new item count one kept says runs = record {
     was_open = λ clean _. (runs clean).1.was_open;
     is_open = λ clean _. (runs clean).1.is_open;
-    puts = λ clean _ has _. puts_row old new values count f one kept says has (runs clean);
+    puts = λ clean _ has _. puts_row old new item count one kept has (runs clean);
+    said = (says, tt);
   }
 
 pub puts_head : (old new : State) (h : Head) (count : ℕ) → unit_of (unit_text h.unit) ≡ Some h.unit
     → (HasCleanDisk new → ExecutesInside 0 insert_head (head_cells h) old new (Ok count))
-    → PutsThere old new (HeadIs h ∷ [])
+    → PutsThere head_part old new (h ∷ [])
 puts_head old new h count reads runs =
-    puts_there head_table 1 insert_head head_terms 6 refl insert_head_is insert_head_plain old new (head_cells h) count
-    (HeadIs h) refl (rw (cast_int, cast_int))
-    (λ a. subst (Says old.now.trees new.now.trees) (head_back (next_rowid (old.now.trees 2)) h reads)
-    (says_head _ _ (head_cells h) a)) runs
+    puts_there head_table 1 insert_head head_terms 6 refl insert_head_is insert_head_plain head_cells HeadIs head_fact
+    old new h count refl (rw (cast_int, cast_int)) (λ id. head_back id h reads) runs
 
 pub puts_version : (old new : State) (k : Key) (r : ReadingValue) (count : ℕ)
     → ((q : QualityValue) → IsTrue (is_quality q.flag q.method) → quality_of (quality_text q) ≡ Some q)
     → IsTrue (is_lawful r)
     → (HasCleanDisk new → ExecutesInside 0 insert_version (version_cells k r) old new (Ok count))
-    → PutsThere old new (VersionIs k r ∷ [])
+    → PutsThere version_part old new ((k, r) ∷ [])
 puts_version old new k r count reads known runs =
-    puts_there version_table 2 insert_version version_terms 10 refl insert_version_is insert_version_plain old new
-    (version_cells k r) count (VersionIs k r) refl (rw (cast_int, cast_int, cast_int, cast_optional, cast_int))
-    (λ a. subst (Says old.now.trees new.now.trees) (version_back (next_rowid (old.now.trees 4)) k r reads known)
-    (says_version _ _ (version_cells k r) a)) runs
+    puts_there version_table 2 insert_version version_terms 10 refl insert_version_is insert_version_plain
+    (λ (version : Key × ReadingValue). version_cells version.0 version.1) content.version_fact version_fact
+    old new (k, r) count refl (rw (cast_int, cast_int, cast_int, cast_optional, cast_int))
+    (λ id. version_back id k r reads known) runs
 
 pub puts_detail : (old new : State) (d : Detail) (count : ℕ)
     → (HasCleanDisk new → ExecutesInside 0 insert_detail (detail_cells d) old new (Ok count))
-    → PutsThere old new (DetailIs d ∷ [])
+    → PutsThere detail_part old new (d ∷ [])
 puts_detail old new d count runs =
-    puts_there detail_table 3 insert_detail detail_terms 9 refl insert_detail_is insert_detail_plain old new
-    (detail_cells d) count (DetailIs d) refl (rw (cast_int, cast_optional))
-    (λ a. subst (Says old.now.trees new.now.trees) (detail_back (next_rowid (old.now.trees 6)) d)
-    (says_detail _ _ (detail_cells d) a)) runs
+    puts_there detail_table 3 insert_detail detail_terms 9 refl insert_detail_is insert_detail_plain detail_cells DetailIs
+    detail_fact old new d count refl (rw (cast_int, cast_optional)) (λ id. detail_back id d) runs
 
 pub puts_event : (old new : State) (e : EventValue) (count : ℕ)
     → (HasCleanDisk new → ExecutesInside 0 insert_event (event_cells e) old new (Ok count))
-    → PutsThere old new (EventIs e ∷ [])
+    → PutsThere event_part old new (e ∷ [])
 puts_event old new e count runs =
-    puts_there event_table 4 insert_event event_terms 8 refl insert_event_is insert_event_plain old new
-    (event_cells e) count (EventIs e) refl (rw (cast_int, cast_optional))
-    (λ a. subst (Says old.now.trees new.now.trees) (event_back (next_rowid (old.now.trees 8)) e)
-    (says_event _ _ (event_cells e) a)) runs
+    puts_there event_table 4 insert_event event_terms 8 refl insert_event_is insert_event_plain event_cells EventIs
+    event_fact old new e count refl (rw (cast_int, cast_optional)) (λ id. event_back id e) runs
 
-pub none_there : (s : State) → PutsThere s s []
-none_there s = record {
-  was_open = λ _ o. o;
-  is_open = λ _ o. o;
-  puts = λ _ _ has sound. record {
-    schema = has;
-    version = refl;
-    added = union_none total exact (world_in s.now.trees);
-    committed = refl;
-    sound = sound;
-  };
-}
+same_others : (tree : ℕ) (a : Trees) (tables : List Table) → KeepsOthers tree a a tables
+same_others tree a [] = tt
+same_others tree a (t ∷ ts) = (λ _. refl, same_others tree a ts)
 
-puts_then : (a b c : State) (fs gs : List Fact) → Puts a b fs → Puts b c gs → Puts a c (fs ++ gs)
-puts_then a b c fs gs p q = record {
-  schema = q.schema;
-  version = q.version ∙ p.version;
-  added = q.added ∙ ap (λ w. union w (of gs)) p.added
-      ∙ union_assoc total exact (world_in a.now.trees) (of fs) (of gs)
-      ∙ ap (union (world_in a.now.trees)) (sym (append_of fs gs));
-  committed = q.committed ∙ p.committed;
-  sound = q.sound;
-}
+kept_others : (tree : ℕ) (a b c : Trees) (tables : List Table) → KeepsOthers tree a b tables → KeepsOthers tree b c tables
+    → KeepsOthers tree a c tables
+kept_others tree a b c [] p q = tt
+kept_others tree a b c (t ∷ ts) p q = (λ other. q.0 other ∙ p.0 other, kept_others tree a b c ts p.1 q.1)
 
--- one part after another
-pub there_then : (a b c : State) (fs gs : List Fact) → doubt b.is_clean ≤ doubt c.is_clean → PutsThere a b fs
-    → PutsThere b c gs → PutsThere a c (fs ++ gs)
-there_then a b c fs gs later p q = record {
-  was_open = λ clean o. p.was_open (omega arith) (q.was_open clean o);
-  is_open = λ clean o. q.is_open clean (p.is_open (omega arith) o);
-  puts = λ clean o has sound.
-      let first = p.puts (omega arith) o has sound in
-      puts_then a b c fs gs first (q.puts clean (p.is_open (omega arith) o) first.schema first.sound);
-}
+module _ {A : Type 0} (part : Part A) where
+  pub none_there : (s : State) → PutsThere part s s []
+  none_there s = record {
+    was_open = λ _ o. o;
+    is_open = λ _ o. o;
+    puts = λ _ _ has sound. record {
+      schema = has;
+      rows = subst (λ rows. IsPermutation rows (map (drop 1) (s.now.trees part.tree)))
+          (sym (append-nil (map (drop 1) (s.now.trees part.tree)))) (IsPermutation-refl _);
+      others = same_others part.tree s.now.trees tables_1;
+      committed = refl;
+      sound = sound;
+    };
+    said = tt;
+  }
 
-more_seen : {A : Type 0} (f : A → Fact) (xs : List A) (at : ℕ) (x : A) → at < length xs → x ≡ get_or xs at x
-    → map f (take at xs) ++ f x ∷ [] ≡ map f (take (at + 1) xs)
-more_seen f xs at x low is =
-    ap (λ y. map f (take at xs) ++ f y ∷ []) is ∙ sym (map-append f (take at xs) (get_or xs at x ∷ []))
-    ∙ ap (map f) (sym (take_more xs at x low))
+  puts_then : (a b c : State) (xs ys : List A) → Puts part a b xs → Puts part b c ys → Puts part a c (xs ++ ys)
+  puts_then a b c xs ys p q = record {
+    schema = q.schema;
+    rows = subst (λ rows. Gains part.tree rows a.now.trees c.now.trees) (sym (map-append part.cells xs ys))
+        (gains_more part.tree (map part.cells xs) (map part.cells ys) a.now.trees b.now.trees c.now.trees p.rows q.rows);
+    others = kept_others part.tree a.now.trees b.now.trees c.now.trees tables_1 p.others q.others;
+    committed = q.committed ∙ p.committed;
+    sound = q.sound;
+  }
 
--- the step of a loop over a slice
-pub next_there : {A : Type 0} (f : A → Fact) (a b c : State) (xs : List A) (at : ℕ) (x : A) → at < length xs
-    → x ≡ get_or xs at x → doubt b.is_clean ≤ doubt c.is_clean → PutsThere a b (map f (take at xs))
-    → PutsThere b c (f x ∷ []) → PutsThere a c (map f (take (at + 1) xs))
-next_there f a b c xs at x low is later p q =
-    subst (PutsThere a c) (more_seen f xs at x low is)
-    (there_then a b c (map f (take at xs)) (f x ∷ []) later p q)
+  there_then : (a b c : State) (xs ys : List A) → doubt b.is_clean ≤ doubt c.is_clean → PutsThere part a b xs
+      → PutsThere part b c ys → PutsThere part a c (xs ++ ys)
+  there_then a b c xs ys later p q = record {
+    was_open = λ clean o. p.was_open (omega arith) (q.was_open clean o);
+    is_open = λ clean o. q.is_open clean (p.is_open (omega arith) o);
+    puts = λ clean o has sound.
+        let first = p.puts (omega arith) o has sound in
+        puts_then a b c xs ys first (q.puts clean (p.is_open (omega arith) o) first.schema first.sound);
+    said = say_more part xs ys p.said q.said;
+  }
 
-if_ok : {X E : Type 0} (r : Result X E) (A B : Type 0) → (A → B) → OnOk r A → OnOk r B
+  -- the step of a loop over a slice
+  pub next_there : (a b c : State) (xs : List A) (at : ℕ) (x : A) → at < length xs → x ≡ get_or xs at x
+      → doubt b.is_clean ≤ doubt c.is_clean → PutsThere part a b (take at xs) → PutsThere part b c (x ∷ [])
+      → PutsThere part a c (take (at + 1) xs)
+  next_there a b c xs at x low is later p q =
+      subst (PutsThere part a c) (ap (λ y. take at xs ++ y ∷ []) is ∙ sym (take_more xs at x low))
+      (there_then a b c (take at xs) (x ∷ []) later p q)
+
+pub if_ok : {X E : Type 0} (r : Result X E) (A B : Type 0) → (A → B) → OnOk r A → OnOk r B
 if_ok (Ok x) A B f h = f h
 if_ok (Err e) A B f h = tt
 
+-- Each table has the rows of its part, and no other.
+adds_all : (a b c d e : State) (added : Additions) → Puts head_part a b added.heads.items
+    → Puts version_part b c added.versions.items → Puts detail_part c d added.details.items
+    → Puts event_part d e added.events.items → Adds a.now.trees e.now.trees added
+adds_all a b c d e added p q r s =
+    let first = a.now.trees in
+    let last = e.now.trees in
+    record {
+      schema =
+          s.others.0 (λ e. omega arith) ∙ r.others.0 (λ e. omega arith)
+          ∙ q.others.0 (λ e. omega arith) ∙ p.others.0 (λ e. omega arith);
+      heads = gains_kept 2 _ first b.now.trees last p.rows
+          (s.others.1.0 (λ e. omega arith) ∙ r.others.1.0 (λ e. omega arith)
+          ∙ q.others.1.0 (λ e. omega arith));
+      versions = gains_kept 4 _ first c.now.trees last
+          (kept_gains 4 _ first b.now.trees c.now.trees (p.others.1.1.0 (λ e. omega arith)) q.rows)
+          (s.others.1.1.0 (λ e. omega arith) ∙ r.others.1.1.0 (λ e. omega arith));
+      details = gains_kept 6 _ first d.now.trees last
+          (kept_gains 6 _ first c.now.trees d.now.trees
+          (q.others.1.1.1.0 (λ e. omega arith) ∙ p.others.1.1.1.0 (λ e. omega arith)) r.rows)
+          (s.others.1.1.1.0 (λ e. omega arith));
+      events = kept_gains 8 _ first d.now.trees last
+          (r.others.1.1.1.1.0 (λ e. omega arith) ∙ q.others.1.1.1.1.0 (λ e. omega arith)
+          ∙ p.others.1.1.1.1.0 (λ e. omega arith))
+          s.rows;
+      periods =
+          s.others.1.1.1.1.1.0 (λ e. omega arith) ∙ r.others.1.1.1.1.1.0 (λ e. omega arith)
+          ∙ q.others.1.1.1.1.1.0 (λ e. omega arith) ∙ p.others.1.1.1.1.1.0 (λ e. omega arith);
+      holidays =
+          s.others.1.1.1.1.1.1.0 (λ e. omega arith) ∙ r.others.1.1.1.1.1.1.0 (λ e. omega arith)
+          ∙ q.others.1.1.1.1.1.1.0 (λ e. omega arith) ∙ p.others.1.1.1.1.1.1.0 (λ e. omega arith);
+      jobs =
+          s.others.1.1.1.1.1.1.1.0 (λ e. omega arith) ∙ r.others.1.1.1.1.1.1.1.0 (λ e. omega arith)
+          ∙ q.others.1.1.1.1.1.1.1.0 (λ e. omega arith) ∙ p.others.1.1.1.1.1.1.1.0 (λ e. omega arith);
+    }
+
 -- the four parts of what is added, one after another
-pub all_there : {X E : Type 0} (a b c d e : State) (added : Additions) (r : Result X E)
-    → doubt b.is_clean ≤ doubt c.is_clean → doubt c.is_clean ≤ doubt d.is_clean
-    → doubt d.is_clean ≤ doubt e.is_clean
-    → PutsThere a b (map HeadIs added.heads.items) → PutsThere b c (map version_fact added.versions.items)
-    → PutsThere c d (map DetailIs added.details.items)
-    → OnOk r (PutsThere d e (map EventIs added.events.items)) → OnOk r (PutsThere a e (content_facts added))
-all_there a b c d e added r bc cd de heads versions details =
-    if_ok r _ _ (there_then a d e _ _ de
-    (there_then a c d _ _ cd (there_then a b c _ _ bc heads versions) details))
+pub all_there : {X E : Type 0} (a b c d e : State) (added : Additions) (result : Result X E)
+    → doubt b.is_clean ≤ doubt c.is_clean → doubt c.is_clean ≤ doubt d.is_clean → doubt d.is_clean ≤ doubt e.is_clean
+    → PutsThere head_part a b added.heads.items → PutsThere version_part b c added.versions.items
+    → PutsThere detail_part c d added.details.items → OnOk result (PutsThere event_part d e added.events.items)
+    → OnOk result (PutsAll a e added)
+all_there a b c d e added result bc cd de p q r = if_ok result _ _ (λ s.
+    let parts : HasCleanDisk e → IsTrue a.is_open → a.now.schema ≡ schema_1 → IsSound schema_1 a.now.trees
+    → Puts head_part a b added.heads.items × Puts version_part b c added.versions.items
+    × Puts detail_part c d added.details.items × Puts event_part d e added.events.items =
+    λ clean o has sound.
+    let one = p.puts (omega arith) o has sound in
+    let two = q.puts (omega arith) (p.is_open (omega arith) o) one.schema one.sound in
+    let three = r.puts (omega arith) (q.is_open (omega arith) (p.is_open (omega arith) o)) two.schema two.sound in
+    let four = s.puts clean (r.is_open (omega arith) (q.is_open (omega arith) (p.is_open (omega arith) o)))
+    three.schema three.sound in
+    (one, two, three, four) in
+    record {
+      was_open = λ clean o.
+          p.was_open (omega arith) (q.was_open (omega arith) (r.was_open (omega arith) (s.was_open clean o)));
+      is_open = λ clean o.
+          s.is_open clean (r.is_open (omega arith) (q.is_open (omega arith) (p.is_open (omega arith) o)));
+      schema = λ clean o has sound. (parts clean o has sound).3.schema;
+      added = λ clean o has sound.
+          let all = parts clean o has sound in
+          let rows = adds_all a b c d e added all.0 all.1 all.2 all.3 in
+          record {
+            rows = rows;
+            world = world_after a.now.trees e.now.trees added p.said q.said r.said s.said rows;
+            sound = all.3.sound;
+          };
+    })

@@ -1,150 +1,166 @@
--- A row that is put into one of the tables adds its fact to what the tables say.
-use Rattle.std.proofs.Common.{◌≡◌, false, List, [], ◌∷◌, ◌++◌, map, sym, ap, ◌∙◌, arith}
-use Rattle.std.specs.FinSet.{from_list}
-use Rattle.sqlite_trees.specs.Tree.{Trees, put_row}
+-- What rows that are put into the tables add to them, and to the facts that they say.
+use Rattle.std.proofs.Common.{◌≡◌, ℕ, false, List, [], ◌∷◌, ◌++◌, drop, map, ◌||◌, IsPermutation, refl, sym, ap, subst, ◌∙◌}
+use Rattle.std.proofs.lemmas.List.{map-append, append_assoc}
+use Rattle.std.proofs.lemmas.List.Sorted.{IsPermutation-append_left, IsPermutation-cons, IsPermutation-map, IsPermutation-middle, IsPermutation-refl, IsPermutation-sym, IsPermutation-to_front, IsPermutation-trans, list_any-IsPermutation}
+use Rattle.std.specs.FinSet.{contains-from_list, from_list, same_set}
+use Rattle.std.specs.List.{AllByRecursion}
+use Rattle.std.specs.Ordering.{eq_by_cmp, is_eq, match_ordering}
+use Rattle.std.specs.declared.cmp.Ordering.TheVariants.{Less, Equal, Greater}
+use Rattle.sqlite.specs.declared.types.Value.{Value}
+use Rattle.sqlite.specs.declared.types.Value.TheVariants.{Null}
 use Rattle.sqlite_rules.specs.Edit.{is_taken}
-use Rattle.sqlite_value.specs.Order.{Row}
+use Rattle.sqlite_trees.specs.Tree.{Trees, put_row, rowid}
+use Rattle.sqlite_value.specs.Order.{Row, value_cmp}
 use Rattle.mds_world.specs.FactOrder.{exact, fact_cmp, total}
 use Rattle.mds_world.specs.Facts.{Fact}
 use Rattle.mds_world.specs.Sets.{list_append, union_assoc, union_comm}
 use Rattle.mds_world.specs.World.{World, union}
-use Rattle.mds_tables.proofs.InsertLemmas.{Adds, stored}
-use Rattle.mds_tables.proofs.SetLemmas.{named_put, union_one}
-use Rattle.mds_tables.specs.RowFacts.{detail_fact, event_fact, head_fact, holiday_fact, version_fact, world_in}
-use Rattle.mds_tables.specs.Tables.{detail_table, event_table, head_table, schema_1, version_table}
+use Rattle.mds_versions.specs.Content.{content}
+use Rattle.mds_versions.specs.declared.additions.Additions.{Additions}
+use Rattle.mds_tables.specs.RowFacts.{detail_fact, event_fact, head_fact, holiday_fact, job_fact, period_fact, version_fact, world_in}
+use Rattle.mds_tables.specs.Stores.{Adds, Gains}
+use Rattle.mds_inserts.specs.Writing.{Part, detail_part, event_part, head_part, version_part}
+
+-- a row under a fresh rowid is put between the others
+put_shuffles : (new : Row) (rows : List Row) → is_taken rows new ≡ false → IsPermutation (new ∷ rows) (put_row new rows)
+put_shuffles new [] fresh = IsPermutation-refl _
+put_shuffles new (r ∷ rs) fresh =
+    elim (value_cmp (rowid r) (rowid new)) as (λ o. (is_eq o || is_taken rs new) ≡ false
+    → IsPermutation (new ∷ r ∷ rs) (match_ordering o (r ∷ put_row new rs) (new ∷ rs) (new ∷ r ∷ rs))) [
+      | Less ↦ λ none. IsPermutation-trans _ _ _ (IsPermutation-sym _ _ (IsPermutation-middle (r ∷ []) new rs))
+          (IsPermutation-cons r _ _ (put_shuffles new rs none))
+      | Equal ↦ λ none. absurd (cc)
+      | Greater ↦ λ none. IsPermutation-refl _
+    ] fresh
+
+-- so that the table has its columns beside those of the others
+pub gains_one : (id : Value) (cells : Row) (rows : List Row) → is_taken rows (id ∷ cells) ≡ false
+    → IsPermutation (map (drop 1) rows ++ cells ∷ []) (map (drop 1) (put_row (id ∷ cells) rows))
+gains_one id cells rows fresh =
+    IsPermutation-trans _ _ _ (IsPermutation-to_front (map (drop 1) rows) cells)
+    (IsPermutation-map (drop 1) ((id ∷ cells) ∷ rows) (put_row (id ∷ cells) rows) (put_shuffles (id ∷ cells) rows fresh))
+
+-- what a table gains in two steps
+pub gains_more : (tree : ℕ) (xs ys : List Row) (a b c : Trees) → Gains tree xs a b → Gains tree ys b c
+    → Gains tree (xs ++ ys) a c
+gains_more tree xs ys a b c p q =
+    subst (λ rows. IsPermutation rows (map (drop 1) (c tree))) (append_assoc (map (drop 1) (a tree)) xs ys)
+    (IsPermutation-trans _ _ _ (IsPermutation-append_left ys _ _ p) q)
+
+pub gains_kept : (tree : ℕ) (rows : List Row) (a b c : Trees) → Gains tree rows a b → c tree ≡ b tree → Gains tree rows a c
+gains_kept tree rows a b c gains same =
+    subst (λ (now : List Row). IsPermutation (map (drop 1) (a tree) ++ rows) (map (drop 1) now)) (sym same) gains
+
+pub kept_gains : (tree : ℕ) (rows : List Row) (a b c : Trees) → b tree ≡ a tree → Gains tree rows b c → Gains tree rows a c
+kept_gains tree rows a b c same gains =
+    subst (λ (was : List Row). IsPermutation (map (drop 1) was ++ rows) (map (drop 1) (c tree))) same gains
 
 -- the World of a list of facts
 abbrev pub of : List Fact → World
 of facts = from_list {R = fact_cmp} facts
 
-pub append_of : (xs ys : List Fact) → of (xs ++ ys) ≡ union (of xs) (of ys)
+append_of : (xs ys : List Fact) → of (xs ++ ys) ≡ union (of xs) (of ys)
 append_of = list_append total exact
 
--- more in the last of two parts
-put_last : (xs ys more : List Fact) (f : Fact) → of more ≡ union (of ys) (of (f ∷ []))
-    → of (xs ++ more) ≡ union (of (xs ++ ys)) (of (f ∷ []))
-put_last xs ys more f is =
-    append_of xs more ∙ ap (union (of xs)) is ∙ sym (union_assoc total exact (of xs) (of ys) (of (f ∷ [])))
-    ∙ ap (λ w. union w (of (f ∷ []))) (sym (append_of xs ys))
+shuffled_of : (xs ys : List Fact) → IsPermutation xs ys → of xs ≡ of ys
+shuffled_of xs ys p =
+    same_set total exact _ _ (λ q. contains-from_list total xs q ∙ list_any-IsPermutation (eq_by_cmp fact_cmp q) xs ys p
+    ∙ sym (contains-from_list total ys q))
+
+-- these facts are more than those, by these
+abbrev pub IsMore : List Fact → List Fact → List Fact → Type 0
+IsMore more xs facts = of more ≡ union (of xs) (of facts)
+
+-- more in both of two parts
+more_both : (xs ys us vs fs gs : List Fact) → IsMore us xs fs → IsMore vs ys gs → IsMore (us ++ vs) (xs ++ ys) (fs ++ gs)
+more_both xs ys us vs fs gs p q =
+    let x = of xs in
+    let y = of ys in
+    let f = of fs in
+    let g = of gs in
+    append_of us vs ∙ (λ i. union (p i) (q i)) ∙ union_assoc total exact x f (union y g)
+    ∙ ap (union x) (sym (union_assoc total exact f y g) ∙ ap (λ w. union w g) (union_comm total exact f y)
+    ∙ union_assoc total exact y f g)
+    ∙ sym (union_assoc total exact x y (union f g))
+    ∙ (λ i. union (sym (append_of xs ys) i) (sym (append_of fs gs) i))
 
 -- more in the first of two parts
-put_first : (xs ys more : List Fact) (f : Fact) → of more ≡ union (of xs) (of (f ∷ []))
-    → of (more ++ ys) ≡ union (of (xs ++ ys)) (of (f ∷ []))
-put_first xs ys more f is =
-    append_of more ys ∙ union_comm total exact (of more) (of ys) ∙ ap (union (of ys)) is
-    ∙ sym (union_assoc total exact (of ys) (of xs) (of (f ∷ [])))
-    ∙ ap (λ w. union w (of (f ∷ []))) (union_comm total exact (of ys) (of xs) ∙ sym (append_of xs ys))
+more_first : (xs ys us vs fs : List Fact) → IsMore us xs fs → vs ≡ ys → IsMore (us ++ vs) (xs ++ ys) fs
+more_first xs ys us vs fs p same =
+    let x = of xs in
+    let y = of ys in
+    let f = of fs in
+    append_of us vs ∙ (λ i. union (p i) (of (same i))) ∙ union_assoc total exact x f y
+    ∙ ap (union x) (union_comm total exact f y) ∙ sym (union_assoc total exact x y f)
+    ∙ ap (λ w. union w f) (sym (append_of xs ys))
 
-named : (d : Row → Fact) (new : Row) (rows : List Row) → is_taken rows new ≡ false
-    → of (map d (put_row new rows)) ≡ union (of (map d rows)) (of (d new ∷ []))
-named d new rows fresh = named_put total exact d new rows fresh ∙ union_one total exact (of (map d rows)) (d new)
+-- the rowid is nothing that a fact says
+abbrev Unnamed : (Row → Fact) → Type 0
+Unnamed read = (row : Row) → read row ≡ read (Null ∷ drop 1 row)
 
--- what a row of a table adds to all of them
-pub record Says (old new : Trees) (f : Fact) : Type 0 where
-  pub version : new 0 ≡ old 0
-  pub world : world_in new ≡ union (world_in old) (of (f ∷ []))
+bare : (read : Row → Fact) → Unnamed read → (rows : List Row)
+    → map read rows ≡ map (λ cells. read (Null ∷ cells)) (map (drop 1) rows)
+bare read same [] = refl
+bare read same (r ∷ rs) = λ i. same r i ∷ bare read same rs i
 
-module _ (old new : Trees) (values : Row) where
-  abbrev heads : List Fact
-  heads = map head_fact (old 2)
+module _ {A : Type 0} (part : Part A) where
+  -- the row of each, under any rowid, says its fact
+  abbrev pub Say : List A → Type 0
+  Say = AllByRecursion (λ item. (id : Value) → part.read (id ∷ part.cells item) ≡ part.fact item)
 
-  abbrev versions : List Fact
-  versions = map version_fact (old 4)
+  say : (items : List A) → Say items
+      → map (λ cells. part.read (Null ∷ cells)) (map part.cells items) ≡ map part.fact items
+  say [] said = refl
+  say (x ∷ xs) said = λ i. said.0 Null i ∷ say xs said.1 i
 
-  abbrev details : List Fact
-  details = map detail_fact (old 6)
+  pub say_more : (xs ys : List A) → Say xs → Say ys → Say (xs ++ ys)
+  say_more [] ys p q = q
+  say_more (x ∷ xs) ys p q = (p.0, say_more xs ys p.1 q)
 
-  abbrev events : List Fact
-  events = map event_fact (old 8)
+  -- a table says more by the facts of the rows that it gained
+  more : Unnamed part.read → (items : List A) → Say items → (old new : Trees)
+      → Gains part.tree (map part.cells items) old new
+      → IsMore (map part.read (new part.tree)) (map part.read (old part.tree)) (map part.fact items)
+  more same items said old new gains =
+      let rows : List Row = map (drop 1) (old part.tree) in
+      let plain : Row → Fact = λ cells. part.read (Null ∷ cells) in
+      ap of (bare part.read same (new part.tree))
+      ∙ sym (shuffled_of _ _ (IsPermutation-map plain (rows ++ map part.cells items) (map (drop 1) (new part.tree)) gains))
+      ∙ ap of (map-append plain rows (map part.cells items))
+      ∙ (λ i. of (sym (bare part.read same (old part.tree)) i ++ say items said i))
+      ∙ append_of (map part.read (old part.tree)) (map part.fact items)
 
-  abbrev holidays : List Fact
-  holidays = map holiday_fact (old 12)
+head_bare : Unnamed head_fact
+head_bare [] = refl
+head_bare (x ∷ xs) = refl
 
-  pub says_head : Adds schema_1 old new head_table values → Says old new (head_fact (stored (old 2) values))
-  says_head a =
-      let row = stored (old 2) values in
-      let f = head_fact row in
-      let more = map head_fact (put_row row (old 2)) in
-      let others = a.others in
-      let two : new 2 ≡ put_row row (old 2) = a.rows in
-      let four : new 4 ≡ old 4 = others.1.1.0 (λ e. omega arith) in
-      let six : new 6 ≡ old 6 = others.1.1.1.0 (λ e. omega arith) in
-      let eight : new 8 ≡ old 8 = others.1.1.1.1.0 (λ e. omega arith) in
-      let twelve : new 12 ≡ old 12 = others.1.1.1.1.1.1.0 (λ e. omega arith) in
-      record {
-        version = others.0 (λ e. omega arith);
-        world =
-            (λ i. of (map head_fact (two i) ++ map version_fact (four i) ++ map detail_fact (six i)
-            ++ map event_fact (eight i) ++ map holiday_fact (twelve i)))
-            ∙ put_first (heads ++ versions ++ details ++ events) holidays (more ++ versions ++ details ++ events) f
-            (put_first (heads ++ versions ++ details) events (more ++ versions ++ details) f
-            (put_first (heads ++ versions) details (more ++ versions) f
-            (put_first heads versions more f
-            (named head_fact row (old 2) a.fresh))));
-      }
+version_bare : Unnamed version_fact
+version_bare [] = refl
+version_bare (x ∷ xs) = refl
 
-  pub says_version : Adds schema_1 old new version_table values → Says old new (version_fact (stored (old 4) values))
-  says_version a =
-      let row = stored (old 4) values in
-      let f = version_fact row in
-      let more = map version_fact (put_row row (old 4)) in
-      let others = a.others in
-      let two : new 2 ≡ old 2 = others.1.0 (λ e. omega arith) in
-      let four : new 4 ≡ put_row row (old 4) = a.rows in
-      let six : new 6 ≡ old 6 = others.1.1.1.0 (λ e. omega arith) in
-      let eight : new 8 ≡ old 8 = others.1.1.1.1.0 (λ e. omega arith) in
-      let twelve : new 12 ≡ old 12 = others.1.1.1.1.1.1.0 (λ e. omega arith) in
-      record {
-        version = others.0 (λ e. omega arith);
-        world =
-            (λ i. of (map head_fact (two i) ++ map version_fact (four i) ++ map detail_fact (six i)
-            ++ map event_fact (eight i) ++ map holiday_fact (twelve i)))
-            ∙ put_first (heads ++ versions ++ details ++ events) holidays (heads ++ more ++ details ++ events) f
-            (put_first (heads ++ versions ++ details) events (heads ++ more ++ details) f
-            (put_first (heads ++ versions) details (heads ++ more) f
-            (put_last heads versions more f
-            (named version_fact row (old 4) a.fresh))));
-      }
+detail_bare : Unnamed detail_fact
+detail_bare [] = refl
+detail_bare (x ∷ xs) = refl
 
-  pub says_detail : Adds schema_1 old new detail_table values → Says old new (detail_fact (stored (old 6) values))
-  says_detail a =
-      let row = stored (old 6) values in
-      let f = detail_fact row in
-      let more = map detail_fact (put_row row (old 6)) in
-      let others = a.others in
-      let two : new 2 ≡ old 2 = others.1.0 (λ e. omega arith) in
-      let four : new 4 ≡ old 4 = others.1.1.0 (λ e. omega arith) in
-      let six : new 6 ≡ put_row row (old 6) = a.rows in
-      let eight : new 8 ≡ old 8 = others.1.1.1.1.0 (λ e. omega arith) in
-      let twelve : new 12 ≡ old 12 = others.1.1.1.1.1.1.0 (λ e. omega arith) in
-      record {
-        version = others.0 (λ e. omega arith);
-        world =
-            (λ i. of (map head_fact (two i) ++ map version_fact (four i) ++ map detail_fact (six i)
-            ++ map event_fact (eight i) ++ map holiday_fact (twelve i)))
-            ∙ put_first (heads ++ versions ++ details ++ events) holidays (heads ++ versions ++ more ++ events) f
-            (put_first (heads ++ versions ++ details) events (heads ++ versions ++ more) f
-            (put_last (heads ++ versions) details more f
-            (named detail_fact row (old 6) a.fresh)));
-      }
+event_bare : Unnamed event_fact
+event_bare [] = refl
+event_bare (x ∷ xs) = refl
 
-  pub says_event : Adds schema_1 old new event_table values → Says old new (event_fact (stored (old 8) values))
-  says_event a =
-      let row = stored (old 8) values in
-      let f = event_fact row in
-      let more = map event_fact (put_row row (old 8)) in
-      let others = a.others in
-      let two : new 2 ≡ old 2 = others.1.0 (λ e. omega arith) in
-      let four : new 4 ≡ old 4 = others.1.1.0 (λ e. omega arith) in
-      let six : new 6 ≡ old 6 = others.1.1.1.0 (λ e. omega arith) in
-      let eight : new 8 ≡ put_row row (old 8) = a.rows in
-      let twelve : new 12 ≡ old 12 = others.1.1.1.1.1.1.0 (λ e. omega arith) in
-      record {
-        version = others.0 (λ e. omega arith);
-        world =
-            (λ i. of (map head_fact (two i) ++ map version_fact (four i) ++ map detail_fact (six i)
-            ++ map event_fact (eight i) ++ map holiday_fact (twelve i)))
-            ∙ put_first (heads ++ versions ++ details ++ events) holidays (heads ++ versions ++ details ++ more) f
-            (put_last (heads ++ versions ++ details) events more f
-            (named event_fact row (old 8) a.fresh));
-      }
+-- the World that the tables name is the union
+pub world_after : (old new : Trees) (added : Additions) → Say head_part added.heads.items
+    → Say version_part added.versions.items → Say detail_part added.details.items → Say event_part added.events.items
+    → Adds old new added → world_in new ≡ union (world_in old) (content added)
+world_after old new added heads versions details events adds =
+    more_first _ (map job_fact (old 14)) _ (map job_fact (new 14)) _
+    (more_first _ (map holiday_fact (old 12)) _ (map holiday_fact (new 12)) _
+    (more_first _ (map period_fact (old 10)) _ (map period_fact (new 10)) _
+    (more_both _ (map event_fact (old 8)) _ (map event_fact (new 8)) _ _
+    (more_both _ (map detail_fact (old 6)) _ (map detail_fact (new 6)) _ _
+    (more_both (map head_fact (old 2)) (map version_fact (old 4)) (map head_fact (new 2)) (map version_fact (new 4)) _ _
+    (more head_part head_bare added.heads.items heads old new adds.heads)
+    (more version_part version_bare added.versions.items versions old new adds.versions))
+    (more detail_part detail_bare added.details.items details old new adds.details))
+    (more event_part event_bare added.events.items events old new adds.events))
+    (ap (map period_fact) adds.periods))
+    (ap (map holiday_fact) adds.holidays))
+    (ap (map job_fact) adds.jobs)

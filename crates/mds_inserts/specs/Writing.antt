@@ -1,17 +1,98 @@
--- What a transaction of all parts does.
-use Rattle.std.specs.Prelude.{◌≡◌, List, IsTrue}
-use Rattle.std.specs.FinSet as set
-use Rattle.sqlite.specs.State.{State}
+-- What the parts of a transaction, and all of it, do to the tables.
+use Rattle.std.specs.Prelude.{◌≡◌, ◌≢◌, ℕ, List, ◌∷◌, map, IsTrue}
+use Rattle.std.specs.List.{AllByRecursion}
+use Rattle.sqlite.specs.State.{HasCleanDisk, State}
+use Rattle.sqlite.specs.Table.{Table}
+use Rattle.sqlite.specs.declared.types.Value.{Value}
 use Rattle.sqlite_catalog.specs.Listing.{IsSound}
+use Rattle.sqlite_trees.specs.Tree.{Trees}
+use Rattle.sqlite_value.specs.Order.{Row}
+use Rattle.mds_marks.specs.Reading.{ReadingValue}
+use Rattle.mds_terms.specs.Event.{EventValue}
 use Rattle.mds_world.specs.Facts.{Fact}
+use Rattle.mds_world.specs.Facts.Fact.{DetailIs, EventIs, HeadIs}
 use Rattle.mds_world.specs.World.{union}
-use Rattle.mds_tables.specs.RowFacts.{world_in}
-use Rattle.mds_tables.specs.Stores.{IsStore, world_of}
-use Rattle.mds_tables.specs.Tables.{schema_1}
+use Rattle.mds_world.specs.declared.facts.Detail.{Detail}
+use Rattle.mds_world.specs.declared.facts.Head.{Head}
+use Rattle.mds_world.specs.declared.facts.Key.{Key}
+use Rattle.mds_versions.specs.Content as content
+use Rattle.mds_versions.specs.declared.additions.Additions.{Additions}
+use Rattle.mds_tables.specs.Cells.{detail_cells, event_cells, head_cells, version_cells}
+use Rattle.mds_tables.specs.RowFacts.{detail_fact, event_fact, head_fact, version_fact, world_in}
+use Rattle.mds_tables.specs.Stores.{Adds, Gains}
+use Rattle.mds_tables.specs.Tables.{schema_1, tables_1}
 
--- These facts are committed beside what the transaction saw at its beginning.
-pub record Writes (old new : State) (facts : List Fact) : Type 0 where
+-- How things of one kind are kept: the tree of their table, the row of each without a rowid, its fact, and the fact that a
+-- row of the table says.
+pub record Part (A : Type 0) : Type 0 where
+  pub tree : ℕ
+  pub cells : A → Row
+  pub fact : A → Fact
+  pub read : Row → Fact
+
+abbrev pub head_part : Part Head
+head_part = record { tree = 2; cells = head_cells; fact = HeadIs; read = head_fact }
+
+abbrev pub version_part : Part (Key × ReadingValue)
+version_part = record {
+  tree = 4;
+  cells = λ version. version_cells version.0 version.1;
+  fact = content.version_fact;
+  read = version_fact;
+}
+
+abbrev pub detail_part : Part Detail
+detail_part = record { tree = 6; cells = detail_cells; fact = DetailIs; read = detail_fact }
+
+abbrev pub event_part : Part EventValue
+event_part = record { tree = 8; cells = event_cells; fact = EventIs; read = event_fact }
+
+-- every table but that of a tree is as it was
+abbrev pub KeepsOthers : ℕ → Trees → Trees → List Table → Type 0
+KeepsOthers tree old new = AllByRecursion (λ table. table.tree ≢ tree → new table.tree ≡ old table.tree)
+
+module _ {A : Type 0} (part : Part A) (old new : State) (items : List A) where
+  -- These things have their rows in their table, beside those that were there, as the transaction sees it. Every other
+  -- table is as it was, and nothing is committed.
+  pub record Puts : Type 0 where
+    pub schema : new.now.schema ≡ schema_1
+    pub rows : Gains part.tree (map part.cells items) old.now.trees new.now.trees
+    pub others : KeepsOthers part.tree old.now.trees new.now.trees tables_1
+    pub committed : new.committed ≡ old.committed
+    pub sound : IsSound schema_1 new.now.trees
+
+  -- The same, where the connection is open and the tables are these. The row of each, under any rowid, says its fact.
+  pub record PutsThere : Type 0 where
+    pub was_open : HasCleanDisk new → IsTrue new.is_open → IsTrue old.is_open
+    pub is_open : HasCleanDisk new → IsTrue old.is_open → IsTrue new.is_open
+    pub puts : HasCleanDisk new → IsTrue old.is_open → old.now.schema ≡ schema_1 → IsSound schema_1 old.now.trees → Puts
+    pub said : AllByRecursion (λ item. (id : Value) → part.read (id ∷ part.cells item) ≡ part.fact item) items
+
+-- All of the additions are in the tables, beside what was there.
+pub record HasAdded (additions : Additions) (old new : Trees) : Type 0 where
+  pub rows : Adds old new additions
+  pub world : world_in new ≡ union (world_in old) (content.content additions)
+  pub sound : IsSound schema_1 new
+
+-- the parts, one after another, as the transaction sees them, where the connection is open and the tables are these
+pub record PutsAll (old new : State) (additions : Additions) : Type 0 where
+  pub was_open : HasCleanDisk new → IsTrue new.is_open → IsTrue old.is_open
+  pub is_open : HasCleanDisk new → IsTrue old.is_open → IsTrue new.is_open
+  pub schema : HasCleanDisk new → IsTrue old.is_open → old.now.schema ≡ schema_1 → IsSound schema_1 old.now.trees
+      → new.now.schema ≡ schema_1
+  pub added : HasCleanDisk new → IsTrue old.is_open → old.now.schema ≡ schema_1 → IsSound schema_1 old.now.trees
+      → HasAdded additions old.now.trees new.now.trees
+
+-- The additions are committed beside what the transaction saw at its beginning.
+pub record Writes (old new : State) (additions : Additions) : Type 0 where
   pub is_open : IsTrue old.is_open → IsTrue new.is_open
-  pub store : IsTrue old.is_open → IsStore old.now → IsSound schema_1 old.now.trees → IsStore new.committed
-  pub world : IsTrue old.is_open → IsStore old.now → IsSound schema_1 old.now.trees
-      → world_of new ≡ union (world_in old.now.trees) (set.from_list facts)
+  pub schema : IsTrue old.is_open → old.now.schema ≡ schema_1 → IsSound schema_1 old.now.trees
+      → new.committed.schema ≡ schema_1
+  pub added : IsTrue old.is_open → old.now.schema ≡ schema_1 → IsSound schema_1 old.now.trees
+      → HasAdded additions old.now.trees new.committed.trees
+
+-- what a crash may leave of the transaction
+abbrev pub LeavesWritten : State → Additions → Trees → Type 0
+LeavesWritten old additions left =
+    IsTrue old.is_open → old.now.schema ≡ schema_1 → IsSound schema_1 old.now.trees
+    → HasAdded additions old.now.trees left

@@ -1,12 +1,10 @@
 //! A commit of additions.
 
-ghost use Rattle.std.specs.Prelude.{◌≡◌, ◌≤◌, false, OnErr, OnOk};
+ghost use Rattle.std.specs.Prelude.{◌≡◌, false, OnErr, OnOk};
 ghost use Rattle.sqlite.specs.Held.{state};
 ghost use Rattle.sqlite.specs.State.{HasCleanDisk, KeepsCommit, Survives};
-ghost use Rattle.sqlite_trees.specs.View.{doubt};
-ghost use Rattle.mds_versions.specs.Content.{content_facts};
-ghost use Rattle.mds_tables.specs.Stores.{Commits, Holds, PutsThere};
-ghost use Rattle.mds_inserts.specs.Writing.{Writes};
+ghost use Rattle.mds_tables.specs.Stores.{Commits, Holds, LeavesAdded};
+ghost use Rattle.mds_inserts.specs.Writing.{LeavesWritten, PutsAll, Writes};
 
 use crate::putting::{put_details, put_events, put_heads, put_versions};
 use mds_tables::ready;
@@ -16,7 +14,7 @@ use sqlite::{Alter, Connection, Error, Transaction};
 /// Puts all of it, a table before those that refer to it.
 fn put_all<S: Alter>(tx: &mut Transaction<'_, S>, additions: &Additions) -> Result<(), Error>
     ensures same_reference { tx.new.conn.ghost_name ≡ tx.old.conn.ghost_name }
-    ensures ok { OnOk result (PutsThere (state S.Store tx.old.conn.now) (state S.Store tx.new.conn.now) (content_facts additions.now)) }
+    ensures ok { OnOk result (PutsAll (state S.Store tx.old.conn.now) (state S.Store tx.new.conn.now) additions.now) }
     ensures kept { HasCleanDisk (state S.Store tx.new.conn.now) → KeepsCommit (state S.Store tx.old.conn.now) (state S.Store tx.new.conn.now) }
     ensures survives { Survives (state S.Store tx.old.conn.now) (state S.Store tx.new.conn.now) (λ _. ⊥) }
 {
@@ -29,24 +27,26 @@ fn put_all<S: Alter>(tx: &mut Transaction<'_, S>, additions: &Additions) -> Resu
 /// Puts all of it in a transaction of its own.
 fn write<S: Alter>(conn: &mut Connection<S>, additions: &Additions) -> Result<(), Error>
     requires { conn.old.in_transaction ≡ false }
-    ensures ok { HasCleanDisk (state S.Store conn.new) → OnOk result (Writes (state S.Store conn.old) (state S.Store conn.new) (content_facts additions.now)) }
+    ensures ok { HasCleanDisk (state S.Store conn.new) → OnOk result (Writes (state S.Store conn.old) (state S.Store conn.new) additions.now) }
     ensures err { HasCleanDisk (state S.Store conn.new) → OnErr result (KeepsCommit (state S.Store conn.old) (state S.Store conn.new)) }
     ensures mode { conn.new.in_transaction ≡ false }
-    ensures clean { doubt (state S.Store conn.old).is_clean ≤ doubt (state S.Store conn.new).is_clean }
+    ensures survives { Survives (state S.Store conn.old) (state S.Store conn.new) (LeavesWritten (state S.Store conn.old) additions.now) }
 {
     let mut tx = conn.transaction();
     put_all(&mut tx, additions)?;
     tx.commit()
 }
 
-/// Commits additions to the World that a store keeps: all of them, or nothing.
+/// Commits additions to the World that a store keeps: all of them, or nothing. Each becomes one row, column by column. A
+/// crash leaves what was kept, or that with all of them.
 pub fn commit<S: Alter>(conn: &mut Connection<S>, additions: &Additions) -> Result<(), Error>
     requires { conn.old.in_transaction ≡ false }
     ensures ok { HasCleanDisk (state S.Store conn.new) → Holds (state S.Store conn.old)
-        → OnOk result (Commits (state S.Store conn.old) (state S.Store conn.new) (content_facts additions.now)) }
+        → OnOk result (Commits (state S.Store conn.old) (state S.Store conn.new) additions.now) }
     ensures err { HasCleanDisk (state S.Store conn.new) → OnErr result (KeepsCommit (state S.Store conn.old) (state S.Store conn.new)) }
     ensures mode { conn.new.in_transaction ≡ false }
-    ensures clean { doubt (state S.Store conn.old).is_clean ≤ doubt (state S.Store conn.new).is_clean }
+    ensures survives { Holds (state S.Store conn.old)
+        → Survives (state S.Store conn.old) (state S.Store conn.new) (LeavesAdded (state S.Store conn.old) additions.now) }
 {
     ready(conn)?;
     write(conn, additions)

@@ -1,11 +1,9 @@
 //! Rows that are put into one table, in a transaction.
 
-ghost use Rattle.std.specs.Prelude.{◌≡◌, [], ◌∷◌, map, OnOk};
+ghost use Rattle.std.specs.Prelude.{◌≡◌, [], ◌∷◌, OnOk};
 ghost use Rattle.sqlite.specs.Held.{state};
 ghost use Rattle.sqlite.specs.State.{HasCleanDisk, KeepsCommit, Survives};
-ghost use Rattle.mds_world.specs.Facts.Fact.{DetailIs, EventIs, HeadIs, VersionIs};
-ghost use Rattle.mds_versions.specs.Content.{version_fact};
-ghost use Rattle.mds_tables.specs.Stores.{PutsThere};
+ghost use Rattle.mds_inserts.specs.Writing.{PutsThere, detail_part, event_part, head_part, version_part};
 
 use mds_marks::{Reading, qualities_read_back};
 use mds_quantity::units_read_back;
@@ -17,14 +15,15 @@ use sqlite::{Alter, Error, Transaction};
 /// Puts a head.
 fn put_head<S: Alter>(tx: &mut Transaction<'_, S>, head: &Head) -> Result<(), Error>
     ensures same_reference { tx.new.conn.ghost_name ≡ tx.old.conn.ghost_name }
-    ensures ok { OnOk result (PutsThere (state S.Store tx.old.conn.now) (state S.Store tx.new.conn.now) (HeadIs head.now ∷ [])) }
+    ensures ok { OnOk result (PutsThere head_part (state S.Store tx.old.conn.now) (state S.Store tx.new.conn.now) (head.now ∷ [])) }
     ensures kept { HasCleanDisk (state S.Store tx.new.conn.now) → KeepsCommit (state S.Store tx.old.conn.now) (state S.Store tx.new.conn.now) }
     ensures survives { Survives (state S.Store tx.old.conn.now) (state S.Store tx.new.conn.now) (λ _. ⊥) }
 {
     units_read_back();
+    let cells = head_cells(head);
     tx.execute(
         "INSERT INTO mds_head (nmi, suffix, day, length, unit) VALUES (?1, ?2, ?3, ?4, ?5)",
-        &head_cells(head),
+        &cells,
     )?;
     Ok(())
 }
@@ -32,7 +31,7 @@ fn put_head<S: Alter>(tx: &mut Transaction<'_, S>, head: &Head) -> Result<(), Er
 /// Puts heads.
 pub(crate) fn put_heads<S: Alter>(tx: &mut Transaction<'_, S>, heads: &[Head]) -> Result<(), Error>
     ensures same_reference { tx.new.conn.ghost_name ≡ tx.old.conn.ghost_name }
-    ensures ok { OnOk result (PutsThere (state S.Store tx.old.conn.now) (state S.Store tx.new.conn.now) (map HeadIs heads.now)) }
+    ensures ok { OnOk result (PutsThere head_part (state S.Store tx.old.conn.now) (state S.Store tx.new.conn.now) heads.now) }
     ensures kept { HasCleanDisk (state S.Store tx.new.conn.now) → KeepsCommit (state S.Store tx.old.conn.now) (state S.Store tx.new.conn.now) }
     ensures survives { Survives (state S.Store tx.old.conn.now) (state S.Store tx.new.conn.now) (λ _. ⊥) }
 {
@@ -49,7 +48,7 @@ fn put_version<S: Alter>(
     reading: &Reading,
 ) -> Result<(), Error>
     ensures same_reference { tx.new.conn.ghost_name ≡ tx.old.conn.ghost_name }
-    ensures ok { OnOk result (PutsThere (state S.Store tx.old.conn.now) (state S.Store tx.new.conn.now) (VersionIs key.now reading.now ∷ [])) }
+    ensures ok { OnOk result (PutsThere version_part (state S.Store tx.old.conn.now) (state S.Store tx.new.conn.now) ((key.now, reading.now) ∷ [])) }
     ensures kept { HasCleanDisk (state S.Store tx.new.conn.now) → KeepsCommit (state S.Store tx.old.conn.now) (state S.Store tx.new.conn.now) }
     ensures survives { Survives (state S.Store tx.old.conn.now) (state S.Store tx.new.conn.now) (λ _. ⊥) }
 {
@@ -68,7 +67,7 @@ pub(crate) fn put_versions<S: Alter>(
     versions: &[(Key, Reading)],
 ) -> Result<(), Error>
     ensures same_reference { tx.new.conn.ghost_name ≡ tx.old.conn.ghost_name }
-    ensures ok { OnOk result (PutsThere (state S.Store tx.old.conn.now) (state S.Store tx.new.conn.now) (map version_fact versions.now)) }
+    ensures ok { OnOk result (PutsThere version_part (state S.Store tx.old.conn.now) (state S.Store tx.new.conn.now) versions.now) }
     ensures kept { HasCleanDisk (state S.Store tx.new.conn.now) → KeepsCommit (state S.Store tx.old.conn.now) (state S.Store tx.new.conn.now) }
     ensures survives { Survives (state S.Store tx.old.conn.now) (state S.Store tx.new.conn.now) (λ _. ⊥) }
 {
@@ -81,7 +80,7 @@ pub(crate) fn put_versions<S: Alter>(
 /// Puts details of a stream.
 fn put_detail<S: Alter>(tx: &mut Transaction<'_, S>, detail: &Detail) -> Result<(), Error>
     ensures same_reference { tx.new.conn.ghost_name ≡ tx.old.conn.ghost_name }
-    ensures ok { OnOk result (PutsThere (state S.Store tx.old.conn.now) (state S.Store tx.new.conn.now) (DetailIs detail.now ∷ [])) }
+    ensures ok { OnOk result (PutsThere detail_part (state S.Store tx.old.conn.now) (state S.Store tx.new.conn.now) (detail.now ∷ [])) }
     ensures kept { HasCleanDisk (state S.Store tx.new.conn.now) → KeepsCommit (state S.Store tx.old.conn.now) (state S.Store tx.new.conn.now) }
     ensures survives { Survives (state S.Store tx.old.conn.now) (state S.Store tx.new.conn.now) (λ _. ⊥) }
 {
@@ -98,7 +97,7 @@ pub(crate) fn put_details<S: Alter>(
     details: &[Detail],
 ) -> Result<(), Error>
     ensures same_reference { tx.new.conn.ghost_name ≡ tx.old.conn.ghost_name }
-    ensures ok { OnOk result (PutsThere (state S.Store tx.old.conn.now) (state S.Store tx.new.conn.now) (map DetailIs details.now)) }
+    ensures ok { OnOk result (PutsThere detail_part (state S.Store tx.old.conn.now) (state S.Store tx.new.conn.now) details.now) }
     ensures kept { HasCleanDisk (state S.Store tx.new.conn.now) → KeepsCommit (state S.Store tx.old.conn.now) (state S.Store tx.new.conn.now) }
     ensures survives { Survives (state S.Store tx.old.conn.now) (state S.Store tx.new.conn.now) (λ _. ⊥) }
 {
@@ -111,7 +110,7 @@ pub(crate) fn put_details<S: Alter>(
 /// Puts an event.
 fn put_event<S: Alter>(tx: &mut Transaction<'_, S>, event: &Event) -> Result<(), Error>
     ensures same_reference { tx.new.conn.ghost_name ≡ tx.old.conn.ghost_name }
-    ensures ok { OnOk result (PutsThere (state S.Store tx.old.conn.now) (state S.Store tx.new.conn.now) (EventIs event.now ∷ [])) }
+    ensures ok { OnOk result (PutsThere event_part (state S.Store tx.old.conn.now) (state S.Store tx.new.conn.now) (event.now ∷ [])) }
     ensures kept { HasCleanDisk (state S.Store tx.new.conn.now) → KeepsCommit (state S.Store tx.old.conn.now) (state S.Store tx.new.conn.now) }
     ensures survives { Survives (state S.Store tx.old.conn.now) (state S.Store tx.new.conn.now) (λ _. ⊥) }
 {
@@ -135,7 +134,7 @@ pub(crate) fn put_events<S: Alter>(
     events: &[Event],
 ) -> Result<(), Error>
     ensures same_reference { tx.new.conn.ghost_name ≡ tx.old.conn.ghost_name }
-    ensures ok { OnOk result (PutsThere (state S.Store tx.old.conn.now) (state S.Store tx.new.conn.now) (map EventIs events.now)) }
+    ensures ok { OnOk result (PutsThere event_part (state S.Store tx.old.conn.now) (state S.Store tx.new.conn.now) events.now) }
     ensures kept { HasCleanDisk (state S.Store tx.new.conn.now) → KeepsCommit (state S.Store tx.old.conn.now) (state S.Store tx.new.conn.now) }
     ensures survives { Survives (state S.Store tx.old.conn.now) (state S.Store tx.new.conn.now) (λ _. ⊥) }
 {

@@ -26,7 +26,8 @@ use Rattle.mds_nem12.specs.FileReaderSteps.{Governs, IsRefusal, Says, fields_fau
 use Rattle.mds_nem12.specs.Governing.{Governors, governors}
 use Rattle.mds_nem12.specs.Place.{is_in_place, is_kind}
 use Rattle.mds_nem12.specs.Said.{bare_null, count_in, event_in, header_in, run_in, values_in}
-use Rattle.mds_nem12.specs.Statements.{Statement, stream_statement}
+use Rattle.mds_statements.specs.Statements.{Statement}
+use Rattle.mds_nem12.specs.Statements.{stream_statement}
 use Rattle.mds_nem12.specs.Told.{event_said, header_said, stream_said}
 use Rattle.mds_nem12.specs.declared.file_reader.LastRecord.{LastRecord}
 use Rattle.mds_nem12.specs.declared.file_reader.LastRecord.TheVariants as state

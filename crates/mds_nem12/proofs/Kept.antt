@@ -20,8 +20,8 @@ use Rattle.mds_nem12.specs.FileReaderSteps.{HasClosed, HasTaken, IsReady, Knows,
 use Rattle.mds_nem12.specs.Governing.{governors, has_gap}
 use Rattle.mds_nem12.specs.Place.{is_in_place, is_kind}
 use Rattle.mds_nem12.specs.Said.{bare_null, count_in, event_in}
-use Rattle.mds_nem12.specs.Statements.{Statement}
-use Rattle.mds_nem12.specs.Statements.Statement.{HeaderOf, DetailsOf, DayOf, EventOf}
+use Rattle.mds_statements.specs.Statements.{Statement}
+use Rattle.mds_statements.specs.Statements.Statement.{HeaderOf, DetailsOf, DayOf, EventOf}
 use Rattle.mds_nem12.specs.Told.{IsUnder, day_said, ends_in_day, event_said, header_moment, header_said, stream_said}
 use Rattle.mds_nem12.specs.declared.file_reader.FileReader.{FileReader}
 use Rattle.mds_nem12.specs.declared.file_reader.LastRecord.{LastRecord}

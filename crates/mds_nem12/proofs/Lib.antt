@@ -1,4 +1,5 @@
 pub mod Along
+pub mod Deliveries
 pub mod Faultless
 pub mod Governs
 pub mod Judged

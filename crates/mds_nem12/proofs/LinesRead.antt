@@ -15,7 +15,8 @@ use Rattle.mds_nem12.specs.declared.reading.ReadFault.TheVariants.{File}
 use Rattle.mds_nem12.specs.Faults.{at_line, line_fault, text_fault, end_fault, fault_of}
 use Rattle.mds_nem12.specs.FileReaderSteps.{HasTaken, IsRefusal}
 use Rattle.mds_nem12.specs.ReadingSteps.{IsAnswer, line_fault_of}
-use Rattle.mds_nem12.specs.Statements.{Statement, statements, statements_of}
+use Rattle.mds_statements.specs.Statements.{Statement}
+use Rattle.mds_nem12.specs.Statements.{statements, statements_of}
 use Rattle.mds_nem12.specs.Told.{is_headed}
 use Rattle.mds_nem12.proofs.Faultless.{Faultless, faultless_none, faultless_push, fault_stops, fault_ends, fault_within, fault_over}
 

@@ -26,10 +26,10 @@ use Rattle.mds_days.specs.RunFaults.{first_of, when}
 use Rattle.mds_nem12.specs.Faults.{at_field, at_line, event_fault, fault_of, record_fault, text_fault}
 use Rattle.mds_nem12.specs.FileReaderSteps.{gap_fault}
 use Rattle.mds_nem12.specs.Governing.{Governors, governors, line_at, record_kind, runs_of}
-use Rattle.mds_nem12.specs.Orderly.{days_in, days_of}
+use Rattle.mds_statements.specs.Statements.{days_in, days_of, Statement, DayStatement}
 use Rattle.mds_nem12.specs.Place.{is_in_place}
 use Rattle.mds_nem12.specs.Said.{count_in, length_in}
-use Rattle.mds_nem12.specs.Statements.{Statement, DayStatement, day_statement, stated_at, stated_by, statements, statements_of}
+use Rattle.mds_nem12.specs.Statements.{day_statement, stated_at, stated_by, statements, statements_of}
 use Rattle.mds_nem12.proofs.Along.{along, record_faultless}
 use Rattle.mds_nem12.proofs.Faultless.{Faultless, faultless_text}
 use Rattle.mds_nem12.proofs.Governs.{advance, governors_at, no_kind, take_here}

@@ -9,8 +9,9 @@ use Rattle.mds_lines.specs.declared.line.Kind.TheVariants as a
 use Rattle.mds_runs.specs.declared.cover.Run.{Run}
 use Rattle.mds_nem12.specs.Governing.{Governors, governors, governing_day, line_at, record_kind, runs_by, runs_of}
 use Rattle.mds_nem12.specs.OpenDays.{IsOpen, runs_but, stated_with}
-use Rattle.mds_nem12.specs.Statements.{Statement, day_statement, stated_at, stated_by, statements}
-use Rattle.mds_nem12.specs.Statements.Statement.{DayOf}
+use Rattle.mds_statements.specs.Statements.{Statement}
+use Rattle.mds_nem12.specs.Statements.{day_statement, stated_at, stated_by, statements}
+use Rattle.mds_statements.specs.Statements.Statement.{DayOf}
 use Rattle.mds_nem12.proofs.Governs.{runs_in, runs_none, runs_push, take_here}
 use Rattle.mds_nem12.proofs.Numbered.{each_more, each_same, line_front, line_here, size_push}
 

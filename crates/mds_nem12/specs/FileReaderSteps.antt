@@ -16,8 +16,8 @@ use Rattle.mds_nem12.specs.Governing.{Governors, governors, has_gap}
 use Rattle.mds_nem12.specs.OpenDays.{IsClosed, IsOpen}
 use Rattle.mds_nem12.specs.Place.{is_kind}
 use Rattle.mds_nem12.specs.Said.{header_in, stream_in, length_in, count_in, unit_in, date_in, values_in, mark_in, update_in}
-use Rattle.mds_nem12.specs.Statements.{Statement}
-use Rattle.mds_nem12.specs.Statements.Statement.{DayOf}
+use Rattle.mds_statements.specs.Statements.{Statement}
+use Rattle.mds_statements.specs.Statements.Statement.{DayOf}
 use Rattle.mds_nem12.specs.Told.{day_said, ends_in_day, header_moment, is_headed, IsUnder}
 use Rattle.mds_nem12.specs.declared.sink.Governing.{Governing}
 use Rattle.mds_nem12.specs.declared.file_reader.FileReader.{FileReader}

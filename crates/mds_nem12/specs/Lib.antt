@@ -1,11 +1,9 @@
 pub mod Answers
 pub mod BuilderSteps
-pub mod Delivered
 pub mod Faults
 pub mod FileReaderSteps
 pub mod Governing
 pub mod OpenDays
-pub mod Orderly
 pub mod Place
 pub mod ReadingSteps
 pub mod Said

@@ -17,17 +17,13 @@ use Rattle.mds_lines.specs.Lines.{field}
 use Rattle.mds_records.specs.Layouts.{interval_number_of}
 use Rattle.mds_records.specs.Records.{quantity_in, value_count, values_of}
 use Rattle.mds_runs.specs.declared.cover.Run.{Run}
+use Rattle.mds_statements.specs.Statements.{HeaderValue}
 
 -- the mark of no data: quality N, without a reason
 abbrev pub bare_null : Mark
 bare_null = record { quality = record { flag = null; method = 0 }; reason = record { code = None; text = [] } }
 
 -- 100: when the file was made, by whom and for whom
-pub record HeaderValue : Type 0 where
-  pub moment : ℕ
-  pub sender : List ℕ
-  pub receiver : List ℕ
-
 abbrev pub header_in : List ℕ → HeaderValue
 header_in line = record {
   moment = unwrap_or (date_time_of (field line 3)) 0;

@@ -9,9 +9,8 @@ use Rattle.mds_records.specs.declared.header.HeaderRecord.{HeaderRecord}
 use Rattle.mds_records.specs.declared.nmi_data_details.NmiDataDetailsRecord.{NmiDataDetailsRecord}
 use Rattle.mds_days.specs.Days.{DayValue}
 use Rattle.mds_days.specs.Readings.{readings_of}
-use Rattle.mds_nem12.specs.Said.{HeaderValue}
-use Rattle.mds_nem12.specs.Statements.{Statement, StreamStatement, DayStatement}
-use Rattle.mds_nem12.specs.Statements.Statement.{HeaderOf, DetailsOf, DayOf, EventOf}
+use Rattle.mds_statements.specs.Statements.{HeaderValue, Statement, StreamStatement, DayStatement}
+use Rattle.mds_statements.specs.Statements.Statement.{HeaderOf, DetailsOf, DayOf, EventOf}
 use Rattle.mds_nem12.specs.declared.sink.Governing.{Governing}
 
 -- what a 100 says

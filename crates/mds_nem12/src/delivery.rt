@@ -1,61 +1,16 @@
-//! All that a NEM12 file states, block by block.
+//! A delivery in the making: all that a NEM12 file states, block by block.
 
-ghost use Rattle.std.specs.Prelude.{◌≡◌, [], true, List, OnOk, IsSome, IfSome};
-ghost use Rattle.mds_nem12.specs.Statements.{Statement};
+ghost use Rattle.std.specs.Prelude.{◌≡◌, ◌<◌, [], true, length, List, OnOk, IsSome, IfSome};
+ghost use Rattle.std.specs.List.{All, AllPairs};
+ghost use Rattle.mds_calendar.specs.Length.{count_of};
+ghost use Rattle.mds_statements.specs.Statements.{days_of, Statement};
 
 use crate::sink::{Governing, StatementSink};
 use mds_days::DayData;
-use mds_marks::Reading;
-use mds_quantity::Unit;
 use mds_records::{B2bDetailsRecord, HeaderRecord, NmiDataDetailsRecord};
-use mds_terms::{Day, Details, Event, EventRef, Length, Moment, Stream};
+use mds_statements::{Block, DeliveredDay, Delivery, Header};
+use mds_terms::{Day, Event, EventRef, Moment};
 use std::alloc::{AllocError, Global};
-
-/// The header of a file, its 100 record.
-#[derive(Drop)]
-pub struct Header {
-    /// When the file was made.
-    pub moment: Moment,
-    /// Who sent it (FromParticipant), printable, or empty.
-    pub sender: String,
-    /// For whom it is (ToParticipant), printable, or empty.
-    pub receiver: String,
-}
-
-/// What a NEM12 file states, in the order of its lines.
-#[derive(Drop)]
-pub struct Delivery {
-    pub header: Header,
-    /// One for each 200 record.
-    pub blocks: Vec<Block>,
-}
-
-/// A 200 record, and the days that it governs.
-#[derive(Drop)]
-pub struct Block {
-    /// The number of its line, from 1.
-    pub line: u64,
-    pub stream: Stream,
-    pub details: Details,
-    pub length: Length,
-    pub unit: Unit,
-    /// One for each 300 record.
-    pub days: Vec<DeliveredDay>,
-}
-
-/// A 300 record with its 400 and 500 records.
-#[derive(Drop)]
-pub struct DeliveredDay {
-    /// The number of its line, from 1.
-    pub line: u64,
-    pub date: Day,
-    /// When it was updated: the moment of the header where the record doesn't say so.
-    pub update: Moment,
-    /// One for each interval, in order.
-    pub readings: Vec<Reading>,
-    /// One for each 500 record.
-    pub events: Vec<Event>,
-}
 
 /// A delivery in the making.
 #[derive(Drop)]
@@ -68,7 +23,7 @@ pub(crate) struct DeliveryBuilder {
 
 impl DeliveryBuilder {
     ghost use Rattle.mds_nem12.specs.BuilderSteps.{IsTold};
-    ghost use Rattle.mds_nem12.specs.Delivered.{delivery_statements};
+    ghost use Rattle.mds_statements.specs.Delivered.{delivery_statements};
     ghost use Rattle.mds_nem12.specs.Told.{is_headed};
 
     /// Before anything was told.
@@ -82,18 +37,18 @@ impl DeliveryBuilder {
         }
     }
 
-    /// All that was told, or `None` where that doesn't begin with a header.
+    /// All that was told, or `None` where that doesn't begin with a header, where its days don't stand on ascending lines, or
+    /// where one hasn't a reading for each interval.
     pub(crate) fn into_delivery(self) -> Option<Delivery>
         ensures some { (done : List Statement) → IsTold self done → is_headed done ≡ true
+            → AllPairs (λ a b. a.line < b.line) (days_of done)
+            → All (λ day. length day.readings ≡ count_of day.length) (days_of done)
             → IsSome result }
         ensures value { (done : List Statement) → IsTold self done
             → IfSome result (λ delivery. delivery_statements delivery ≡ done) }
     {
         let DeliveryBuilder { header, blocks, .. } = self;
-        Some(Delivery {
-            header: header?,
-            blocks,
-        })
+        Delivery::new(header?, blocks)
     }
 }
 

@@ -9,7 +9,7 @@ ghost use Rattle.mds_runs.specs.Runs.{holds};
 ghost use Rattle.mds_runs.specs.declared.cover.Run.{Run};
 ghost use Rattle.mds_nem12.specs.Faults.{fault_at, fault_of};
 ghost use Rattle.mds_nem12.specs.Governing.{runs_of};
-ghost use Rattle.mds_nem12.specs.Orderly.{days_of};
+ghost use Rattle.mds_statements.specs.Statements.{days_of};
 ghost use Rattle.mds_nem12.specs.Statements.{statements_of};
 
 /// In a well formed file at most one run of a day holds an interval.

@@ -10,9 +10,9 @@ mod sink;
 #[cfg(test)]
 mod tests;
 
-pub use delivery::{Block, DeliveredDay, Delivery, Header};
 pub use file_reader::{FileReader, Nem12Fault};
 pub use laws::{days_are_orderly, fault_is_of_every_longer_text, one_run_of_a_day};
 pub use mds_days::{DayData, Tally};
+pub use mds_statements::{Block, DeliveredDay, Delivery, Header};
 pub use reading::{ReadFault, read_lines, read_nem12};
 pub use sink::{Governing, StatementSink};

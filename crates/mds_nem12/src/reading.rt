@@ -8,18 +8,19 @@ ghost use Rattle.mds_lines.specs.Readers.{reader_source, reader_lines};
 ghost use Rattle.mds_lines.specs.Reads.{Reads, block};
 ghost use Rattle.mds_records.specs.declared.file.FileFault.{FileFault};
 ghost use Rattle.mds_nem12.specs.Answers.{is_read_fault};
-ghost use Rattle.mds_nem12.specs.Delivered.{delivery_statements};
+ghost use Rattle.mds_statements.specs.Delivered.{delivery_statements};
 ghost use Rattle.mds_nem12.specs.Faults.{end_fault, fault_of};
 ghost use Rattle.mds_nem12.specs.FileReaderSteps.{HasTaken as HasTakenLines};
 ghost use Rattle.mds_nem12.specs.ReadingSteps.{IsAnswer, line_fault_of};
 ghost use Rattle.mds_nem12.specs.Statements.{statements, statements_of};
 ghost use Rattle.mds_nem12.specs.Told.{is_headed};
 
-use crate::delivery::{Delivery, DeliveryBuilder};
+use crate::delivery::DeliveryBuilder;
 use crate::file_reader::{FileReader, Nem12Fault};
 use crate::sink::StatementSink;
 use mds_lines::{LineBuffer, LineFault, LineReader, Source, TextSource};
 use mds_records::{FaultCode, FileFault};
+use mds_statements::Delivery;
 use std::alloc::Global;
 
 /// Why a file isn't read.

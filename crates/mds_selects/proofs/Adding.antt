@@ -1,12 +1,15 @@
 -- Sets to which rows add.
 use Rattle.std.specs.Prelude.{◌≡◌, ◌↔◌, ◌⊎◌, ◌<◌, ◌≤◌, ◌+◌, ℕ, length, slice_index_or, take, Bool, true, false, cond, List, [], ◌∷◌, ◌++◌}
-use Rattle.std.proofs.Common.{sym, ap, subst, inl, inr, refl, ◌∙◌}
+use Rattle.std.proofs.Common.{sym, ap, subst, inl, inr, refl, suc, zero, arith, ◌∙◌}
 use Rattle.std.proofs.lemmas.List.{take_more, take_all}
 use Rattle.std.specs.BTreeMap.{is_at}
 use Rattle.std.specs.BTreeSet.{BTreeSet, contains}
 use Rattle.std.specs.Cmp.{IsTotalOrder, Equal-is, tied_itself}
+use Rattle.std.specs.Cmp.Lexicographic.{slice_cmp}
 use Rattle.std.specs.FinSet.{IsAntisymmetric}
-use Rattle.std.specs.List.{AllPairs, list_any}
+use Rattle.std.specs.Ordering.{nat_cmp}
+use Rattle.std.proofs.lemmas.Map.Lookups.{exact_bytes, exact_pairs}
+use Rattle.std.specs.List.{AllByRecursion, AllPairs, list_any}
 use Rattle.std.specs.List.Sorted.{IsStrictlySortedBy}
 use Rattle.std.specs.declared.cmp.Ordering.{Ordering}
 use Rattle.std.specs.declared.cmp.Ordering.TheVariants.{Less, Equal}
@@ -16,20 +19,51 @@ use Rattle.mds_terms.specs.Event.{EventValue}
 use Rattle.mds_world.specs.Facts.Fact.{EventIs}
 use Rattle.mds_world.specs.Lists.{Apart, Member, append_left, append_right, member_append}
 use Rattle.mds_world.specs.Sets.{or_left, or_right, split_or}
-use Rattle.mds_versions.proofs.Ascending as up
+use Rattle.mds_versions.specs.Queries.{stream_cmp}
 use Rattle.mds_selects.specs.Added.{AreAdded, IsAdded, SaysEvent, SaysStream}
 use Rattle.mds_selects.specs.Shown.{AreStreamsIn}
+
+module _ {K : Type 0} (c : K → K → Ordering) where
+  -- each stands before those after it
+  abbrev Ascends : List K → Type 0
+  Ascends [] = Unit {0}
+  Ascends (k ∷ ks) = ((q : K) → Member q ks → c k q ≡ Less) × Ascends ks
+
+  of_all : (k : K) (ks : List K) → AllByRecursion (λ y. c k y ≡ Less) ks → (q : K) → Member q ks → c k q ≡ Less
+  of_all k [] a q m = absurd m
+  of_all k (x ∷ ks) a q (inl e) = subst (λ y. c k y ≡ Less) (sym e) a.0
+  of_all k (x ∷ ks) a q (inr m) = of_all k ks a.1 q m
+
+  from_sorted : (ks : List K) → IsStrictlySortedBy c ks → Ascends ks
+  unfolding IsStrictlySortedBy
+  from_sorted [] s = tt
+  from_sorted (k ∷ ks) s = (of_all k ks s.0, from_sorted ks s.1)
+
+  apart : ((k : K) → c k k ≡ Less → ⊥) → (ks : List K) → Ascends ks → Apart ks
+  apart strict [] a = tt
+  apart strict (k ∷ ks) a = ((λ m. strict k (a.0 k m)), apart strict ks a.1)
+
+  member_at : (ks : List K) (i : ℕ) (d : K) → i < length ks → Member (slice_index_or ks i d) ks
+  member_at [] i d l = absurd (omega arith)
+  member_at (k ∷ ks) zero d l = inl refl
+  member_at (k ∷ ks) (suc i) d l = inr (member_at ks i d (omega arith))
+
+  pairs : (ks : List K) → Ascends ks → AllPairs (λ a b. c a b ≡ Less) ks
+  pairs [] a i j d l m = absurd (omega arith)
+  pairs (k ∷ ks) a i zero d l m = absurd (omega arith)
+  pairs (k ∷ ks) a zero (suc j) d l m = a.0 _ (member_at ks j d (omega arith))
+  pairs (k ∷ ks) a (suc i) (suc j) d l m = pairs ks a.1 i j d (omega arith) (omega arith)
 
 module _ {K : Type 0} {R : K → K → Ordering} (o : IsTotalOrder R) where
   -- the keys of a set come in order, and once each
   pub ascends : (ks : List K) → IsStrictlySortedBy R ks → AllPairs (λ a b. R a b ≡ Less) ks
-  ascends ks s = up.pairs R ks (up.from_sorted R ks s)
+  ascends ks s = pairs R ks (from_sorted R ks s)
 
   strict : (k : K) → R k k ≡ Less → ⊥
   strict k l = let same : R k k ≡ Equal = tied_itself o k in cc
 
   pub once : (ks : List K) → IsStrictlySortedBy R ks → Apart ks
-  once ks s = up.apart R strict ks (up.from_sorted R ks s)
+  once ks s = apart R strict ks (from_sorted R ks s)
 
 module _ {K : Type 0} {R : K → K → Ordering} (o : IsTotalOrder R) (e : IsAntisymmetric R) where
   is_here : (q k : K) → is_at (R q) k ≡ true → q ≡ k
@@ -70,6 +104,11 @@ module _ {K : Type 0} {R : K → K → Ordering} (o : IsTotalOrder R) (e : IsAnt
       | inr i ↦ found q new.keys (h q ∙ ap (λ b. cond b true (contains R old q)) (here_is x q (sym i)))
     ]),
   )
+
+pub stream_exact : IsAntisymmetric stream_cmp
+stream_exact a b e =
+    let p = exact_pairs (slice_cmp nat_cmp) (slice_cmp nat_cmp) exact_bytes exact_bytes (a.nmi, a.suffix) (b.nmi, b.suffix) e in
+    λ i. record { nmi = (p i).0; suffix = (p i).1 }
 
 -- a row says one stream, and one event
 pub one_stream : (row : Row) (a b : Stream) → SaysStream row a → SaysStream row b → a ≡ b
@@ -138,27 +177,44 @@ module _ {K : Type 0} (Says : Row → K → Type 0) where
     (λ r. (add q).1 (inr r)),
   )
 
-  -- and of two lists of rows
-  pub just_two : (old mid new : List K) (rows more : List Row) → old ≡ [] → AreAdded Says old rows mid
-      → AreAdded Says mid more new → (q : K) → Member q new ↔ (IsSaid rows q ⊎ IsSaid more q)
-  just_two old mid new rows more none one two q = (
-    (λ m. elim ((two q).0 m) [ inl k ↦ inl ((just old mid rows none one q).0 k) | inr r ↦ inr r ]),
+  -- of three lists of rows, one after the other
+  pub just_three : (empty one two three : List K) (rows more last : List Row) → empty ≡ [] → AreAdded Says empty rows one
+      → AreAdded Says one more two → AreAdded Says two last three
+      → (q : K) → Member q three ↔ (IsSaid rows q ⊎ (IsSaid more q ⊎ IsSaid last q))
+  just_three empty one two three rows more last none a b c q = (
+    (λ m. elim ((c q).0 m) [
+      | inl k ↦ elim ((b q).0 k) [
+        | inl n ↦ inl ((just empty one rows none a q).0 n)
+        | inr r ↦ inr (inl r)
+      ]
+      | inr r ↦ inr (inr r)
+    ]),
     (λ p. elim p [
-      | inl r ↦ (two q).1 (inl ((just old mid rows none one q).1 r))
-      | inr r ↦ (two q).1 (inr r)
+      | inl r ↦ (c q).1 (inl ((b q).1 (inl ((just empty one rows none a q).1 r))))
+      | inr p ↦ elim p [
+        | inl r ↦ (c q).1 (inl ((b q).1 (inr r)))
+        | inr r ↦ (c q).1 (inr r)
+      ]
     ]),
   )
 
-pub streams_in : (heads details : List Row) (streams : List Stream)
-    → ((q : Stream) → Member q streams ↔ (IsSaid SaysStream heads q ⊎ IsSaid SaysStream details q))
-    → AreStreamsIn heads details streams
-streams_in heads details streams all q = (
+pub streams_in : (heads details periods : List Row) (streams : List Stream)
+    → ((q : Stream) → Member q streams
+    ↔ (IsSaid SaysStream heads q ⊎ (IsSaid SaysStream details q ⊎ IsSaid SaysStream periods q)))
+    → AreStreamsIn heads details periods streams
+streams_in heads details periods streams all q = (
   (λ m. elim ((all q).0 m) [
     | inl t ↦ inl (t.0, t.1, t.2.0, t.2.1)
-    | inr t ↦ inr (t.0, t.1, t.2.0, t.2.1)
+    | inr p ↦ elim p [
+      | inl t ↦ inr (inl (t.0, t.1, t.2.0, t.2.1))
+      | inr t ↦ inr (inr (t.0, t.1, t.2.0, t.2.1))
+    ]
   ]),
   (λ p. elim p [
     | inl t ↦ (all q).1 (inl (t.0, t.1, (t.2, t.3)))
-    | inr t ↦ (all q).1 (inr (t.0, t.1, (t.2, t.3)))
+    | inr p ↦ elim p [
+      | inl t ↦ (all q).1 (inr (inl (t.0, t.1, (t.2, t.3))))
+      | inr t ↦ (all q).1 (inr (inr (t.0, t.1, (t.2, t.3))))
+    ]
   ]),
 )

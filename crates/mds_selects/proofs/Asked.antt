@@ -1,59 +1,58 @@
 -- A connection that is ready, and then a query: what is found of what is committed.
-use Rattle.std.specs.Prelude.{◌≡◌, ◌↔◌, ◌≤◌, IsTrue, IfOk, Result, Ok, Err}
+use Rattle.std.specs.Prelude.{◌≡◌, ◌≢◌, ◌↔◌, IfOk, Result, Ok, Err}
 use Rattle.std.proofs.Common.{sym, ap, subst, ◌∙◌, arith}
 use Rattle.sqlite.specs.Effect.{Database, IsDatabase}
-use Rattle.sqlite.specs.State.{HasCleanDisk, IsUnchanged, State}
+use Rattle.sqlite.specs.State.{HasCleanDisk, State, Survives}
 use Rattle.sqlite.proofs.Callers.{unchanged_then}
+use Rattle.sqlite.proofs.StateLemmas.{survives_weaker}
 use Rattle.sqlite_catalog.specs.Listing.{IsSound}
 use Rattle.sqlite_trees.specs.Tree.{Trees}
-use Rattle.sqlite_trees.specs.View.{doubt}
 use Rattle.mds_tables.specs.Stores.{Finds, Holds, HoldsTables, IsReady}
 use Rattle.mds_tables.specs.Tables.{schema_1}
+use Rattle.mds_tables.proofs.CallLemmas.{survives_more}
 
 pub tables_held : (s : State) → Holds s → HoldsTables s
 tables_held s holds clean is_open = (holds clean is_open).schema
 
-pub clean_before : (a b : State) → doubt a.is_clean ≤ doubt b.is_clean → HasCleanDisk b → HasCleanDisk a
-clean_before a b later clean = omega (arith, later, clean)
+module _ {old mid new : State} (ready : HasCleanDisk mid → IsReady old mid) (begun : Survives old mid (λ _. ⊥))
+    (asked : Survives mid new (λ _. mid.now.schema ≢ schema_1)) (holds : HoldsTables old) where
+  module _ (clean : HasCleanDisk new) where
+    early : HasCleanDisk mid
+    early = omega (arith, asked.clean, clean)
 
-module _ (old mid new : State) (ready : HasCleanDisk mid → IsReady old mid) (earlier : doubt old.is_clean ≤ doubt mid.is_clean)
-    (later : doubt mid.is_clean ≤ doubt new.is_clean) (clean : HasCleanDisk new) (holds : HoldsTables old) where
-  early : HasCleanDisk mid
-  early = clean_before mid new later clean
+    is_held : old.committed.schema ≡ schema_1
+    is_held = holds (omega (arith, begun.clean, early)) (ready early).same.0.was_open
 
-  first : HasCleanDisk old
-  first = clean_before old mid earlier early
+    now_is : mid.now ≡ old.committed
+    now_is = (ready early).same.0.now_is ∙ (ready early).settled
 
-  pub was_open : IsTrue old.is_open
-  was_open = (ready early).same.0.was_open
+    has_schema : mid.now.schema ≡ schema_1
+    has_schema = ap (λ (d : Database). d.schema) now_is ∙ is_held
 
-  now_is : mid.now ≡ old.committed
-  now_is = (ready early).same.0.now_is ∙ (ready early).settled
+    has_database : IsDatabase mid.now
+    has_database = subst IsDatabase (sym (ready early).same.0.now_is) (ready early).sound
 
-  pub has_schema : mid.now.schema ≡ schema_1
-  has_schema = ap (λ (d : Database). d.schema) now_is ∙ holds first was_open
+    -- what is committed obeys schema 1
+    pub sound : IsSound schema_1 old.committed.trees
+    sound = subst (λ s. IsSound s old.committed.trees) is_held (subst IsDatabase (ready early).settled (ready early).sound)
 
-  has_database : IsDatabase mid.now
-  has_database = subst IsDatabase (sym (ready early).same.0.now_is) (ready early).sound
+    -- what the query shows of the tables it shows of what is committed
+    pub shows : (Shows : Trees → Type 0) → Finds mid new Shows → Shows old.committed.trees
+    shows Shows finds =
+        subst Shows (ap (λ (d : Database). d.trees) now_is) (finds.shows has_schema has_database)
 
-  -- what is committed obeys schema 1
-  pub sound : IsSound schema_1 old.committed.trees
-  sound = subst (λ s. IsSound s old.committed.trees) (holds first was_open)
-      (subst IsDatabase (ready early).settled (ready early).sound)
+    -- an answered query leaves a connection ready
+    pub still_ready : (Shows : Trees → Type 0) → Finds mid new Shows → IsReady old new
+    still_ready Shows finds = record {
+      same = unchanged_then old mid new (ready early).same (finds.same has_schema);
+      settled = (ready early).settled;
+      sound = (ready early).sound;
+    }
 
-  -- what the query shows of the tables it shows of what is committed
-  pub shows : (Shows : Trees → Type 0) → Finds mid new Shows → Shows old.committed.trees
-  shows Shows finds =
-      subst Shows (ap (λ (d : Database). d.trees) now_is) (finds.shows has_schema has_database)
-
-  -- the connection stays open
-  pub stays_open : (Shows : Trees → Type 0) → Finds mid new Shows → IsTrue new.is_open
-  stays_open Shows finds = (finds.same has_schema).0.is_open
-
--- a query leaves a connection ready
-pub still_ready : (old mid next : State) → IsReady old mid → IsUnchanged mid next → IsReady old next
-still_ready old mid next ready same =
-    record { same = unchanged_then old mid next ready.same same; settled = ready.settled; sound = ready.sound }
+  -- a crash after the query leaves what one before it left
+  pub quiet : Survives old new (λ _. ⊥)
+  quiet =
+      survives_more old mid new begun (survives_weaker mid new _ (λ _. ⊥) (λ clean _ other. other (has_schema clean)) asked)
 
 -- what is asked of rows is a fact of what they name
 pub either_way : (P Q R : Type 0) → P ↔ Q → Q ↔ R → P ↔ R

@@ -1,5 +1,5 @@
 -- The order of rows of details.
-use Rattle.std.proofs.Common.{◌≡◌, ◌<◌, ◌≤◌, ◌+◌, ◌^◌, ℕ, ℤ, zero, suc, pos, negsuc, List, [], ◌∷◌, length, map, get_or, Bool, true, false, All, IfSome, IfOk, Result, codes, refl, sym, ap, subst, ◌∙◌, arith}
+use Rattle.std.proofs.Common.{◌≡◌, ◌<◌, ◌+◌, ◌^◌, ℕ, ℤ, zero, suc, pos, negsuc, List, [], ◌∷◌, length, map, get_or, Bool, true, false, All, IfSome, IfOk, Result, codes, refl, sym, ap, subst, ◌∙◌, arith}
 use Rattle.std.specs.declared.cmp.Ordering.{Ordering}
 use Rattle.std.specs.declared.cmp.Ordering.TheVariants.{Less, Equal, Greater}
 use Rattle.std.specs.Cmp.{IsStrictWeakOrder, IsTotalOrder, nat_cmp_total, on_total, then_total}

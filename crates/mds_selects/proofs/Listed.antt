@@ -14,7 +14,7 @@ use Rattle.mds_names.specs.declared.stream.Stream.{Stream}
 use Rattle.mds_terms.specs.Event.{EventValue}
 use Rattle.mds_world.specs.declared.facts.Detail.{Detail}
 use Rattle.mds_world.specs.declared.facts.Head.{Head}
-use Rattle.mds_world.specs.Facts.{Fact}
+use Rattle.mds_world.specs.Facts.{Fact, PeriodContent, PeriodKey}
 use Rattle.mds_world.specs.Facts.Fact.{DetailIs, EventIs, HeadIs, HolidayIs, JobIs, PeriodIs, VersionIs}
 use Rattle.mds_world.specs.Lists.{Apart, Member}
 use Rattle.mds_world.specs.Sets.{◌∈◌}
@@ -23,13 +23,13 @@ use Rattle.mds_versions.specs.Books.{row_fact}
 use Rattle.mds_versions.specs.Queries.{AreEventsOf, AreKnownStreams, stream_cmp}
 use Rattle.mds_versions.specs.declared.day_book.Version.{Version}
 use Rattle.mds_tables.specs.Cells as cells
-use Rattle.mds_tables.specs.RowFacts.{detail_fact, event_fact, head_fact, int_at, letter_in, natural, natural_at, optional, optional_at, stream_in, text_at, unit_named, version_fact, world_in}
+use Rattle.mds_tables.specs.RowFacts.{detail_fact, event_fact, head_fact, int_at, letter_in, natural, natural_at, optional, optional_at, period_fact, stream_in, text_at, unit_named, version_fact, world_in}
 use Rattle.mds_tables.specs.Stores.{Begins, Selects}
 use Rattle.mds_tables.specs.Tables.{schema_1}
 use Rattle.mds_selects.specs.Found.{AreRowsOf, IsHeadOf}
 use Rattle.mds_selects.specs.Shown.{AreEventsIn, AreStreamsIn, AreVersionsIn, IsOnlyHead, SaysVersion, ShowsStream}
-use Rattle.mds_selects.proofs.Named.{Names, no_period, of_detail, of_event, of_head, of_version}
-use Rattle.mds_selects.proofs.TypedRows.{HasKeyCells, begins_at, begins_by, detail_row, event_row, head_row, small, small_letter, small_option, letter_back, optional_back, some_cell, version_row}
+use Rattle.mds_selects.proofs.Named.{Names, of_detail, of_event, of_head, of_period, of_version}
+use Rattle.mds_selects.proofs.TypedRows.{HasKeyCells, begins_at, begins_by, detail_row, event_row, head_row, period_row, small, small_letter, small_option, letter_back, optional_back, some_cell, version_row}
 
 -- ---- rows that begin with a stream and a day
 
@@ -264,6 +264,24 @@ event_is r v e = cc
 head_is : (r : Row) (h : Head) → head_fact r ≡ HeadIs h → head_at r ≡ h
 head_is r h e = cc
 
+-- the stream of a period's fact
+abbrev stream_of : Stream → Fact → Stream
+stream_of none (HeadIs head) = none
+stream_of none (VersionIs key reading) = none
+stream_of none (DetailIs detail) = none
+stream_of none (EventIs event) = none
+stream_of none (PeriodIs key content) = key.stream
+stream_of none (HolidayIs date) = none
+stream_of none (JobIs id content count) = none
+
+period_is : (r : Row) (k : PeriodKey) (c : PeriodContent) → period_fact r ≡ PeriodIs k c → stream_in r ≡ k.stream
+period_is r k c e = ap (stream_of k.stream) e
+
+-- the fact of a period's row
+period_at : (r : Row) → (key : PeriodKey) × (content : PeriodContent) × (period_fact r ≡ PeriodIs key content)
+    × (key.stream ≡ stream_in r)
+period_at r = (_, _, refl, refl)
+
 any_shown : (rows : List Row) (r : Row) → Member r rows → rows ≢ []
 any_shown [] r m = absurd m
 any_shown (x ∷ xs) r m = λ e. cc
@@ -465,21 +483,48 @@ module _ (trees : Trees) (sound : IsSound schema_1 trees) where
           )),
     )
 
-  -- the known streams: the rows name no period
-  pub finds_streams : (heads details : List Row) → Selects 2 [] (1 ∷ 2 ∷ []) trees heads
-      → Selects 6 [] (1 ∷ 2 ∷ []) trees details → (streams : List Stream) → AreStreamsIn heads details streams
+    pub period_streams : Selects 10 [] (1 ∷ 2 ∷ []) trees rows
+        → ShowsStream rows s
+        ↔ ((key : PeriodKey) × (content : PeriodContent) × (PeriodIs key content ∈ world_in trees) × (key.stream ≡ s))
+    period_streams sel = (
+      (λ t.
+          let f = (sel t.0).0 t.1 in
+          let p = period_at f.0 in (
+            p.0,
+            p.1,
+            (of_period trees p.0 p.1).1 (f.0, f.1, p.2),
+            p.3 ∙ names_stream f.0 t.0 s f.3 t.2 t.3,
+          )),
+      (λ p.
+          let n = (of_period trees p.0 p.1).0 p.2 in
+          let on : stream_in n.0 ≡ s = period_is n.0 p.0 p.1 n.2 ∙ p.3 in
+          let it = period_row trees sound n.0 n.1 in (
+            column n.0 1 ∷ column n.0 2 ∷ [],
+            (sel (column n.0 1 ∷ column n.0 2 ∷ [])).1 (n.0, n.1, refl, refl),
+            it.0 ∙ ap (λ (x : Stream). Text x.nmi) on,
+            it.1 ∙ ap (λ (x : Stream). Text x.suffix) on,
+          )),
+    )
+
+  -- the known streams
+  pub finds_streams : (heads details periods : List Row) → Selects 2 [] (1 ∷ 2 ∷ []) trees heads
+      → Selects 6 [] (1 ∷ 2 ∷ []) trees details → Selects 10 [] (1 ∷ 2 ∷ []) trees periods
+      → (streams : List Stream) → AreStreamsIn heads details periods streams
       → AllPairs (λ a b. stream_cmp a b ≡ Less) streams → AreKnownStreams (world_in trees) streams
-  finds_streams heads details of_heads of_details streams are up = record {
+  finds_streams heads details periods of_heads of_details of_periods streams are up = record {
     each = λ s. (
       (λ m. elim ((are s).0 m) [
         | inl h ↦ inl ((head_streams heads s of_heads).0 h)
-        | inr d ↦ inr (inl ((detail_streams details s of_details).0 d))
+        | inr r ↦ elim r [
+          | inl d ↦ inr (inl ((detail_streams details s of_details).0 d))
+          | inr p ↦ inr (inr ((period_streams periods s of_periods).0 p))
+        ]
       ]),
       (λ k. elim k [
         | inl h ↦ (are s).1 (inl ((head_streams heads s of_heads).1 h))
-        | inr d ↦ elim d [
-          | inl d ↦ (are s).1 (inr ((detail_streams details s of_details).1 d))
-          | inr p ↦ absurd (no_period trees p.0 p.1 p.2)
+        | inr r ↦ elim r [
+          | inl d ↦ (are s).1 (inr (inl ((detail_streams details s of_details).1 d)))
+          | inr p ↦ (are s).1 (inr (inr ((period_streams periods s of_periods).1 p)))
         ]
       ]),
     );

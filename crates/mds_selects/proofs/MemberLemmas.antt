@@ -1,22 +1,20 @@
 -- The rows of an answer, by membership.
-use Rattle.std.proofs.Common.{◌≡◌, ◌⊎◌, ◌↔◌, inl, inr, ℕ, List, [], ◌∷◌, length, map, take, drop, Bool, true, false, cond, refl, sym, ap, subst, ◌∙◌}
-use Rattle.std.specs.List.{AllByRecursion, list_all, filter}
+use Rattle.std.proofs.Common.{◌≡◌, inl, inr, ℕ, List, [], ◌∷◌, map, Bool, true, false, cond, refl, sym, ap, subst, ◌∙◌}
+use Rattle.std.specs.List.{AllByRecursion, filter}
 use Rattle.std.specs.List.Sorted.{IsPermutation}
 use Rattle.std.proofs.lemmas.List.Sorted.{IsPermutation-map, IsPermutation-sym}
 use Rattle.sqlite_trees.proofs.ListLemmas.{all-permutation}
 use Rattle.sqlite_value.specs.declared.keys.Key.{Key}
 use Rattle.sqlite_value.specs.Order.{Row, column}
 use Rattle.sqlite_trees.specs.Tree.{Trees}
-use Rattle.sqlite_sql.specs.Term.{Term, Env, eval_all, holds}
+use Rattle.sqlite_sql.specs.Term.{Term, eval_all}
 use Rattle.sqlite.specs.Query.{Output}
-use Rattle.sqlite.specs.Program.{overlay, IsProgramAnswer}
 use Rattle.sqlite_schema.specs.declared.schema.Column.{Column}
-use Rattle.sqlite_rules.specs.Lists.{Has}
 use Rattle.mds_world.specs.Lists.{Member, in_map, map_in}
 use Rattle.mds_tables.specs.Stores.{Begins, Selects, SelectsAll}
 use Rattle.mds_selects.proofs.KeyLemmas.{tests, begins, passes_key}
 use Rattle.mds_selects.proofs.SelectLemmas.{Picks, passes, shows}
-use Rattle.mds_selects.proofs.SelectTexts.{columns_at, from_one}
+use Rattle.mds_selects.proofs.SelectTexts.{columns_at}
 use Rattle.mds_selects.proofs.TypedLemmas.{AreFor, AreTyped, alike}
 
 pub all_has : {X : Type 0} (P : X → Type 0) (xs : List X) (x : X) → AllByRecursion P xs → Member x xs → P x

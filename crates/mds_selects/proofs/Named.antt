@@ -1,5 +1,5 @@
 -- The facts of a World that rows name, kind by kind.
-use Rattle.std.specs.Prelude.{◌≡◌, ◌↔◌, ◌⊎◌, List, ◌++◌, map}
+use Rattle.std.specs.Prelude.{◌≡◌, ◌↔◌, List, ◌++◌, map, refl}
 use Rattle.std.proofs.Common.{sym, subst, inl, inr}
 use Rattle.sqlite_trees.specs.Tree.{Trees}
 use Rattle.sqlite_value.specs.Order.{Row}
@@ -9,25 +9,33 @@ use Rattle.mds_world.specs.declared.facts.Detail.{Detail}
 use Rattle.mds_world.specs.declared.facts.Head.{Head}
 use Rattle.mds_world.specs.declared.facts.Key.{Key}
 use Rattle.mds_world.specs.Facts.{Fact, PeriodKey, PeriodContent}
-use Rattle.mds_world.specs.Facts.Fact.{DetailIs, EventIs, HeadIs, PeriodIs, VersionIs}
+use Rattle.mds_world.specs.Facts.Fact.{DetailIs, EventIs, HeadIs, HolidayIs, JobIs, PeriodIs, VersionIs}
 use Rattle.mds_world.specs.Lists.{Member, append_left, append_right, in_map, map_in, member_append}
 use Rattle.mds_world.specs.Members.{in_list, list_in}
 use Rattle.mds_world.specs.Sets.{◌∈◌}
-use Rattle.mds_tables.specs.RowFacts.{detail_fact, event_fact, facts_in, head_fact, holiday_fact, version_fact, world_in}
+use Rattle.mds_tables.specs.RowFacts.{detail_fact, event_fact, facts_in, head_fact, holiday_fact, job_fact, period_fact, version_fact, world_in}
 
 -- one of the rows of a tree names the fact
 abbrev pub Names : (Row → Fact) → List Row → Fact → Type 0
 Names read rows f = (row : Row) × Member row rows × (read row ≡ f)
 
-named : (read : Row → Fact) (rows : List Row) (f : Fact) → Member f (map read rows) → Names read rows f
-named read rows f m = let r = in_map read rows f m in (r.0, r.1, sym r.2)
-
 names : (read : Row → Fact) (rows : List Row) (f : Fact) → Names read rows f → Member f (map read rows)
 names read rows f n = subst (λ g. Member g (map read rows)) n.2 (map_in read rows n.0 n.1)
 
--- no row of another kind names it
-other : (read : Row → Fact) (f : Fact) → ((row : Row) → read row ≡ f → ⊥) → (rows : List Row) → Member f (map read rows) → ⊥
-other read f never rows m = let r = named read rows f m in never r.0 r.2
+-- a row of the table of its kind names the fact
+abbrev IsNamed : Trees → Fact → Type 0
+IsNamed trees (HeadIs head) = Names head_fact (trees 2) (HeadIs head)
+IsNamed trees (VersionIs key reading) = Names version_fact (trees 4) (VersionIs key reading)
+IsNamed trees (DetailIs detail) = Names detail_fact (trees 6) (DetailIs detail)
+IsNamed trees (EventIs event) = Names event_fact (trees 8) (EventIs event)
+IsNamed trees (PeriodIs key content) = Names period_fact (trees 10) (PeriodIs key content)
+IsNamed trees (HolidayIs day) = Names holiday_fact (trees 12) (HolidayIs day)
+IsNamed trees (JobIs id content count) = Names job_fact (trees 14) (JobIs id content count)
+
+-- What holds of the fact of each row holds of each fact of the rows.
+of_rows : (P : Fact → Type 0) (read : Row → Fact) (rows : List Row) → ((row : Row) → Member row rows → P (read row))
+    → (f : Fact) → Member f (map read rows) → P f
+of_rows P read rows each f m = let r = in_map read rows f m in subst P (sym r.2) (each r.0 r.1)
 
 module _ (trees : Trees) where
   abbrev heads : List Fact
@@ -42,122 +50,95 @@ module _ (trees : Trees) where
   abbrev events : List Fact
   events = map event_fact (trees 8)
 
+  abbrev periods : List Fact
+  periods = map period_fact (trees 10)
+
   abbrev holidays : List Fact
   holidays = map holiday_fact (trees 12)
 
-  abbrev days : List Fact
-  days = heads ++ versions
+  abbrev jobs : List Fact
+  jobs = map job_fact (trees 14)
 
-  abbrev known : List Fact
-  known = days ++ details
+  -- the facts of the first tables, one table more each
+  abbrev two : List Fact
+  two = heads ++ versions
 
-  abbrev told : List Fact
-  told = known ++ events
+  abbrev three : List Fact
+  three = two ++ details
 
-  in_five : (f : Fact) → Member f (facts_in trees)
-      → Member f heads ⊎ (Member f versions ⊎ (Member f details ⊎ (Member f events ⊎ Member f holidays)))
-  in_five f m = elim (member_append f told holidays m) [
-    | inr a ↦ inr (inr (inr (inr a)))
-    | inl m ↦ elim (member_append f known events m) [
-      | inr a ↦ inr (inr (inr (inl a)))
-      | inl m ↦ elim (member_append f days details m) [
-        | inr a ↦ inr (inr (inl a))
-        | inl m ↦ elim (member_append f heads versions m) [ inl a ↦ inl a | inr a ↦ inr (inl a) ]
+  abbrev four : List Fact
+  four = three ++ events
+
+  abbrev five : List Fact
+  five = four ++ periods
+
+  abbrev six : List Fact
+  six = five ++ holidays
+
+  is_named : (f : Fact) → Member f (facts_in trees) → IsNamed trees f
+  is_named f m = elim (member_append f six jobs m) [
+    | inr a ↦ of_rows (IsNamed trees) job_fact (trees 14) (λ r n. (r, n, refl)) f a
+    | inl m ↦ elim (member_append f five holidays m) [
+      | inr a ↦ of_rows (IsNamed trees) holiday_fact (trees 12) (λ r n. (r, n, refl)) f a
+      | inl m ↦ elim (member_append f four periods m) [
+        | inr a ↦ of_rows (IsNamed trees) period_fact (trees 10) (λ r n. (r, n, refl)) f a
+        | inl m ↦ elim (member_append f three events m) [
+          | inr a ↦ of_rows (IsNamed trees) event_fact (trees 8) (λ r n. (r, n, refl)) f a
+          | inl m ↦ elim (member_append f two details m) [
+            | inr a ↦ of_rows (IsNamed trees) detail_fact (trees 6) (λ r n. (r, n, refl)) f a
+            | inl m ↦ elim (member_append f heads versions m) [
+              | inl a ↦ of_rows (IsNamed trees) head_fact (trees 2) (λ r n. (r, n, refl)) f a
+              | inr a ↦ of_rows (IsNamed trees) version_fact (trees 4) (λ r n. (r, n, refl)) f a
+            ]
+          ]
+        ]
       ]
     ]
   ]
 
-  is_fact : (f : Fact) → Member f known → f ∈ world_in trees
-  is_fact f m = list_in (facts_in trees) f (append_left f told holidays (append_left f known events m))
+  -- what the first four tables name, all of them name
+  of_four : (f : Fact) → Member f four → Member f (facts_in trees)
+  of_four f m = append_left f six jobs (append_left f five holidays (append_left f four periods m))
+
+  of_three : (f : Fact) → Member f three → Member f (facts_in trees)
+  of_three f m = of_four f (append_left f three events m)
+
+  of_two : (f : Fact) → Member f two → Member f (facts_in trees)
+  of_two f m = of_three f (append_left f two details m)
 
   pub of_head : (h : Head) → (HeadIs h ∈ world_in trees) ↔ Names head_fact (trees 2) (HeadIs h)
   of_head h = (
-    (λ m. elim (in_five (HeadIs h) (in_list _ _ m)) [
-      | inl a ↦ named head_fact (trees 2) _ a
-      | inr a ↦ elim a [
-        | inl b ↦ absurd (other version_fact (HeadIs h) (λ r e. cc) (trees 4) b)
-        | inr b ↦ elim b [
-          | inl b ↦ absurd (other detail_fact (HeadIs h) (λ r e. cc) (trees 6) b)
-          | inr b ↦ elim b [
-            | inl b ↦ absurd (other event_fact (HeadIs h) (λ r e. cc) (trees 8) b)
-            | inr b ↦ absurd (other holiday_fact (HeadIs h) (λ r e. cc) (trees 12) b)
-          ]
-        ]
-      ]
-    ]),
-    (λ n. is_fact (HeadIs h) (append_left (HeadIs h) days details (append_left (HeadIs h) heads versions
+    (λ m. is_named (HeadIs h) (in_list _ _ m)),
+    (λ n. list_in (facts_in trees) (HeadIs h) (of_two (HeadIs h) (append_left (HeadIs h) heads versions
         (names head_fact (trees 2) _ n)))),
   )
 
   pub of_version : (k : Key) (v : ReadingValue)
       → (VersionIs k v ∈ world_in trees) ↔ Names version_fact (trees 4) (VersionIs k v)
   of_version k v = (
-    (λ m. elim (in_five (VersionIs k v) (in_list _ _ m)) [
-      | inl b ↦ absurd (other head_fact (VersionIs k v) (λ r e. cc) (trees 2) b)
-      | inr b ↦ elim b [
-        | inl a ↦ named version_fact (trees 4) _ a
-        | inr b ↦ elim b [
-          | inl b ↦ absurd (other detail_fact (VersionIs k v) (λ r e. cc) (trees 6) b)
-          | inr b ↦ elim b [
-            | inl b ↦ absurd (other event_fact (VersionIs k v) (λ r e. cc) (trees 8) b)
-            | inr b ↦ absurd (other holiday_fact (VersionIs k v) (λ r e. cc) (trees 12) b)
-          ]
-        ]
-      ]
-    ]),
-    (λ n. is_fact (VersionIs k v) (append_left (VersionIs k v) days details (append_right (VersionIs k v) heads versions
+    (λ m. is_named (VersionIs k v) (in_list _ _ m)),
+    (λ n. list_in (facts_in trees) (VersionIs k v) (of_two (VersionIs k v) (append_right (VersionIs k v) heads versions
         (names version_fact (trees 4) _ n)))),
   )
 
   pub of_detail : (d : Detail) → (DetailIs d ∈ world_in trees) ↔ Names detail_fact (trees 6) (DetailIs d)
   of_detail d = (
-    (λ m. elim (in_five (DetailIs d) (in_list _ _ m)) [
-      | inl b ↦ absurd (other head_fact (DetailIs d) (λ r e. cc) (trees 2) b)
-      | inr b ↦ elim b [
-        | inl b ↦ absurd (other version_fact (DetailIs d) (λ r e. cc) (trees 4) b)
-        | inr b ↦ elim b [
-          | inl a ↦ named detail_fact (trees 6) _ a
-          | inr b ↦ elim b [
-            | inl b ↦ absurd (other event_fact (DetailIs d) (λ r e. cc) (trees 8) b)
-            | inr b ↦ absurd (other holiday_fact (DetailIs d) (λ r e. cc) (trees 12) b)
-          ]
-        ]
-      ]
-    ]),
-    (λ n. is_fact (DetailIs d) (append_right (DetailIs d) days details (names detail_fact (trees 6) _ n))),
+    (λ m. is_named (DetailIs d) (in_list _ _ m)),
+    (λ n. list_in (facts_in trees) (DetailIs d) (of_three (DetailIs d) (append_right (DetailIs d) two details
+        (names detail_fact (trees 6) _ n)))),
   )
 
   pub of_event : (v : EventValue) → (EventIs v ∈ world_in trees) ↔ Names event_fact (trees 8) (EventIs v)
   of_event v = (
-    (λ m. elim (in_five (EventIs v) (in_list _ _ m)) [
-      | inl b ↦ absurd (other head_fact (EventIs v) (λ r e. cc) (trees 2) b)
-      | inr b ↦ elim b [
-        | inl b ↦ absurd (other version_fact (EventIs v) (λ r e. cc) (trees 4) b)
-        | inr b ↦ elim b [
-          | inl b ↦ absurd (other detail_fact (EventIs v) (λ r e. cc) (trees 6) b)
-          | inr b ↦ elim b [
-            | inl a ↦ named event_fact (trees 8) _ a
-            | inr b ↦ absurd (other holiday_fact (EventIs v) (λ r e. cc) (trees 12) b)
-          ]
-        ]
-      ]
-    ]),
-    (λ n. list_in (facts_in trees) (EventIs v) (append_left (EventIs v) told holidays (append_right (EventIs v) known events
+    (λ m. is_named (EventIs v) (in_list _ _ m)),
+    (λ n. list_in (facts_in trees) (EventIs v) (of_four (EventIs v) (append_right (EventIs v) three events
         (names event_fact (trees 8) _ n)))),
   )
 
-  -- the rows name no period
-  pub no_period : (k : PeriodKey) (c : PeriodContent) → PeriodIs k c ∈ world_in trees → ⊥
-  no_period k c m = elim (in_five (PeriodIs k c) (in_list _ _ m)) [
-    | inl b ↦ other head_fact (PeriodIs k c) (λ r e. cc) (trees 2) b
-    | inr b ↦ elim b [
-      | inl b ↦ other version_fact (PeriodIs k c) (λ r e. cc) (trees 4) b
-      | inr b ↦ elim b [
-        | inl b ↦ other detail_fact (PeriodIs k c) (λ r e. cc) (trees 6) b
-        | inr b ↦ elim b [
-          | inl b ↦ other event_fact (PeriodIs k c) (λ r e. cc) (trees 8) b
-          | inr b ↦ other holiday_fact (PeriodIs k c) (λ r e. cc) (trees 12) b
-        ]
-      ]
-    ]
-  ]
+  pub of_period : (k : PeriodKey) (c : PeriodContent)
+      → (PeriodIs k c ∈ world_in trees) ↔ Names period_fact (trees 10) (PeriodIs k c)
+  of_period k c = (
+    (λ m. is_named (PeriodIs k c) (in_list _ _ m)),
+    (λ n. list_in (facts_in trees) (PeriodIs k c) (append_left (PeriodIs k c) six jobs (append_left (PeriodIs k c) five holidays
+        (append_right (PeriodIs k c) four periods (names period_fact (trees 10) _ n))))),
+  )

@@ -1,5 +1,5 @@
 -- What a query of one table does to a connection, and finds.
-use Rattle.std.proofs.Common.{◌≡◌, inl, inr, ℕ, List, [], ◌∷◌, true, false, Option, Some, None, Ok, Err, Result, IfOk, IfErr, OnErr, codes, refl, sym, subst}
+use Rattle.std.proofs.Common.{◌≡◌, ◌≢◌, inl, inr, ℕ, List, [], true, false, Option, Some, None, Ok, Err, Result, IfOk, IfErr, OnErr, codes, refl, sym, subst}
 use Rattle.std.specs.List.{AllByRecursion}
 use Rattle.sqlite_value.specs.declared.keys.Key.{Key}
 use Rattle.sqlite_value.specs.Order.{Row}
@@ -10,9 +10,10 @@ use Rattle.sqlite.specs.Command.TheVariants.{Select}
 use Rattle.sqlite.specs.Listing.{reads_listing, understood}
 use Rattle.sqlite.specs.Program.{overlay}
 use Rattle.sqlite.specs.Schema.{Schema}
-use Rattle.sqlite.specs.State.{FailsToQuery, FailsToShow, IsUnchanged, Shown, ShowsRows, State}
+use Rattle.sqlite.specs.State.{CommitsShowing, FailsToQuery, FailsToShow, IsUnchanged, Shown, ShowsRows, State, Survives}
 use Rattle.sqlite.specs.declared.error.Error.{Error}
-use Rattle.sqlite.proofs.Callers.{IsPlain, command_of, reads_as}
+use Rattle.sqlite.proofs.Callers.{IsPlain, command_of, never_commits, reads_as}
+use Rattle.sqlite.proofs.StateLemmas.{survives_weaker}
 use Rattle.sqlite.specs.Table.{Table}
 use Rattle.sqlite_catalog.specs.Listing.{IsSound}
 use Rattle.sqlite_schema.specs.Rules.{passes as keeps_rule}
@@ -24,7 +25,7 @@ use Rattle.mds_world.specs.declared.facts.Detail.{Detail}
 use Rattle.mds_world.specs.Lists.{Member}
 use Rattle.mds_tables.specs.Cells.{day_cells, detail_cells, event_cells, optional_cell, stream_cells}
 use Rattle.mds_tables.specs.Stores.{ChangesNothing, Finds, Selects, SelectsAll}
-use Rattle.mds_tables.specs.Tables.{detail_table, event_table, head_table, number, schema_1, version_table}
+use Rattle.mds_tables.specs.Tables.{detail_table, event_table, head_table, number, period_table, schema_1, version_table}
 use Rattle.mds_tables.proofs.CallLemmas.{not_run}
 use Rattle.mds_selects.proofs.KeyLemmas.{tests}
 use Rattle.mds_selects.proofs.MemberLemmas.{all_has, selects, selects_all}
@@ -62,6 +63,13 @@ module _ (sql : List ℕ) (plain : IsPlain (understood schema_1 sql) × (reads_l
       → IfErr r (FailsToQuery sql params old new) → OnErr r (ChangesNothing old new)
   fails old new params has (Ok v) h = tt
   fails old new params has (Err e) h = fails_same sql params old new schema_1 has plain.0 e h
+
+  -- nor does it commit anything
+  pub quiet : (old new : State) (params : Row) → Survives old new (CommitsShowing sql params old)
+      → Survives old new (λ _. old.now.schema ≢ schema_1)
+  quiet old new params s =
+      survives_weaker old new _ _ (λ _ db commits has.
+      never_commits sql params old db (there sql params old new schema_1 has plain.0) commits) s
 
   module _ (tree : ℕ) (test project : List Term) (order : List (Term × Key)) (names : List (List ℕ))
       (is : AsksFor sql tree test project order names) (low : (db : Trees) → overlay db [] tree ≡ db tree) where
@@ -110,6 +118,12 @@ module _ (db : Trees) (sound : IsSound schema_1 db) (row : Row) where
   event_typed m =
       let fits = (sound.obeys.rules Datatype).1.1.1.1.0 in
       let it = kept event_table (db 8) fits (sound.obeys.rules NotNull).1.1.1.1.0 m in
+      record { typed = (both _ _ it.0).0; present = it.1 }
+
+  pub period_typed : Member row (db 10) → AreTyped period_table.columns row
+  period_typed m =
+      let fits = (sound.obeys.rules Datatype).1.1.1.1.1.0 in
+      let it = kept period_table (db 10) fits (sound.obeys.rules NotNull).1.1.1.1.1.0 m in
       record { typed = (both _ _ it.0).0; present = it.1 }
 
 -- ---- the keys of the queries

@@ -1,5 +1,5 @@
 -- What the texts of the queries mean.
-use Rattle.std.proofs.Common.{◌≡◌, ◌+◌, List, ℕ, [], ◌∷◌, None, Bool, true, false, codes, refl, map, pos, negsuc}
+use Rattle.std.proofs.Common.{◌≡◌, List, ℕ, [], ◌∷◌, None, true, false, codes, refl, map, pos, negsuc}
 use Rattle.sqlite.specs.Collation.TheVariants.{Binary}
 use Rattle.sqlite.specs.Command.TheVariants.{Select}
 use Rattle.sqlite.specs.Listing.{reads_listing, understood}
@@ -188,3 +188,19 @@ pub select_detail_streams_plain :
     IsPlain (understood schema_1 select_detail_streams) × (reads_listing schema_1 select_detail_streams ≡ false)
 unfolding understood everything
 select_detail_streams_plain = ((refl, refl), refl)
+
+abbrev pub select_period_streams : List ℕ
+select_period_streams = codes "SELECT nmi, suffix FROM mds_period"
+
+abbrev pub period_streams_query : Query
+period_streams_query = from_one 10 ([]) (columns_at (1 ∷ 2 ∷ [])) ([])
+
+pub select_period_streams_is : command_of (understood schema_1 select_period_streams)
+    ≡ Select (record { lets = []; body = period_streams_query }) (codes "nmi" ∷ codes "suffix" ∷ [])
+unfolding understood everything
+select_period_streams_is = refl
+
+pub select_period_streams_plain :
+    IsPlain (understood schema_1 select_period_streams) × (reads_listing schema_1 select_period_streams ≡ false)
+unfolding understood everything
+select_period_streams_plain = ((refl, refl), refl)

@@ -20,7 +20,7 @@ use Rattle.mds_tables.specs.Cells.{letter_text, optional_cell}
 use Rattle.mds_tables.specs.Stores.{Begins}
 use Rattle.mds_selects.proofs.MemberLemmas.{all_has}
 use Rattle.mds_selects.proofs.TypedLemmas.{both, is_integer, is_text}
-use Rattle.mds_tables.specs.Tables.{needed, keyed_table, schema_1, head_table, version_table, detail_table, event_table, day_key, version_key, detail_key, event_key, to_head}
+use Rattle.mds_tables.specs.Tables.{needed, keyed_table, schema_1, head_table, version_table, detail_table, event_table, period_table, day_key, version_key, detail_key, event_key, period_key, to_head}
 
 -- a column that is needed has a value of its type
 needed_typed : (name : List ℕ) (k : Kind) (at : ℕ) (cs : List Column) (row : Row) → slice_get cs at ≡ Some (needed name k)
@@ -183,6 +183,18 @@ module _ (db : Trees) (sound : IsSound schema_1 db) (r : Row) where
         moment = ints _ 5 refl;
         reading = texts _ 6 refl;
       }
+
+  -- a row of a period begins with a stream
+  pub period_row : Member r (db 10) → (column r 1 ≡ Text (text_at r 1)) × (column r 2 ≡ Text (text_at r 2))
+  period_row m =
+      let fits : passes Datatype schema_1 db period_table r ≡ true =
+      all_has _ (db 10) r (sound.obeys.rules Datatype).1.1.1.1.1.0 m in
+      let there : passes NotNull schema_1 db period_table r ≡ true =
+      all_has _ (db 10) r (sound.obeys.rules NotNull).1.1.1.1.1.0 m in
+      let texts : (called : List ℕ) (at : ℕ) → slice_get period_table.columns at ≡ Some (needed called kind.Text)
+      → column r (suc at) ≡ Text (text_at r (suc at)) =
+      λ called at is. text_typed period_table.name 10 period_table.columns period_key period_key [] called db r at is fits there in
+      (texts _ 0 refl, texts _ 1 refl)
 
 -- ---- a row that begins with a key
 

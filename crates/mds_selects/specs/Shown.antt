@@ -89,7 +89,8 @@ abbrev pub ShowsStream : List Row → Stream → Type 0
 ShowsStream rows stream =
     (row : Row) × Member row rows × (column row 0 ≡ Text stream.nmi) × (column row 1 ≡ Text stream.suffix)
 
--- the streams of rows of heads and of details, in any order
-abbrev pub AreStreamsIn : List Row → List Row → List Stream → Type 0
-AreStreamsIn heads details streams =
-    (stream : Stream) → Member stream streams ↔ (ShowsStream heads stream ⊎ ShowsStream details stream)
+-- the streams of rows of heads, of details and of periods, in any order
+abbrev pub AreStreamsIn : List Row → List Row → List Row → List Stream → Type 0
+AreStreamsIn heads details periods streams =
+    (stream : Stream) → Member stream streams
+    ↔ (ShowsStream heads stream ⊎ (ShowsStream details stream ⊎ ShowsStream periods stream))

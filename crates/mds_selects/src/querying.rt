@@ -1,29 +1,28 @@
 //! What is asked of a store, found by queries. A store that can't answer, or holds a row that the store didn't write,
 //! is unavailable.
 
-ghost use Rattle.std.specs.Prelude.{◌≡◌, ◌≢◌, ◌⊎◌, ◌<◌, ◌≤◌, ◌^◌, ◌↔◌, ℕ, [], ◌∷◌, false, map, pos, All, IfOk, IsTrue, OnOk, Some};
+ghost use Rattle.std.specs.Prelude.{◌≡◌, ◌≢◌, ◌⊎◌, ◌<◌, ◌^◌, ◌↔◌, ℕ, [], ◌∷◌, false, map, pos, All, IfOk, IsTrue, OnOk, Some};
 ghost use Rattle.std.specs.Bool.{MatchBool};
 ghost use Rattle.std.specs.FinSet.{IsAntisymmetric};
 ghost use Rattle.std.specs.List.{AllPairs};
 ghost use Rattle.std.specs.declared.cmp.Ordering.TheVariants.{Less};
 ghost use Rattle.sqlite.specs.declared.types.Value.TheVariants.{Int};
 ghost use Rattle.sqlite.specs.Held.{state};
-ghost use Rattle.sqlite.specs.State.{HasCleanDisk, KeepsCommit};
-ghost use Rattle.sqlite_trees.specs.View.{doubt};
+ghost use Rattle.sqlite.specs.State.{HasCleanDisk, KeepsCommit, Survives};
 ghost use Rattle.mds_world.specs.Current.{IsCurrentDetails, no_details};
 ghost use Rattle.mds_world.specs.Facts.Fact.{DetailIs, EventIs};
 ghost use Rattle.mds_world.specs.Lists.{Apart, Member};
 ghost use Rattle.mds_world.specs.Sets.{◌∈◌};
 ghost use Rattle.mds_versions.specs.Queries.{AreEventsOf, AreKnownStreams, stream_cmp};
 ghost use Rattle.mds_tables.specs.RowFacts.{int_at};
-ghost use Rattle.mds_tables.specs.Stores.{Holds, HoldsTables, world_of};
+ghost use Rattle.mds_tables.specs.Stores.{AreOpen, Holds, HoldsTables, world_of};
 ghost use Rattle.mds_selects.specs.Found.{AreRowsOf, IsHeadOf};
 ghost use Rattle.mds_selects.specs.Shown.{AreEventsIn, AreFirstDetails, AreStreamsIn, AreVersionsIn, IsDetailRow, IsOnlyHead, SaysVersion};
 ghost use Rattle.mds_selects.specs.Added.{AreAdded, IsAdded, SaysEvent, SaysStream};
 
 use crate::rows::{
-    detail_stream_rows, details_rows, event_rows, head_rows, head_stream_rows, same_details_rows,
-    same_event_rows, version_numbers, version_rows,
+    detail_stream_rows, details_rows, event_rows, head_rows, head_stream_rows, period_stream_rows,
+    same_details_rows, same_event_rows, version_numbers, version_rows,
 };
 use crate::terms::{detail_in, event_at, head_in, is_detail_row, stream_in, version_in};
 use mds_quantity::Unit;
@@ -44,11 +43,11 @@ pub fn is_version_1<S: Alter>(conn: &mut Connection<S>) -> Result<bool, Unavaila
         (map (λ row. int_at row 1) ((state S.Store conn.old).committed.trees 0) ≡ pos 1 ∷ [])
         (map (λ row. int_at row 1) ((state S.Store conn.old).committed.trees 0) ≢ pos 1 ∷ [])) }
     ensures open { HasCleanDisk (state S.Store conn.new) → HoldsTables (state S.Store conn.old)
-        → OnOk result (IsTrue (state S.Store conn.old).is_open × IsTrue (state S.Store conn.new).is_open) }
+        → OnOk result (AreOpen (state S.Store conn.old) (state S.Store conn.new)) }
     ensures kept { HasCleanDisk (state S.Store conn.new) → HoldsTables (state S.Store conn.old)
         → KeepsCommit (state S.Store conn.old) (state S.Store conn.new) }
     ensures mode { conn.new.in_transaction ≡ false }
-    ensures clean { doubt (state S.Store conn.old).is_clean ≤ doubt (state S.Store conn.new).is_clean }
+    ensures survives { HoldsTables (state S.Store conn.old) → Survives (state S.Store conn.old) (state S.Store conn.new) (λ _. ⊥) }
 {
     let Ok(_) = ready(conn) else {
         return Err(Unavailable);
@@ -85,10 +84,12 @@ pub fn head_of<S: Alter>(
     requires { conn.old.in_transaction ≡ false }
     ensures found { HasCleanDisk (state S.Store conn.new) → Holds (state S.Store conn.old)
         → IfOk result (IsHeadOf (world_of (state S.Store conn.old)) stream.now day) }
+    ensures open { HasCleanDisk (state S.Store conn.new) → Holds (state S.Store conn.old)
+        → OnOk result (AreOpen (state S.Store conn.old) (state S.Store conn.new)) }
     ensures kept { HasCleanDisk (state S.Store conn.new) → Holds (state S.Store conn.old)
         → KeepsCommit (state S.Store conn.old) (state S.Store conn.new) }
     ensures mode { conn.new.in_transaction ≡ false }
-    ensures clean { doubt (state S.Store conn.old).is_clean ≤ doubt (state S.Store conn.new).is_clean }
+    ensures survives { Holds (state S.Store conn.old) → Survives (state S.Store conn.old) (state S.Store conn.new) (λ _. ⊥) }
 {
     let Ok(_) = ready(conn) else {
         return Err(Unavailable);
@@ -124,10 +125,12 @@ pub fn versions_of<S: Alter>(
     requires { conn.old.in_transaction ≡ false }
     ensures found { HasCleanDisk (state S.Store conn.new) → Holds (state S.Store conn.old)
         → IfOk result (λ rows. AreRowsOf (world_of (state S.Store conn.old)) stream.now day rows.items) }
+    ensures open { HasCleanDisk (state S.Store conn.new) → Holds (state S.Store conn.old)
+        → OnOk result (AreOpen (state S.Store conn.old) (state S.Store conn.new)) }
     ensures kept { HasCleanDisk (state S.Store conn.new) → Holds (state S.Store conn.old)
         → KeepsCommit (state S.Store conn.old) (state S.Store conn.new) }
     ensures mode { conn.new.in_transaction ≡ false }
-    ensures clean { doubt (state S.Store conn.old).is_clean ≤ doubt (state S.Store conn.new).is_clean }
+    ensures survives { Holds (state S.Store conn.old) → Survives (state S.Store conn.old) (state S.Store conn.new) (λ _. ⊥) }
 {
     let Ok(_) = ready(conn) else {
         return Err(Unavailable);
@@ -181,10 +184,12 @@ pub fn current_details<S: Alter>(
     requires { conn.old.in_transaction ≡ false }
     ensures found { HasCleanDisk (state S.Store conn.new) → Holds (state S.Store conn.old)
         → IfOk result (IsCurrentDetails (world_of (state S.Store conn.old)) stream.now) }
+    ensures open { HasCleanDisk (state S.Store conn.new) → Holds (state S.Store conn.old)
+        → OnOk result (AreOpen (state S.Store conn.old) (state S.Store conn.new)) }
     ensures kept { HasCleanDisk (state S.Store conn.new) → Holds (state S.Store conn.old)
         → KeepsCommit (state S.Store conn.old) (state S.Store conn.new) }
     ensures mode { conn.new.in_transaction ≡ false }
-    ensures clean { doubt (state S.Store conn.old).is_clean ≤ doubt (state S.Store conn.new).is_clean }
+    ensures survives { Holds (state S.Store conn.old) → Survives (state S.Store conn.old) (state S.Store conn.new) (λ _. ⊥) }
 {
     let Ok(_) = ready(conn) else {
         return Err(Unavailable);
@@ -249,10 +254,12 @@ pub fn has_details<S: Alter>(conn: &mut Connection<S>, detail: &Detail) -> Resul
     requires { conn.old.in_transaction ≡ false }
     ensures found { HasCleanDisk (state S.Store conn.new) → Holds (state S.Store conn.old)
         → IfOk result (λ has. IsTrue has ↔ (DetailIs detail.now ∈ world_of (state S.Store conn.old))) }
+    ensures open { HasCleanDisk (state S.Store conn.new) → Holds (state S.Store conn.old)
+        → OnOk result (AreOpen (state S.Store conn.old) (state S.Store conn.new)) }
     ensures kept { HasCleanDisk (state S.Store conn.new) → Holds (state S.Store conn.old)
         → KeepsCommit (state S.Store conn.old) (state S.Store conn.new) }
     ensures mode { conn.new.in_transaction ≡ false }
-    ensures clean { doubt (state S.Store conn.old).is_clean ≤ doubt (state S.Store conn.new).is_clean }
+    ensures survives { Holds (state S.Store conn.old) → Survives (state S.Store conn.old) (state S.Store conn.new) (λ _. ⊥) }
 {
     let Ok(_) = ready(conn) else {
         return Err(Unavailable);
@@ -274,10 +281,12 @@ pub fn events_of<S: Alter>(
     requires { conn.old.in_transaction ≡ false }
     ensures found { HasCleanDisk (state S.Store conn.new) → Holds (state S.Store conn.old)
         → IfOk result (λ events. AreEventsOf (world_of (state S.Store conn.old)) stream.now day events.items) }
+    ensures open { HasCleanDisk (state S.Store conn.new) → Holds (state S.Store conn.old)
+        → OnOk result (AreOpen (state S.Store conn.old) (state S.Store conn.new)) }
     ensures kept { HasCleanDisk (state S.Store conn.new) → Holds (state S.Store conn.old)
         → KeepsCommit (state S.Store conn.old) (state S.Store conn.new) }
     ensures mode { conn.new.in_transaction ≡ false }
-    ensures clean { doubt (state S.Store conn.old).is_clean ≤ doubt (state S.Store conn.new).is_clean }
+    ensures survives { Holds (state S.Store conn.old) → Survives (state S.Store conn.old) (state S.Store conn.new) (λ _. ⊥) }
 {
     let Ok(_) = ready(conn) else {
         return Err(Unavailable);
@@ -350,10 +359,12 @@ pub fn has_event<S: Alter>(conn: &mut Connection<S>, event: &Event) -> Result<bo
     requires { conn.old.in_transaction ≡ false }
     ensures found { HasCleanDisk (state S.Store conn.new) → Holds (state S.Store conn.old)
         → IfOk result (λ has. IsTrue has ↔ (EventIs event.now ∈ world_of (state S.Store conn.old))) }
+    ensures open { HasCleanDisk (state S.Store conn.new) → Holds (state S.Store conn.old)
+        → OnOk result (AreOpen (state S.Store conn.old) (state S.Store conn.new)) }
     ensures kept { HasCleanDisk (state S.Store conn.new) → Holds (state S.Store conn.old)
         → KeepsCommit (state S.Store conn.old) (state S.Store conn.new) }
     ensures mode { conn.new.in_transaction ≡ false }
-    ensures clean { doubt (state S.Store conn.old).is_clean ≤ doubt (state S.Store conn.new).is_clean }
+    ensures survives { Holds (state S.Store conn.old) → Survives (state S.Store conn.old) (state S.Store conn.new) (λ _. ⊥) }
 {
     let Ok(_) = ready(conn) else {
         return Err(Unavailable);
@@ -435,10 +446,12 @@ pub fn streams<S: Alter>(
     requires { conn.old.in_transaction ≡ false }
     ensures found { HasCleanDisk (state S.Store conn.new) → Holds (state S.Store conn.old)
         → IfOk result (λ streams. AreKnownStreams (world_of (state S.Store conn.old)) streams.items) }
+    ensures open { HasCleanDisk (state S.Store conn.new) → Holds (state S.Store conn.old)
+        → OnOk result (AreOpen (state S.Store conn.old) (state S.Store conn.new)) }
     ensures kept { HasCleanDisk (state S.Store conn.new) → Holds (state S.Store conn.old)
         → KeepsCommit (state S.Store conn.old) (state S.Store conn.new) }
     ensures mode { conn.new.in_transaction ≡ false }
-    ensures clean { doubt (state S.Store conn.old).is_clean ≤ doubt (state S.Store conn.new).is_clean }
+    ensures survives { Holds (state S.Store conn.old) → Survives (state S.Store conn.old) (state S.Store conn.new) (λ _. ⊥) }
 {
     let Ok(_) = ready(conn) else {
         return Err(Unavailable);
@@ -449,12 +462,20 @@ pub fn streams<S: Alter>(
     let Ok(details) = detail_stream_rows(conn) else {
         return Err(Unavailable);
     };
-    all_streams(alloc, &heads, &details)
+    let Ok(periods) = period_stream_rows(conn) else {
+        return Err(Unavailable);
+    };
+    all_streams(alloc, &heads, &details, &periods)
 }
 
-/// The streams of two lists of rows, ascending, each once.
-fn all_streams(alloc: Global, heads: &[Row], details: &[Row]) -> Result<Vec<Stream>, Unavailable>
-    ensures each { IfOk result (λ streams. AreStreamsIn heads.now details.now streams.items) }
+/// The streams of three lists of rows, ascending, each once.
+fn all_streams(
+    alloc: Global,
+    heads: &[Row],
+    details: &[Row],
+    periods: &[Row],
+) -> Result<Vec<Stream>, Unavailable>
+    ensures each { IfOk result (λ streams. AreStreamsIn heads.now details.now periods.now streams.items) }
     ensures ascending { IfOk result (λ streams. AllPairs (λ a b. stream_cmp a b ≡ Less) streams.items) }
 {
     let mut found = BTreeSet::new(alloc);
@@ -462,6 +483,9 @@ fn all_streams(alloc: Global, heads: &[Row], details: &[Row]) -> Result<Vec<Stre
         return Err(Unavailable);
     };
     let Ok(_) = add_streams(&mut found, details) else {
+        return Err(Unavailable);
+    };
+    let Ok(_) = add_streams(&mut found, periods) else {
         return Err(Unavailable);
     };
     in_order(alloc, found)

@@ -1,9 +1,8 @@
 //! The queries, and the rows that they answer.
 
-ghost use Rattle.std.specs.Prelude.{◌≡◌, ◌≤◌, false, [], ◌∷◌, All, IfOk, OnErr};
+ghost use Rattle.std.specs.Prelude.{◌≡◌, ◌≢◌, false, [], ◌∷◌, All, IfOk, OnErr};
 ghost use Rattle.sqlite.specs.Held.{state};
-ghost use Rattle.sqlite.specs.State.{HasCleanDisk};
-ghost use Rattle.sqlite_trees.specs.View.{doubt};
+ghost use Rattle.sqlite.specs.State.{HasCleanDisk, Survives};
 ghost use Rattle.mds_tables.specs.Cells as row;
 ghost use Rattle.mds_tables.specs.Stores.{ChangesNothing, Finds, SelectsAll, Selects};
 ghost use Rattle.mds_tables.specs.Tables.{schema_1};
@@ -19,7 +18,7 @@ pub(crate) fn version_numbers<S: Alter>(conn: &mut Connection<S>) -> Result<Vec<
     ensures ok { HasCleanDisk (state S.Store conn.new) → IfOk result (λ rows. Finds (state S.Store conn.old) (state S.Store conn.new) (λ trees. SelectsAll 0 (1 ∷ []) trees rows.items)) }
     ensures err { HasCleanDisk (state S.Store conn.new) → (state S.Store conn.old).now.schema ≡ schema_1 → OnErr result (ChangesNothing (state S.Store conn.old) (state S.Store conn.new)) }
     ensures mode { conn.old.in_transaction ≡ false → conn.new.in_transaction ≡ false }
-    ensures clean { doubt (state S.Store conn.old).is_clean ≤ doubt (state S.Store conn.new).is_clean }
+    ensures survives { Survives (state S.Store conn.old) (state S.Store conn.new) (λ _. (state S.Store conn.old).now.schema ≢ schema_1) }
 {
     conn.query_all("SELECT version FROM mds_schema", &[])
 }
@@ -33,7 +32,7 @@ pub(crate) fn head_rows<S: Alter>(
     ensures ok { HasCleanDisk (state S.Store conn.new) → IfOk result (λ rows. Finds (state S.Store conn.old) (state S.Store conn.new) (λ trees. Selects 2 (row.day_cells stream.now day) (1 ∷ 2 ∷ 3 ∷ 4 ∷ 5 ∷ []) trees rows.items)) }
     ensures err { HasCleanDisk (state S.Store conn.new) → (state S.Store conn.old).now.schema ≡ schema_1 → OnErr result (ChangesNothing (state S.Store conn.old) (state S.Store conn.new)) }
     ensures mode { conn.old.in_transaction ≡ false → conn.new.in_transaction ≡ false }
-    ensures clean { doubt (state S.Store conn.old).is_clean ≤ doubt (state S.Store conn.new).is_clean }
+    ensures survives { Survives (state S.Store conn.old) (state S.Store conn.new) (λ _. (state S.Store conn.old).now.schema ≢ schema_1) }
 {
     conn.query_all(
         "SELECT nmi, suffix, day, length, unit FROM mds_head WHERE nmi = ?1 AND suffix = ?2 AND day = ?3",
@@ -50,7 +49,7 @@ pub(crate) fn version_rows<S: Alter>(
     ensures ok { HasCleanDisk (state S.Store conn.new) → IfOk result (λ rows. Finds (state S.Store conn.old) (state S.Store conn.new) (λ trees. Selects 4 (row.day_cells stream.now day) (1 ∷ 2 ∷ 3 ∷ 4 ∷ 5 ∷ 6 ∷ 7 ∷ 8 ∷ 9 ∷ []) trees rows.items)) }
     ensures err { HasCleanDisk (state S.Store conn.new) → (state S.Store conn.old).now.schema ≡ schema_1 → OnErr result (ChangesNothing (state S.Store conn.old) (state S.Store conn.new)) }
     ensures mode { conn.old.in_transaction ≡ false → conn.new.in_transaction ≡ false }
-    ensures clean { doubt (state S.Store conn.old).is_clean ≤ doubt (state S.Store conn.new).is_clean }
+    ensures survives { Survives (state S.Store conn.old) (state S.Store conn.new) (λ _. (state S.Store conn.old).now.schema ≢ schema_1) }
 {
     conn.query_all(
         "SELECT nmi, suffix, day, slot, moment, quality, code, note, amount FROM mds_version WHERE nmi = ?1 AND suffix = ?2 AND day = ?3",
@@ -66,7 +65,7 @@ pub(crate) fn details_rows<S: Alter>(
     ensures ok { HasCleanDisk (state S.Store conn.new) → IfOk result (λ rows. Finds (state S.Store conn.old) (state S.Store conn.new) (λ trees. Selects 6 (row.stream_cells stream.now) (1 ∷ 2 ∷ 3 ∷ 4 ∷ 5 ∷ 6 ∷ 7 ∷ 8 ∷ []) trees rows.items × (All (λ row. IsDetailRow row) rows.items → AreLatestFirst rows.items))) }
     ensures err { HasCleanDisk (state S.Store conn.new) → (state S.Store conn.old).now.schema ≡ schema_1 → OnErr result (ChangesNothing (state S.Store conn.old) (state S.Store conn.new)) }
     ensures mode { conn.old.in_transaction ≡ false → conn.new.in_transaction ≡ false }
-    ensures clean { doubt (state S.Store conn.old).is_clean ≤ doubt (state S.Store conn.new).is_clean }
+    ensures survives { Survives (state S.Store conn.old) (state S.Store conn.new) (λ _. (state S.Store conn.old).now.schema ≢ schema_1) }
 {
     conn.query_all(
         "SELECT nmi, suffix, moment, configuration, register, datastream, meter, next FROM mds_detail WHERE nmi = ?1 AND suffix = ?2 ORDER BY moment DESC, configuration DESC, register DESC, datastream DESC, meter DESC, next DESC",
@@ -82,7 +81,7 @@ pub(crate) fn same_details_rows<S: Alter>(
     ensures ok { HasCleanDisk (state S.Store conn.new) → IfOk result (λ rows. Finds (state S.Store conn.old) (state S.Store conn.new) (λ trees. Selects 6 (row.detail_cells detail.now) (1 ∷ []) trees rows.items)) }
     ensures err { HasCleanDisk (state S.Store conn.new) → (state S.Store conn.old).now.schema ≡ schema_1 → OnErr result (ChangesNothing (state S.Store conn.old) (state S.Store conn.new)) }
     ensures mode { conn.old.in_transaction ≡ false → conn.new.in_transaction ≡ false }
-    ensures clean { doubt (state S.Store conn.old).is_clean ≤ doubt (state S.Store conn.new).is_clean }
+    ensures survives { Survives (state S.Store conn.old) (state S.Store conn.new) (λ _. (state S.Store conn.old).now.schema ≢ schema_1) }
 {
     conn.query_all(
         "SELECT nmi FROM mds_detail WHERE nmi = ?1 AND suffix = ?2 AND moment = ?3 AND configuration = ?4 AND register = ?5 AND datastream = ?6 AND meter = ?7 AND next = ?8",
@@ -99,7 +98,7 @@ pub(crate) fn event_rows<S: Alter>(
     ensures ok { HasCleanDisk (state S.Store conn.new) → IfOk result (λ rows. Finds (state S.Store conn.old) (state S.Store conn.new) (λ trees. Selects 8 (row.day_cells stream.now day) (1 ∷ 2 ∷ 3 ∷ 4 ∷ 5 ∷ 6 ∷ 7 ∷ []) trees rows.items)) }
     ensures err { HasCleanDisk (state S.Store conn.new) → (state S.Store conn.old).now.schema ≡ schema_1 → OnErr result (ChangesNothing (state S.Store conn.old) (state S.Store conn.new)) }
     ensures mode { conn.old.in_transaction ≡ false → conn.new.in_transaction ≡ false }
-    ensures clean { doubt (state S.Store conn.old).is_clean ≤ doubt (state S.Store conn.new).is_clean }
+    ensures survives { Survives (state S.Store conn.old) (state S.Store conn.new) (λ _. (state S.Store conn.old).now.schema ≢ schema_1) }
 {
     conn.query_all(
         "SELECT nmi, suffix, day, trans, ticket, moment, reading FROM mds_event WHERE nmi = ?1 AND suffix = ?2 AND day = ?3",
@@ -121,7 +120,7 @@ pub(crate) fn same_event_rows<S: Alter>(
     ensures ok { HasCleanDisk (state S.Store conn.new) → IfOk result (λ rows. Finds (state S.Store conn.old) (state S.Store conn.new) (λ trees. Selects 8 (row.event_cells event.now) (1 ∷ []) trees rows.items)) }
     ensures err { HasCleanDisk (state S.Store conn.new) → (state S.Store conn.old).now.schema ≡ schema_1 → OnErr result (ChangesNothing (state S.Store conn.old) (state S.Store conn.new)) }
     ensures mode { conn.old.in_transaction ≡ false → conn.new.in_transaction ≡ false }
-    ensures clean { doubt (state S.Store conn.old).is_clean ≤ doubt (state S.Store conn.new).is_clean }
+    ensures survives { Survives (state S.Store conn.old) (state S.Store conn.new) (λ _. (state S.Store conn.old).now.schema ≢ schema_1) }
 {
     conn.query_all(
         "SELECT nmi FROM mds_event WHERE nmi = ?1 AND suffix = ?2 AND day = ?3 AND trans = ?4 AND ticket = ?5 AND moment = ?6 AND reading = ?7",
@@ -134,7 +133,7 @@ pub(crate) fn head_stream_rows<S: Alter>(conn: &mut Connection<S>) -> Result<Vec
     ensures ok { HasCleanDisk (state S.Store conn.new) → IfOk result (λ rows. Finds (state S.Store conn.old) (state S.Store conn.new) (λ trees. Selects 2 [] (1 ∷ 2 ∷ []) trees rows.items)) }
     ensures err { HasCleanDisk (state S.Store conn.new) → (state S.Store conn.old).now.schema ≡ schema_1 → OnErr result (ChangesNothing (state S.Store conn.old) (state S.Store conn.new)) }
     ensures mode { conn.old.in_transaction ≡ false → conn.new.in_transaction ≡ false }
-    ensures clean { doubt (state S.Store conn.old).is_clean ≤ doubt (state S.Store conn.new).is_clean }
+    ensures survives { Survives (state S.Store conn.old) (state S.Store conn.new) (λ _. (state S.Store conn.old).now.schema ≢ schema_1) }
 {
     conn.query_all("SELECT nmi, suffix FROM mds_head", &[])
 }
@@ -144,7 +143,17 @@ pub(crate) fn detail_stream_rows<S: Alter>(conn: &mut Connection<S>) -> Result<V
     ensures ok { HasCleanDisk (state S.Store conn.new) → IfOk result (λ rows. Finds (state S.Store conn.old) (state S.Store conn.new) (λ trees. Selects 6 [] (1 ∷ 2 ∷ []) trees rows.items)) }
     ensures err { HasCleanDisk (state S.Store conn.new) → (state S.Store conn.old).now.schema ≡ schema_1 → OnErr result (ChangesNothing (state S.Store conn.old) (state S.Store conn.new)) }
     ensures mode { conn.old.in_transaction ≡ false → conn.new.in_transaction ≡ false }
-    ensures clean { doubt (state S.Store conn.old).is_clean ≤ doubt (state S.Store conn.new).is_clean }
+    ensures survives { Survives (state S.Store conn.old) (state S.Store conn.new) (λ _. (state S.Store conn.old).now.schema ≢ schema_1) }
 {
     conn.query_all("SELECT nmi, suffix FROM mds_detail", &[])
+}
+
+/// The streams of all periods.
+pub(crate) fn period_stream_rows<S: Alter>(conn: &mut Connection<S>) -> Result<Vec<Row>, Error>
+    ensures ok { HasCleanDisk (state S.Store conn.new) → IfOk result (λ rows. Finds (state S.Store conn.old) (state S.Store conn.new) (λ trees. Selects 10 [] (1 ∷ 2 ∷ []) trees rows.items)) }
+    ensures err { HasCleanDisk (state S.Store conn.new) → (state S.Store conn.old).now.schema ≡ schema_1 → OnErr result (ChangesNothing (state S.Store conn.old) (state S.Store conn.new)) }
+    ensures mode { conn.old.in_transaction ≡ false → conn.new.in_transaction ≡ false }
+    ensures survives { Survives (state S.Store conn.old) (state S.Store conn.new) (λ _. (state S.Store conn.old).now.schema ≢ schema_1) }
+{
+    conn.query_all("SELECT nmi, suffix FROM mds_period", &[])
 }

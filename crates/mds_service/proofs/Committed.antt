@@ -1,8 +1,9 @@
 -- What an import commits.
-use Rattle.std.specs.Prelude.{◌≡◌, ◌↔◌, ℕ, List, ◌++◌, map, length, OnOk, Result, Ok, Err, is_ok, true}
+use Rattle.std.specs.Prelude.{◌≡◌, ◌↔◌, ℕ, List, ◌++◌, map, length, None}
 use Rattle.std.proofs.Common.{sym, ap, ◌∙◌, subst, inl, inr}
 use Rattle.std.specs.FinSet as set
-use Rattle.mds_nem12.specs.Statements.{Statement}
+use Rattle.mds_records.specs.declared.file.FileKind.{FileKind}
+use Rattle.mds_statements.specs.Statements.{Statement}
 use Rattle.mds_terms.specs.Event.{EventValue}
 use Rattle.mds_world.specs.declared.facts.Detail.{Detail}
 use Rattle.mds_world.specs.Counts.{added_by, countable, known_by}
@@ -23,13 +24,14 @@ use Rattle.mds_versions.specs.declared.draft.Stop.TheVariants.{Refused}
 use Rattle.mds_versions.specs.declared.refusal.Refusal.{Refusal}
 use Rattle.mds_service.proofs.TakenIn.{IsAdded, IsOther, added_absent, added_apart, added_whole, agrees_whole, countable_whole, kind, lawful_union}
 use Rattle.mds_service.specs.DayFacts.{of_days}
-use Rattle.mds_service.specs.Imports.{IsOfDays, IsSettled, IsText, day_statement, stated_world}
+use Rattle.mds_service.specs.Imports.{IsOfDays, IsSettled, day_statement, stated_world}
+use Rattle.mds_service.specs.Machine.{ImportStep, fault_in, stated_in}
+use Rattle.mds_service.specs.declared.request.Answer.TheVariants as told
 use Rattle.mds_service.specs.declared.stated.Stated.{Stated}
 
 -- what is known before a commit
 pub record Comes (old : World) (s : Stated) (base : Additions) (known : ℕ) (details : List Detail)
     (events : List EventValue) : Type 0 where
-  pub text : IsText s.days.items
   pub settled : IsSettled old (stated (map day_statement s.days.items)) base known
   pub apart_details : Apart (map DetailIs details)
   pub just_details : (f : Fact) → Member f (map DetailIs details)
@@ -52,24 +54,20 @@ others s f h =
       | inr a ↦ inr (events_kind s.events.items f a)
     ]
 
-pub comes : (old mid late : World) (s : Stated) (base : Additions) (known : ℕ) (details : List Detail)
-    (events : List EventValue) → mid ≡ old → late ≡ mid → IsText s.days.items
+pub comes : (old : World) (s : Stated) (base : Additions) (known : ℕ) (details : List Detail) (events : List EventValue)
     → (IsOfDays (stated (map day_statement s.days.items))
     → IsSettled old (stated (map day_statement s.days.items)) base known)
     → Apart (map DetailIs details)
-    → ((f : Fact) → Member f (map DetailIs details) ↔ (Member f (map DetailIs s.details.items) × (f ∈ mid → ⊥)))
+    → ((f : Fact) → Member f (map DetailIs details) ↔ (Member f (map DetailIs s.details.items) × (f ∈ old → ⊥)))
     → Apart (map EventIs events)
-    → ((f : Fact) → Member f (map EventIs events) ↔ (Member f (map EventIs s.events.items) × (f ∈ late → ⊥)))
+    → ((f : Fact) → Member f (map EventIs events) ↔ (Member f (map EventIs s.events.items) × (f ∈ old → ⊥)))
     → Comes old s base known details events
-comes old mid late s base known details events one two text settles ad jd ae je = record {
-  text = text;
+comes old s base known details events settles ad jd ae je = record {
   settled = settles (of_days s.days.items);
   apart_details = ad;
-  just_details = subst (λ u. (f : Fact) → Member f (map DetailIs details)
-      ↔ (Member f (map DetailIs s.details.items) × (f ∈ u → ⊥))) one jd;
+  just_details = jd;
   apart_events = ae;
-  just_events = subst (λ u. (f : Fact) → Member f (map EventIs events)
-      ↔ (Member f (map EventIs s.events.items) × (f ∈ u → ⊥))) (two ∙ one) je;
+  just_events = je;
 }
 
 module _ (old : World) (s : Stated) (base : Additions) (known : ℕ) (details : List Detail) (events : List EventValue)
@@ -112,25 +110,14 @@ module _ (old : World) (s : Stated) (base : Additions) (known : ℕ) (details : 
   lawful_whole : IsLawful old → Agrees (union old (stated (map day_statement s.days.items)))
       → IsLawful (union old (stated_world s))
   lawful_whole lawful agrees =
-      lawful_union old s.days.items _ x.text (others s) (of_days s.days.items) lawful agrees
+      lawful_union old s.days.items _ (others s) (of_days s.days.items) lawful agrees
 
   pub lawful_commit : (now : World) (a : Additions) → now ≡ old → a.heads ≡ base.heads
-      → a.versions ≡ base.versions → a.details.items ≡ details → a.events.items ≡ events → IsLawful now
-      → (IsLawful old → Agrees (union old (stated (map day_statement s.days.items))))
+      → a.versions ≡ base.versions → a.details.items ≡ details → a.events.items ≡ events → IsLawful old
+      → Agrees (union old (stated (map day_statement s.days.items)))
       → IsLawful (union now (content a))
   lawful_commit now a e h v d t lawful agrees =
-      let was = subst IsLawful e lawful in
-      subst IsLawful (sym (whole now a e h v d t)) (lawful_whole was (agrees was))
-
-  -- what a commit leaves
-  pub left : (new now : World) (a : Additions) → new ≡ union now (content a) → now ≡ old → a.heads ≡ base.heads
-      → a.versions ≡ base.versions → a.details.items ≡ details → a.events.items ≡ events
-      → new ≡ union old (stated_world s)
-  left new now a is e h v d t = is ∙ whole now a e h v d t
-
-  pub lawful_left : (new : World) → new ≡ union old (stated_world s) → IsLawful old
-      → Agrees (union old (stated (map day_statement s.days.items))) → IsLawful new
-  lawful_left new is lawful agrees = subst IsLawful (sym is) (lawful_whole lawful agrees)
+      subst IsLawful (sym (whole now a e h v d t)) (lawful_whole lawful agrees)
 
   added_count : length base.versions.items ≡ added_by old (stated_world s)
   added_count =
@@ -141,30 +128,37 @@ module _ (old : World) (s : Stated) (base : Additions) (known : ℕ) (details : 
       x.settled.known_count
       ∙ ap (λ c. set.len (set.intersection c (countable old))) (sym (countable_whole _ _ (others s)))
 
-  pub step : (facts new : World) (added : ℕ) → facts ≡ stated_world s → new ≡ union old (stated_world s)
+  -- The whole union, as a commit of these additions makes it, or a crash leaves it: it is lawful, and the file is taken
+  -- in.
+  pub taken_in : (file : FileKind) (text : List ℕ) (now new : World) (a : Additions) (added : ℕ)
+      → fault_in file text ≡ None → stated (stated_in file text) ≡ stated_world s
+      → now ≡ old → new ≡ union now (content a) → a.heads ≡ base.heads → a.versions ≡ base.versions
+      → a.details.items ≡ details → a.events.items ≡ events → IsLawful old
       → Agrees (union old (stated (map day_statement s.days.items))) → added ≡ length base.versions.items
-      → Agrees (union old facts) × (new ≡ union old facts) × (added ≡ added_by old facts) × (known ≡ known_by old facts)
-  step facts new added e is agrees n = (
-    subst (λ u. Agrees (union old u)) (sym e) (agrees_whole old _ _ (others s) agrees),
-    is ∙ ap (union old) (sym e),
-    n ∙ added_count ∙ ap (added_by old) (sym e),
-    known_is ∙ ap (known_by old) (sym e),
-  )
+      → IsLawful new × ImportStep old file text (told.Imported added known) new
+  taken_in file text now new a added well same e is h v d t lawful agrees n =
+      let all : new ≡ union old (stated_world s) = is ∙ whole now a e h v d t in (
+        subst IsLawful (sym all) (lawful_whole lawful agrees),
+        (
+          well,
+          subst (λ u. Agrees (union old u)) (sym same) (agrees_whole old _ _ (others s) agrees),
+          all ∙ ap (union old) (sym same),
+          n ∙ added_count ∙ ap (added_by old) (sym same),
+          known_is ∙ ap (known_by old) (sym same),
+        ),
+      )
 
 -- the same lines refuse
 pub refusal_as : (w : World) (xs ys zs : List Statement) (stop : Stop) (refusal other : Refusal)
-    → xs ≡ ys → ((line : ℕ) → upto line xs ≡ upto line zs) → IfRefused stop (IsRefusal w zs)
-    → stop ≡ Refused refusal → other ≡ refusal → IsRefusal w ys other
+    → xs ≡ ys → ((line : ℕ) → upto line xs ≡ upto line zs) → IfRefused stop (IsRefusal w (λ line. upto line zs))
+    → stop ≡ Refused refusal → other ≡ refusal → IsRefusal w (λ line. upto line ys) other
 refusal_as w xs ys zs stop refusal other e same r is which =
-    let said : IsRefusal w zs refusal = subst (λ s. IfRefused s (IsRefusal w zs)) is r in
+    let said : IsRefusal w (λ line. upto line zs) refusal =
+    subst (λ s. IfRefused s (IsRefusal w (λ line. upto line zs))) is r in
     let each : (line : ℕ) → upto line zs ≡ upto line ys = λ line. sym (same line) ∙ ap (upto line) e in
-    let all : IsRefusal w ys refusal = record {
+    let all : IsRefusal w (λ line. upto line ys) refusal = record {
       breaks = subst (λ u. Breaks (union w u) refusal.code refusal.interval) (each refusal.line) said.breaks;
       before = λ line l. subst (λ u. Agrees (union w u)) (each line) (said.before line l);
       no_field = said.no_field;
     } in
-    subst (IsRefusal w ys) (sym which) all
-
-pub on_ok : {T E : Type 0} (r : Result T E) (P : Type 0) → OnOk r P → is_ok r ≡ true → P
-on_ok (Ok x) P h e = h
-on_ok (Err x) P h e = cc
+    subst (IsRefusal w (λ line. upto line ys)) (sym which) all

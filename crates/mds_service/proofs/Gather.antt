@@ -23,14 +23,14 @@ use Rattle.mds_versions.specs.Drafts.{DraftValue, IfRefused}
 use Rattle.mds_versions.specs.declared.draft.Stop.{Stop}
 use Rattle.mds_versions.specs.declared.draft.Stop.TheVariants.{Refused, Memory}
 use Rattle.mds_versions.specs.declared.refusal.Refusal.{Refusal}
-use Rattle.mds_versions.specs.Merge.{Breaks, HasLengths, HasReadings, HasUnits, IsRefusal, claim_statement}
+use Rattle.mds_versions.specs.Merge.{Breaks, HasTwoLengths, HasTwoReadings, HasTwoUnits, IsRefusal, claim_world, upto}
 use Rattle.mds_versions.specs.declared.refusal.RefusalCode.{RefusalCode}
 use Rattle.mds_versions.specs.declared.refusal.RefusalCode.TheVariants.{LengthConflict, UnitConflict, VersionConflict, UnknownDay}
 use Rattle.mds_service.specs.DayFacts.{draft_in, line_on, of_days, on_one_day}
 use Rattle.mds_service.specs.DayOrder.{IsExact, day_cmp, day_exact}
-use Rattle.mds_service.specs.Imports.{AreDrafts, IsDraftOf, IsOfDays, IsText, MatchDraft, day_statement}
-use Rattle.mds_service.proofs.Lines.{refusal_at, stated_more}
-use Rattle.mds_service.specs.declared.stated.StatedDay.{StatedDay}
+use Rattle.mds_service.specs.Imports.{AreDrafts, AreInOrder, IsDraftOf, IsOfDays, MatchDraft, day_statement}
+use Rattle.mds_service.proofs.Lines.{claim_of, refusal_at, stated_more}
+use Rattle.mds_service.specs.declared.stated_day.StatedDay.{StatedDay}
 
 -- what a day's draft was told before a claim: its book is the day's, and of the facts it has just those of the day
 pub record IsOpen (w facts : World) (s : Stream) (d : ℕ) (book : BookValue) (said : World) : Type 0 where
@@ -122,18 +122,18 @@ module _ (w facts one : World) (s : Stream) (d : ℕ) (on : (f : Fact) → f ∈
         | inr p ↦ let o = on (HeadIs a) p in (o, (sym e ∙ o.0, sym f ∙ o.1))
       ]
 
-      lengths_up : HasLengths small → HasLengths whole
+      lengths_up : HasTwoLengths small → HasTwoLengths whole
       lengths_up q = (q.0, q.1, sub (HeadIs q.0) q.2, sub (HeadIs q.1) q.3, q.4, q.5, q.6)
 
-      lengths_down : HasLengths whole → HasLengths small
+      lengths_down : HasTwoLengths whole → HasTwoLengths small
       lengths_down q =
           let n = heads_here q.0 q.1 q.2 q.3 q.4 q.5 (λ e. q.6 (ap (λ h. h.length) e)) in
           (q.0, q.1, here (HeadIs q.0) q.2 n.0, here (HeadIs q.1) q.3 n.1, q.4, q.5, q.6)
 
-      units_up : HasUnits small → HasUnits whole
+      units_up : HasTwoUnits small → HasTwoUnits whole
       units_up q = (q.0, q.1, sub (HeadIs q.0) q.2, sub (HeadIs q.1) q.3, q.4, q.5, q.6)
 
-      units_down : HasUnits whole → HasUnits small
+      units_down : HasTwoUnits whole → HasTwoUnits small
       units_down q =
           let n = heads_here q.0 q.1 q.2 q.3 q.4 q.5 (λ e. q.6 (ap (λ h. h.unit) e)) in
           (q.0, q.1, here (HeadIs q.0) q.2 n.0, here (HeadIs q.1) q.3 n.1, q.4, q.5, q.6)
@@ -158,11 +158,11 @@ module _ (w facts one : World) (s : Stream) (d : ℕ) (on : (f : Fact) → f ∈
         | inr p ↦ absurd (on (PeriodIs key a) p)
       ]
 
-      readings_up : (i : ℕ) → HasReadings small i → HasReadings whole i
+      readings_up : (i : ℕ) → HasTwoReadings small i → HasTwoReadings whole i
       readings_up i (inl q) = inl (q.0, q.1, q.2, sub (VersionIs q.0 q.1) q.3, sub (VersionIs q.0 q.2) q.4, q.5, q.6)
       readings_up i (inr q) = inr (q.0, q.1, q.2, sub (PeriodIs q.0 q.1) q.3, sub (PeriodIs q.0 q.2) q.4, q.5, q.6)
 
-      readings_down : (i : ℕ) → HasReadings whole i → HasReadings small i
+      readings_down : (i : ℕ) → HasTwoReadings whole i → HasTwoReadings small i
       readings_down i (inl q) =
           let n = readings_here q.0 q.1 q.2 q.3 q.4 q.6 in
           inl (q.0, q.1, q.2, here (VersionIs q.0 q.1) q.3 n, here (VersionIs q.0 q.2) q.4 n, q.5, q.6)
@@ -225,31 +225,31 @@ put cmp law w facts one key old new draft on x u is = λ stream day.
 
 -- what a claim states of its draft's day is what its line states
 same_line : (x : StatedDay) (s : Stream) (d : ℕ) → s ≡ x.stream → d ≡ x.day
-    → stated (claim_statement s d x.claim ∷ []) ≡ stated (day_statement x ∷ [])
-same_line x s d e f = λ i. stated (claim_statement (e i) (f i) x.claim ∷ [])
+    → claim_world s d x.claim ≡ claim_world x.stream x.day x.claim
+same_line x s d e f = λ i. claim_world (e i) (f i) x.claim
 
 -- A line's claim is taken into its day's draft.
 pub step_taken : (cmp : StreamDay → StreamDay → Ordering) → IsExact cmp → (w facts : World) (x : StatedDay)
     (old new : BTreeMap StreamDay DraftValue) (book : BookValue) (said : World) (draft : DraftValue)
     → AreDrafts cmp w facts old → IsOpen w facts x.stream x.day book said
-    → (draft.book ≡ book) × (draft.said ≡ union said (stated (claim_statement book.stream book.day x.claim ∷ [])))
+    → (draft.book ≡ book) × (draft.said ≡ union said (claim_world book.stream book.day x.claim))
     × Agrees (union (book_world draft.book) draft.said)
     → ((q : StreamDay) → get cmp new q
     ≡ cond (is_eq (cmp (record { stream = x.stream; day = x.day }) q)) (Some draft) (get cmp old q))
-    → AreDrafts cmp w (union facts (stated (day_statement x ∷ []))) new
+    → AreDrafts cmp w (union facts (claim_world x.stream x.day x.claim)) new
 step_taken cmp law w facts x old new book said draft drafts opened t u =
-    put cmp law w facts (stated (day_statement x ∷ [])) (record { stream = x.stream; day = x.day }) old new draft
+    put cmp law w facts (claim_world x.stream x.day x.claim) (record { stream = x.stream; day = x.day }) old new draft
     (line_on x) drafts u
-    (taken w facts (stated (day_statement x ∷ [])) x.stream x.day (line_on x) book said opened draft t.0
+    (taken w facts (claim_world x.stream x.day x.claim) x.stream x.day (line_on x) book said opened draft t.0
     (t.1 ∙ ap (union said) (same_line x book.stream book.day opened.stream opened.day)) t.2)
 
 -- A line's claim that its day's draft refuses.
 pub step_refused : (w facts : World) (x : StatedDay) (book : BookValue) (said : World)
     → IsOpen w facts x.stream x.day book said → Agrees (union w facts) → (code : RefusalCode) (i : ℕ)
-    → Breaks (union (book_world book) (union said (stated (claim_statement book.stream book.day x.claim ∷ [])))) code i
-    → Breaks (union w (union facts (stated (day_statement x ∷ [])))) code i
+    → Breaks (union (book_world book) (union said (claim_world book.stream book.day x.claim))) code i
+    → Breaks (union w (union facts (claim_world x.stream x.day x.claim))) code i
 step_refused w facts x book said opened agrees code i b =
-    breaks_up w facts (stated (day_statement x ∷ [])) x.stream x.day (line_on x) book said opened agrees code i
+    breaks_up w facts (claim_world x.stream x.day x.claim) x.stream x.day (line_on x) book said opened agrees code i
     (subst (λ u. Breaks (union (book_world book) (union said u)) code i)
     (same_line x book.stream book.day opened.stream opened.day) b)
 
@@ -319,10 +319,10 @@ pub found_taken : (w : World) (x : StatedDay) (old new : BTreeMap StreamDay Draf
     (result : Result (Unit {0}) Stop) → Some found ≡ get day_cmp old (record { stream = x.stream; day = x.day })
     → WritesThrough day_cmp (day_cmp (record { stream = x.stream; day = x.day })) old draft new
     → OnOk result ((draft.book ≡ found.book)
-    × (draft.said ≡ union found.said (stated (claim_statement found.book.stream found.book.day x.claim ∷ [])))
+    × (draft.said ≡ union found.said (claim_world found.book.stream found.book.day x.claim))
     × Agrees (union (book_world draft.book) draft.said))
     → OnOk result ((facts : World) → AreDrafts day_cmp w facts old
-    → AreDrafts day_cmp w (union facts (stated (day_statement x ∷ []))) new)
+    → AreDrafts day_cmp w (union facts (claim_world x.stream x.day x.claim)) new)
 found_taken w x old new found draft (Ok u) e h t = λ facts drafts.
     step_taken day_cmp day_exact w facts x old new found.book found.said draft drafts
     (open_draft w facts x.stream x.day found (subst (MatchDraft w facts x.stream x.day) (sym e) (drafts x.stream x.day)))
@@ -334,10 +334,10 @@ pub found_refused : (w : World) (x : StatedDay) (old : BTreeMap StreamDay DraftV
     (result : Result (Unit {0}) Stop) → Some found ≡ get day_cmp old (record { stream = x.stream; day = x.day })
     → IfErr result (λ stop. IfRefused stop (λ refusal. (refusal.line ≡ x.claim.line) × (refusal.field ≡ 0)
     × Breaks (union (book_world found.book) (union found.said
-    (stated (claim_statement found.book.stream found.book.day x.claim ∷ [])))) refusal.code refusal.interval))
+    (claim_world found.book.stream found.book.day x.claim))) refusal.code refusal.interval))
     → IfErr result (λ stop. IfRefused stop (λ refusal. (refusal.line ≡ x.claim.line) × (refusal.field ≡ 0)
     × ((facts : World) → AreDrafts day_cmp w facts old → Agrees (union w facts)
-    → Breaks (union w (union facts (stated (day_statement x ∷ [])))) refusal.code refusal.interval)))
+    → Breaks (union w (union facts (claim_world x.stream x.day x.claim))) refusal.code refusal.interval)))
 found_refused w x old found (Ok u) e h = tt
 found_refused w x old found (Err Memory) e h = tt
 found_refused w x old found (Err (Refused refusal)) e h = (
@@ -350,16 +350,13 @@ found_refused w x old found (Err (Refused refusal)) e h = (
 )
 
 -- One more line is in the drafts.
-pub drafts_more : (w v : World) (days : List StatedDay) (x : StatedDay) (old new : BTreeMap StreamDay DraftValue)
-    → v ≡ w → AreDrafts day_cmp w (stated (map day_statement days)) old
-    → ((facts : World) → AreDrafts day_cmp v facts old
-    → AreDrafts day_cmp v (union facts (stated (day_statement x ∷ []))) new)
+pub drafts_more : (w : World) (days : List StatedDay) (x : StatedDay) (old new : BTreeMap StreamDay DraftValue)
+    → AreDrafts day_cmp w (stated (map day_statement days)) old
+    → ((facts : World) → AreDrafts day_cmp w facts old
+    → AreDrafts day_cmp w (union facts (claim_world x.stream x.day x.claim)) new)
     → AreDrafts day_cmp w (stated (map day_statement (days ++ x ∷ []))) new
-drafts_more w v days x old new e h f =
-    subst (λ u. AreDrafts day_cmp w u new) (sym (stated_more days x))
-    (subst (λ u. AreDrafts day_cmp u (union (stated (map day_statement days)) (stated (day_statement x ∷ []))) new) e
-    (f (stated (map day_statement days))
-    (subst (λ u. AreDrafts day_cmp u (stated (map day_statement days)) old) (sym e) h)))
+drafts_more w days x old new h f =
+    subst (λ u. AreDrafts day_cmp w u new) (sym (stated_more days x)) (f (stated (map day_statement days)) h)
 
 pub days_agree : (w : World) (days : List StatedDay) (drafts : BTreeMap StreamDay DraftValue)
     → AreDrafts day_cmp w (stated (map day_statement days)) drafts → IsLawful w
@@ -374,25 +371,22 @@ no_drafts w drafts e = λ stream day.
     subst (λ es. MatchDraft w (stated []) stream day (lookup (is_at (day_cmp (record { stream = stream; day = day }))) es))
     (sym e) (λ f h on. absurd (not_in_empty total exact f h))
 
--- A text's first line whose draft refuses it.
-pub refused_here : (w v : World) (days before : List StatedDay) (x : StatedDay) (drafts : BTreeMap StreamDay DraftValue)
-    (refusal : Refusal) → v ≡ w → IsText days → before ≡ take (length before) days
+-- A file's first line whose draft refuses it.
+pub refused_here : (w : World) (days before : List StatedDay) (x : StatedDay) (drafts : BTreeMap StreamDay DraftValue)
+    (refusal : Refusal) → AreInOrder days → before ≡ take (length before) days
     → (length before < length days) × (x ≡ get_or days (length before) x)
     → AreDrafts day_cmp w (stated (map day_statement before)) drafts → IsLawful w
     → (refusal.line ≡ x.claim.line) × (refusal.field ≡ 0)
-    × ((facts : World) → AreDrafts day_cmp v facts drafts → Agrees (union v facts)
-    → Breaks (union v (union facts (stated (day_statement x ∷ [])))) refusal.code refusal.interval)
-    → IsRefusal w (map day_statement days) refusal
-refused_here w v days before x drafts refusal e text front here h lawful t =
+    × ((facts : World) → AreDrafts day_cmp w facts drafts → Agrees (union w facts)
+    → Breaks (union w (union facts (claim_world x.stream x.day x.claim))) refusal.code refusal.interval)
+    → IsRefusal w (λ line. upto line (map day_statement days)) refusal
+refused_here w days before x drafts refusal lines front here h lawful t =
     let agrees = days_agree w before drafts h lawful in
-    let breaks = subst (λ u. Breaks (union u (union (stated (map day_statement before)) (stated (day_statement x ∷ []))))
-    refusal.code refusal.interval) e (t.2 (stated (map day_statement before))
-    (subst (λ u. AreDrafts day_cmp u (stated (map day_statement before)) drafts) (sym e) h)
-    (subst (λ u. Agrees (union u (stated (map day_statement before)))) (sym e) agrees)) in
-    refusal_at w days (length before) x refusal text.lines here.0
+    let breaks = t.2 (stated (map day_statement before)) h agrees in
+    refusal_at w days (length before) x refusal lines here.0
     (subst (λ ds. Agrees (union w (stated (map day_statement ds)))) front agrees)
     (t.0 ∙ ap (λ d. d.claim.line) here.1) t.1
     (subst (λ ds. Breaks (union w (union (stated (map day_statement ds))
-    (stated (day_statement (get_or days (length before) x) ∷ [])))) refusal.code refusal.interval) front
-    (subst (λ d. Breaks (union w (union (stated (map day_statement before)) (stated (day_statement d ∷ []))))
-    refusal.code refusal.interval) here.1 breaks))
+    (claim_of (get_or days (length before) x)))) refusal.code refusal.interval) front
+    (subst (λ d. Breaks (union w (union (stated (map day_statement before)) (claim_of d))) refusal.code refusal.interval)
+    here.1 breaks))

@@ -3,19 +3,20 @@ use Rattle.std.specs.Prelude.{◌≡◌, ◌⊎◌, ℕ, ◌+◌, ◌<◌, ◌�
 use Rattle.std.proofs.Common.{sym, ap, ◌∙◌, subst, inl, inr, suc, zero, arith}
 use Rattle.std.proofs.lemmas.Bool.Decides.{nat_tests}
 use Rattle.std.proofs.lemmas.List.{take_more}
-use Rattle.std.specs.List.{AllPairs, flat_map}
-use Rattle.mds_nem12.specs.Statements.{Statement}
+use Rattle.std.specs.List.{flat_map}
+use Rattle.std.specs.FinSet as set
+use Rattle.mds_statements.specs.Statements.{Statement}
 use Rattle.mds_world.specs.Facts.{Fact}
 use Rattle.mds_world.specs.Lists.{Member, flat_in, in_flat}
 use Rattle.mds_world.specs.Members.{in_list, in_union, list_in, union_left, union_right}
 use Rattle.mds_world.specs.Sets.{◌∈◌}
 use Rattle.mds_world.specs.Stated.{facts_of, stated}
 use Rattle.mds_world.specs.World.{Agrees, World, union}
-use Rattle.mds_versions.specs.Merge.{Breaks, IsRefusal, is_upto, upto}
+use Rattle.mds_versions.specs.Merge.{Breaks, IsRefusal, claim_facts, claim_world, is_upto, upto}
 use Rattle.mds_versions.specs.declared.refusal.Refusal.{Refusal}
 use Rattle.mds_service.specs.DayFacts.{stated_append}
-use Rattle.mds_service.specs.Imports.{day_statement}
-use Rattle.mds_service.specs.declared.stated.StatedDay.{StatedDay}
+use Rattle.mds_service.specs.Imports.{AreInOrder, day_statement}
+use Rattle.mds_service.specs.declared.stated_day.StatedDay.{StatedDay}
 
 -- a World within one that agrees agrees
 agrees_sub : (a b : World) → ((f : Fact) → f ∈ a → f ∈ b) → Agrees b → Agrees a
@@ -48,7 +49,7 @@ after : (line : ℕ) (days : List StatedDay)
 after line [] h = tt
 after line (day ∷ days) h = (h 0 day (omega arith), after line days (λ k d l. h (suc k) d (omega arith)))
 
-ascending : (days : List StatedDay) → AllPairs (λ a b. a.claim.line < b.claim.line) days → IsAscending days
+ascending : (days : List StatedDay) → AreInOrder days → IsAscending days
 ascending [] p = tt
 ascending (day ∷ days) p = (
   after day.claim.line days (λ k d h. p 0 (suc k) d (omega arith) (omega arith)),
@@ -113,25 +114,35 @@ map_append : (xs ys : List StatedDay) → map day_statement (xs ++ ys) ≡ map d
 map_append [] ys = refl
 map_append (x ∷ xs) ys = ap (λ l. day_statement x ∷ l) (map_append xs ys)
 
+-- what a line claims
+abbrev pub claim_of : StatedDay → World
+claim_of day = claim_world day.stream day.day day.claim
+
+append_nil : (xs : List Fact) → xs ++ [] ≡ xs
+append_nil [] = refl
+append_nil (x ∷ xs) = ap (λ l. x ∷ l) (append_nil xs)
+
 -- what one more line states
 pub stated_more : (days : List StatedDay) (x : StatedDay) → stated (map day_statement (days ++ x ∷ []))
-    ≡ union (stated (map day_statement days)) (stated (day_statement x ∷ []))
+    ≡ union (stated (map day_statement days)) (claim_of x)
 stated_more days x =
     ap stated (map_append days (x ∷ [])) ∙ stated_append (map day_statement days) (day_statement x ∷ [])
+    ∙ ap (λ (fs : List Fact). union (stated (map day_statement days)) (set.from_list fs))
+    (append_nil (claim_facts x.stream x.day x.claim))
 
 -- The first line whose claim breaks a rule beside those before it, which agree.
 pub refusal_at : (w : World) (days : List StatedDay) (k : ℕ) (d : StatedDay) (refusal : Refusal)
-    → AllPairs (λ a b. a.claim.line < b.claim.line) days → k < length days
+    → AreInOrder days → k < length days
     → Agrees (union w (stated (map day_statement (take k days)))) → refusal.line ≡ (get_or days k d).claim.line
     → refusal.field ≡ 0
-    → Breaks (union w (union (stated (map day_statement (take k days))) (stated (day_statement (get_or days k d) ∷ []))))
+    → Breaks (union w (union (stated (map day_statement (take k days))) (claim_of (get_or days k d))))
     refusal.code refusal.interval
-    → IsRefusal w (map day_statement days) refusal
+    → IsRefusal w (λ line. upto line (map day_statement days)) refusal
 refusal_at w days k d refusal p h agrees at field breaks =
     let a = ascending days p in
     let next : suc k ≡ k + 1 = omega arith in
     let same : upto refusal.line (map day_statement days)
-    ≡ union (stated (map day_statement (take k days))) (stated (day_statement (get_or days k d) ∷ [])) =
+    ≡ union (stated (map day_statement (take k days))) (claim_of (get_or days k d)) =
     ap (λ n. upto n (map day_statement days)) at ∙ ap stated (upto_at days k d a h)
     ∙ ap (λ n. stated (map day_statement (take n days))) next ∙ ap (λ xs. stated (map day_statement xs)) (take_more days k d h)
     ∙ stated_more (take k days) (get_or days k d) in

@@ -1,13 +1,11 @@
 -- What a text adds to a World that is lawful.
 use Rattle.std.specs.Prelude.{◌≡◌, ◌↔◌, ◌⊎◌, ℕ, ◌+◌, ◌<◌, ◌≤◌, List, [], ◌∷◌, ◌++◌, map, length, IsTrue, true, refl}
-use Rattle.std.proofs.Common.{sym, ap, ◌∙◌, subst, inl, inr, arith, suc, append_assoc}
+use Rattle.std.proofs.Common.{sym, ap, ◌∙◌, subst, inl, inr, arith, append_assoc}
 use Rattle.std.proofs.lemmas.Bool.Decides.{nat_tests}
 use Rattle.std.specs.FinSet as set
-use Rattle.std.specs.List.{All}
 use Rattle.mds_calendar.specs.Length.{count_of, is_length}
 use Rattle.mds_names.specs.declared.stream.Stream.{Stream}
 use Rattle.mds_marks.specs.Reading.{ReadingValue}
-use Rattle.mds_nem12.specs.Statements.{DayStatement}
 use Rattle.mds_world.specs.declared.facts.Head.{Head}
 use Rattle.mds_world.specs.declared.facts.Key.{Key}
 use Rattle.mds_world.specs.Counts.{countable, is_counted}
@@ -20,8 +18,8 @@ use Rattle.mds_world.specs.Sets.{◌∈◌, decided, difference_in, in_differenc
 use Rattle.mds_world.specs.Stated.{stated, versions_from}
 use Rattle.mds_world.specs.World.{Agrees, HasHead, HasVersion, IsLawful, IsOn, World, union}
 use Rattle.mds_service.specs.DayFacts.{days_in, in_days}
-use Rattle.mds_service.specs.Imports.{IsOfDays, IsText, day_statement}
-use Rattle.mds_service.specs.declared.stated.StatedDay.{StatedDay}
+use Rattle.mds_service.specs.Imports.{IsOfDays, day_statement}
+use Rattle.mds_service.specs.declared.stated_day.StatedDay.{StatedDay}
 
 -- heads and versions, details, events, and all others
 abbrev pub kind : Fact → ℕ
@@ -101,65 +99,44 @@ countable_whole facts rest other = same_by _ _
     retain_in total exact (union facts rest) is_counted f (union_left facts rest f r.0) r.1)
 
 -- the versions of a line, by their numbers
-numbered : (day : DayStatement) (first : ℕ) (readings : List ReadingValue) (f : Fact)
-    → Member f (versions_from day first readings)
+numbered : (stream : Stream) (day update first : ℕ) (readings : List ReadingValue) (f : Fact)
+    → Member f (versions_from stream day update first readings)
     → (n : ℕ) × (reading : ReadingValue) × (first ≤ n) × (n < first + length readings)
-    × (f ≡ VersionIs (record { stream = day.stream; day = day.date; interval = n; update = day.update }) reading)
-numbered day first [] f m = absurd m
-numbered day first (reading ∷ rest) f (inl e) = (first, reading, omega arith, omega arith, e)
-numbered day first (reading ∷ rest) f (inr m) =
-    let r = numbered day (first + 1) rest f m in
+    × (f ≡ VersionIs (record { stream = stream; day = day; interval = n; update = update }) reading)
+numbered stream day update first [] f m = absurd m
+numbered stream day update first (reading ∷ rest) f (inl e) = (first, reading, omega arith, omega arith, e)
+numbered stream day update first (reading ∷ rest) f (inr m) =
+    let r = numbered stream day update (first + 1) rest f m in
     (r.0, r.1, omega (arith, r.2), omega (arith, r.3), r.4)
 
-first_version : (day : DayStatement) (readings : List ReadingValue) → 0 < length readings
-    → (key : Key) × (reading : ReadingValue) × Member (VersionIs key reading) (versions_from day 1 readings)
-    × (key.stream ≡ day.stream) × (key.day ≡ day.date)
-first_version day [] l = absurd (omega arith)
-first_version day (reading ∷ rest) l = (_, reading, inl refl, refl, refl)
+first_version : (stream : Stream) (day update : ℕ) (readings : List ReadingValue) → 0 < length readings
+    → (key : Key) × (reading : ReadingValue) × Member (VersionIs key reading) (versions_from stream day update 1 readings)
+    × (key.stream ≡ stream) × (key.day ≡ day)
+first_version stream day update [] l = absurd (omega arith)
+first_version stream day update (reading ∷ rest) l = (_, reading, inl refl, refl, refl)
 
 has_intervals : (minutes : ℕ) → IsTrue (is_length minutes) → 0 < count_of minutes
 has_intervals minutes h = grind (arith, nat_tests)
-
-member_all : (P : StatedDay → Type 0) (days : List StatedDay) → All P days → (day : StatedDay) → Member day days → P day
-member_all P [] a day m = absurd m
-member_all P (x ∷ xs) a day (inl e) = subst P (sym e) (a 0 day (omega arith))
-member_all P (x ∷ xs) a day (inr m) = member_all P xs (λ k d h. a (suc k) d (omega arith)) day m
-
--- it has a reading for each interval
-abbrev IsWhole : StatedDay → Type 0
-IsWhole day = IsTrue (is_length day.claim.length) × (length day.claim.readings.items ≡ count_of day.claim.length)
-
-statement_of : StatedDay → DayStatement
-statement_of day = record {
-  line = day.claim.line;
-  stream = day.stream;
-  date = day.day;
-  length = day.claim.length;
-  unit = day.claim.unit;
-  update = day.claim.update;
-  readings = day.claim.readings.items;
-}
 
 head_of : StatedDay → Head
 head_of day = record { stream = day.stream; day = day.day; length = day.claim.length; unit = day.claim.unit }
 
 -- a version of the days has its head among them
-headed : (days : List StatedDay) → IsText days → (key : Key) (reading : ReadingValue)
+headed : (days : List StatedDay) (key : Key) (reading : ReadingValue)
     → VersionIs key reading ∈ stated (map day_statement days) → HasHead (stated (map day_statement days)) key
-unfolding statement_of head_of
-headed days text key reading h =
+unfolding head_of
+headed days key reading h =
     let a = in_days days (VersionIs key reading) h in
     let day = a.0 in
-    let whole = member_all IsWhole days text.whole day a.1 in
     elim a.2 [
       | inl e ↦ cc
       | inr m ↦
-          let r = numbered (statement_of day) 1 day.claim.readings.items (VersionIs key reading) m in
+          let r = numbered day.stream day.day day.claim.update 1 day.claim.readings.items (VersionIs key reading) m in
           let same : key ≡ record { stream = day.stream; day = day.day; interval = r.0; update = day.claim.update } = cc in
           let at : key.interval ≡ r.0 = ap (λ k. k.interval) same in
           let last : r.0 < 1 + length day.claim.readings.items = r.3 in
           let first : 1 ≤ r.0 = r.2 in
-          let count : length day.claim.readings.items ≡ count_of day.claim.length = whole.1 in
+          let count : length day.claim.readings.items ≡ count_of day.claim.length = day.claim.whole in
           let below : key.interval ≤ length day.claim.readings.items = omega arith in (
             head_of day,
             days_in days (HeadIs (head_of day)) day a.1 (inl refl),
@@ -171,26 +148,25 @@ headed days text key reading h =
     ]
 
 -- a head of the days has a version among them
-versioned : (days : List StatedDay) → IsText days → (head : Head)
+versioned : (days : List StatedDay) (head : Head)
     → HeadIs head ∈ stated (map day_statement days) → HasVersion (stated (map day_statement days)) head
-unfolding statement_of head_of
-versioned days text head h =
+unfolding head_of
+versioned days head h =
     let a = in_days days (HeadIs head) h in
     let day = a.0 in
-    let whole = member_all IsWhole days text.whole day a.1 in
     elim a.2 [
       | inl e ↦
           let same : head ≡ head_of day = cc in
           let some : 0 < length day.claim.readings.items =
-          subst (λ n. 0 < n) (sym whole.1) (has_intervals day.claim.length whole.0) in
-          let v = first_version (statement_of day) day.claim.readings.items some in (
+          subst (λ n. 0 < n) (sym day.claim.whole) (has_intervals day.claim.length day.sized) in
+          let v = first_version day.stream day.day day.claim.update day.claim.readings.items some in (
             v.0,
             v.1,
             days_in days (VersionIs v.0 v.1) day a.1 (inr v.2),
             v.3 ∙ sym (ap (λ k. k.stream) same),
             v.4 ∙ sym (ap (λ k. k.day) same),
           )
-      | inr m ↦ let r = numbered (statement_of day) 1 day.claim.readings.items (HeadIs head) m in let e = r.4 in cc
+      | inr m ↦ let r = numbered day.stream day.day day.claim.update 1 day.claim.readings.items (HeadIs head) m in let e = r.4 in cc
     ]
 
 wider_head : (w v : World) → ((f : Fact) → f ∈ w → f ∈ v) → (key : Key) → HasHead w key → HasHead v key
@@ -207,11 +183,11 @@ job_kind w facts rest days other f k h = elim (in_union w facts f (of_rules w fa
 ]
 
 -- A lawful World with what a text states is lawful where all agrees.
-pub lawful_union : (w : World) (days : List StatedDay) (rest : World) → IsText days
+pub lawful_union : (w : World) (days : List StatedDay) (rest : World)
     → ((f : Fact) → f ∈ rest → IsOther f) → IsOfDays (stated (map day_statement days)) → IsLawful w
     → Agrees (union w (stated (map day_statement days)))
     → IsLawful (union w (union (stated (map day_statement days)) rest))
-lawful_union w days rest text other of lawful agrees =
+lawful_union w days rest other of lawful agrees =
     let facts = stated (map day_statement days) in
     let whole = union w (union facts rest) in
     let old : (f : Fact) → f ∈ w → f ∈ whole = union_left w (union facts rest) in
@@ -223,11 +199,11 @@ lawful_union w days rest text other of lawful agrees =
       one_job = λ id a b m n h k. lawful.one_job id a b m n (jobs (JobIs id a m) refl h) (jobs (JobIs id b n) refl k);
       headed = λ key reading h. elim (in_union w facts _ (rules (VersionIs key reading) (inl refl) h)) [
         | inl a ↦ wider_head w whole old key (lawful.headed key reading a)
-        | inr a ↦ wider_head facts whole more key (headed days text key reading a)
+        | inr a ↦ wider_head facts whole more key (headed days key reading a)
       ];
       versioned = λ head h. elim (in_union w facts _ (rules (HeadIs head) (inl refl) h)) [
         | inl a ↦ wider_version w whole old head (lawful.versioned head a)
-        | inr a ↦ wider_version facts whole more head (versioned days text head a)
+        | inr a ↦ wider_version facts whole more head (versioned days head a)
       ];
     }
 

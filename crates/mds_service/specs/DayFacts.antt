@@ -7,7 +7,7 @@ use Rattle.std.specs.FinSet as set
 use Rattle.mds_quantity.specs.declared.unit.Unit.{Unit as MeasureUnit}
 use Rattle.mds_names.specs.declared.stream.Stream.{Stream}
 use Rattle.mds_marks.specs.Reading.{ReadingValue}
-use Rattle.mds_nem12.specs.Statements.{DayStatement, Statement}
+use Rattle.mds_statements.specs.Statements.{Statement}
 use Rattle.mds_world.specs.FactOrder.{exact, total}
 use Rattle.mds_world.specs.Facts.{Fact}
 use Rattle.mds_world.specs.Facts.Fact.{HeadIs, VersionIs, DetailIs, EventIs, PeriodIs, HolidayIs, JobIs}
@@ -18,9 +18,10 @@ use Rattle.mds_world.specs.Stated.{facts_of, stated, versions_from}
 use Rattle.mds_world.specs.World.{IsOn, World, union}
 use Rattle.mds_versions.specs.Books.{BookValue, book_facts, book_world, head_facts, row_fact}
 use Rattle.mds_versions.specs.Drafts.{DraftValue}
+use Rattle.mds_versions.specs.Merge.{claim_facts, claim_world}
 use Rattle.mds_versions.specs.declared.day_book.Version.{Version}
 use Rattle.mds_service.specs.Imports.{IsDraftOf, IsOfDays, day_statement}
-use Rattle.mds_service.specs.declared.stated.StatedDay.{StatedDay}
+use Rattle.mds_service.specs.declared.stated_day.StatedDay.{StatedDay}
 
 -- a fact is of one day at most
 pub on_one_day : (s t : Stream) (d e : ℕ) (f : Fact) → IsOn s d f → IsOn t e f → (s ≡ t) × (d ≡ e)
@@ -32,24 +33,18 @@ on_one_day s t d e (PeriodIs key content) a b = absurd a
 on_one_day s t d e (HolidayIs day) a b = absurd a
 on_one_day s t d e (JobIs id content count) a b = absurd a
 
-versions_on : (day : DayStatement) (interval : ℕ) (readings : List ReadingValue) (f : Fact)
-    → Member f (versions_from day interval readings) → IsOn day.stream day.date f
-versions_on day interval [] f m = absurd m
-versions_on day interval (reading ∷ rest) f (inl e) = subst (IsOn day.stream day.date) (sym e) (refl, refl)
-versions_on day interval (reading ∷ rest) f (inr m) = versions_on day (interval + 1) rest f m
+versions_on : (stream : Stream) (day update interval : ℕ) (readings : List ReadingValue) (f : Fact)
+    → Member f (versions_from stream day update interval readings) → IsOn stream day f
+versions_on stream day update interval [] f m = absurd m
+versions_on stream day update interval (reading ∷ rest) f (inl e) = subst (IsOn stream day) (sym e) (refl, refl)
+versions_on stream day update interval (reading ∷ rest) f (inr m) =
+    versions_on stream day update (interval + 1) rest f m
 
 -- what a line claims is of its day
-pub claimed_on : (day : StatedDay) (f : Fact) → Member f (facts_of (day_statement day)) → IsOn day.stream day.day f
+pub claimed_on : (day : StatedDay) (f : Fact) → Member f (claim_facts day.stream day.day day.claim)
+    → IsOn day.stream day.day f
 claimed_on day f (inl e) = subst (IsOn day.stream day.day) (sym e) (refl, refl)
-claimed_on day f (inr m) = versions_on (record {
-  line = day.claim.line;
-  stream = day.stream;
-  date = day.day;
-  length = day.claim.length;
-  unit = day.claim.unit;
-  update = day.claim.update;
-  readings = day.claim.readings.items;
-}) 1 day.claim.readings.items f m
+claimed_on day f (inr m) = versions_on day.stream day.day day.claim.update 1 day.claim.readings.items f m
 
 -- each fact of a file's days is of one of them
 pub in_days : (days : List StatedDay) (f : Fact) → f ∈ stated (map day_statement days)
@@ -70,12 +65,8 @@ pub of_days : (days : List StatedDay) → IsOfDays (stated (map day_statement da
 of_days days f h = let a = in_days days f h in (a.0.stream, a.0.day, claimed_on a.0 f a.2)
 
 -- the facts of one line are of its day
-pub line_on : (day : StatedDay) (f : Fact) → f ∈ stated (day_statement day ∷ []) → IsOn day.stream day.day f
-line_on day f h =
-    elim (member_append f (facts_of (day_statement day)) [] (in_list (flat_map facts_of (day_statement day ∷ [])) f h)) [
-      | inl a ↦ claimed_on day f a
-      | inr a ↦ absurd a
-    ]
+pub line_on : (day : StatedDay) (f : Fact) → f ∈ claim_world day.stream day.day day.claim → IsOn day.stream day.day f
+line_on day f h = claimed_on day f (in_list (claim_facts day.stream day.day day.claim) f h)
 
 -- what longer lists state
 pub stated_append : (xs ys : List Statement) → stated (xs ++ ys) ≡ union (stated xs) (stated ys)

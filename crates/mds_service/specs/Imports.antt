@@ -1,13 +1,12 @@
 -- What a file states, laid out flat, and the drafts of its days.
-use Rattle.std.specs.Prelude.{◌≡◌, ◌↔◌, ℕ, ◌<◌, ◌≤◌, List, [], ◌++◌, map, length, IsTrue, Option, Some, None}
+use Rattle.std.specs.Prelude.{◌≡◌, ◌↔◌, ℕ, ◌<◌, List, [], ◌++◌, map, length, Option, Some, None}
 use Rattle.std.specs.BTreeMap.{BTreeMap, get}
-use Rattle.std.specs.List.{All, AllPairs}
+use Rattle.std.specs.List.{AllPairs}
 use Rattle.std.specs.FinSet as set
 use Rattle.std.specs.declared.cmp.Ordering.{Ordering}
-use Rattle.mds_calendar.specs.Length.{count_of, is_length}
-use Rattle.mds_lines.specs.Lines.{most_lines}
 use Rattle.mds_names.specs.declared.stream.Stream.{Stream}
-use Rattle.mds_nem12.specs.Statements.{Statement}
+use Rattle.mds_statements.specs.Statements.{Statement}
+use Rattle.mds_statements.specs.Statements.Statement.{DayOf}
 use Rattle.mds_world.specs.declared.facts.StreamDay.{StreamDay}
 use Rattle.mds_world.specs.Counts.{added_by, known_by}
 use Rattle.mds_world.specs.Facts.{Fact}
@@ -19,13 +18,21 @@ use Rattle.mds_world.specs.World.{Agrees, IsOn, World, union}
 use Rattle.mds_versions.specs.Books.{IsDay, book_world}
 use Rattle.mds_versions.specs.Content.{version_fact}
 use Rattle.mds_versions.specs.Drafts.{DraftValue}
-use Rattle.mds_versions.specs.Merge.{claim_statement}
 use Rattle.mds_versions.specs.declared.additions.Additions.{Additions}
 use Rattle.mds_service.specs.declared.stated.Stated.{Stated}
-use Rattle.mds_service.specs.declared.stated.StatedDay.{StatedDay}
+use Rattle.mds_service.specs.declared.stated_day.StatedDay.{StatedDay}
 
+-- what a day laid out states
 abbrev pub day_statement : StatedDay → Statement
-day_statement day = claim_statement day.stream day.day day.claim
+day_statement day = DayOf (record {
+  line = day.claim.line;
+  stream = day.stream;
+  date = day.day;
+  length = day.claim.length;
+  unit = day.claim.unit;
+  update = day.claim.update;
+  readings = day.claim.readings.items;
+})
 
 -- all that is stated
 abbrev pub stated_world : Stated → World
@@ -33,13 +40,9 @@ stated_world s =
     union (stated (map day_statement s.days.items))
     (set.from_list (map DetailIs s.details.items ++ map EventIs s.events.items))
 
--- The days of a text: each with a reading for each interval, in the order of their lines, and no more than a file has
--- lines.
-pub record IsText (days : List StatedDay) : Type 0 where
-  pub whole : All (λ day. IsTrue (is_length day.claim.length)
-      × (length day.claim.readings.items ≡ count_of day.claim.length)) days
-  pub lines : AllPairs (λ a b. a.claim.line < b.claim.line) days
-  pub few : length days ≤ most_lines
+-- each of the days stands on a line after those before it
+abbrev pub AreInOrder : List StatedDay → Type 0
+AreInOrder days = AllPairs (λ a b. a.claim.line < b.claim.line) days
 
 -- the draft has the day's book, and of the facts just those of its day
 pub record IsDraftOf (w facts : World) (s : Stream) (d : ℕ) (draft : DraftValue) : Type 0 where

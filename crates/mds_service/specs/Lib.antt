@@ -1,3 +1,4 @@
+pub mod Crashes
 pub mod DayFacts
 pub mod DayOrder
 pub mod Imports

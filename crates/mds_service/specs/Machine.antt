@@ -1,11 +1,15 @@
 -- The machine: what each request does to the World, and which answer it has (profile).
-use Rattle.std.specs.Prelude.{◌≡◌, ◌↔◌, ℕ, ◌+◌, ◌<◌, ◌≤◌, List, [], ◌∷◌, length, map, slice_get, Some, None}
+use Rattle.std.specs.Prelude.{◌≡◌, ◌↔◌, ℕ, ◌+◌, ◌<◌, ◌≤◌, List, [], ◌∷◌, length, map, slice_get, Option, Some, None}
 use Rattle.std.specs.List.{All, AllPairs}
 use Rattle.mds_calendar.specs.Length.{count_of}
 use Rattle.mds_names.specs.declared.stream.Stream.{Stream}
 use Rattle.mds_marks.specs.Reading.{ReadingValue}
+use Rattle.mds_records.specs.declared.file.FileFault.{FileFault}
+use Rattle.mds_records.specs.declared.file.FileKind.{FileKind}
+use Rattle.mds_records.specs.declared.file.FileKind.TheVariants.{Nem12}
 use Rattle.mds_nem12.specs.Faults.{fault_of}
 use Rattle.mds_nem12.specs.Statements.{statements_of}
+use Rattle.mds_statements.specs.Statements.{Statement}
 use Rattle.mds_world.specs.declared.facts.Head.{Head}
 use Rattle.mds_world.specs.Counts.{added_by, known_by}
 use Rattle.mds_world.specs.Current.{IsCurrentDetails, IsLatest, IsReading}
@@ -14,7 +18,7 @@ use Rattle.mds_world.specs.Lists.{Member}
 use Rattle.mds_world.specs.Sets.{◌∈◌}
 use Rattle.mds_world.specs.Stated.{stated}
 use Rattle.mds_world.specs.World.{Agrees, IsKnownDay, World, union}
-use Rattle.mds_versions.specs.Merge.{IsRefusal}
+use Rattle.mds_versions.specs.Merge.{IsRefusal, upto}
 use Rattle.mds_versions.specs.Queries.{AreEventsOf, AreKnownStreams}
 use Rattle.mds_versions.specs.declared.day_book.Version.{Version}
 use Rattle.mds_versions.specs.declared.refusal.Refusal.{Refusal}
@@ -27,22 +31,28 @@ use Rattle.mds_service.specs.declared.request.DayAnswer.{DayAnswer}
 use Rattle.mds_service.specs.declared.request.StreamAnswer.{StreamAnswer}
 use Rattle.mds_service.specs.declared.request.VersionsAnswer.{VersionsAnswer}
 
--- A text that isn't well formed has its first fault. Another is taken in where all that it states agrees with the World
+-- the fault of a file of a kind, if it isn't well formed
+abbrev pub fault_in : FileKind → List ℕ → Option FileFault
+fault_in Nem12 text = fault_of text
+
+-- what a well formed file of a kind states
+abbrev pub stated_in : FileKind → List ℕ → List Statement
+stated_in Nem12 text = statements_of text
+
+-- A file that isn't well formed has its first fault. Another is taken in where all that it states agrees with the World
 -- and among itself, and then the World is the union; else it is refused by its first line that breaks a rule.
-abbrev pub ImportStep : World → List ℕ → Answer → World → Type 0
-ImportStep old text (told.File fault) new = (fault_of text ≡ Some fault) × (new ≡ old)
-ImportStep old text (told.Imported added known) new =
-    (fault_of text ≡ None)
-    × Agrees (union old (stated (statements_of text)))
-    × (new ≡ union old (stated (statements_of text)))
-    × (added ≡ added_by old (stated (statements_of text)))
-    × (known ≡ known_by old (stated (statements_of text)))
-ImportStep old text (told.Refused refusal) new =
-    (fault_of text ≡ None) × IsRefusal old (statements_of text) refusal × (new ≡ old)
-ImportStep old text told.Unavailable new = new ≡ old
-ImportStep old text (told.Day answer) new = ⊥
-ImportStep old text (told.Versions answer) new = ⊥
-ImportStep old text (told.Streams answer) new = ⊥
+abbrev pub ImportStep : World → FileKind → List ℕ → Answer → World → Type 0
+ImportStep old kind text (told.File fault) new = (fault_in kind text ≡ Some fault) × (new ≡ old)
+ImportStep old kind text (told.Imported added known) new =
+    (fault_in kind text ≡ None)
+    × Agrees (union old (stated (stated_in kind text)))
+    × (new ≡ union old (stated (stated_in kind text)))
+    × (added ≡ added_by old (stated (stated_in kind text)))
+    × (known ≡ known_by old (stated (stated_in kind text)))
+ImportStep old kind text (told.Refused refusal) new =
+    (fault_in kind text ≡ None) × IsRefusal old (λ line. upto line (stated_in kind text)) refusal × (new ≡ old)
+ImportStep old kind text told.Unavailable new = new ≡ old
+ImportStep old kind text answer new = ⊥
 
 -- M10, without a number
 abbrev pub IsUnknownDay : Refusal → Type 0
@@ -61,15 +71,12 @@ pub record IsDayAnswer (w : World) (s : Stream) (d : ℕ) (answer : DayAnswer) :
       → IsReading w s d (i + 1) reading
   pub events : AreEventsOf w s d answer.events.items
 
-abbrev pub DayStep : World → Stream → ℕ → Answer → World → Type 0
-DayStep old stream day (told.Day answer) new = IsDayAnswer old stream day answer × (new ≡ old)
-DayStep old stream day (told.Refused refusal) new =
-    (IsKnownDay old stream day → ⊥) × IsUnknownDay refusal × (new ≡ old)
-DayStep old stream day told.Unavailable new = new ≡ old
-DayStep old stream day (told.Imported added known) new = ⊥
-DayStep old stream day (told.Versions answer) new = ⊥
-DayStep old stream day (told.Streams answer) new = ⊥
-DayStep old stream day (told.File fault) new = ⊥
+-- the answer for a day
+abbrev pub TellsDay : World → Stream → ℕ → Answer → Type 0
+TellsDay w stream day (told.Day answer) = IsDayAnswer w stream day answer
+TellsDay w stream day (told.Refused refusal) = (IsKnownDay w stream day → ⊥) × IsUnknownDay refusal
+TellsDay w stream day told.Unavailable = Unit {0}
+TellsDay w stream day answer = ⊥
 
 -- the day is known, and has such an interval
 abbrev pub HasInterval : World → Stream → ℕ → ℕ → Type 0
@@ -87,42 +94,36 @@ pub record IsVersionsAnswer (w : World) (s : Stream) (d i : ℕ) (answer : Versi
       ↔ (VersionIs (record { stream = s; day = d; interval = i; update = version.update }) version.reading ∈ w)
   pub ascending : AllPairs (λ a b. a.update < b.update) answer.versions.items
 
-abbrev pub VersionsStep : World → Stream → ℕ → ℕ → Answer → World → Type 0
-VersionsStep old stream day interval (told.Versions answer) new =
-    IsVersionsAnswer old stream day interval answer × (new ≡ old)
-VersionsStep old stream day interval (told.Refused refusal) new =
-    (HasInterval old stream day interval → ⊥) × IsUnknownDay refusal × (new ≡ old)
-VersionsStep old stream day interval told.Unavailable new = new ≡ old
-VersionsStep old stream day interval (told.Imported added known) new = ⊥
-VersionsStep old stream day interval (told.Day answer) new = ⊥
-VersionsStep old stream day interval (told.Streams answer) new = ⊥
-VersionsStep old stream day interval (told.File fault) new = ⊥
+-- the answer for the versions of an interval
+abbrev pub TellsVersions : World → Stream → ℕ → ℕ → Answer → Type 0
+TellsVersions w stream day interval (told.Versions answer) = IsVersionsAnswer w stream day interval answer
+TellsVersions w stream day interval (told.Refused refusal) =
+    (HasInterval w stream day interval → ⊥) × IsUnknownDay refusal
+TellsVersions w stream day interval told.Unavailable = Unit {0}
+TellsVersions w stream day interval answer = ⊥
 
 -- The known streams in order, each with its current details.
 pub record AreStreamAnswers (w : World) (answers : List StreamAnswer) : Type 0 where
   pub streams : AreKnownStreams w (map (λ answer. answer.stream) answers)
   pub details : All (λ answer. IsCurrentDetails w answer.stream answer.details) answers
 
-abbrev pub StreamsStep : World → Answer → World → Type 0
-StreamsStep old (told.Streams answers) new = AreStreamAnswers old answers.items × (new ≡ old)
-StreamsStep old told.Unavailable new = new ≡ old
-StreamsStep old (told.Imported added known) new = ⊥
-StreamsStep old (told.Day answer) new = ⊥
-StreamsStep old (told.Versions answer) new = ⊥
-StreamsStep old (told.File fault) new = ⊥
-StreamsStep old (told.Refused refusal) new = ⊥
+-- the answer for the known streams
+abbrev pub TellsStreams : World → Answer → Type 0
+TellsStreams w (told.Streams answers) = AreStreamAnswers w answers.items
+TellsStreams w told.Unavailable = Unit {0}
+TellsStreams w answer = ⊥
 
--- One request: the World before, the answer, and the World after.
+-- One request: the World before, the answer, and the World after. A query changes nothing.
 abbrev pub Step : World → Request → Answer → World → Type 0
-Step old (asked.Import kind bytes) answer new = ImportStep old bytes.items answer new
-Step old (asked.Day stream day) answer new = DayStep old stream day answer new
-Step old (asked.Versions stream day interval) answer new = VersionsStep old stream day interval answer new
-Step old asked.Streams answer new = StreamsStep old answer new
+Step old (asked.Import kind bytes) answer new = ImportStep old kind bytes.items answer new
+Step old (asked.Day stream day) answer new = TellsDay old stream day answer × (new ≡ old)
+Step old (asked.Versions stream day interval) answer new =
+    TellsVersions old stream day interval answer × (new ≡ old)
+Step old asked.Streams answer new = TellsStreams old answer × (new ≡ old)
 
 -- A list of requests, one step after the other.
 abbrev pub Run : World → List Request → List Answer → World → Type 0
 Run old [] [] new = new ≡ old
 Run old (request ∷ requests) (answer ∷ answers) new =
     (mid : World) × Step old request answer mid × Run mid requests answers new
-Run old [] (answer ∷ answers) new = ⊥
-Run old (request ∷ requests) [] new = ⊥
+Run old requests answers new = ⊥

@@ -1,14 +1,13 @@
 //! The drafts of the days that a file states something of.
 
-ghost use Rattle.std.specs.Prelude.{◌≡◌, [], ◌∷◌, IfOk, IfErr, OnOk, map, length};
-ghost use Rattle.mds_calendar.specs.Length.{count_of};
+ghost use Rattle.std.specs.Prelude.{◌≡◌, IfOk, IfErr, OnOk, map};
 ghost use Rattle.mds_world.specs.Stated.{stated};
 ghost use Rattle.mds_world.specs.World.{Agrees, IsLawful, World, union};
 ghost use Rattle.mds_versions.specs.Drafts.{IfRefused};
-ghost use Rattle.mds_versions.specs.Merge.{Breaks, IsRefusal};
-ghost use Rattle.mds_service.specs.Imports.{AreDrafts, IsText, day_statement};
+ghost use Rattle.mds_versions.specs.Merge.{Breaks, IsRefusal, claim_world, upto};
+ghost use Rattle.mds_service.specs.Imports.{AreDrafts, AreInOrder, day_statement};
 
-use crate::stated::StatedDay;
+use crate::stated_day::StatedDay;
 use mds_versions::{Draft, Keeper, Stop, StreamDay};
 use std::alloc::Global;
 use std::collections::BTreeMap;
@@ -20,15 +19,23 @@ pub(crate) fn gather<K: Keeper>(
     keeper: &mut K,
     days: Vec<StatedDay>,
 ) -> Result<BTreeMap<StreamDay, Draft>, Stop>
-    requires { IsText days.items }
+    requires { AreInOrder days.items }
+    ensures outside { K.honest keeper.new → K.honest keeper.old }
     ensures before { K.sound keeper.new → K.sound keeper.old }
-    ensures same { K.sound keeper.new → K.world keeper.new ≡ K.world keeper.old }
-    ensures drafts { K.sound keeper.new → IfOk result
-        (AreDrafts ⟦<StreamDay as Ord>⟧.cmp (K.world keeper.old) (stated (map day_statement days.items))) }
-    ensures agrees { K.sound keeper.new → IsLawful (K.world keeper.old)
-        → IfOk result (λ drafts. Agrees (union (K.world keeper.old) (stated (map day_statement days.items)))) }
-    ensures refused { K.sound keeper.new → IsLawful (K.world keeper.old) → IfErr result (λ stop.
-        IfRefused stop (IsRefusal (K.world keeper.old) (map day_statement days.items))) }
+
+    // Of each World that the keeper keeps if it is sound: where there are no days, it isn't asked.
+    ensures drafts { K.honest keeper.new → (w : World) → (K.sound keeper.old → K.world keeper.old ≡ w)
+        → IfOk result (AreDrafts ⟦<StreamDay as Ord>⟧.cmp w (stated (map day_statement days.items))) }
+    ensures agrees { K.honest keeper.new → (w : World) → (K.sound keeper.old → K.world keeper.old ≡ w) → IsLawful w
+        → IfOk result (λ drafts. Agrees (union w (stated (map day_statement days.items)))) }
+    ensures refused { K.honest keeper.new → (w : World) → (K.sound keeper.old → K.world keeper.old ≡ w) → IsLawful w
+        → IfErr result (λ stop.
+        IfRefused stop (IsRefusal w (λ line. upto line (map day_statement days.items)))) }
+
+    // The keeper keeps what it kept.
+    ensures kept { K.honest keeper.new → (w : World) → (K.sound keeper.old → K.world keeper.old ≡ w)
+        → K.sound keeper.new → K.world keeper.new ≡ w }
+    ensures crash { K.honest keeper.new → (left : World) → K.may_leave keeper.new left → K.may_leave keeper.old left }
 {
     let mut drafts: BTreeMap<StreamDay, Draft> = BTreeMap::new(alloc);
     for claimed in days {
@@ -46,22 +53,25 @@ fn claim_day<K: Keeper>(
     drafts: &mut BTreeMap<StreamDay, Draft>,
     claimed: StatedDay,
 ) -> Result<(), Stop>
-    requires { length claimed.claim.readings.items ≡ count_of claimed.claim.length }
+    ensures outside { K.honest keeper.new → K.honest keeper.old }
     ensures before { K.sound keeper.new → K.sound keeper.old }
-    ensures same { K.sound keeper.new → K.world keeper.new ≡ K.world keeper.old }
+
     // Whatever the drafts hold so far, they hold the line's facts too.
-    ensures taken { K.sound keeper.new → OnOk result ((facts : World)
-        → AreDrafts ⟦<StreamDay as Ord>⟧.cmp (K.world keeper.old) facts drafts.old
-        → AreDrafts ⟦<StreamDay as Ord>⟧.cmp (K.world keeper.old)
-        (union facts (stated (day_statement claimed ∷ []))) drafts.new) }
+    ensures taken { K.honest keeper.new → (w : World) → (K.sound keeper.old → K.world keeper.old ≡ w)
+        → OnOk result ((facts : World) → AreDrafts ⟦<StreamDay as Ord>⟧.cmp w facts drafts.old
+        → AreDrafts ⟦<StreamDay as Ord>⟧.cmp w
+        (union facts (claim_world claimed.stream claimed.day claimed.claim)) drafts.new) }
 
     // Where all agreed so far, what is first broken in the day is first broken in the whole.
-    ensures refused { K.sound keeper.new → IfErr result (λ stop. IfRefused stop (λ refusal.
+    ensures refused { K.honest keeper.new → (w : World) → (K.sound keeper.old → K.world keeper.old ≡ w)
+        → IfErr result (λ stop. IfRefused stop (λ refusal.
         (refusal.line ≡ claimed.claim.line) × (refusal.field ≡ 0)
-        × ((facts : World) → AreDrafts ⟦<StreamDay as Ord>⟧.cmp (K.world keeper.old) facts drafts.old
-        → Agrees (union (K.world keeper.old) facts)
-        → Breaks (union (K.world keeper.old) (union facts (stated (day_statement claimed ∷ []))))
+        × ((facts : World) → AreDrafts ⟦<StreamDay as Ord>⟧.cmp w facts drafts.old → Agrees (union w facts)
+        → Breaks (union w (union facts (claim_world claimed.stream claimed.day claimed.claim)))
         refusal.code refusal.interval))) }
+    ensures kept { K.honest keeper.new → (w : World) → (K.sound keeper.old → K.world keeper.old ≡ w)
+        → K.sound keeper.new → K.world keeper.new ≡ w }
+    ensures crash { K.honest keeper.new → (left : World) → K.may_leave keeper.new left → K.may_leave keeper.old left }
 {
     let StatedDay { stream, day, claim } = claimed;
     let key = StreamDay { stream, day };

@@ -3,10 +3,10 @@
 ghost use Rattle.std.specs.Prelude.{◌≡◌, ◌↔◌, ◌≤◌, IfOk, IsTrue, map};
 ghost use Rattle.mds_calendar.specs.Length.{count_of};
 ghost use Rattle.mds_world.specs.Current.{IsReading, no_reading as bare_n};
-ghost use Rattle.mds_world.specs.World.{IsLawful};
 ghost use Rattle.mds_versions.specs.Books.{book_world};
-ghost use Rattle.mds_service.specs.Machine.{DayStep, StreamsStep, VersionsStep};
+ghost use Rattle.mds_service.specs.Crashes.{Goes};
 ghost use Rattle.mds_service.specs.Readings.{AreReadings};
+ghost use Rattle.mds_service.specs.declared.request.Request.TheVariants as asked;
 
 use crate::request::{Answer, DayAnswer, StreamAnswer, VersionsAnswer};
 use mds_marks::{Mark, Quality, Reading, Reason};
@@ -23,13 +23,13 @@ const UNKNOWN_DAY: Refusal = Refusal {
 };
 
 /// A day's current readings, its form and its events.
-pub(crate) fn day<K: Keeper>(alloc: Global, keeper: &mut K, stream: Stream, day: Day) -> Answer
+pub(crate) fn day<K: Keeper>(alloc: Global, keeper: &mut K, stream: Stream, date: Day) -> Answer
+    ensures outside { K.honest keeper.new → K.honest keeper.old }
     ensures before { K.sound keeper.new → K.sound keeper.old }
-    ensures same { K.sound keeper.new → K.world keeper.new ≡ K.world keeper.old }
-    ensures step { K.sound keeper.new → IsLawful (K.world keeper.old)
-        → DayStep (K.world keeper.old) stream day result (K.world keeper.new) }
+    ensures step { K.honest keeper.new → Goes (K.sound keeper.old) (K.sound keeper.new) (K.world keeper.old)
+        (K.world keeper.new) (K.may_leave keeper.old) (K.may_leave keeper.new) (asked.Day stream date) result }
 {
-    let Ok(book) = keeper.day(copy_of(&stream), day) else {
+    let Ok(book) = keeper.day(copy_of(&stream), date) else {
         return Answer::Unavailable;
     };
     let Some(form) = book.head() else {
@@ -44,12 +44,12 @@ pub(crate) fn day<K: Keeper>(alloc: Global, keeper: &mut K, stream: Stream, day:
     let Ok(readings) = current_readings(alloc, &book, length) else {
         return Answer::Unavailable;
     };
-    let Ok(events) = keeper.events(copy_of(&stream), day) else {
+    let Ok(events) = keeper.events(copy_of(&stream), date) else {
         return Answer::Unavailable;
     };
     Answer::Day(DayAnswer {
         stream,
-        day,
+        day: date,
         length,
         unit,
         update,
@@ -66,10 +66,10 @@ pub(crate) fn versions<K: Keeper>(
     day: Day,
     interval: u16,
 ) -> Answer
+    ensures outside { K.honest keeper.new → K.honest keeper.old }
     ensures before { K.sound keeper.new → K.sound keeper.old }
-    ensures same { K.sound keeper.new → K.world keeper.new ≡ K.world keeper.old }
-    ensures step { K.sound keeper.new → IsLawful (K.world keeper.old)
-        → VersionsStep (K.world keeper.old) stream day interval result (K.world keeper.new) }
+    ensures step { K.honest keeper.new → Goes (K.sound keeper.old) (K.sound keeper.new) (K.world keeper.old)
+        (K.world keeper.new) (K.may_leave keeper.old) (K.may_leave keeper.new) (asked.Versions stream day interval) result }
 {
     let Ok(book) = keeper.day(copy_of(&stream), day) else {
         return Answer::Unavailable;
@@ -93,9 +93,10 @@ pub(crate) fn versions<K: Keeper>(
 
 /// The known streams with their current details.
 pub(crate) fn streams<K: Keeper>(alloc: Global, keeper: &mut K) -> Answer
+    ensures outside { K.honest keeper.new → K.honest keeper.old }
     ensures before { K.sound keeper.new → K.sound keeper.old }
-    ensures same { K.sound keeper.new → K.world keeper.new ≡ K.world keeper.old }
-    ensures step { K.sound keeper.new → StreamsStep (K.world keeper.old) result (K.world keeper.new) }
+    ensures step { K.honest keeper.new → Goes (K.sound keeper.old) (K.sound keeper.new) (K.world keeper.old)
+        (K.world keeper.new) (K.may_leave keeper.old) (K.may_leave keeper.new) asked.Streams result }
 {
     let Ok(streams) = keeper.streams() else {
         return Answer::Unavailable;

@@ -1,33 +1,30 @@
 //! One request, and a list of requests.
 
 ghost use Rattle.std.specs.Prelude.{◌≡◌, IfOk, OnErr, length};
-ghost use Rattle.mds_world.specs.World.{IsLawful};
-ghost use Rattle.mds_service.specs.Machine.{Run, Step};
+ghost use Rattle.mds_world.specs.World.{IsLawful, World};
+ghost use Rattle.mds_service.specs.Crashes.{Goes, MayLeave};
+ghost use Rattle.mds_service.specs.Machine.{Run};
 
 use crate::importing::import;
 use crate::queries::{day, streams, versions};
 use crate::request::{Answer, Request};
-use mds_records::FileKind;
 use mds_versions::Keeper;
 use std::alloc::{AllocError, Global};
 
 /// Answers one request over any keeper, by one step of the machine. Want of memory is
 /// `Unavailable`, and then nothing is changed.
 pub fn apply<K: Keeper>(alloc: Global, keeper: &mut K, request: &Request) -> Answer
-    // A keeper that is sound in the end was sound throughout.
+    // A keeper that is honest, or sound, in the end was so throughout.
+    ensures outside { K.honest keeper.new → K.honest keeper.old }
     ensures before { K.sound keeper.new → K.sound keeper.old }
 
-    // Over a lawful World it is a step of the machine.
-    ensures step { K.sound keeper.new → IsLawful (K.world keeper.old)
-        → Step (K.world keeper.old) request.now result (K.world keeper.new) }
-
-    // And the World is lawful after it.
-    ensures lawful { K.sound keeper.new → IsLawful (K.world keeper.old) → IsLawful (K.world keeper.new) }
+    // From a lawful World it is a step of the machine to a lawful one, and a crash leaves what it left before, the World
+    // after it, or where the answer is Unavailable the World that another answer would have made.
+    ensures step { K.honest keeper.new → Goes (K.sound keeper.old) (K.sound keeper.new) (K.world keeper.old)
+        (K.world keeper.new) (K.may_leave keeper.old) (K.may_leave keeper.new) request.now result }
 {
     match request {
-        Request::Import { kind, bytes } => match kind {
-            FileKind::Nem12 => import(alloc, keeper, bytes),
-        },
+        Request::Import { kind, bytes } => import(alloc, keeper, *kind, bytes),
         Request::Day { stream, day: date } => day(alloc, keeper, *stream, *date),
         Request::Versions {
             stream,
@@ -45,18 +42,20 @@ pub fn run<K: Keeper>(
     keeper: &mut K,
     requests: &[Request],
 ) -> Result<Vec<Answer>, AllocError>
-    // A keeper that is sound in the end was sound throughout.
+    // A keeper that is honest, or sound, in the end was so throughout.
+    ensures outside { K.honest keeper.new → K.honest keeper.old }
     ensures before { K.sound keeper.new → K.sound keeper.old }
 
     // Each request has its answer.
     ensures count { IfOk result (λ answers. length answers.items ≡ length requests.now) }
 
-    // Every answer, and what is kept in the end, is that of the machine.
-    ensures run { IfOk result (λ answers. K.sound keeper.new → IsLawful (K.world keeper.old)
-        → Run (K.world keeper.old) requests.now answers.items (K.world keeper.new)) }
-
-    // And the World is lawful after it.
-    ensures lawful { K.sound keeper.new → IsLawful (K.world keeper.old) → IsLawful (K.world keeper.new) }
+    // While the outside is honest, all answers are those of a run of the machine from the World that was kept to a lawful
+    // one; that is kept where no fault shut the keeper, and a crash leaves it, or it with one more whole request whose
+    // answer was Unavailable.
+    ensures run { IfOk result (λ answers. K.honest keeper.new → K.sound keeper.old → IsLawful (K.world keeper.old)
+        → (w : World) × IsLawful w × Run (K.world keeper.old) requests.now answers.items w
+        × (K.sound keeper.new → K.world keeper.new ≡ w)
+        × ((left : World) → K.may_leave keeper.new left → MayLeave w requests.now answers.items left)) }
 
     // Nothing is changed where the list of answers has no room.
     ensures err { OnErr result (keeper.new ≡ keeper.old) }

@@ -1,30 +1,24 @@
 //! What a file states, laid out flat: its days in the order of their lines, and its details and
 //! events.
 
-ghost use Rattle.std.specs.Prelude.{◌≡◌, None, ℕ, List, [], ◌∷◌, IfOk, OnOk, map};
-ghost use Rattle.std.specs.List.{flat_map};
-ghost use Rattle.mds_nem12.specs.Delivered.{delivery_statements};
-ghost use Rattle.mds_nem12.specs.Faults.{fault_of};
-ghost use Rattle.mds_nem12.specs.Statements.{statements_of};
+ghost use Rattle.std.specs.Prelude.{◌≡◌, ℕ, List, [], ◌∷◌, IfOk, OnOk, length as size, map};
+ghost use Rattle.std.specs.List.{All, flat_map};
+ghost use Rattle.mds_calendar.specs.Length.{count_of};
+ghost use Rattle.mds_statements.specs.Delivered.{delivery_statements};
+ghost use Rattle.mds_statements.specs.Orderly.{IsWhole};
+ghost use Rattle.mds_statements.specs.Statements.Statement.{DayOf};
 ghost use Rattle.mds_world.specs.Stated.{stated};
 ghost use Rattle.mds_versions.specs.Merge.{upto};
-ghost use Rattle.mds_service.specs.Imports.{IsText, day_statement, stated_world};
+ghost use Rattle.mds_service.specs.Imports.{AreInOrder, day_statement, stated_world};
 ghost use Rattle.mds_service.specs.StatedSteps.{Gains, block_days, block_detail, block_events};
 ghost use Rattle.mds_service.specs.StatedSteps.{stated_day};
 
-use mds_nem12::{Block, DeliveredDay, Delivery};
+use crate::stated_day::StatedDay;
 use mds_quantity::Unit;
-use mds_terms::{Day, Event, Length, Moment, Stream};
+use mds_statements::{Block, DeliveredDay, Delivery};
+use mds_terms::{Event, Length, Moment, Stream};
 use mds_versions::{Claim, Detail};
 use std::alloc::{AllocError, Global};
-
-/// What a line claims of a day of a stream.
-#[derive(Drop)]
-pub(crate) struct StatedDay {
-    pub(crate) stream: Stream,
-    pub(crate) day: Day,
-    pub(crate) claim: Claim,
-}
 
 /// All that a file states.
 #[derive(Drop)]
@@ -39,8 +33,7 @@ pub(crate) fn stated_by(alloc: Global, delivery: Delivery) -> Result<Stated, All
     ensures facts { IfOk result (λ s. stated (delivery_statements delivery) ≡ stated_world s) }
     ensures days { IfOk result (λ s. (line : ℕ)
         → upto line (delivery_statements delivery) ≡ upto line (map day_statement s.days.items)) }
-    ensures orderly { (text : List ℕ) → fault_of text ≡ None → delivery_statements delivery ≡ statements_of text
-        → IfOk result (λ s. IsText s.days.items) }
+    ensures orderly { IfOk result (λ s. AreInOrder s.days.items) }
 {
     let details = Vec::with_capacity(alloc, delivery.blocks.len())?;
     let Delivery { header, blocks } = delivery;
@@ -55,6 +48,7 @@ pub(crate) fn stated_by(alloc: Global, delivery: Delivery) -> Result<Stated, All
 
 /// Puts what blocks state, under a header of a moment, behind what is laid out.
 fn lay_out_blocks(moment: Moment, blocks: Vec<Block>, out: &mut Stated) -> Result<(), AllocError>
+    requires { All IsWhole blocks.items }
     ensures { OnOk result (Gains (flat_map block_days blocks.items)
         (map (block_detail moment) blocks.items) (flat_map block_events blocks.items)
         out.old out.new) }
@@ -68,6 +62,7 @@ fn lay_out_blocks(moment: Moment, blocks: Vec<Block>, out: &mut Stated) -> Resul
 /// Puts the days of a block with their events, and its details, which are of the moment of the
 /// header, behind what is laid out.
 fn lay_out_block(moment: Moment, block: Block, out: &mut Stated) -> Result<(), AllocError>
+    requires { IsWhole block }
     ensures { OnOk result (Gains (block_days block) (block_detail moment block ∷ [])
         (block_events block) out.old out.new) }
 {
@@ -99,7 +94,8 @@ fn lay_out_day(
     day: DeliveredDay,
     out: &mut Stated,
 ) -> Result<(), AllocError>
-    ensures { OnOk result (Gains (stated_day stream.now length unit day ∷ []) []
+    requires { size day.readings.items ≡ count_of length }
+    ensures { OnOk result (Gains (DayOf (stated_day stream.now length unit day) ∷ []) []
         day.events.items out.old out.new) }
 {
     let DeliveredDay {

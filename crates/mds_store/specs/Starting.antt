@@ -1,8 +1,8 @@
 -- What making a store, and knowing one, answer (profile).
 use Rattle.std.specs.Prelude.{◌≡◌, IsTrue}
-use Rattle.std.specs.FinSet as set
 use Rattle.sqlite.specs.State.{KeepsCommit, State}
-use Rattle.mds_tables.specs.Stores.{IsStore, world_of}
+use Rattle.mds_tables.specs.Making.{KeepsNothing}
+use Rattle.mds_tables.specs.Stores.{IsStore}
 use Rattle.mds_tables.specs.Tables.{no_schema}
 use Rattle.mds_store.specs.declared.starting.StoreFault.{StoreFault}
 use Rattle.mds_store.specs.declared.starting.StoreFault.TheVariants.{OtherSchema, Unavailable}
@@ -12,8 +12,7 @@ pub record IsCreated (old new : State) : Type 0 where
   pub was_open : IsTrue old.is_open
   pub was_empty : old.now.schema ≡ no_schema
   pub is_open : IsTrue new.is_open
-  pub store : IsStore new.committed
-  pub keeps_nothing : world_of new ≡ set.empty
+  pub made : KeepsNothing new.committed
 
 -- The database was a store, and keeps what it kept.
 pub record IsAdopted (old new : State) : Type 0 where

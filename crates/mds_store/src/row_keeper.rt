@@ -3,8 +3,10 @@
 ghost use Rattle.std.specs.Prelude.{◌≡◌, false, IsTrue};
 ghost use Rattle.sqlite.specs.Held.{state};
 ghost use Rattle.sqlite.specs.State.{HasCleanDisk};
+ghost use Rattle.sqlite_trees.specs.Tree.{Trees};
+ghost use Rattle.mds_tables.specs.RowFacts.{world_in};
 ghost use Rattle.mds_tables.specs.Stores.{Holds, world_of};
-ghost use Rattle.mds_store.specs.Props.{Holds-prop};
+ghost use Rattle.mds_store.specs.Props.{Holds-prop, settles};
 
 use mds_inserts::commit;
 use mds_selects::{
@@ -52,8 +54,18 @@ impl<S: Alter> Keeper for RowKeeper<S> {
     // What the rows of the tables name, as they were last committed.
     ghost world = { λ k. world_of (state S.Store k.conn) };
 
-    // The disk gave back what was written to it, and the connection is open.
+    // The disk gave back what was written to it.
+    ghost honest = { λ k. HasCleanDisk (state S.Store k.conn) };
+
+    // And the connection is open.
     ghost sound = { λ k. HasCleanDisk (state S.Store k.conn) × IsTrue (state S.Store k.conn).is_open };
+
+    // The next open may find tables that name it.
+    ghost may_leave = { λ k left. (trees : Trees) × (state S.Store k.conn).may_leave trees × (world_in trees ≡ left) };
+
+    ghost sound_honest = { λ _ sound. sound.0 };
+
+    ghost settled = { λ k sound left may. settles _ _ (λ trees. S.Store.settled k.conn.store trees sound.1) left may };
 
     fn day(&mut self, stream: Stream, day: Day) -> Result<DayBook, Unavailable> {
         let head = head_of(&mut self.conn, &stream, day)?;

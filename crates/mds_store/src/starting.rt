@@ -1,9 +1,10 @@
 //! How a store is made in a database, and known in one.
 
-ghost use Rattle.std.specs.Prelude.{◌≡◌, ◌≢◌, IfErr, IfOk};
+ghost use Rattle.std.specs.Prelude.{◌≡◌, ◌≢◌, true, IfErr, IfOk, MatchResult};
 ghost use Rattle.std.specs.Bool.{MatchBool};
 ghost use Rattle.sqlite.specs.Held.{state};
-ghost use Rattle.sqlite.specs.State.{HasCleanDisk};
+ghost use Rattle.sqlite.specs.State.{HasCleanDisk, Survives};
+ghost use Rattle.mds_tables.specs.Making.{LeavesMade};
 ghost use Rattle.mds_tables.specs.Stores.{IsStore};
 ghost use Rattle.mds_tables.specs.Tables.{no_schema};
 ghost use Rattle.mds_store.specs.Starting.{IsAdopted, IsCreated, IsRefused};
@@ -26,7 +27,8 @@ pub enum StoreFault {
 }
 
 /// Makes a store, which keeps nothing, in a database that is empty. On a refusal the connection comes back, and nothing
-/// was changed.
+/// was changed: one that is in a transaction comes back as it was, and one that isn't is in none. A crash leaves what
+/// was there, or the store that keeps nothing.
 pub fn create<S: Alter>(
     alloc: Global,
     conn: Connection<S>,
@@ -35,6 +37,12 @@ pub fn create<S: Alter>(
         → IsCreated (state S.Store conn) (state S.Store keeper.conn)) }
     ensures err { IfErr result (λ e. HasCleanDisk (state S.Store e.1)
         → IsRefused ((state S.Store conn).now.schema ≡ no_schema) (state S.Store conn) (state S.Store e.1) e.0) }
+    ensures busy { conn.in_transaction ≡ true
+        → MatchResult result (λ keeper. ⊥) (λ e. (e.0 ≡ StoreFault.Unavailable) × (e.1 ≡ conn)) }
+    ensures mode { IfErr result (λ e. e.1.in_transaction ≡ conn.in_transaction) }
+    ensures survives { MatchResult result
+        (λ keeper. Survives (state S.Store conn) (state S.Store keeper.conn) (LeavesMade (state S.Store conn)))
+        (λ e. Survives (state S.Store conn) (state S.Store e.1) (LeavesMade (state S.Store conn))) }
 {
     let mut conn = conn;
     if !conn.is_autocommit() {
@@ -57,7 +65,8 @@ fn is_empty(schema: &Schema) -> bool
 }
 
 /// Takes a database that is a store of schema 1: it keeps the World that its rows name, whoever wrote them. On a refusal
-/// the connection comes back, and nothing was changed.
+/// the connection comes back, and nothing was changed: one that is in a transaction comes back as it was, and one that
+/// isn't is in none. A crash leaves what was there.
 pub fn adopt<S: Alter>(
     alloc: Global,
     conn: Connection<S>,
@@ -66,6 +75,12 @@ pub fn adopt<S: Alter>(
         → IsAdopted (state S.Store conn) (state S.Store keeper.conn)) }
     ensures err { IfErr result (λ e. HasCleanDisk (state S.Store e.1)
         → IsRefused (IsStore (state S.Store conn).now) (state S.Store conn) (state S.Store e.1) e.0) }
+    ensures busy { conn.in_transaction ≡ true
+        → MatchResult result (λ keeper. ⊥) (λ e. (e.0 ≡ StoreFault.Unavailable) × (e.1 ≡ conn)) }
+    ensures mode { IfErr result (λ e. e.1.in_transaction ≡ conn.in_transaction) }
+    ensures survives { MatchResult result
+        (λ keeper. Survives (state S.Store conn) (state S.Store keeper.conn) (λ _. ⊥))
+        (λ e. Survives (state S.Store conn) (state S.Store e.1) (λ _. ⊥)) }
 {
     let mut conn = conn;
     if !conn.is_autocommit() {

@@ -5,5 +5,5 @@ pub mod Creates
 pub mod InsertLemmas
 pub mod InsertTexts
 pub mod KnownLemmas
+pub mod MadeLemmas
 pub mod SayLemmas
-pub mod SetLemmas

@@ -1,20 +1,34 @@
 -- What making the tables leaves (profile).
-use Rattle.std.specs.Prelude.{◌≡◌, [], ◌∷◌, ℕ, pos, map, take, IsTrue}
+use Rattle.std.specs.Prelude.{◌≡◌, [], ℕ, drop, take, IsTrue}
 use Rattle.std.specs.FinSet as set
 use Rattle.std.specs.List.{AllByRecursion}
+use Rattle.sqlite.specs.Effect.{Database}
 use Rattle.sqlite.specs.Schema.{Schema}
 use Rattle.sqlite.specs.State.{HasCleanDisk, State}
+use Rattle.sqlite_catalog.specs.Listing.{IsSound}
 use Rattle.sqlite_schema.specs.declared.schema.Table.{Table}
-use Rattle.mds_tables.specs.RowFacts.{int_at, world_in}
-use Rattle.mds_tables.specs.Stores.{IsStore, world_of}
+use Rattle.sqlite_trees.specs.Tree.{Trees}
+use Rattle.mds_tables.specs.RowFacts.{world_in}
+use Rattle.mds_tables.specs.Stores.{IsStore}
 use Rattle.mds_tables.specs.Tables.{indexes_1, no_schema, schema_1, tables_1}
 
--- An empty database was made a store that keeps the empty World.
+-- a store that keeps nothing: mds_schema says 1, and no other table has a row
+pub record KeepsNothing (db : Database) : Type 0 where
+  pub store : IsStore db
+  pub bare : AllByRecursion (λ (t : Table). db.trees t.tree ≡ []) (drop 1 tables_1)
+  pub world : world_in db.trees ≡ set.empty
+
+-- An empty database was made a store that keeps nothing.
 pub record IsMade (old new : State) : Type 0 where
   pub was_open : IsTrue old.is_open
   pub is_open : IsTrue new.is_open
-  pub store : old.committed.schema ≡ no_schema → IsStore new.committed
-  pub empty : old.committed.schema ≡ no_schema → world_of new ≡ set.empty
+  pub made : old.committed.schema ≡ no_schema → KeepsNothing new.committed
+
+-- What a crash may leave of a making that wasn't told: such a store.
+pub record LeavesMade (old : State) (left : Trees) : Type 0 where
+  pub was_open : IsTrue old.is_open
+  pub made : old.committed.schema ≡ no_schema → KeepsNothing (record { schema = schema_1; trees = left })
+  pub sound : old.committed.schema ≡ no_schema → IsSound schema_1 left
 
 -- the first tables, with their indexes
 abbrev pub schema_of : ℕ → Schema
@@ -33,13 +47,17 @@ pub record MakesThere (before after : ℕ) (old new : State) : Type 0 where
 pub record SaysVersion (old new : State) : Type 0 where
   pub was_open : HasCleanDisk new → IsTrue new.is_open → IsTrue old.is_open
   pub is_open : HasCleanDisk new → IsTrue old.is_open → IsTrue new.is_open
-  pub schema : HasCleanDisk new → IsTrue old.is_open → old.now.schema ≡ schema_1 → new.now.schema ≡ schema_1
   pub said : HasCleanDisk new → IsTrue old.is_open → old.now.schema ≡ schema_1
       → AllByRecursion (λ (t : Table). old.now.trees t.tree ≡ []) tables_1
-      → (map (λ row. int_at row 1) (new.now.trees 0) ≡ pos 1 ∷ []) × (world_in new.now.trees ≡ set.empty)
+      → KeepsNothing new.now
+  pub sound : HasCleanDisk new → IsTrue old.is_open → old.now.schema ≡ schema_1 → IsSound schema_1 new.now.trees
 
 -- the same, committed, from a database that the transaction saw without tables
 pub record CommitsMade (old new : State) : Type 0 where
   pub is_open : IsTrue old.is_open → IsTrue new.is_open
-  pub store : IsTrue old.is_open → old.now.schema ≡ no_schema → IsStore new.committed
-  pub empty : IsTrue old.is_open → old.now.schema ≡ no_schema → world_of new ≡ set.empty
+  pub made : IsTrue old.is_open → old.now.schema ≡ no_schema → KeepsNothing new.committed
+
+-- what a crash may leave of it
+pub record HasMade (old : State) (left : Trees) : Type 0 where
+  pub made : IsTrue old.is_open → old.now.schema ≡ no_schema → KeepsNothing (record { schema = schema_1; trees = left })
+  pub sound : IsTrue old.is_open → old.now.schema ≡ no_schema → IsSound schema_1 left

@@ -1,15 +1,16 @@
 -- What a connection over a store holds, and what calls do to it (profile).
-use Rattle.std.specs.Prelude.{◌≡◌, ◌↔◌, ◌⊎◌, ℕ, pos, List, [], ◌∷◌, drop, length, map, take, IsTrue}
-use Rattle.std.specs.FinSet as set
+use Rattle.std.specs.Prelude.{◌≡◌, ◌↔◌, ◌⊎◌, ℕ, pos, List, [], ◌∷◌, ◌++◌, drop, length, map, take, IsTrue}
 use Rattle.std.specs.List.Sorted.{IsPermutation}
 use Rattle.sqlite.specs.Effect.{Database, IsDatabase}
 use Rattle.sqlite.specs.State.{HasCleanDisk, IsRolledBack, IsUnchanged, State}
 use Rattle.sqlite_catalog.specs.Listing.{IsSound}
 use Rattle.sqlite_trees.specs.Tree.{Trees}
 use Rattle.sqlite_value.specs.Order.{Row, column}
-use Rattle.mds_world.specs.Facts.{Fact}
 use Rattle.mds_world.specs.Lists.{Member}
 use Rattle.mds_world.specs.World.{World, union}
+use Rattle.mds_versions.specs.Content.{content}
+use Rattle.mds_versions.specs.declared.additions.Additions.{Additions}
+use Rattle.mds_tables.specs.Cells.{detail_cells, event_cells, head_cells, version_cells}
 use Rattle.mds_tables.specs.RowFacts.{int_at, world_in}
 use Rattle.mds_tables.specs.Tables.{schema_1}
 
@@ -40,26 +41,41 @@ pub record IsReady (old new : State) : Type 0 where
 abbrev pub ChangesNothing : State → State → Type 0
 ChangesNothing old new = IsUnchanged old new ⊎ IsRolledBack old new
 
--- These facts are committed to the World that was kept.
-pub record Commits (old new : State) (facts : List Fact) : Type 0 where
+-- the connection was open, and is
+pub record AreOpen (old new : State) : Type 0 where
   pub was_open : IsTrue old.is_open
+  pub is_open : IsTrue new.is_open
+
+-- The rows of a tree, each without its rowid, are these beside those that were there.
+abbrev pub Gains : ℕ → List Row → Trees → Trees → Type 0
+Gains tree rows old new = IsPermutation (map (drop 1) (old tree) ++ rows) (map (drop 1) (new tree))
+
+-- Each table has the rows of its facts among the additions, column by column, beside those that were there, and no other.
+pub record Adds (old new : Trees) (additions : Additions) : Type 0 where
+  pub schema : new 0 ≡ old 0
+  pub heads : Gains 2 (map head_cells additions.heads.items) old new
+  pub versions : Gains 4 (map (λ version. version_cells version.0 version.1) additions.versions.items) old new
+  pub details : Gains 6 (map detail_cells additions.details.items) old new
+  pub events : Gains 8 (map event_cells additions.events.items) old new
+  pub periods : new 10 ≡ old 10
+  pub holidays : new 12 ≡ old 12
+  pub jobs : new 14 ≡ old 14
+
+-- The additions are committed to what was kept.
+pub record Commits (old new : State) (additions : Additions) : Type 0 where
+  pub was_open : IsTrue old.is_open
+  pub is_open : IsTrue new.is_open
   pub store : IsStore new.committed
-  pub world : world_of new ≡ union (world_of old) (set.from_list facts)
+  pub rows : Adds old.committed.trees new.committed.trees additions
+  pub world : world_of new ≡ union (world_of old) (content additions)
 
-module _ (old new : State) (facts : List Fact) where
-  -- the facts are added to the tables as the transaction sees them, and nothing is committed
-  pub record Puts : Type 0 where
-    pub schema : new.now.schema ≡ schema_1
-    pub version : new.now.trees 0 ≡ old.now.trees 0
-    pub added : world_in new.now.trees ≡ union (world_in old.now.trees) (set.from_list facts)
-    pub committed : new.committed ≡ old.committed
-    pub sound : IsSound schema_1 new.now.trees
-
-  -- the same, where the connection is open and the tables are these
-  pub record PutsThere : Type 0 where
-    pub was_open : HasCleanDisk new → IsTrue new.is_open → IsTrue old.is_open
-    pub is_open : HasCleanDisk new → IsTrue old.is_open → IsTrue new.is_open
-    pub puts : HasCleanDisk new → IsTrue old.is_open → old.now.schema ≡ schema_1 → IsSound schema_1 old.now.trees → Puts
+-- What a crash may leave of a commit that wasn't told: a store that keeps all of the additions beside what was kept.
+pub record LeavesAdded (old : State) (additions : Additions) (left : Trees) : Type 0 where
+  pub was_open : IsTrue old.is_open
+  pub store : IsStore (record { schema = schema_1; trees = left })
+  pub sound : IsSound schema_1 left
+  pub rows : Adds old.committed.trees left additions
+  pub world : world_in left ≡ union (world_of old) (content additions)
 
 -- the first columns of a row of a tree, behind its rowid, are these
 abbrev pub Begins : Row → Row → Type 0

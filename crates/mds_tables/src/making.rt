@@ -1,10 +1,9 @@
 //! Makes the tables.
 
-ghost use Rattle.std.specs.Prelude.{◌≡◌, ◌≤◌, false, [], ◌∷◌, pos, OnErr, OnOk};
+ghost use Rattle.std.specs.Prelude.{◌≡◌, false, OnErr, OnOk};
 ghost use Rattle.sqlite.specs.Held.{state};
 ghost use Rattle.sqlite.specs.State.{HasCleanDisk, KeepsCommit, Survives};
-ghost use Rattle.sqlite_trees.specs.View.{doubt};
-ghost use Rattle.mds_tables.specs.Making.{CommitsMade, IsMade, MakesThere, SaysVersion};
+ghost use Rattle.mds_tables.specs.Making.{CommitsMade, HasMade, IsMade, LeavesMade, MakesThere, SaysVersion};
 
 use crate::readiness::ready;
 use sqlite::types::ValueRef;
@@ -168,7 +167,7 @@ fn make_all<S: Alter>(conn: &mut Connection<S>) -> Result<(), Error>
     ensures ok { HasCleanDisk (state S.Store conn.new) → OnOk result (CommitsMade (state S.Store conn.old) (state S.Store conn.new)) }
     ensures err { HasCleanDisk (state S.Store conn.new) → OnErr result (KeepsCommit (state S.Store conn.old) (state S.Store conn.new)) }
     ensures mode { conn.new.in_transaction ≡ false }
-    ensures clean { doubt (state S.Store conn.old).is_clean ≤ doubt (state S.Store conn.new).is_clean }
+    ensures survives { Survives (state S.Store conn.old) (state S.Store conn.new) (HasMade (state S.Store conn.old)) }
 {
     let mut tx = conn.transaction();
     make_first(&mut tx)?;
@@ -178,13 +177,13 @@ fn make_all<S: Alter>(conn: &mut Connection<S>) -> Result<(), Error>
 }
 
 /// Makes the tables of schema 1 in a database that has none, and says in them that it is 1: all in
-/// one transaction.
+/// one transaction. A crash leaves what was there, or all of it.
 pub fn make_tables<S: Alter>(conn: &mut Connection<S>) -> Result<(), Error>
     requires { conn.old.in_transaction ≡ false }
     ensures ok { HasCleanDisk (state S.Store conn.new) → OnOk result (IsMade (state S.Store conn.old) (state S.Store conn.new)) }
     ensures err { HasCleanDisk (state S.Store conn.new) → OnErr result (KeepsCommit (state S.Store conn.old) (state S.Store conn.new)) }
     ensures mode { conn.new.in_transaction ≡ false }
-    ensures clean { doubt (state S.Store conn.old).is_clean ≤ doubt (state S.Store conn.new).is_clean }
+    ensures survives { Survives (state S.Store conn.old) (state S.Store conn.new) (LeavesMade (state S.Store conn.old)) }
 {
     ready(conn)?;
     make_all(conn)

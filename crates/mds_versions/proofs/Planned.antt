@@ -2,15 +2,12 @@
 use Rattle.std.proofs.Common.{◌≡◌, ◌≢◌, ℕ, zero, suc, ◌+◌, ◌<◌, ◌≤◌, List, [], ◌∷◌, ◌++◌, length, map, take, get_or, refl, sym, ap, ◌∙◌, subst, inl, inr, arith}
 use Rattle.std.specs.Prelude.{Bool, true, false, cond, nat_le, ◌⊎◌}
 use Rattle.std.specs.FinSet as set
-use Rattle.std.specs.List.{All, filter, flat_map}
+use Rattle.std.specs.List.{filter, flat_map}
 use Rattle.std.proofs.lemmas.Bool.Decides.{nat_tests}
 use Rattle.std.proofs.lemmas.Grind.{flat_map-append}
 use Rattle.std.proofs.lemmas.List.{append-nil, length-map}
 use Rattle.std.proofs.lemmas.Option.{get_or_from_slice_get}
-use Rattle.mds_calendar.specs.Length.{count_of}
 use Rattle.mds_names.specs.declared.stream.Stream.{Stream}
-use Rattle.mds_nem12.specs.Statements.{Statement}
-use Rattle.mds_nem12.specs.Statements.Statement.{DayOf}
 use Rattle.mds_world.specs.Counts.{countable, is_counted}
 use Rattle.mds_world.specs.FactOrder.{exact, fact_cmp, total}
 use Rattle.mds_world.specs.Facts.{Fact}
@@ -18,21 +15,18 @@ use Rattle.mds_world.specs.Facts.Fact.{HeadIs, DetailIs, EventIs}
 use Rattle.mds_world.specs.Lists.{Apart, Member, member_append, append_right, flat_in, in_flat, in_map}
 use Rattle.mds_world.specs.Members.{same_by, in_union, union_left, union_right, in_list, list_in, len_list}
 use Rattle.mds_world.specs.Sets.{◌∈◌, decided, difference_in, in_difference, in_retain, list_append, retain_in, union_empty}
-use Rattle.mds_world.specs.Stated.{facts_of, stated}
+use Rattle.mds_world.specs.Stated.{day_facts}
 use Rattle.mds_world.specs.World.{Agrees, IsLawful, World, union}
 use Rattle.mds_versions.specs.Books.{BookValue, book_world}
 use Rattle.mds_versions.specs.Content.{content, content_facts, version_fact}
 use Rattle.mds_versions.specs.Drafts.{AreAscending, DraftValue, IfRefused, IsPlan, Settles}
-use Rattle.mds_versions.specs.Merge.{Breaks, IsRefusal, claim_statement, claim_statements, is_upto, upto}
+use Rattle.mds_versions.specs.Merge.{Breaks, IsRefusal, claim_facts, claim_world, claims_upto, claims_world}
 use Rattle.mds_versions.specs.declared.additions.Additions.{Additions}
 use Rattle.mds_versions.specs.declared.claim.Claim.{Claim}
 use Rattle.mds_versions.specs.declared.draft.Stop.{Stop}
 use Rattle.mds_versions.specs.declared.draft.Stop.TheVariants.{Refused, Memory}
 use Rattle.mds_versions.specs.declared.refusal.Refusal.{Refusal}
 use Rattle.mds_versions.proofs.Rows.{member_get}
-
-stated_append : (xs ys : List Statement) → stated (xs ++ ys) ≡ union (stated xs) (stated ys)
-stated_append xs ys = ap set.from_list (flat_map-append facts_of xs ys) ∙ list_append total exact _ _
 
 agrees_sub : (a b : World) → ((f : Fact) → f ∈ a → f ∈ b) → Agrees b → Agrees a
 agrees_sub a b s g = record {
@@ -49,11 +43,6 @@ take_one_more (x ∷ xs) (suc i) d h = ap (λ l. x ∷ l) (take_one_more xs i d 
 take_all : {X : Type 0} (xs : List X) → take (length xs) xs ≡ xs
 take_all [] = refl
 take_all (x ∷ xs) = ap (λ l. x ∷ l) (take_all xs)
-
-map_at : {X Y : Type 0} (f : X → Y) (xs : List X) (i : ℕ) (d : X) → get_or (map f xs) i (f d) ≡ f (get_or xs i d)
-map_at f [] i d = refl
-map_at f (x ∷ xs) zero d = refl
-map_at f (x ∷ xs) (suc i) d = map_at f xs i d
 
 -- each line is below those after it
 abbrev Rising : List Claim → Type 0
@@ -85,48 +74,57 @@ member_cond : {X : Type 0} (t : Bool) (y x : X) (xs : List X) → Member y (cond
 member_cond true y x xs m = m
 member_cond false y x xs m = inr m
 
+-- on one of the lines up to this one
+abbrev is_upto : ℕ → Claim → Bool
+is_upto line c = nat_le c.line line
+
+none_upto : (line : ℕ) (cs : List Claim) → ((x : Claim) → Member x cs → line < x.line) → filter (is_upto line) cs ≡ []
+none_upto line [] h = refl
+none_upto line (c ∷ cs) h =
+    ap (λ t. cond t (c ∷ filter (is_upto line) cs) (filter (is_upto line) cs)) (not_upto c.line line (h c (inl refl)))
+    ∙ none_upto line cs (λ x m. h x (inr m))
+
+upto_at : (cs : List Claim) (i : ℕ) (d : Claim) → Rising cs → i < length cs
+    → filter (is_upto (get_or cs i d).line) cs ≡ take (suc i) cs
+upto_at [] i d r h = absurd (omega arith)
+upto_at (c ∷ cs) zero d r h =
+    ap (λ t. cond t (c ∷ filter (is_upto c.line) cs) (filter (is_upto c.line) cs)) (is_up c.line c.line (omega arith))
+    ∙ ap (λ l. c ∷ l) (none_upto c.line cs r.0)
+upto_at (c ∷ cs) (suc i) d r h =
+    let below : c.line < (get_or cs i d).line = r.0 (get_or cs i d) (at_member cs i d (omega arith)) in
+    ap (λ t. cond t (c ∷ filter (is_upto (get_or cs i d).line) cs) (filter (is_upto (get_or cs i d).line) cs))
+    (is_up c.line (get_or cs i d).line (omega arith))
+    ∙ ap (λ l. c ∷ l) (upto_at cs i d r.1 (omega arith))
+
+upto_below : (cs : List Claim) (i : ℕ) (d : Claim) (line : ℕ) → Rising cs → i < length cs → line < (get_or cs i d).line
+    → (x : Claim) → Member x (filter (is_upto line) cs) → Member x (take i cs)
+upto_below [] i d line r h l x m = absurd m
+upto_below (c ∷ cs) zero d line r h l x m =
+    subst (λ k. Member x k) (none_upto line (c ∷ cs) (λ y n. elim n [
+      | inl e ↦ subst (λ z. line < z.line) (sym e) l
+      | inr k ↦ let b = r.0 y k in omega (arith, l, b)
+    ])) m
+upto_below (c ∷ cs) (suc i) d line r h l x m = elim (member_cond (nat_le c.line line) x _ _ m) [
+  | inl e ↦ inl e
+  | inr n ↦ inr (upto_below cs i d line r.1 (omega arith) l x n)
+]
+
 module _ (stream : Stream) (day : ℕ) where
-  said : List Claim → List Statement
-  said cs = map (claim_statement stream day) cs
+  claims_append : (xs ys : List Claim) → claims_world stream day (xs ++ ys) ≡ union (claims_world stream day xs) (claims_world stream day ys)
+  claims_append xs ys = ap set.from_list (flat_map-append (claim_facts stream day) xs ys) ∙ list_append total exact _ _
 
-  none_upto : (line : ℕ) (cs : List Claim) → ((x : Claim) → Member x cs → line < x.line)
-      → filter (is_upto line) (map (claim_statement stream day) cs) ≡ []
-  none_upto line [] h = refl
-  none_upto line (c ∷ cs) h =
-      ap (λ t. cond t (claim_statement stream day c ∷ filter (is_upto line) (map (claim_statement stream day) cs))
-      (filter (is_upto line) (map (claim_statement stream day) cs))) (not_upto c.line line (h c (inl refl)))
-      ∙ none_upto line cs (λ x m. h x (inr m))
+  one_claim : (c : Claim) → claims_world stream day (c ∷ []) ≡ claim_world stream day c
+  one_claim c = ap (set.from_list {R = fact_cmp}) (append-nil (claim_facts stream day c))
 
-  upto_at : (cs : List Claim) (i : ℕ) (d : Claim) → Rising cs → i < length cs
-      → filter (is_upto (get_or cs i d).line) (map (claim_statement stream day) cs) ≡ take (suc i) (map (claim_statement stream day) cs)
-  upto_at [] i d r h = absurd (omega arith)
-  upto_at (c ∷ cs) zero d r h =
-      ap (λ t. cond t (claim_statement stream day c ∷ filter (is_upto c.line) (map (claim_statement stream day) cs))
-      (filter (is_upto c.line) (map (claim_statement stream day) cs))) (is_up c.line c.line (omega arith))
-      ∙ ap (λ l. claim_statement stream day c ∷ l) (none_upto c.line cs r.0)
-  upto_at (c ∷ cs) (suc i) d r h =
-      let below : c.line < (get_or cs i d).line = r.0 (get_or cs i d) (at_member cs i d (omega arith)) in
-      ap (λ t. cond t (claim_statement stream day c ∷ filter (is_upto (get_or cs i d).line) (map (claim_statement stream day) cs))
-      (filter (is_upto (get_or cs i d).line) (map (claim_statement stream day) cs))) (is_up c.line (get_or cs i d).line (omega arith))
-      ∙ ap (λ l. claim_statement stream day c ∷ l) (upto_at cs i d r.1 (omega arith))
-
-  upto_below : (cs : List Claim) (i : ℕ) (d : Claim) (line : ℕ) → Rising cs → i < length cs → line < (get_or cs i d).line
-      → (s : Statement) → Member s (filter (is_upto line) (map (claim_statement stream day) cs)) → Member s (take i (map (claim_statement stream day) cs))
-  upto_below [] i d line r h l s m = absurd m
-  upto_below (c ∷ cs) zero d line r h l s m =
-      subst (λ k. Member s k) (none_upto line (c ∷ cs) (λ x n. elim n [
-        | inl e ↦ subst (λ y. line < y.line) (sym e) l
-        | inr k ↦ let b = r.0 x k in omega (arith, l, b)
-      ])) m
-  upto_below (c ∷ cs) (suc i) d line r h l s m = elim (member_cond (nat_le c.line line) s _ _ m) [
-    | inl e ↦ inl e
-    | inr n ↦ inr (upto_below cs i d line r.1 (omega arith) l s n)
-  ]
+  -- a claim's copy states what it does
+  same_claim : (copy claim : Claim) → (copy.line ≡ claim.line) × (copy.length ≡ claim.length) × (copy.unit ≡ claim.unit)
+      × (copy.update ≡ claim.update) × (copy.readings.items ≡ claim.readings.items) → claim_world stream day copy ≡ claim_world stream day claim
+  same_claim copy claim e = λ i. set.from_list {R = fact_cmp} (day_facts stream day (e.1 i) (e.2 i) (e.3 i) (e.4 i))
 
 -- a book, and the claims so far
 pub record IsPlanning (b : BookValue) (claims : List Claim) (i : ℕ) (d : DraftValue) : Type 0 where
   pub book : d.book ≡ b
-  pub so_far : d.said ≡ stated (take i (claim_statements b.stream b.day claims))
+  pub so_far : d.said ≡ claims_world b.stream b.day (take i claims)
   pub agrees : Agrees (union (book_world b) d.said)
 
 pub start_planning : (b : BookValue) (claims : List Claim) (d : DraftValue) (copy : BookValue) → d ≡ record { book = copy; said = set.empty } → copy ≡ b
@@ -137,56 +135,40 @@ start_planning b claims d copy e same lawful = record {
   agrees = subst Agrees (sym (ap (λ x. union (book_world b) x.said) e ∙ union_empty total exact (book_world b))) lawful.agrees;
 }
 
--- a claim's copy states what it does
-pub same_statement : (stream : Stream) (day : ℕ) (copy claim : Claim) → (copy.line ≡ claim.line) × (copy.length ≡ claim.length) × (copy.unit ≡ claim.unit)
-    × (copy.update ≡ claim.update) × (copy.readings.items ≡ claim.readings.items) → claim_statement stream day copy ≡ claim_statement stream day claim
-same_statement stream day copy claim e = λ i. DayOf (record {
-  line = e.0 i;
-  stream = stream;
-  date = day;
-  length = e.1 i;
-  unit = e.2 i;
-  update = e.3 i;
-  readings = e.4 i;
-})
-
 module _ (b : BookValue) (claims : List Claim) (i : ℕ) (d : DraftValue) (is : IsPlanning b claims i d) (item copy : Claim)
     (below : i < length claims) (at : item ≡ get_or claims i item)
     (same : (copy.line ≡ item.line) × (copy.length ≡ item.length) × (copy.unit ≡ item.unit)
     × (copy.update ≡ item.update) × (copy.readings.items ≡ item.readings.items)) where
   -- the facts so far with those of the claim
-  with_claim : union d.said (stated (claim_statement d.book.stream d.book.day copy ∷ []))
-      ≡ stated (take (suc i) (claim_statements b.stream b.day claims))
+  with_claim : union d.said (claim_world d.book.stream d.book.day copy) ≡ claims_world b.stream b.day (take (suc i) claims)
   with_claim =
-      (λ j. union (is.so_far j) (stated (claim_statement (is.book j).stream (is.book j).day copy ∷ [])))
-      ∙ ap (λ s. union (stated (take i (claim_statements b.stream b.day claims))) (stated (s ∷ [])))
-      (same_statement b.stream b.day copy item same ∙ ap (claim_statement b.stream b.day) at
-      ∙ sym (map_at (claim_statement b.stream b.day) claims i item))
-      ∙ sym (stated_append (take i (claim_statements b.stream b.day claims)) (get_or (claim_statements b.stream b.day claims) i (claim_statement b.stream b.day item) ∷ []))
-      ∙ ap stated (sym (take_one_more (claim_statements b.stream b.day claims) i (claim_statement b.stream b.day item)
-      (omega (arith, below, length-map claims (claim_statement b.stream b.day)))))
+      (λ j. union (is.so_far j) (claim_world (is.book j).stream (is.book j).day copy))
+      ∙ ap (union (claims_world b.stream b.day (take i claims)))
+      (same_claim b.stream b.day copy item same ∙ sym (one_claim b.stream b.day item))
+      ∙ sym (claims_append b.stream b.day (take i claims) (item ∷ []))
+      ∙ ap (claims_world b.stream b.day) (ap (λ c. take i claims ++ c ∷ []) at ∙ sym (take_one_more claims i item below))
 
   pub planning_more : (next : DraftValue)
-      → (next.book ≡ d.book) × (next.said ≡ union d.said (stated (claim_statement d.book.stream d.book.day copy ∷ [])))
+      → (next.book ≡ d.book) × (next.said ≡ union d.said (claim_world d.book.stream d.book.day copy))
       × Agrees (union (book_world next.book) next.said) → IsPlanning b claims (i + 1) next
   planning_more next t =
       let one : suc i ≡ i + 1 = omega arith in
       record {
         book = t.0 ∙ is.book;
-        so_far = t.1 ∙ with_claim ∙ ap (λ n. stated (take n (claim_statements b.stream b.day claims))) one;
+        so_far = t.1 ∙ with_claim ∙ ap (λ n. claims_world b.stream b.day (take n claims)) one;
         agrees = subst (λ x. Agrees (union (book_world x) next.said)) (t.0 ∙ is.book) t.2;
       }
 
   pub planning_refused : AreAscending claims → (refusal : Refusal) → (refusal.line ≡ copy.line) × (refusal.field ≡ 0)
-      × Breaks (union (book_world d.book) (union d.said (stated (claim_statement d.book.stream d.book.day copy ∷ [])))) refusal.code refusal.interval
-      → IsRefusal (book_world b) (claim_statements b.stream b.day claims) refusal
+      × Breaks (union (book_world d.book) (union d.said (claim_world d.book.stream d.book.day copy))) refusal.code refusal.interval
+      → IsRefusal (book_world b) (claims_upto b.stream b.day claims) refusal
   planning_refused up refusal q =
       let line : refusal.line ≡ (get_or claims i item).line = q.0 ∙ same.0 ∙ ap (λ c. c.line) at in
       record {
         breaks = subst (λ w. Breaks w refusal.code refusal.interval)
             ((λ j. union (book_world (is.book j)) (with_claim j))
-            ∙ ap (λ l. union (book_world b) (stated l)) (sym (ap (λ n. filter (is_upto n) (claim_statements b.stream b.day claims)) line
-            ∙ upto_at b.stream b.day claims i item (rising claims up) below))) q.2;
+            ∙ ap (λ l. union (book_world b) (claims_world b.stream b.day l)) (sym (ap (λ n. filter (is_upto n) claims) line
+            ∙ upto_at claims i item (rising claims up) below))) q.2;
         before = λ n l. agrees_sub _ _ (λ f m. elim (in_union _ _ f m) [
           | inl a ↦ union_left _ _ f a
           | inr a ↦ union_right _ _ f (subst (λ w. f ∈ w) (sym is.so_far) (earlier n (subst (λ k. n < k) line l) f a))
@@ -194,24 +176,20 @@ module _ (b : BookValue) (claims : List Claim) (i : ℕ) (d : DraftValue) (is : 
         no_field = q.1;
       }
     where
-      earlier : (n : ℕ) → n < (get_or claims i item).line → (f : Fact) → f ∈ upto n (claim_statements b.stream b.day claims)
-          → f ∈ stated (take i (claim_statements b.stream b.day claims))
+      earlier : (n : ℕ) → n < (get_or claims i item).line → (f : Fact) → f ∈ claims_upto b.stream b.day claims n
+          → f ∈ claims_world b.stream b.day (take i claims)
       earlier n l f a =
-          let m = in_flat facts_of (filter (is_upto n) (claim_statements b.stream b.day claims)) f
-          (in_list (flat_map facts_of (filter (is_upto n) (claim_statements b.stream b.day claims))) f a) in
-          list_in (flat_map facts_of (take i (claim_statements b.stream b.day claims))) f
-          (flat_in facts_of (take i (claim_statements b.stream b.day claims)) f m.0
-          (upto_below b.stream b.day claims i item n (rising claims up) below l m.0 m.1) m.2)
+          let m = in_flat (claim_facts b.stream b.day) (filter (is_upto n) claims) f
+          (in_list (flat_map (claim_facts b.stream b.day) (filter (is_upto n) claims)) f a) in
+          list_in (flat_map (claim_facts b.stream b.day) (take i claims)) f
+          (flat_in (claim_facts b.stream b.day) (take i claims) f m.0
+          (upto_below claims i item n (rising claims up) below l m.0 m.1) m.2)
 
   pub planning_stop : AreAscending claims → (stop : Stop) → IfRefused stop (λ refusal. (refusal.line ≡ copy.line) × (refusal.field ≡ 0)
-      × Breaks (union (book_world d.book) (union d.said (stated (claim_statement d.book.stream d.book.day copy ∷ [])))) refusal.code refusal.interval)
-      → IfRefused stop (IsRefusal (book_world b) (claim_statements b.stream b.day claims))
+      × Breaks (union (book_world d.book) (union d.said (claim_world d.book.stream d.book.day copy))) refusal.code refusal.interval)
+      → IfRefused stop (IsRefusal (book_world b) (claims_upto b.stream b.day claims))
   planning_stop up (Refused refusal) q = planning_refused up refusal q
   planning_stop up Memory q = tt
-
-  pub copy_whole : All (λ claim. length claim.readings.items ≡ count_of claim.length) claims → length copy.readings.items ≡ count_of copy.length
-  copy_whole whole =
-      ap length same.4 ∙ ap (λ c. length c.readings.items) at ∙ whole i item below ∙ ap (λ c. count_of c.length) (sym at) ∙ ap count_of (sym same.1)
 
 -- what is put behind nothing
 nil_left : {X : Type 0} (xs ys : List X) → xs ++ ys ≡ [] → xs ≡ []
@@ -254,7 +232,7 @@ apart_tail (x ∷ xs) ys a = apart_tail xs ys a.1
 
 pub planned : (b : BookValue) (claims : List Claim) (i : ℕ) (d : DraftValue) → IsPlanning b claims i d → length claims ≤ i → i ≤ length claims
     → (old new : Additions) (known : ℕ) → content_facts old ≡ [] → Settles d old new known
-    → IsPlan (book_world b) (claim_statements b.stream b.day claims) new
+    → IsPlan (book_world b) (claims_world b.stream b.day claims) new
 planned b claims i d is low high old new known none s = record {
   agrees = subst (λ w. Agrees (union (book_world b) w)) all is.agrees;
   whole = ap (union (book_world b)) added ∙ rest_in ∙ ap (union (book_world b)) all;
@@ -270,10 +248,10 @@ planned b claims i d is low high old new known none s = record {
     facts : (content_facts new ≡ map HeadIs s.heads ++ map version_fact s.versions) × (new.versions.items ≡ s.versions)
     facts = added_facts d old new known s none
 
-    all : d.said ≡ stated (claim_statements b.stream b.day claims)
+    all : d.said ≡ claims_world b.stream b.day claims
     all =
-        let end : i ≡ length (claim_statements b.stream b.day claims) = omega (arith, low, high, length-map claims (claim_statement b.stream b.day)) in
-        is.so_far ∙ ap (λ n. stated (take n (claim_statements b.stream b.day claims))) end ∙ ap stated (take_all (claim_statements b.stream b.day claims))
+        let end : i ≡ length claims = omega (arith, low, high) in
+        is.so_far ∙ ap (λ n. claims_world b.stream b.day (take n claims)) end ∙ ap (claims_world b.stream b.day) (take_all claims)
 
     added : content new ≡ set.difference d.said (book_world b)
     added = ap (set.from_list {R = fact_cmp}) facts.0 ∙ s.just ∙ ap (λ x. set.difference d.said (book_world x)) is.book

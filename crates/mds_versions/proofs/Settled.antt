@@ -20,12 +20,11 @@ use Rattle.mds_world.specs.Facts.Fact.{HeadIs, VersionIs}
 use Rattle.mds_world.specs.Lists.{Apart, Member, member_append, append_left, append_right, apart_append, in_map, map_in}
 use Rattle.mds_world.specs.Members.{same_by, in_list, list_in, len_list}
 use Rattle.mds_world.specs.Sets.{◌∈◌, difference_in, in_difference, in_intersection, intersection_in, in_retain, not_true, retain_in, true_not}
-use Rattle.mds_world.specs.Stated.{stated}
 use Rattle.mds_versions.specs.Books.{BookValue, book_world}
 use Rattle.mds_versions.specs.Claims.{AreShort, fresh_all, fresh_heads, fresh_versions, held_all, held_count, is_held, key_of}
 use Rattle.mds_versions.specs.Content.{version_fact}
 use Rattle.mds_versions.specs.Drafts.{DraftValue, Settles}
-use Rattle.mds_versions.specs.DraftSteps.{IsDraft, claimed_statements, draft_value}
+use Rattle.mds_versions.specs.DraftSteps.{IsDraft, all_claimed, draft_value}
 use Rattle.mds_versions.specs.declared.additions.Additions.{Additions}
 use Rattle.mds_versions.proofs.Rows.{same_some}
 use Rattle.mds_versions.proofs.Taken.{head_in_book, head_of, in_book, in_said, said_here}
@@ -354,7 +353,7 @@ module _ (b : BookValue) (form : Option (ℕ × MeasureUnit)) (claimed : BTreeMa
       go None e = absurd (subst (λ es. Member entry es) (d.none e) m)
       go (Some known) e = (known, e)
 
-  to_facts : (f : Fact) → f ∈ stated (claimed_statements b form claimed.entries) → set.contains (book_world b) f ≢ true
+  to_facts : (f : Fact) → f ∈ all_claimed b form claimed.entries → set.contains (book_world b) f ≢ true
       → Member f (map HeadIs (fresh_heads b.stream b.day b.head form) ++ map version_fact (picked_all not b claimed.entries))
   to_facts f i out =
       let n = in_said b form claimed.entries f i in
@@ -377,7 +376,7 @@ module _ (b : BookValue) (form : Option (ℕ × MeasureUnit)) (claimed : BTreeMa
           subst (λ o. Member f (map HeadIs (fresh_heads b.stream b.day None o))) (sym e) (inl is)
 
   from_facts : (f : Fact) → Member f (map HeadIs (fresh_heads b.stream b.day b.head form) ++ map version_fact (picked_all not b claimed.entries))
-      → (f ∈ stated (claimed_statements b form claimed.entries)) × (set.contains (book_world b) f ≢ true)
+      → (f ∈ all_claimed b form claimed.entries) × (set.contains (book_world b) f ≢ true)
   from_facts f m = elim (member_append f (map HeadIs (fresh_heads b.stream b.day b.head form)) (map version_fact (picked_all not b claimed.entries)) m) [
     | inl n ↦ let p = in_map HeadIs (fresh_heads b.stream b.day b.head form) f n in
         let q = from_heads b.head form p.0 p.1 in
@@ -398,7 +397,7 @@ module _ (b : BookValue) (form : Option (ℕ × MeasureUnit)) (claimed : BTreeMa
   ]
 
   just : set.from_list (map HeadIs (fresh_heads b.stream b.day b.head form) ++ map version_fact (picked_all not b claimed.entries))
-      ≡ set.difference (stated (claimed_statements b form claimed.entries)) (book_world b)
+      ≡ set.difference (all_claimed b form claimed.entries) (book_world b)
   just = same_by _ _
       (λ f i. let p = from_facts f (in_list (map HeadIs (fresh_heads b.stream b.day b.head form) ++ map version_fact (picked_all not b claimed.entries)) f i) in
       difference_in total exact _ _ f p.0 p.1)
@@ -413,7 +412,7 @@ module _ (b : BookValue) (form : Option (ℕ × MeasureUnit)) (claimed : BTreeMa
       let e = sym p.2 ∙ q.2 in cc)
 
   held_facts : set.from_list (map version_fact (picked_all has b claimed.entries))
-      ≡ set.intersection (countable (stated (claimed_statements b form claimed.entries))) (countable (book_world b))
+      ≡ set.intersection (countable (all_claimed b form claimed.entries)) (countable (book_world b))
   held_facts = same_by _ _
       (λ f i.
       let p = in_map version_fact (picked_all has b claimed.entries) f (in_list (map version_fact (picked_all has b claimed.entries)) f i) in
@@ -437,7 +436,7 @@ module _ (b : BookValue) (form : Option (ℕ × MeasureUnit)) (claimed : BTreeMa
       ]))
 
   counts : held_all b claimed.entries
-      ≡ set.len (set.intersection (countable (stated (claimed_statements b form claimed.entries))) (countable (book_world b)))
+      ≡ set.len (set.intersection (countable (all_claimed b form claimed.entries)) (countable (book_world b)))
   counts = all_held b claimed.entries ∙ sym (length-map (picked_all has b claimed.entries) version_fact)
       ∙ sym (len_list (map version_fact (picked_all has b claimed.entries)) (all_apart has b claimed.entries d.once)) ∙ ap set.len held_facts
 

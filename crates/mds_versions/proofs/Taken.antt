@@ -1,5 +1,5 @@
 -- What a claim does to a draft.
-use Rattle.std.proofs.Common.{◌≡◌, ◌≢◌, ℕ, zero, suc, ◌+◌, ◌<◌, List, [], ◌∷◌, ◌++◌, length, map, Option, Some, None, refl, sym, ap, ◌∙◌, subst, inl, inr, arith}
+use Rattle.std.proofs.Common.{◌≡◌, ◌≢◌, ℕ, zero, suc, ◌+◌, ◌<◌, List, [], ◌∷◌, length, map, Option, Some, None, refl, sym, ap, ◌∙◌, subst, inl, inr, arith}
 use Rattle.std.specs.Prelude.{Bool, true, false, cond, ◌⊎◌}
 use Rattle.std.specs.BTreeMap.{BTreeMap, insert_entry}
 use Rattle.std.specs.FinSet as set
@@ -14,9 +14,8 @@ use Rattle.std.proofs.lemmas.Bool.Decides.{nat_tests}
 use Rattle.std.proofs.lemmas.Option.{slice_get_cases}
 use Rattle.mds_calendar.specs.Length.{count_of}
 use Rattle.mds_quantity.specs.declared.unit.Unit.{Unit as MeasureUnit}
+use Rattle.mds_names.specs.declared.stream.Stream.{Stream}
 use Rattle.mds_marks.specs.Reading.{ReadingValue}
-use Rattle.mds_nem12.specs.Statements.{DayStatement}
-use Rattle.mds_nem12.specs.Statements.Statement.{DayOf}
 use Rattle.mds_world.specs.declared.facts.Head.{Head}
 use Rattle.mds_world.specs.declared.facts.Key.{Key}
 use Rattle.mds_world.specs.FactOrder.{exact, total}
@@ -25,13 +24,13 @@ use Rattle.mds_world.specs.Facts.Fact.{HeadIs, VersionIs, PeriodIs}
 use Rattle.mds_world.specs.Lists.{Apart, Member, member_append, append_left, in_flat, flat_in, in_map, map_in}
 use Rattle.mds_world.specs.Members.{same_by, in_union, union_left, union_right, in_list, list_in}
 use Rattle.mds_world.specs.Sets.{◌∈◌, union_assoc, union_absorbs, union_empty}
-use Rattle.mds_world.specs.Stated.{facts_of, stated, versions_from}
+use Rattle.mds_world.specs.Stated.{day_facts, versions_from}
 use Rattle.mds_world.specs.World.{Agrees, IsLawful, World, union}
 use Rattle.mds_versions.specs.Books.{BookValue, book_facts, book_world, head_facts, row_fact}
 use Rattle.mds_versions.specs.Claims.{BreaksForm, Contradicts, IsFirst, Suits, SuitsForm, key_of}
 use Rattle.mds_versions.specs.Drafts.{DraftValue}
-use Rattle.mds_versions.specs.DraftSteps.{IsDraft, claimed_statement, claimed_statements, draft_value}
-use Rattle.mds_versions.specs.Merge.{Breaks, HasLengths, HasUnits, claim_statement}
+use Rattle.mds_versions.specs.DraftSteps.{IsDraft, all_claimed, claimed_facts, draft_value}
+use Rattle.mds_versions.specs.Merge.{Breaks, HasTwoLengths, HasTwoUnits, claim_facts, claim_world}
 use Rattle.mds_versions.specs.declared.claim.Claim.{Claim}
 use Rattle.mds_versions.specs.declared.day_book.Version.{Version}
 use Rattle.mds_versions.specs.declared.refusal.RefusalCode.{RefusalCode}
@@ -54,30 +53,30 @@ same_head x y e = cc
 same_key : (x y : Key) (r q : ReadingValue) → VersionIs x r ≡ VersionIs y q → (x ≡ y) × (r ≡ q)
 same_key x y r q e = (cc, cc)
 
--- the versions of a statement, by the places of their readings
-pub from_versions : (day : DayStatement) (i : ℕ) (rs : List ReadingValue) (f : Fact) → Member f (versions_from day i rs)
+-- the versions of a day's readings, by their places
+pub from_versions : (stream : Stream) (day update i : ℕ) (rs : List ReadingValue) (f : Fact) → Member f (versions_from stream day update i rs)
     → (k : ℕ) × (r : ReadingValue) × (slice_get rs k ≡ Some r)
-    × (f ≡ VersionIs (record { stream = day.stream; day = day.date; interval = i + k; update = day.update }) r)
-from_versions day i [] f m = absurd m
-from_versions day i (r ∷ rs) f (inl e) =
+    × (f ≡ VersionIs (record { stream = stream; day = day; interval = i + k; update = update }) r)
+from_versions stream day update i [] f m = absurd m
+from_versions stream day update i (r ∷ rs) f (inl e) =
     let z : i ≡ i + 0 = omega arith in
-    (0, r, refl, e ∙ ap (λ n. VersionIs (record { stream = day.stream; day = day.date; interval = n; update = day.update }) r) z)
-from_versions day i (r ∷ rs) f (inr m) =
-    let n = from_versions day (i + 1) rs f m in
+    (0, r, refl, e ∙ ap (λ n. VersionIs (record { stream = stream; day = day; interval = n; update = update }) r) z)
+from_versions stream day update i (r ∷ rs) f (inr m) =
+    let n = from_versions stream day update (i + 1) rs f m in
     let z : i + 1 + n.0 ≡ i + suc n.0 = omega arith in
-    (suc n.0, n.1, n.2, n.3 ∙ ap (λ x. VersionIs (record { stream = day.stream; day = day.date; interval = x; update = day.update }) n.1) z)
+    (suc n.0, n.1, n.2, n.3 ∙ ap (λ x. VersionIs (record { stream = stream; day = day; interval = x; update = update }) n.1) z)
 
-pub to_versions : (day : DayStatement) (i : ℕ) (rs : List ReadingValue) (k : ℕ) (r : ReadingValue) → slice_get rs k ≡ Some r
-    → Member (VersionIs (record { stream = day.stream; day = day.date; interval = i + k; update = day.update }) r) (versions_from day i rs)
-to_versions day i [] k r e = cc
-to_versions day i (x ∷ rs) zero r e =
+pub to_versions : (stream : Stream) (day update i : ℕ) (rs : List ReadingValue) (k : ℕ) (r : ReadingValue) → slice_get rs k ≡ Some r
+    → Member (VersionIs (record { stream = stream; day = day; interval = i + k; update = update }) r) (versions_from stream day update i rs)
+to_versions stream day update i [] k r e = cc
+to_versions stream day update i (x ∷ rs) zero r e =
     let z : i + 0 ≡ i = omega arith in
     let s : r ≡ x = cc in
-    inl (λ j. VersionIs (record { stream = day.stream; day = day.date; interval = z j; update = day.update }) (s j))
-to_versions day i (x ∷ rs) (suc k) r e =
+    inl (λ j. VersionIs (record { stream = stream; day = day; interval = z j; update = update }) (s j))
+to_versions stream day update i (x ∷ rs) (suc k) r e =
     let z : i + 1 + k ≡ i + suc k = omega arith in
-    inr (subst (λ n. Member (VersionIs (record { stream = day.stream; day = day.date; interval = n; update = day.update }) r) (versions_from day (i + 1) rs)) z
-    (to_versions day (i + 1) rs k r e))
+    inr (subst (λ n. Member (VersionIs (record { stream = stream; day = day; interval = n; update = update }) r) (versions_from stream day update (i + 1) rs)) z
+    (to_versions stream day update (i + 1) rs k r e))
 
 -- a fact that a claim of a form under an update states
 abbrev pub IsOfClaim : BookValue → ℕ × MeasureUnit → ℕ → List ReadingValue → Fact → Type 0
@@ -85,33 +84,22 @@ IsOfClaim b form update readings f =
     (f ≡ HeadIs (head_of b form))
     ⊎ ((k : ℕ) × (r : ReadingValue) × (slice_get readings k ≡ Some r) × (f ≡ VersionIs (key_of b (k + 1) update) r))
 
-abbrev day_statement : BookValue → ℕ → ℕ × MeasureUnit → ℕ → List ReadingValue → DayStatement
-day_statement b line form update readings = record {
-  line = line;
-  stream = b.stream;
-  date = b.day;
-  length = form.0;
-  unit = form.1;
-  update = update;
-  readings = readings;
-}
-
-pub of_claim : (b : BookValue) (line : ℕ) (form : ℕ × MeasureUnit) (update : ℕ) (readings : List ReadingValue) (f : Fact)
-    → Member f (facts_of (DayOf (day_statement b line form update readings))) → IsOfClaim b form update readings f
-of_claim b line form update readings f (inl e) = inl e
-of_claim b line form update readings f (inr m) =
-    let n = from_versions (day_statement b line form update readings) 1 readings f m in
+pub of_claim : (b : BookValue) (form : ℕ × MeasureUnit) (update : ℕ) (readings : List ReadingValue) (f : Fact)
+    → Member f (day_facts b.stream b.day form.0 form.1 update readings) → IsOfClaim b form update readings f
+of_claim b form update readings f (inl e) = inl e
+of_claim b form update readings f (inr m) =
+    let n = from_versions b.stream b.day update 1 readings f m in
     let z : 1 + n.0 ≡ n.0 + 1 = omega arith in
     inr (n.0, n.1, n.2, n.3 ∙ ap (λ i. VersionIs (key_of b i update) n.1) z)
 
-pub claim_of : (b : BookValue) (line : ℕ) (form : ℕ × MeasureUnit) (update : ℕ) (readings : List ReadingValue) (f : Fact)
-    → IsOfClaim b form update readings f → Member f (facts_of (DayOf (day_statement b line form update readings)))
-claim_of b line form update readings f (inl e) = inl e
-claim_of b line form update readings f (inr n) =
+pub claim_of : (b : BookValue) (form : ℕ × MeasureUnit) (update : ℕ) (readings : List ReadingValue) (f : Fact)
+    → IsOfClaim b form update readings f → Member f (day_facts b.stream b.day form.0 form.1 update readings)
+claim_of b form update readings f (inl e) = inl e
+claim_of b form update readings f (inr n) =
     let z : 1 + n.0 ≡ n.0 + 1 = omega arith in
-    inr (subst (λ g. Member g (versions_from (day_statement b line form update readings) 1 readings))
+    inr (subst (λ g. Member g (versions_from b.stream b.day update 1 readings))
     (ap (λ i. VersionIs (key_of b i update) n.1) z ∙ sym n.3)
-    (to_versions (day_statement b line form update readings) 1 readings n.0 n.1 n.2))
+    (to_versions b.stream b.day update 1 readings n.0 n.1 n.2))
 
 -- a draft's World: of one day, with the head of the form where it has one
 pub record IsBase (b : BookValue) (form : Option (ℕ × MeasureUnit)) (w : World) : Type 0 where
@@ -121,19 +109,15 @@ pub record IsBase (b : BookValue) (form : Option (ℕ × MeasureUnit)) (w : Worl
   pub periods : (key : PeriodKey) (content : PeriodContent) → PeriodIs key content ∈ w → ⊥
 
 module _ (b : BookValue) (c : Claim) where
-  pub in_claim : (f : Fact) → f ∈ stated (claim_statement b.stream b.day c ∷ []) → IsOfClaim b (c.length, c.unit) c.update c.readings.items f
-  in_claim f i = elim (member_append f (facts_of (claim_statement b.stream b.day c)) [] (in_list (facts_of (claim_statement b.stream b.day c) ++ []) f i)) [
-    | inl m ↦ of_claim b c.line (c.length, c.unit) c.update c.readings.items f m
-    | inr z ↦ absurd z
-  ]
+  pub in_claim : (f : Fact) → f ∈ claim_world b.stream b.day c → IsOfClaim b (c.length, c.unit) c.update c.readings.items f
+  in_claim f i = of_claim b (c.length, c.unit) c.update c.readings.items f (in_list (claim_facts b.stream b.day c) f i)
 
-  pub claim_in : (f : Fact) → IsOfClaim b (c.length, c.unit) c.update c.readings.items f → f ∈ stated (claim_statement b.stream b.day c ∷ [])
-  claim_in f i =
-      list_in (facts_of (claim_statement b.stream b.day c) ++ []) f (append_left f (facts_of (claim_statement b.stream b.day c)) [] (claim_of b c.line (c.length, c.unit) c.update c.readings.items f i))
+  pub claim_in : (f : Fact) → IsOfClaim b (c.length, c.unit) c.update c.readings.items f → f ∈ claim_world b.stream b.day c
+  claim_in f i = list_in (claim_facts b.stream b.day c) f (claim_of b (c.length, c.unit) c.update c.readings.items f i)
 
 module _ (b : BookValue) (form : Option (ℕ × MeasureUnit)) (w : World) (c : Claim) (is : IsBase b form w) where
   length_breaks : (known : ℕ × MeasureUnit) → form ≡ Some known → known.0 ≢ c.length
-      → HasLengths (union w (stated (claim_statement b.stream b.day c ∷ [])))
+      → HasTwoLengths (union w (claim_world b.stream b.day c))
   length_breaks known e apart = (
     head_of b known,
     head_of b (c.length, c.unit),
@@ -145,7 +129,7 @@ module _ (b : BookValue) (form : Option (ℕ × MeasureUnit)) (w : World) (c : C
   )
 
   -- the heads are those of the form and of the claim
-  head_is : (h : Head) → HeadIs h ∈ union w (stated (claim_statement b.stream b.day c ∷ []))
+  head_is : (h : Head) → HeadIs h ∈ union w (claim_world b.stream b.day c)
       → ((known : ℕ × MeasureUnit) × (form ≡ Some known) × (h ≡ head_of b known)) ⊎ (h ≡ head_of b (c.length, c.unit))
   head_is h i = elim (in_union w _ _ i) [
     | inl a ↦ inl (is.heads h a)
@@ -157,29 +141,29 @@ module _ (b : BookValue) (form : Option (ℕ × MeasureUnit)) (w : World) (c : C
 
   -- where the form suits the claim in a part of a head, all heads have that part
   length_is : ((known : ℕ × MeasureUnit) → form ≡ Some known → known.0 ≡ c.length)
-      → (h : Head) → HeadIs h ∈ union w (stated (claim_statement b.stream b.day c ∷ [])) → h.length ≡ c.length
+      → (h : Head) → HeadIs h ∈ union w (claim_world b.stream b.day c) → h.length ≡ c.length
   length_is suits h i = elim (head_is h i) [
     | inl k ↦ ap (λ x. x.length) k.2 ∙ suits k.0 k.1
     | inr e ↦ ap (λ x. x.length) e
   ]
 
   unit_is : ((known : ℕ × MeasureUnit) → form ≡ Some known → known.1 ≡ c.unit)
-      → (h : Head) → HeadIs h ∈ union w (stated (claim_statement b.stream b.day c ∷ [])) → h.unit ≡ c.unit
+      → (h : Head) → HeadIs h ∈ union w (claim_world b.stream b.day c) → h.unit ≡ c.unit
   unit_is suits h i = elim (head_is h i) [
     | inl k ↦ ap (λ x. x.unit) k.2 ∙ suits k.0 k.1
     | inr e ↦ ap (λ x. x.unit) e
   ]
 
   no_lengths : ((known : ℕ × MeasureUnit) → form ≡ Some known → known.0 ≡ c.length)
-      → HasLengths (union w (stated (claim_statement b.stream b.day c ∷ []))) → ⊥
+      → HasTwoLengths (union w (claim_world b.stream b.day c)) → ⊥
   no_lengths suits q = q.6 (length_is suits q.0 q.2 ∙ sym (length_is suits q.1 q.3))
 
   no_units : ((known : ℕ × MeasureUnit) → form ≡ Some known → known.1 ≡ c.unit)
-      → HasUnits (union w (stated (claim_statement b.stream b.day c ∷ []))) → ⊥
+      → HasTwoUnits (union w (claim_world b.stream b.day c)) → ⊥
   no_units suits q = q.6 (unit_is suits q.0 q.2 ∙ sym (unit_is suits q.1 q.3))
 
   pub form_refused : (code : RefusalCode) → BreaksForm form c.length c.unit code
-      → Breaks (union w (stated (claim_statement b.stream b.day c ∷ []))) code 0
+      → Breaks (union w (claim_world b.stream b.day c)) code 0
   form_refused LengthConflict q = (length_breaks q.0 q.1 q.2, refl)
   form_refused UnitConflict q = (
     no_lengths (λ known e. ap (λ x. x.0) (same_some known q.0 (sym e ∙ q.1)) ∙ q.2),
@@ -198,8 +182,8 @@ module _ (b : BookValue) (form : Option (ℕ × MeasureUnit)) (w : World) (c : C
   form_refused UnknownDay q = absurd q
 
   -- two versions with one key have one reading where the claim suits
-  one_reading_at : (key : Key) (x y : ReadingValue) → VersionIs key x ∈ union w (stated (claim_statement b.stream b.day c ∷ []))
-      → VersionIs key y ∈ union w (stated (claim_statement b.stream b.day c ∷ []))
+  one_reading_at : (key : Key) (x y : ReadingValue) → VersionIs key x ∈ union w (claim_world b.stream b.day c)
+      → VersionIs key y ∈ union w (claim_world b.stream b.day c)
       → ((k : ℕ) → key.interval ≡ k + 1 → Suits w b c.update c.readings.items k) → x ≡ y
   one_reading_at key x y i j suits = elim (in_union w _ _ i) [
     | inl a ↦ elim (in_union w _ _ j) [
@@ -229,30 +213,30 @@ module _ (b : BookValue) (form : Option (ℕ × MeasureUnit)) (w : World) (c : C
           let k : n.0 ≡ m.0 = omega arith in
           s.1 ∙ same_some n.1 m.1 (sym n.2 ∙ ap (slice_get c.readings.items) k ∙ m.2) ∙ sym t.1
 
-  no_period : (key : PeriodKey) (content : PeriodContent) → PeriodIs key content ∈ union w (stated (claim_statement b.stream b.day c ∷ [])) → ⊥
+  no_period : (key : PeriodKey) (content : PeriodContent) → PeriodIs key content ∈ union w (claim_world b.stream b.day c) → ⊥
   no_period key content i = elim (in_union w _ _ i) [
     | inl a ↦ is.periods key content a
     | inr a ↦ elim (in_claim b c _ a) [ inl e ↦ cc | inr n ↦ let k = n.3 in cc ]
   ]
 
   pub accepted : SuitsForm form c.length c.unit → ((k : ℕ) → Suits w b c.update c.readings.items k)
-      → Agrees (union w (stated (claim_statement b.stream b.day c ∷ [])))
+      → Agrees (union w (claim_world b.stream b.day c))
   accepted same suits = record {
     one_head = λ x y i j s t. one_head x y i j;
     one_reading = λ key x y i j. one_reading_at key x y i j (λ k e. suits k);
     one_content = λ key x y i j. absurd (no_period key x i);
   }
     where
-      claimed : (h : Head) → HeadIs h ∈ union w (stated (claim_statement b.stream b.day c ∷ [])) → h ≡ head_of b (c.length, c.unit)
+      claimed : (h : Head) → HeadIs h ∈ union w (claim_world b.stream b.day c) → h ≡ head_of b (c.length, c.unit)
       claimed h i = elim (head_is h i) [ inl k ↦ k.2 ∙ ap (head_of b) (same k.0 k.1) | inr e ↦ e ]
 
-      one_head : (x y : Head) → HeadIs x ∈ union w (stated (claim_statement b.stream b.day c ∷ []))
-          → HeadIs y ∈ union w (stated (claim_statement b.stream b.day c ∷ [])) → x ≡ y
+      one_head : (x y : Head) → HeadIs x ∈ union w (claim_world b.stream b.day c)
+          → HeadIs y ∈ union w (claim_world b.stream b.day c) → x ≡ y
       one_head x y i j = claimed x i ∙ sym (claimed y j)
 
   pub reading_refused : SuitsForm form c.length c.unit → (interval : ℕ)
       → IsFirst (Contradicts w b c.update c.readings.items) (Suits w b c.update c.readings.items) interval
-      → Breaks (union w (stated (claim_statement b.stream b.day c ∷ []))) VersionConflict interval
+      → Breaks (union w (claim_world b.stream b.day c)) VersionConflict interval
   reading_refused same interval q =
       let wrong = q.2 in (
         no_lengths (λ known e. ap (λ x. x.0) (same known e)),
@@ -274,22 +258,20 @@ module _ (b : BookValue) (form : Option (ℕ × MeasureUnit)) (w : World) (c : C
 
 -- what was claimed before
 pub in_said : (b : BookValue) (form : Option (ℕ × MeasureUnit)) (es : List (ℕ × Vec ReadingValue Global)) (f : Fact)
-    → f ∈ stated (claimed_statements b form es)
+    → f ∈ all_claimed b form es
     → (known : ℕ × MeasureUnit) × (form ≡ Some known) × (entry : ℕ × Vec ReadingValue Global) × Member entry es
     × IsOfClaim b known entry.0 entry.1.items f
 in_said b None es f i = absurd (in_list [] f i)
 in_said b (Some known) es f i =
-    let m = in_flat facts_of (map (claimed_statement b known) es) f (in_list (flat_map facts_of (map (claimed_statement b known) es)) f i) in
-    let n = in_map (claimed_statement b known) es m.0 m.1 in
-    (known, refl, n.0, n.1, of_claim b 0 known n.0.0 n.0.1.items f (subst (λ s. Member f (facts_of s)) n.2 m.2))
+    let n = in_flat (claimed_facts b known) es f (in_list (flat_map (claimed_facts b known) es) f i) in
+    (known, refl, n.0, n.1, of_claim b known n.0.0 n.0.1.items f n.2)
 
 pub said_in : (b : BookValue) (known : ℕ × MeasureUnit) (es : List (ℕ × Vec ReadingValue Global))
     (entry : ℕ × Vec ReadingValue Global) → Member entry es → (f : Fact) → IsOfClaim b known entry.0 entry.1.items f
-    → f ∈ stated (map (claimed_statement b known) es)
+    → f ∈ all_claimed b (Some known) es
 said_in b known es entry m f is =
-    list_in (flat_map facts_of (map (claimed_statement b known) es)) f
-    (flat_in facts_of (map (claimed_statement b known) es) f (claimed_statement b known entry) (map_in (claimed_statement b known) es entry m)
-    (claim_of b 0 known entry.0 entry.1.items f is))
+    list_in (flat_map (claimed_facts b known) es) f
+    (flat_in (claimed_facts b known) es f entry m (claim_of b known entry.0 entry.1.items f is))
 
 -- a book's facts
 in_head_facts : (b : BookValue) (head : Option (ℕ × MeasureUnit)) (f : Fact) → Member f (head_facts b.stream b.day head)
@@ -318,11 +300,11 @@ head_in_book b known e =
 module _ (b : BookValue) (form : Option (ℕ × MeasureUnit)) (claimed : BTreeMap ℕ (Vec ReadingValue Global)) (d : IsDraft b form claimed) where
   -- what is said of the form that is known
   pub said_here : (known : ℕ × MeasureUnit) → form ≡ Some known → (entry : ℕ × Vec ReadingValue Global) → Member entry claimed.entries
-      → (f : Fact) → IsOfClaim b known entry.0 entry.1.items f → f ∈ stated (claimed_statements b form claimed.entries)
+      → (f : Fact) → IsOfClaim b known entry.0 entry.1.items f → f ∈ all_claimed b form claimed.entries
   said_here known e entry m f is =
-      subst (λ o. f ∈ stated (claimed_statements b o claimed.entries)) (sym e) (said_in b known claimed.entries entry m f is)
+      subst (λ o. f ∈ all_claimed b o claimed.entries) (sym e) (said_in b known claimed.entries entry m f is)
 
-  pub base : IsBase b form (union (book_world b) (stated (claimed_statements b form claimed.entries)))
+  pub base : IsBase b form (union (book_world b) (all_claimed b form claimed.entries))
   base = record {
     agrees = d.agrees;
     heads = heads;
@@ -333,7 +315,7 @@ module _ (b : BookValue) (form : Option (ℕ × MeasureUnit)) (claimed : BTreeMa
     periods = periods;
   }
     where
-      heads : (h : Head) → HeadIs h ∈ union (book_world b) (stated (claimed_statements b form claimed.entries))
+      heads : (h : Head) → HeadIs h ∈ union (book_world b) (all_claimed b form claimed.entries)
           → (known : ℕ × MeasureUnit) × (form ≡ Some known) × (h ≡ head_of b known)
       heads h i = elim (in_union _ _ _ i) [
         | inl a ↦ elim (in_book b _ a) [
@@ -347,7 +329,7 @@ module _ (b : BookValue) (form : Option (ℕ × MeasureUnit)) (claimed : BTreeMa
       ]
 
       periods : (key : PeriodKey) (content : PeriodContent)
-          → PeriodIs key content ∈ union (book_world b) (stated (claimed_statements b form claimed.entries)) → ⊥
+          → PeriodIs key content ∈ union (book_world b) (all_claimed b form claimed.entries) → ⊥
       periods key content i = elim (in_union _ _ _ i) [
         | inl a ↦ elim (in_book b _ a) [ inl k ↦ let e = k.2 in cc | inr r ↦ let e = r.2 in cc ]
         | inr a ↦ let n = in_said b form claimed.entries _ a in elim n.4 [ inl e ↦ cc | inr v ↦ let k = v.3 in cc ]
@@ -369,18 +351,18 @@ module _ (b : BookValue) (form : Option (ℕ × MeasureUnit)) (claimed : BTreeMa
       as_many = d.whole (c.length, c.unit) (known_form _ m c.length c.unit suits) _ m
 
       said_version : (k : ℕ) (r : ReadingValue) → slice_get readings.items k ≡ Some r
-          → VersionIs (key_of b (k + 1) c.update) r ∈ union (book_world b) (stated (claimed_statements b form claimed.entries))
+          → VersionIs (key_of b (k + 1) c.update) r ∈ union (book_world b) (all_claimed b form claimed.entries)
       said_version k r e =
           union_right _ _ _ (said_here (c.length, c.unit) (known_form _ m c.length c.unit suits) _ m _ (inr (k, r, e, refl)))
 
       pub first_of_claims : (interval : ℕ) → length readings.items ≡ length c.readings.items
           → IsFirst (λ k. slice_get readings.items k ≢ slice_get c.readings.items k)
           (λ k. slice_get readings.items k ≡ slice_get c.readings.items k) interval
-          → IsFirst (Contradicts (union (book_world b) (stated (claimed_statements b form claimed.entries))) b c.update c.readings.items)
-          (Suits (union (book_world b) (stated (claimed_statements b form claimed.entries))) b c.update c.readings.items) interval
+          → IsFirst (Contradicts (union (book_world b) (all_claimed b form claimed.entries)) b c.update c.readings.items)
+          (Suits (union (book_world b) (all_claimed b form claimed.entries)) b c.update c.readings.items) interval
       first_of_claims interval many q = (q.0, q.1, wrong, right)
         where
-          wrong : Contradicts (union (book_world b) (stated (claimed_statements b form claimed.entries))) b c.update c.readings.items q.0
+          wrong : Contradicts (union (book_world b) (all_claimed b form claimed.entries)) b c.update c.readings.items q.0
           wrong = elim (slice_get_cases c.readings.items q.0).1 [
             | inl x ↦ elim (slice_get_cases readings.items q.0).1 [
               | inl y ↦ (x.0, y.0, x.2, said_version q.0 y.0 y.2, λ e. q.2 (y.2 ∙ ap Some e ∙ sym x.2))
@@ -392,12 +374,12 @@ module _ (b : BookValue) (form : Option (ℕ × MeasureUnit)) (claimed : BTreeMa
             ]
           ]
 
-          right : (j : ℕ) → j < q.0 → Suits (union (book_world b) (stated (claimed_statements b form claimed.entries))) b c.update c.readings.items j
+          right : (j : ℕ) → j < q.0 → Suits (union (book_world b) (all_claimed b form claimed.entries)) b c.update c.readings.items j
           right j below mine other e i = d.agrees.one_reading _ other mine i (said_version j mine (q.3 j below ∙ e))
 
       pub known_claim : ((k : ℕ) → slice_get readings.items k ≡ slice_get c.readings.items k)
-          → stated (claimed_statements b form claimed.entries)
-          ≡ union (stated (claimed_statements b form claimed.entries)) (stated (claim_statement b.stream b.day c ∷ []))
+          → all_claimed b form claimed.entries
+          ≡ union (all_claimed b form claimed.entries) (claim_world b.stream b.day c)
       known_claim same = sym (union_absorbs total exact _ _ (λ f i. elim (in_claim b c f i) [
         | inl e ↦ said_here (c.length, c.unit) (known_form _ m c.length c.unit suits) _ m f (inl e)
         | inr n ↦ said_here (c.length, c.unit) (known_form _ m c.length c.unit suits) _ m f (inr (n.0, n.1, same n.0 ∙ n.2, n.3))
@@ -406,7 +388,7 @@ module _ (b : BookValue) (form : Option (ℕ × MeasureUnit)) (claimed : BTreeMa
     -- the update wasn't claimed before
     module _ (absent : (entry : ℕ × Vec ReadingValue Global) → Member entry claimed.entries → entry.0 ≢ c.update) where
       of_book : (interval : ℕ) (r : ReadingValue)
-          → VersionIs (key_of b interval c.update) r ∈ union (book_world b) (stated (claimed_statements b form claimed.entries))
+          → VersionIs (key_of b interval c.update) r ∈ union (book_world b) (all_claimed b form claimed.entries)
           → VersionIs (key_of b interval c.update) r ∈ book_world b
       of_book interval r i = elim (in_union _ _ _ i) [
         | inl a ↦ a
@@ -417,13 +399,13 @@ module _ (b : BookValue) (form : Option (ℕ × MeasureUnit)) (claimed : BTreeMa
       ]
 
       pub suits_all : (k : ℕ) → Suits (book_world b) b c.update c.readings.items k
-          → Suits (union (book_world b) (stated (claimed_statements b form claimed.entries))) b c.update c.readings.items k
+          → Suits (union (book_world b) (all_claimed b form claimed.entries)) b c.update c.readings.items k
       suits_all k s mine other e i = s mine other e (of_book (k + 1) other i)
 
       pub first_of_book : (interval : ℕ)
           → IsFirst (Contradicts (book_world b) b c.update c.readings.items) (Suits (book_world b) b c.update c.readings.items) interval
-          → IsFirst (Contradicts (union (book_world b) (stated (claimed_statements b form claimed.entries))) b c.update c.readings.items)
-          (Suits (union (book_world b) (stated (claimed_statements b form claimed.entries))) b c.update c.readings.items) interval
+          → IsFirst (Contradicts (union (book_world b) (all_claimed b form claimed.entries)) b c.update c.readings.items)
+          (Suits (union (book_world b) (all_claimed b form claimed.entries)) b c.update c.readings.items) interval
       first_of_book interval q =
           let w = q.2 in
           (q.0, q.1, (w.0, w.1, w.2, union_left _ _ _ w.3, w.4), λ j below. suits_all j (q.3 j below))
@@ -540,8 +522,8 @@ module _ (b : BookValue) (form : Option (ℕ × MeasureUnit)) (claimed later : B
   later_old : (x : ℕ × Vec ReadingValue Global) → Member x claimed.entries → Member x later.entries
   later_old x m = subst (λ es. Member x es) (sym put) (inserted_old cmp c.update order c.readings claimed.entries absent x m)
 
-  pub said_more : stated (map (claimed_statement b (c.length, c.unit)) later.entries)
-      ≡ union (stated (claimed_statements b form claimed.entries)) (stated (claim_statement b.stream b.day c ∷ []))
+  pub said_more : all_claimed b (Some (c.length, c.unit)) later.entries
+      ≡ union (all_claimed b form claimed.entries) (claim_world b.stream b.day c)
   said_more = same_by _ _
       (λ f i. let n = in_said b (Some (c.length, c.unit)) later.entries f i in
       let is : IsOfClaim b (c.length, c.unit) n.2.0 n.2.1.items f =
@@ -558,7 +540,7 @@ module _ (b : BookValue) (form : Option (ℕ × MeasureUnit)) (claimed later : B
       ])
 
   module _ (free : (k : ℕ) → Suits (book_world b) b c.update c.readings.items k) where
-    pub agrees_more : Agrees (union (book_world b) (stated (map (claimed_statement b (c.length, c.unit)) later.entries)))
+    pub agrees_more : Agrees (union (book_world b) (all_claimed b (Some (c.length, c.unit)) later.entries))
     agrees_more =
         subst Agrees (union_assoc total exact (book_world b) _ _ ∙ ap (union (book_world b)) (sym said_more))
         (accepted b form _ c (base b form claimed d) suits (λ k. suits_all b form claimed d c suits absent k (free k)))
@@ -580,7 +562,7 @@ module _ (b : BookValue) (form : Option (ℕ × MeasureUnit)) (claimed later : B
 pub draft_same : (b : BookValue) (form : Option (ℕ × MeasureUnit)) (claimed later : BTreeMap ℕ (Vec ReadingValue Global))
     → later.entries ≡ claimed.entries → IsDraft b form claimed → IsDraft b form later
 draft_same b form claimed later e d = record {
-  agrees = subst (λ es. Agrees (union (book_world b) (stated (claimed_statements b form es)))) (sym e) d.agrees;
+  agrees = subst (λ es. Agrees (union (book_world b) (all_claimed b form es))) (sym e) d.agrees;
   whole = λ known k entry m. d.whole known k entry (subst (λ es. Member entry es) e m);
   once = subst (λ es. Apart (map (λ entry. entry.0) es)) (sym e) d.once;
   none = λ k. e ∙ d.none k;
@@ -592,14 +574,14 @@ draft_same b form claimed later e d = record {
 module _ (b : BookValue) (form : Option (ℕ × MeasureUnit)) (claimed : BTreeMap ℕ (Vec ReadingValue Global)) (v : DraftValue)
     (is : draft_value b form claimed ≡ v) (d : IsDraft b form claimed) (c : Claim) where
   refuse : (code : RefusalCode) (interval : ℕ)
-      → Breaks (union (union (book_world b) (stated (claimed_statements b form claimed.entries))) (stated (claim_statement b.stream b.day c ∷ []))) code interval
-      → Breaks (union (book_world v.book) (union v.said (stated (claim_statement v.book.stream v.book.day c ∷ [])))) code interval
+      → Breaks (union (union (book_world b) (all_claimed b form claimed.entries)) (claim_world b.stream b.day c)) code interval
+      → Breaks (union (book_world v.book) (union v.said (claim_world v.book.stream v.book.day c))) code interval
   refuse code interval q =
-      subst (λ x. Breaks (union (book_world x.book) (union x.said (stated (claim_statement x.book.stream x.book.day c ∷ [])))) code interval) is
+      subst (λ x. Breaks (union (book_world x.book) (union x.said (claim_world x.book.stream x.book.day c))) code interval) is
       (subst (λ w. Breaks w code interval) (union_assoc total exact (book_world b) _ _) q)
 
   pub form_end : (code : RefusalCode) → BreaksForm form c.length c.unit code
-      → Breaks (union (book_world v.book) (union v.said (stated (claim_statement v.book.stream v.book.day c ∷ [])))) code 0
+      → Breaks (union (book_world v.book) (union v.said (claim_world v.book.stream v.book.day c))) code 0
   form_end code q = refuse code 0 (form_refused b form _ c (base b form claimed d) code q)
 
   module _ (suits : SuitsForm form c.length c.unit) where
@@ -607,22 +589,22 @@ module _ (b : BookValue) (form : Option (ℕ × MeasureUnit)) (claimed : BTreeMa
         → length readings.items ≡ length c.readings.items → (interval : ℕ)
         → IsFirst (λ k. slice_get readings.items k ≢ slice_get c.readings.items k)
         (λ k. slice_get readings.items k ≡ slice_get c.readings.items k) interval
-        → Breaks (union (book_world v.book) (union v.said (stated (claim_statement v.book.stream v.book.day c ∷ [])))) VersionConflict interval
+        → Breaks (union (book_world v.book) (union v.said (claim_world v.book.stream v.book.day c))) VersionConflict interval
     claim_end readings m many interval q =
         refuse VersionConflict interval
         (reading_refused b form _ c (base b form claimed d) suits interval (first_of_claims b form claimed d c suits readings m interval many q))
 
     pub known_end : (readings : Vec ReadingValue Global) → Member (c.update, readings) claimed.entries
         → ((k : ℕ) → slice_get readings.items k ≡ slice_get c.readings.items k)
-        → (v.said ≡ union v.said (stated (claim_statement v.book.stream v.book.day c ∷ []))) × Agrees (union (book_world v.book) v.said)
+        → (v.said ≡ union v.said (claim_world v.book.stream v.book.day c)) × Agrees (union (book_world v.book) v.said)
     known_end readings m same =
-        subst (λ x. (x.said ≡ union x.said (stated (claim_statement x.book.stream x.book.day c ∷ []))) × Agrees (union (book_world x.book) x.said)) is
+        subst (λ x. (x.said ≡ union x.said (claim_world x.book.stream x.book.day c)) × Agrees (union (book_world x.book) x.said)) is
         (known_claim b form claimed d c suits readings m same, d.agrees)
 
     module _ (absent : (entry : ℕ × Vec ReadingValue Global) → Member entry claimed.entries → entry.0 ≢ c.update) where
       pub book_end : (interval : ℕ)
           → IsFirst (Contradicts (book_world b) b c.update c.readings.items) (Suits (book_world b) b c.update c.readings.items) interval
-          → Breaks (union (book_world v.book) (union v.said (stated (claim_statement v.book.stream v.book.day c ∷ [])))) VersionConflict interval
+          → Breaks (union (book_world v.book) (union v.said (claim_world v.book.stream v.book.day c))) VersionConflict interval
       book_end interval q =
           refuse VersionConflict interval
           (reading_refused b form _ c (base b form claimed d) suits interval (first_of_book b form claimed d c suits absent interval q))
@@ -632,24 +614,24 @@ module _ (b : BookValue) (form : Option (ℕ × MeasureUnit)) (claimed : BTreeMa
           → later.entries ≡ insert_entry cmp claimed.entries c.update c.readings
           → ((k : ℕ) → Suits (book_world b) b c.update c.readings.items k)
           → (b ≡ v.book)
-          × (stated (map (claimed_statement b (c.length, c.unit)) later.entries)
-          ≡ union v.said (stated (claim_statement v.book.stream v.book.day c ∷ [])))
-          × Agrees (union (book_world b) (stated (map (claimed_statement b (c.length, c.unit)) later.entries)))
+          × (all_claimed b (Some (c.length, c.unit)) later.entries
+          ≡ union v.said (claim_world v.book.stream v.book.day c))
+          × Agrees (union (book_world b) (all_claimed b (Some (c.length, c.unit)) later.entries))
       taken_end later cmp order put free = (
         ap (λ x. x.book) is,
-        subst (λ x. stated (map (claimed_statement b (c.length, c.unit)) later.entries) ≡ union x.said (stated (claim_statement x.book.stream x.book.day c ∷ []))) is
+        subst (λ x. all_claimed b (Some (c.length, c.unit)) later.entries ≡ union x.said (claim_world x.book.stream x.book.day c)) is
             (said_more b form claimed later d c suits absent cmp order put),
         agrees_more b form claimed later d c suits absent cmp order put free,
       )
 
 -- a draft of which nothing was claimed
-none_said : (b : BookValue) (form : Option (ℕ × MeasureUnit)) → stated (claimed_statements b form []) ≡ set.empty
+none_said : (b : BookValue) (form : Option (ℕ × MeasureUnit)) → all_claimed b form [] ≡ set.empty
 none_said b None = refl
 none_said b (Some known) = refl
 
 pub new_said : (b : BookValue) (form : Option (ℕ × MeasureUnit)) (es : List (ℕ × Vec ReadingValue Global)) → es ≡ []
-    → stated (claimed_statements b form es) ≡ set.empty
-new_said b form es e = ap (λ l. stated (claimed_statements b form l)) e ∙ none_said b form
+    → all_claimed b form es ≡ set.empty
+new_said b form es e = ap (λ l. all_claimed b form l) e ∙ none_said b form
 
 pub new_draft : (b : BookValue) (form : Option (ℕ × MeasureUnit)) (claimed : BTreeMap ℕ (Vec ReadingValue Global))
     → form ≡ b.head → claimed.entries ≡ [] → IsLawful (book_world b) → IsDraft b form claimed

@@ -2,43 +2,36 @@
 use Rattle.std.specs.Prelude.{◌≡◌, ◌⊎◌, ℕ, List, [], map, Option, Some, None, length, refl}
 use Rattle.std.specs.BTreeMap.{BTreeMap}
 use Rattle.std.specs.Coded.{Coded, code_by, coded×, coded_ℕ, coded_list, coded_option}
+use Rattle.std.specs.FinSet as set
 use Rattle.std.specs.FinSet.{code}
+use Rattle.std.specs.List.{flat_map}
 use Rattle.std.specs.declared.alloc.Global.{Global}
 use Rattle.std.specs.declared.vec.Vec.{Vec}
 use Rattle.mds_calendar.specs.Length.{count_of}
 use Rattle.mds_quantity.specs.declared.unit.Unit.{Unit as MeasureUnit}
 use Rattle.mds_marks.specs.Reading.{ReadingValue}
-use Rattle.mds_nem12.specs.Statements.{Statement}
-use Rattle.mds_nem12.specs.Statements.Statement.{DayOf}
+use Rattle.mds_world.specs.Facts.{Fact}
 use Rattle.mds_world.specs.FactCodes.{coded_fact, coded_measure, coded_reading, coded_stream}
 use Rattle.mds_world.specs.Lists.{Apart, Member}
-use Rattle.mds_world.specs.Stated.{stated}
+use Rattle.mds_world.specs.Stated.{day_facts}
 use Rattle.mds_world.specs.World.{Agrees, World, union}
 use Rattle.mds_versions.specs.Books.{BookValue, book_world}
 use Rattle.mds_versions.specs.Drafts.{DraftValue}
 use Rattle.mds_versions.specs.declared.day_book.Version.{Version}
 
 -- what was claimed under an update; on which lines isn't kept
-abbrev pub claimed_statement : BookValue → ℕ × MeasureUnit → ℕ × Vec ReadingValue Global → Statement
-claimed_statement book form entry = DayOf (record {
-  line = 0;
-  stream = book.stream;
-  date = book.day;
-  length = form.0;
-  unit = form.1;
-  update = entry.0;
-  readings = entry.1.items;
-})
+abbrev pub claimed_facts : BookValue → ℕ × MeasureUnit → ℕ × Vec ReadingValue Global → List Fact
+claimed_facts book form entry = day_facts book.stream book.day form.0 form.1 entry.0 entry.1.items
 
 -- what was claimed, update by update
-abbrev pub claimed_statements : BookValue → Option (ℕ × MeasureUnit) → List (ℕ × Vec ReadingValue Global) → List Statement
-claimed_statements book None claimed = []
-claimed_statements book (Some form) claimed = map (claimed_statement book form) claimed
+abbrev pub all_claimed : BookValue → Option (ℕ × MeasureUnit) → List (ℕ × Vec ReadingValue Global) → World
+all_claimed book None claimed = set.empty
+all_claimed book (Some form) claimed = set.from_list (flat_map (claimed_facts book form) claimed)
 
 abbrev pub draft_value : BookValue → Option (ℕ × MeasureUnit) → BTreeMap ℕ (Vec ReadingValue Global) → DraftValue
 draft_value book form claimed = record {
   book = book;
-  said = stated (claimed_statements book form claimed.entries);
+  said = all_claimed book form claimed.entries;
 }
 
 -- All agrees, each claim has a reading for each interval, no update comes twice, and the length and unit are those that

@@ -3,13 +3,11 @@ use Rattle.std.specs.Prelude.{◌≡◌, ℕ, ◌<◌, List, ◌++◌, map, leng
 use Rattle.std.specs.List.{AllPairs}
 use Rattle.std.specs.FinSet as set
 use Rattle.mds_marks.specs.Reading.{ReadingValue}
-use Rattle.mds_nem12.specs.Statements.{Statement}
 use Rattle.mds_world.specs.declared.facts.Head.{Head}
 use Rattle.mds_world.specs.declared.facts.Key.{Key}
 use Rattle.mds_world.specs.Counts.{countable}
 use Rattle.mds_world.specs.Facts.Fact.{HeadIs}
 use Rattle.mds_world.specs.Lists.{Apart}
-use Rattle.mds_world.specs.Stated.{stated}
 use Rattle.mds_world.specs.World.{Agrees, World, union}
 use Rattle.mds_versions.specs.Books.{BookValue, book_world}
 use Rattle.mds_versions.specs.Content.{AreNew, content, version_fact}
@@ -33,12 +31,12 @@ IfRefused Memory P = Unit {0}
 abbrev pub AreAscending : List Claim → Type 0
 AreAscending claims = AllPairs (λ a b. a.line < b.line) claims
 
--- What claims add: all agrees, the union is the same with the additions, and these are new.
-pub record IsPlan (w : World) (statements : List Statement) (additions : Additions) : Type 0 where
-  pub agrees : Agrees (union w (stated statements))
-  pub whole : union w (content additions) ≡ union w (stated statements)
+-- What is added of what claims say: all agrees, the union is the same with the additions, and these are new.
+pub record IsPlan (w said : World) (additions : Additions) : Type 0 where
+  pub agrees : Agrees (union w said)
+  pub whole : union w (content additions) ≡ union w said
   pub new : AreNew w additions
-  pub counted : length additions.versions.items ≡ set.len (set.difference (countable (stated statements)) (countable w))
+  pub counted : length additions.versions.items ≡ set.len (set.difference (countable said) (countable w))
 
 -- What a draft puts behind additions: heads and versions, each once, that are just what is claimed and isn't in the
 -- book; and how many of the versions claimed are in it.

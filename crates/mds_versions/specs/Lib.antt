@@ -9,6 +9,3 @@ pub mod DraftSteps
 pub mod Drafts
 pub mod Merge
 pub mod Queries
-pub mod Stored
-pub mod StoredNotes
-pub mod StoredSteps

@@ -1,6 +1,7 @@
 //! What a line claims of a day.
 
-ghost use Rattle.std.specs.Prelude.{◌≡◌, IfOk};
+ghost use Rattle.std.specs.Prelude.{◌≡◌, IfOk, length as size};
+ghost use Rattle.mds_calendar.specs.Length.{count_of};
 
 use mds_marks::Reading;
 use mds_quantity::Unit;
@@ -18,6 +19,7 @@ pub struct Claim {
     pub update: Moment,
     /// One for each interval, in order.
     pub readings: Vec<Reading>,
+    pub ghost whole: { size readings.items ≡ count_of length },
 }
 
 impl Claim {

@@ -1,19 +1,17 @@
 //! A day of the store with what the lines so far claim of it.
 
-ghost use Rattle.std.specs.Prelude.{◌≡◌, ◌≢◌, ◌≤◌, ◌+◌, ℕ, ◌++◌, [], ◌∷◌, length, map, IfOk, IfErr, IfSome, IfNone, MatchBool, OnOk, List};
-ghost use Rattle.std.specs.List.{All, slice_get};
+ghost use Rattle.std.specs.Prelude.{◌≡◌, ◌≢◌, ◌≤◌, ℕ, ◌++◌, length, IfOk, IfErr, IfSome, IfNone, MatchBool, OnOk};
+ghost use Rattle.std.specs.List.{slice_get};
 ghost use Rattle.std.specs.FinSet as set;
-ghost use Rattle.mds_calendar.specs.Length.{count_of};
 ghost use Rattle.mds_marks.specs.Reading.{ReadingValue};
 ghost use Rattle.mds_world.specs.Facts.Fact.{VersionIs};
 ghost use Rattle.mds_world.specs.Sets.{◌∈◌};
-ghost use Rattle.mds_world.specs.Stated.{stated};
-ghost use Rattle.mds_world.specs.World.{World, Agrees, union};
+ghost use Rattle.mds_world.specs.World.{Agrees, union};
 ghost use Rattle.mds_versions.specs.Books.{book_world};
 ghost use Rattle.mds_versions.specs.declared.draft.Stop.TheVariants.{Refused};
 ghost use Rattle.mds_versions.specs.Drafts.{DraftValue, AreAscending, IfRefused, IsPlan, Settles};
 ghost use Rattle.mds_versions.specs.Claims.{Contradicts, IsFirst, Suits, BreaksForm, SuitsForm, AreShort, fresh_all, fresh_heads, fresh_versions, held_all, held_count, is_held, key_of};
-ghost use Rattle.mds_versions.specs.Merge.{Breaks, IsRefusal, claim_statement, claim_statements};
+ghost use Rattle.mds_versions.specs.Merge.{Breaks, IsRefusal, claim_world, claims_upto, claims_world};
 
 use crate::additions::Additions;
 use crate::claim::Claim;
@@ -252,16 +250,13 @@ impl Draft {
     /// Takes what a line claims of the day beside what the lines before it did, or says which rule
     /// that breaks first.
     pub fn take(&mut self, claim: Claim) -> Result<(), Stop>
-        requires { length claim.readings.items ≡ count_of claim.length }
         ensures ok { OnOk result ((self.new.book ≡ self.old.book)
-            × (self.new.said ≡ union self.old.said
-            (stated (claim_statement self.old.book.stream self.old.book.day claim ∷ [])))
+            × (self.new.said ≡ union self.old.said (claim_world self.old.book.stream self.old.book.day claim))
             × Agrees (union (book_world self.new.book) self.new.said)) }
         ensures refused { IfErr result (λ stop. IfRefused stop (λ refusal.
             (refusal.line ≡ claim.line) × (refusal.field ≡ 0)
             × Breaks (union (book_world self.old.book) (union self.old.said
-            (stated (claim_statement self.old.book.stream self.old.book.day claim ∷ []))))
-            refusal.code refusal.interval)) }
+            (claim_world self.old.book.stream self.old.book.day claim))) refusal.code refusal.interval)) }
         ensures kept { IfErr result (λ stop. self.new ≡ self.old) }
     {
         let Claim {
@@ -309,14 +304,13 @@ impl Draft {
 
 impl DayBook {
     /// What claims of this day add to it, each once, or the first rule that one of them breaks. The
-    /// claims come in the order of their lines, each with a reading for each interval.
+    /// claims come in the order of their lines.
     pub fn plan(&self, alloc: Global, claims: &[Claim]) -> Result<Additions, Stop>
-        requires whole { All (λ claim. length claim.readings.items ≡ count_of claim.length) claims.now }
         requires lines { AreAscending claims.now }
         ensures ok { IfOk result
-            (λ additions. IsPlan (book_world self.now) (claim_statements self.now.stream self.now.day claims.now) additions) }
+            (λ additions. IsPlan (book_world self.now) (claims_world self.now.stream self.now.day claims.now) additions) }
         ensures refused { IfErr result (λ stop. IfRefused stop
-            (IsRefusal (book_world self.now) (claim_statements self.now.stream self.now.day claims.now))) }
+            (IsRefusal (book_world self.now) (claims_upto self.now.stream self.now.day claims.now))) }
     {
         self.is_lawful();
         let Ok(book) = self.try_clone(alloc) else {

@@ -1,5 +1,5 @@
-//! The versions of a day, what lines add to them or why they are refused, and who keeps a World:
-//! the trait of a keeper, and a keeper in memory.
+//! The versions of a day, what lines add to them or why they are refused, and the trait of those
+//! who keep a World.
 #![tactic(auto)]
 
 mod additions;
@@ -7,10 +7,7 @@ mod claim;
 mod day_book;
 mod draft;
 mod keeper;
-mod memory;
 mod refusal;
-mod stored_days;
-mod stored_notes;
 #[cfg(test)]
 mod tests;
 
@@ -20,5 +17,4 @@ pub use day_book::{DayBook, Version};
 pub use draft::{Draft, Stop};
 pub use keeper::{Keeper, Unavailable};
 pub use mds_world::{Detail, Head, Key, StreamDay};
-pub use memory::MemoryKeeper;
 pub use refusal::{Refusal, RefusalCode};

@@ -1,6 +1,8 @@
-//! Tests of a day's book.
+//! Tests of a day's book, and of what claims add to it.
 
-use crate::{DayBook, Version};
+ghost use Rattle.std.specs.Prelude.{◌≡◌, IfOk};
+
+use crate::{Claim, DayBook, Refusal, RefusalCode, Stop, Version};
 use mds_marks::Reading;
 use mds_quantity::Unit;
 use mds_terms::{Day, Length, Moment, Stream};
@@ -98,5 +100,69 @@ fn an_unknown_day_is_an_empty_book(rt: HostRuntime) -> Result<(), Fail> {
     assert!(rt; book.head().is_none());
     assert!(rt; book.current(1).is_none());
     assert!(rt; book.latest_update().is_none());
+    Ok(())
+}
+
+/// A half-hourly day that a line claims under an update in seconds: all its readings are 1 of
+/// quality A but the third.
+fn claim_of(
+    rt: &impl Abort,
+    alloc: Global,
+    line: u64,
+    seconds: i64,
+    third: &str,
+) -> Result<Claim, AllocError>
+    ensures { IfOk result (λ claim. claim.line ≡ line) }
+{
+    let length = Length::from_minutes(30).expect(rt, "a length");
+    let unit = Unit::read(b"kWh").expect(rt, "a unit");
+    let update = Moment::from_seconds(seconds).expect(rt, "a moment");
+    let mut readings = Vec::new(alloc);
+    for i in 0..length.count() {
+        let value = if i == 2 { third } else { "1" };
+        readings.push(Reading::read(alloc, b"A", b"", b"", value.as_bytes())?.expect(rt, value))?;
+    }
+    assert!(rt; readings.len() == length.count());
+    Ok(Claim {
+        line,
+        length,
+        unit,
+        update,
+        readings,
+    })
+}
+
+#[test]
+fn claims_are_planned(rt: HostRuntime) -> Result<(), Fail> {
+    let alloc = rt.alloc();
+    let unknown = book_of(&rt, alloc, false, &[])?.expect(&rt, "a book");
+    let first = claim_of(&rt, alloc, 3, 10, "1")?;
+    let later = claim_of(&rt, alloc, 5, 20, "2")?;
+    let contradicting = claim_of(&rt, alloc, 9, 10, "2")?;
+    let copy = first.try_clone(alloc)?;
+    assert_eq!(rt; copy.line, 3);
+    assert_eq!(rt; copy.length.minutes(), 30);
+    assert!(rt; copy.unit == first.unit);
+    assert_eq!(rt; copy.update.seconds(), 10);
+    assert_eq!(rt; copy.readings.len(), 48);
+    // two updates of an unknown day
+    let additions = unknown.plan(alloc, &[copy, later])?;
+    assert_eq!(rt; additions.heads.len(), 1);
+    assert_eq!(rt; additions.versions.len(), 96);
+    let added = additions.versions.get(50).expect(&rt, "a version");
+    assert_eq!(rt; added.0.interval, 3);
+    assert_eq!(rt; added.0.update.seconds(), 20);
+    let mut text = String::new(alloc);
+    added.1.write_to(&mut text)?;
+    assert_eq!(rt; text.as_str(), "A,,,2");
+    // another reading under the first of them
+    let stop = unknown.plan(alloc, &[first, contradicting]).err();
+    let refusal = Refusal {
+        code: RefusalCode::VersionConflict,
+        line: 9,
+        field: 0,
+        interval: 3,
+    };
+    assert_eq!(rt; stop, Some(Stop::Refused(refusal)));
     Ok(())
 }

@@ -6,7 +6,7 @@ use Rattle.std.proofs.lemmas.Grind.{flat_map-append}
 use Rattle.std.specs.FinSet as set
 use Rattle.mds_names.specs.declared.stream.Stream.{Stream}
 use Rattle.mds_marks.specs.Reading.{ReadingValue}
-use Rattle.mds_nem12.specs.Statements.{Statement}
+use Rattle.mds_statements.specs.Statements.{Statement}
 use Rattle.mds_world.specs.Counts.{added_by, countable, counted, is_counted, known_by}
 use Rattle.mds_world.specs.FactOrder.{exact, fact_cmp, total}
 use Rattle.mds_world.specs.Facts.{Fact}

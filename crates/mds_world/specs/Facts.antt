@@ -5,22 +5,10 @@ use Rattle.mds_quantity.specs.declared.unit.Unit.{Unit as MeasureUnit}
 use Rattle.mds_names.specs.declared.stream.Stream.{Stream}
 use Rattle.mds_marks.specs.Reading.{ReadingValue}
 use Rattle.mds_terms.specs.Event.{EventValue}
+pub use Rattle.mds_statements.specs.Statements.{PeriodContent, PeriodKey}
 use Rattle.mds_world.specs.declared.facts.Detail.{Detail}
 use Rattle.mds_world.specs.declared.facts.Head.{Head}
 use Rattle.mds_world.specs.declared.facts.Key.{Key}
-
--- an accumulation: from one read to another, as it was updated
-pub record PeriodKey : Type 0 where
-  pub stream : Stream
-  pub register : List ℕ
-  pub start : ℕ
-  pub finish : ℕ
-  pub update : ℕ
-
--- its other fields as they are kept, and the four texts of each of its notes
-pub record PeriodContent : Type 0 where
-  pub fields : List (List ℕ)
-  pub notes : List (List (List ℕ))
 
 -- a substitution job: its whole content
 pub record JobContent : Type 0 where

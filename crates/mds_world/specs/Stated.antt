@@ -1,31 +1,38 @@
--- The facts that the statements of a NEM12 file are. MDFF Specification, the 200, 300, 400 and 500 records.
+-- The facts that the statements of a file are. MDFF Specification, the 200, 300, 400 and 500 records of NEM12 and the 250 and
+-- 550 records of NEM13.
 use Rattle.std.specs.Prelude.{ℕ, ◌+◌, List, [], ◌∷◌}
 use Rattle.std.specs.List.{flat_map}
 use Rattle.std.specs.FinSet as set
+use Rattle.mds_quantity.specs.declared.unit.Unit.{Unit as MeasureUnit}
+use Rattle.mds_names.specs.declared.stream.Stream.{Stream}
 use Rattle.mds_marks.specs.Reading.{ReadingValue}
-use Rattle.mds_nem12.specs.Statements.{Statement, DayStatement}
-use Rattle.mds_nem12.specs.Statements.Statement.{HeaderOf, DetailsOf, DayOf, EventOf}
+use Rattle.mds_statements.specs.Statements.{Statement}
+use Rattle.mds_statements.specs.Statements.Statement.{HeaderOf, DetailsOf, DayOf, EventOf, PeriodOf}
 use Rattle.mds_world.specs.Facts.{Fact}
-use Rattle.mds_world.specs.Facts.Fact.{HeadIs, VersionIs, DetailIs, EventIs}
+use Rattle.mds_world.specs.Facts.Fact.{HeadIs, VersionIs, DetailIs, EventIs, PeriodIs}
 use Rattle.mds_world.specs.World.{World}
 
--- the versions of a day's readings in order, the first of which is of the interval
-abbrev pub versions_from : DayStatement → ℕ → List ReadingValue → List Fact
-versions_from day interval [] = []
-versions_from day interval (reading ∷ rest) =
-    VersionIs (record { stream = day.stream; day = day.date; interval = interval; update = day.update }) reading
-    ∷ versions_from day (interval + 1) rest
+-- the versions of a day's readings in order under one update, the first of which is of the interval
+abbrev pub versions_from : Stream → ℕ → ℕ → ℕ → List ReadingValue → List Fact
+versions_from stream day update interval [] = []
+versions_from stream day update interval (reading ∷ rest) =
+    VersionIs (record { stream = stream; day = day; interval = interval; update = update }) reading
+    ∷ versions_from stream day update (interval + 1) rest
 
--- A header states no fact of its own: its moment stands in what it governs. A day states its head, and a version of
--- each interval from 1 on.
+-- the head of a day, and a version of each interval from 1 on under one update
+abbrev pub day_facts : Stream → ℕ → ℕ → MeasureUnit → ℕ → List ReadingValue → List Fact
+day_facts stream day length unit update readings =
+    HeadIs (record { stream = stream; day = day; length = length; unit = unit })
+    ∷ versions_from stream day update 1 readings
+
+-- A header states no fact of its own: its moment stands in what it governs.
 abbrev pub facts_of : Statement → List Fact
 facts_of (HeaderOf header) = []
 facts_of (DetailsOf of_stream) =
     DetailIs (record { stream = of_stream.stream; moment = of_stream.moment; details = of_stream.details }) ∷ []
-facts_of (DayOf day) =
-    HeadIs (record { stream = day.stream; day = day.date; length = day.length; unit = day.unit })
-    ∷ versions_from day 1 day.readings
+facts_of (DayOf day) = day_facts day.stream day.date day.length day.unit day.update day.readings
 facts_of (EventOf event) = EventIs event ∷ []
+facts_of (PeriodOf period) = PeriodIs period.key period.content ∷ []
 
 -- all that the statements state
 abbrev pub stated : List Statement → World

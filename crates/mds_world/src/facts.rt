@@ -1,6 +1,6 @@
 //! What facts are about.
 
-ghost use Rattle.std.specs.Prelude.{◌≡◌, IfOk};
+ghost use Rattle.std.specs.Prelude.{◌≡◌, ◌+◌, ◌<◌, IfOk, OnErr, length};
 
 use mds_quantity::Unit;
 use mds_terms::{Day, Details, Length, Moment, Stream};
@@ -41,9 +41,11 @@ pub struct Detail {
 }
 
 impl Detail {
-    /// The same once more.
+    /// The same once more. Fails only where memory is refused: never where all texts are empty.
     pub fn try_clone(&self) -> Result<Detail, AllocError>
-        ensures { IfOk result (λ detail. detail ≡ self.now) }
+        ensures value { IfOk result (λ detail. detail ≡ self.now) }
+        ensures full { OnErr result (0 < length self.now.details.configuration + length self.now.details.register
+            + length self.now.details.datastream + length self.now.details.meter) }
     {
         Ok(Detail {
             stream: self.stream,

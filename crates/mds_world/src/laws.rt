@@ -3,7 +3,7 @@
 ghost use Rattle.std.specs.Prelude.{◌≡◌, ◌+◌, ◌++◌, ℕ, List};
 ghost use Rattle.mds_names.specs.declared.stream.Stream.{Stream};
 ghost use Rattle.mds_marks.specs.Reading.{ReadingValue};
-ghost use Rattle.mds_nem12.specs.Statements.{Statement};
+ghost use Rattle.mds_statements.specs.Statements.{Statement};
 ghost use Rattle.mds_world.specs.Facts.{Fact};
 ghost use Rattle.mds_world.specs.Sets.{◌∈◌};
 ghost use Rattle.mds_world.specs.World.{World, Agrees, IsCurrent, union};

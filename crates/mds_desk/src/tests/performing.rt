@@ -3,9 +3,9 @@
 use super::{Failing, file_of};
 use crate::{PerformFault, Status, perform};
 use mds_lines::Counted;
+use mds_memory::MemoryKeeper;
 use mds_records::FileKind;
 use mds_service::Request;
-use mds_versions::MemoryKeeper;
 use std::alloc::{AllocError, Global};
 use std::io::Write;
 use std::test::Fail;

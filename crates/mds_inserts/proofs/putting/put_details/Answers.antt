@@ -1,8 +1,8 @@
 use Rattle.std.proofs.Common.{arith, refl, rules}
 use Rattle.sqlite.specs.Held.{state}
 use Rattle.sqlite.proofs.InsideLemmas.{keeps_then}
-use Rattle.mds_world.specs.Facts.Fact.{DetailIs}
 use Rattle.mds_tables.proofs.CallLemmas.{keeps_same, survives_more, survives_same}
+use Rattle.mds_inserts.specs.Writing.{detail_part}
 use Rattle.mds_inserts.proofs.PutLemmas.{next_there, none_there}
 use Rattle.mds_inserts.proofs.putting.put_details.Goals as goal
 
@@ -11,7 +11,7 @@ loop-detail-init g c = record {
   same = refl;
   survives = survives_same (state g.S.Store c.args.tx.now.conn.now);
   kept = λ _. keeps_same (state g.S.Store c.args.tx.now.conn.now);
-  puts = none_there (state g.S.Store c.args.tx.now.conn.now);
+  puts = none_there detail_part (state g.S.Store c.args.tx.now.conn.now);
 }
 
 pub loop-detail-preserved : goal.loop-detail-preserved
@@ -26,7 +26,7 @@ loop-detail-preserved g c =
           (c.loop-detail.invariant.kept (omega (arith, c.put_detail.ensures.survives.clean)))
           (c.put_detail.ensures.kept clean);
       puts =
-          next_there DetailIs old mid new c.args.details.now c.loop-detail.detail-index
+          next_there detail_part old mid new c.args.details.now c.loop-detail.detail-index
           c.detail-item.result (omega arith) c.detail-item.is c.put_detail.ensures.survives.clean
           c.loop-detail.invariant.puts c.in_ok-put_detail.ensures.ok;
     }

@@ -1,8 +1,7 @@
-use Rattle.std.proofs.Common.{◌≡◌, map, take}
+use Rattle.std.proofs.Common.{◌≡◌, take}
 use Rattle.sqlite.specs.Held.{state}
 use Rattle.sqlite.specs.State.{HasCleanDisk, KeepsCommit, Survives}
-use Rattle.mds_world.specs.Facts.Fact.{DetailIs}
-use Rattle.mds_tables.specs.Stores.{PutsThere}
+use Rattle.mds_inserts.specs.Writing.{PutsThere, detail_part}
 use Rattle.mds_inserts.proofs.putting.put_details.Given as goal
 
 abbrev pub invariant-loop-detail : goal.invariant-loop-detail
@@ -13,5 +12,5 @@ invariant-loop-detail g l =
       same : l.tx.conn.ghost_name ≡ l.initial.tx.conn.ghost_name;
       survives : Survives old now (λ _. ⊥);
       kept : HasCleanDisk now → KeepsCommit old now;
-      puts : PutsThere old now (map DetailIs (take l.detail-index l.details));
+      puts : PutsThere detail_part old now (take l.detail-index l.details);
     }

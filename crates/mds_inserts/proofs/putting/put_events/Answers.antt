@@ -1,8 +1,8 @@
 use Rattle.std.proofs.Common.{arith, refl, rules}
 use Rattle.sqlite.specs.Held.{state}
 use Rattle.sqlite.proofs.InsideLemmas.{keeps_then}
-use Rattle.mds_world.specs.Facts.Fact.{EventIs}
 use Rattle.mds_tables.proofs.CallLemmas.{keeps_same, survives_more, survives_same}
+use Rattle.mds_inserts.specs.Writing.{event_part}
 use Rattle.mds_inserts.proofs.PutLemmas.{next_there, none_there}
 use Rattle.mds_inserts.proofs.putting.put_events.Goals as goal
 
@@ -11,7 +11,7 @@ loop-event-init g c = record {
   same = refl;
   survives = survives_same (state g.S.Store c.args.tx.now.conn.now);
   kept = λ _. keeps_same (state g.S.Store c.args.tx.now.conn.now);
-  puts = none_there (state g.S.Store c.args.tx.now.conn.now);
+  puts = none_there event_part (state g.S.Store c.args.tx.now.conn.now);
 }
 
 pub loop-event-preserved : goal.loop-event-preserved
@@ -26,7 +26,7 @@ loop-event-preserved g c =
           (c.loop-event.invariant.kept (omega (arith, c.put_event.ensures.survives.clean)))
           (c.put_event.ensures.kept clean);
       puts =
-          next_there EventIs old mid new c.args.events.now c.loop-event.event-index
+          next_there event_part old mid new c.args.events.now c.loop-event.event-index
           c.event-item.result (omega arith) c.event-item.is c.put_event.ensures.survives.clean
           c.loop-event.invariant.puts c.in_ok-put_event.ensures.ok;
     }

@@ -1,8 +1,7 @@
-use Rattle.std.proofs.Common.{◌≡◌, map, take}
+use Rattle.std.proofs.Common.{◌≡◌, take}
 use Rattle.sqlite.specs.Held.{state}
 use Rattle.sqlite.specs.State.{HasCleanDisk, KeepsCommit, Survives}
-use Rattle.mds_world.specs.Facts.Fact.{EventIs}
-use Rattle.mds_tables.specs.Stores.{PutsThere}
+use Rattle.mds_inserts.specs.Writing.{PutsThere, event_part}
 use Rattle.mds_inserts.proofs.putting.put_events.Given as goal
 
 abbrev pub invariant-loop-event : goal.invariant-loop-event
@@ -13,5 +12,5 @@ invariant-loop-event g l =
       same : l.tx.conn.ghost_name ≡ l.initial.tx.conn.ghost_name;
       survives : Survives old now (λ _. ⊥);
       kept : HasCleanDisk now → KeepsCommit old now;
-      puts : PutsThere old now (map EventIs (take l.event-index l.events));
+      puts : PutsThere event_part old now (take l.event-index l.events);
     }

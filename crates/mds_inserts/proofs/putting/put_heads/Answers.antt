@@ -1,8 +1,8 @@
 use Rattle.std.proofs.Common.{arith, refl, rules}
 use Rattle.sqlite.specs.Held.{state}
 use Rattle.sqlite.proofs.InsideLemmas.{keeps_then}
-use Rattle.mds_world.specs.Facts.Fact.{HeadIs}
 use Rattle.mds_tables.proofs.CallLemmas.{keeps_same, survives_more, survives_same}
+use Rattle.mds_inserts.specs.Writing.{head_part}
 use Rattle.mds_inserts.proofs.PutLemmas.{next_there, none_there}
 use Rattle.mds_inserts.proofs.putting.put_heads.Goals as goal
 
@@ -11,7 +11,7 @@ loop-head-init g c = record {
   same = refl;
   survives = survives_same (state g.S.Store c.args.tx.now.conn.now);
   kept = λ _. keeps_same (state g.S.Store c.args.tx.now.conn.now);
-  puts = none_there (state g.S.Store c.args.tx.now.conn.now);
+  puts = none_there head_part (state g.S.Store c.args.tx.now.conn.now);
 }
 
 pub loop-head-preserved : goal.loop-head-preserved
@@ -26,7 +26,7 @@ loop-head-preserved g c =
           (c.loop-head.invariant.kept (omega (arith, c.put_head.ensures.survives.clean)))
           (c.put_head.ensures.kept clean);
       puts =
-          next_there HeadIs old mid new c.args.heads.now c.loop-head.head-index
+          next_there head_part old mid new c.args.heads.now c.loop-head.head-index
           c.head-item.result (omega arith) c.head-item.is c.put_head.ensures.survives.clean
           c.loop-head.invariant.puts c.in_ok-put_head.ensures.ok;
     }

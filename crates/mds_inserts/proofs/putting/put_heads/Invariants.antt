@@ -1,8 +1,7 @@
-use Rattle.std.proofs.Common.{◌≡◌, map, take}
+use Rattle.std.proofs.Common.{◌≡◌, take}
 use Rattle.sqlite.specs.Held.{state}
 use Rattle.sqlite.specs.State.{HasCleanDisk, KeepsCommit, Survives}
-use Rattle.mds_world.specs.Facts.Fact.{HeadIs}
-use Rattle.mds_tables.specs.Stores.{PutsThere}
+use Rattle.mds_inserts.specs.Writing.{PutsThere, head_part}
 use Rattle.mds_inserts.proofs.putting.put_heads.Given as goal
 
 abbrev pub invariant-loop-head : goal.invariant-loop-head
@@ -13,5 +12,5 @@ invariant-loop-head g l =
       same : l.tx.conn.ghost_name ≡ l.initial.tx.conn.ghost_name;
       survives : Survives old now (λ _. ⊥);
       kept : HasCleanDisk now → KeepsCommit old now;
-      puts : PutsThere old now (map HeadIs (take l.head-index l.heads));
+      puts : PutsThere head_part old now (take l.head-index l.heads);
     }

@@ -1,8 +1,8 @@
 use Rattle.std.proofs.Common.{arith, refl, rules}
 use Rattle.sqlite.specs.Held.{state}
 use Rattle.sqlite.proofs.InsideLemmas.{keeps_then}
-use Rattle.mds_versions.specs.Content.{version_fact}
 use Rattle.mds_tables.proofs.CallLemmas.{keeps_same, survives_more, survives_same}
+use Rattle.mds_inserts.specs.Writing.{version_part}
 use Rattle.mds_inserts.proofs.PutLemmas.{next_there, none_there}
 use Rattle.mds_inserts.proofs.putting.put_versions.Goals as goal
 
@@ -11,7 +11,7 @@ loop-version-init g c = record {
   same = refl;
   survives = survives_same (state g.S.Store c.args.tx.now.conn.now);
   kept = λ _. keeps_same (state g.S.Store c.args.tx.now.conn.now);
-  puts = none_there (state g.S.Store c.args.tx.now.conn.now);
+  puts = none_there version_part (state g.S.Store c.args.tx.now.conn.now);
 }
 
 pub loop-version-preserved : goal.loop-version-preserved
@@ -26,7 +26,7 @@ loop-version-preserved g c =
           (c.loop-version.invariant.kept (omega (arith, c.put_version.ensures.survives.clean)))
           (c.put_version.ensures.kept clean);
       puts =
-          next_there version_fact old mid new c.args.versions.now c.loop-version.version-index
+          next_there version_part old mid new c.args.versions.now c.loop-version.version-index
           c.version-item.result (omega arith) c.version-item.is c.put_version.ensures.survives.clean
           c.loop-version.invariant.puts c.in_ok-put_version.ensures.ok;
     }

@@ -1,8 +1,7 @@
-use Rattle.std.proofs.Common.{◌≡◌, map, take}
+use Rattle.std.proofs.Common.{◌≡◌, take}
 use Rattle.sqlite.specs.Held.{state}
 use Rattle.sqlite.specs.State.{HasCleanDisk, KeepsCommit, Survives}
-use Rattle.mds_versions.specs.Content.{version_fact}
-use Rattle.mds_tables.specs.Stores.{PutsThere}
+use Rattle.mds_inserts.specs.Writing.{PutsThere, version_part}
 use Rattle.mds_inserts.proofs.putting.put_versions.Given as goal
 
 abbrev pub invariant-loop-version : goal.invariant-loop-version
@@ -13,5 +12,5 @@ invariant-loop-version g l =
       same : l.tx.conn.ghost_name ≡ l.initial.tx.conn.ghost_name;
       survives : Survives old now (λ _. ⊥);
       kept : HasCleanDisk now → KeepsCommit old now;
-      puts : PutsThere old now (map version_fact (take l.version-index l.versions));
+      puts : PutsThere version_part old now (take l.version-index l.versions);
     }

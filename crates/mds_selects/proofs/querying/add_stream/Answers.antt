@@ -1,7 +1,6 @@
 use Rattle.std.proofs.lemmas.Result.{on_ok_weaker}
-use Rattle.mds_versions.proofs.Places.{stream_exact}
 use Rattle.mds_selects.specs.Added.{SaysStream}
-use Rattle.mds_selects.proofs.Adding.{adds_one, one_stream}
+use Rattle.mds_selects.proofs.Adding.{adds_one, one_stream, stream_exact}
 use Rattle.mds_selects.proofs.querying.add_stream.Goals as goal
 
 pub returns : goal.returns

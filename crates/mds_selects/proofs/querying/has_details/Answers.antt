@@ -8,15 +8,13 @@ use Rattle.mds_selects.proofs.querying.has_details.Goals as goal
 pub returns-clause-found : goal.returns-clause-found
 returns-clause-found g c clean holds =
     let old = state g.S.Store c.args.conn.now in
-    let mid = state g.S.Store c.ready.new.conn in
-    let new = state g.S.Store c.same_details_rows.new.conn in
     let rows = c.in-Ok-same_details_rows.rows.items in
     let ready = c.in-Ok.ensures.ok in
-    let earlier = c.ready.ensures.survives.clean in
-    let later = c.same_details_rows.ensures.clean in
+    let begun = c.ready.ensures.survives in
+    let asked = c.same_details_rows.ensures.survives in
     let held = tables_held old holds in
     either_way (IsTrue c.has_any.result) (rows ≢ []) _
     (subst (λ rs. IsTrue c.has_any.result ↔ (rs ≢ [])) c.deref.ensures.value c.has_any.ensures)
-    (finds_details old.committed.trees (sound old mid new ready earlier later clean held) c.args.detail.now
+    (finds_details old.committed.trees (sound ready begun asked held clean) c.args.detail.now
     c.are_small.ensures.moment c.are_small.ensures.next rows
-    (shows old mid new ready earlier later clean held _ (c.in-Ok-same_details_rows.ensures.ok clean)))
+    (shows ready begun asked held clean _ (c.in-Ok-same_details_rows.ensures.ok clean)))

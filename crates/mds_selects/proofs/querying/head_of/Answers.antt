@@ -10,15 +10,13 @@ use Rattle.mds_selects.proofs.querying.head_of.Goals as goal
 pub returns-clause-found : goal.returns-clause-found
 returns-clause-found g c clean holds =
     let old = state g.S.Store c.args.conn.now in
-    let mid = state g.S.Store c.ready.new.conn in
-    let new = state g.S.Store c.head_rows.new.conn in
     let rows = c.in-Ok-head_rows.rows.items in
     let ready = c.in-Ok.ensures.ok in
-    let earlier = c.ready.ensures.survives.clean in
-    let later = c.head_rows.ensures.clean in
+    let begun = c.ready.ensures.survives in
+    let asked = c.head_rows.ensures.survives in
     let held = tables_held old holds in
     IfOk-weaker c.only_head.result (IsOnlyHead rows) _
     (finds_head c.args.stream.now c.args.day (omega (arith, c.number.ensures.last)) old.committed.trees
-    (sound old mid new ready earlier later clean held) rows
-    (shows old mid new ready earlier later clean held _ (c.in-Ok-head_rows.ensures.ok clean)))
+    (sound ready begun asked held clean) rows
+    (shows ready begun asked held clean _ (c.in-Ok-head_rows.ensures.ok clean)))
     (subst (λ rs. IfOk c.only_head.result (IsOnlyHead rs)) c.deref.ensures.value c.only_head.ensures)

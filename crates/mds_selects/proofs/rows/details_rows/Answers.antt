@@ -1,6 +1,6 @@
 use Rattle.sqlite.specs.Held.{state}
 use Rattle.mds_selects.proofs.DetailLemmas.{finds_details}
-use Rattle.mds_selects.proofs.QueryLemmas.{fails}
+use Rattle.mds_selects.proofs.QueryLemmas.{fails, quiet}
 use Rattle.mds_selects.proofs.SelectTexts.{select_details, select_details_plain}
 use Rattle.mds_selects.proofs.rows.details_rows.Goals as goal
 
@@ -17,3 +17,8 @@ returns-clause-err g c clean has =
     let new = state g.S.Store c.query_all.new.self in
     fails select_details select_details_plain old new _ has
     c.query_all.result (c.query_all.ensures.err clean)
+
+pub returns-clause-survives : goal.returns-clause-survives
+returns-clause-survives g c =
+    quiet select_details select_details_plain (state g.S.Store c.args.conn.now) (state g.S.Store c.query_all.new.self) _
+    c.query_all.ensures.survives

@@ -2,7 +2,7 @@ use Rattle.std.proofs.Common.{[], ◌∷◌, refl}
 use Rattle.sqlite.specs.Held.{state}
 use Rattle.mds_tables.specs.Cells as row
 use Rattle.mds_tables.specs.Tables.{event_table}
-use Rattle.mds_selects.proofs.QueryLemmas.{event_typed, events_for, fails, finds_rows}
+use Rattle.mds_selects.proofs.QueryLemmas.{event_typed, events_for, fails, finds_rows, quiet}
 use Rattle.mds_selects.proofs.SelectTexts.{select_events, select_events_is, select_events_plain}
 use Rattle.mds_selects.proofs.rows.event_rows.Goals as goal
 
@@ -21,3 +21,8 @@ returns-clause-err g c clean has =
     let new = state g.S.Store c.query_all.new.self in
     fails select_events select_events_plain old new _ has
     c.query_all.result (c.query_all.ensures.err clean)
+
+pub returns-clause-survives : goal.returns-clause-survives
+returns-clause-survives g c =
+    quiet select_events select_events_plain (state g.S.Store c.args.conn.now) (state g.S.Store c.query_all.new.self) _
+    c.query_all.ensures.survives

@@ -2,7 +2,7 @@ use Rattle.std.proofs.Common.{[], ◌∷◌, refl}
 use Rattle.sqlite.specs.Held.{state}
 use Rattle.mds_tables.specs.Cells as row
 use Rattle.mds_tables.specs.Tables.{head_table}
-use Rattle.mds_selects.proofs.QueryLemmas.{fails, finds_rows, head_for, head_typed}
+use Rattle.mds_selects.proofs.QueryLemmas.{fails, finds_rows, head_for, head_typed, quiet}
 use Rattle.mds_selects.proofs.SelectTexts.{select_head, select_head_is, select_head_plain}
 use Rattle.mds_selects.proofs.rows.head_rows.Goals as goal
 
@@ -21,3 +21,8 @@ returns-clause-err g c clean has =
     let new = state g.S.Store c.query_all.new.self in
     fails select_head select_head_plain old new _ has
     c.query_all.result (c.query_all.ensures.err clean)
+
+pub returns-clause-survives : goal.returns-clause-survives
+returns-clause-survives g c =
+    quiet select_head select_head_plain (state g.S.Store c.args.conn.now) (state g.S.Store c.query_all.new.self) _
+    c.query_all.ensures.survives

@@ -1,6 +1,6 @@
 use Rattle.std.proofs.Common.{[], ◌∷◌, refl}
 use Rattle.sqlite.specs.Held.{state}
-use Rattle.mds_selects.proofs.QueryLemmas.{fails, finds_every}
+use Rattle.mds_selects.proofs.QueryLemmas.{fails, finds_every, quiet}
 use Rattle.mds_selects.proofs.SelectTexts.{select_version, select_version_is, select_version_plain}
 use Rattle.mds_selects.proofs.rows.version_numbers.Goals as goal
 
@@ -18,3 +18,8 @@ returns-clause-err g c clean has =
     let new = state g.S.Store c.query_all.new.self in
     fails select_version select_version_plain old new _ has
     c.query_all.result (c.query_all.ensures.err clean)
+
+pub returns-clause-survives : goal.returns-clause-survives
+returns-clause-survives g c =
+    quiet select_version select_version_plain (state g.S.Store c.args.conn.now) (state g.S.Store c.query_all.new.self) _
+    c.query_all.ensures.survives

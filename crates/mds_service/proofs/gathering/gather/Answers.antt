@@ -1,4 +1,4 @@
-use Rattle.std.specs.Prelude.{◌≡◌, length, map, take, refl}
+use Rattle.std.specs.Prelude.{◌≡◌, length, map, take}
 use Rattle.std.proofs.Common.{sym, ◌∙◌, subst}
 use Rattle.std.proofs.lemmas.Iterator.Adapters.{YieldsList-from_vec}
 use Rattle.std.proofs.lemmas.Iterator.Consumers.{YieldsList-end, YieldsList-so_far, YieldsList-turn}
@@ -12,9 +12,11 @@ use Rattle.mds_service.proofs.gathering.gather.Goals as goal
 
 pub loop-claimed-init : goal.loop-claimed-init
 loop-claimed-init g c = record {
+  outside = λ honest. honest;
   before = λ sound. sound;
-  same = λ sound. refl;
-  drafts = λ sound. no_drafts (g.K.Keeper.world c.args.keeper.now) c.new-drafts.result c.new-drafts.ensures.empty;
+  drafts = λ honest w shows. no_drafts w c.new-drafts.result c.new-drafts.ensures.empty;
+  kept = λ honest w shows. shows;
+  crash = λ honest left may. may;
 }
 
 pub loop-claimed-preserved : goal.loop-claimed-preserved
@@ -22,17 +24,20 @@ loop-claimed-preserved g c =
     let i = c.loop-claimed.invariant in
     let o = c.in_default.ensures in
     record {
+      outside = λ honest. i.outside (o.outside honest);
       before = λ sound. i.before (o.before sound);
-      same = λ sound. o.same sound ∙ i.same (o.before sound);
-      drafts = λ sound. let early = o.before sound in
-          drafts_more (g.K.Keeper.world c.args.keeper.now) (g.K.Keeper.world c.loop-claimed.keeper) c.loop-claimed.yielded
-          c.in-Some.claimed c.loop-claimed.drafts c.claim_day.new.drafts (i.same early) (i.drafts early) (o.taken sound);
+      drafts = λ honest w shows.
+          let early = o.outside honest in
+          drafts_more w c.loop-claimed.yielded c.in-Some.claimed c.loop-claimed.drafts c.claim_day.new.drafts
+          (i.drafts early w shows) (o.taken honest w (i.kept early w shows));
+      kept = λ honest w shows. o.kept honest w (i.kept (o.outside honest) w shows);
+      crash = λ honest left may. i.crash (o.outside honest) left (o.crash honest left may);
     }
 
 pub returns-in-Err-clause-refused : goal.returns-in-Err-clause-refused
-returns-in-Err-clause-refused g c = λ sound lawful.
+returns-in-Err-clause-refused g c = λ honest w shows lawful.
     let i = c.loop-claimed.invariant in
-    let early = c.claim_day.ensures.before sound in
+    let early = c.claim_day.ensures.outside honest in
     let gives = c.into_iter-claimed-iterator.ensures.into_iter_gives in
     let road = YieldsList-from_vec {s = c.into_iter-claimed-iterator.result} c.args.days.items gives.0
     (gives.1 ∙ c.args.days.ok.0) in
@@ -41,9 +46,9 @@ returns-in-Err-clause-refused g c = λ sound lawful.
     sym (map-id before) ∙ YieldsList-so_far road before c.loop-claimed.claimed-iterator c.loop-claimed.yielded_by in
     let here = YieldsList-turn road before c.loop-claimed.claimed-iterator c.loop-claimed.yielded_by c.next.result
     c.next.new.self c.in-Some.claimed c.in-Some.is c.next.ensures.steps in
-    if_refused c.in-Err.stop _ _ (c.in-Err.ensures.refused sound) (λ r t.
-    refused_here (g.K.Keeper.world c.args.keeper.now) (g.K.Keeper.world c.loop-claimed.keeper) c.args.days.items before
-    c.in-Some.claimed c.loop-claimed.drafts r (i.same early) c.requires front here (i.drafts early) lawful t)
+    if_refused c.in-Err.stop _ _ (c.in-Err.ensures.refused honest w (i.kept early w shows)) (λ r t.
+    refused_here w c.args.days.items before c.in-Some.claimed c.loop-claimed.drafts r c.requires front here
+    (i.drafts early w shows) lawful t)
 
 all_taken : (g : Over) (c : goal.After-drop-claimed-iterator-2 g) → c.loop-claimed.yielded ≡ c.args.days.items
 all_taken g c =
@@ -55,12 +60,17 @@ all_taken g c =
     c.next.new.self c.in-None.is c.next.ensures.steps).0
 
 pub returns-clause-drafts : goal.returns-clause-drafts
-returns-clause-drafts g c = λ sound.
-    subst (λ days. AreDrafts day_cmp (g.K.Keeper.world c.args.keeper.now) (stated (map day_statement days))
-    c.loop-claimed.drafts) (all_taken g c) (c.loop-claimed.invariant.drafts sound)
+returns-clause-drafts g c = λ honest w shows.
+    subst (λ days. AreDrafts day_cmp w (stated (map day_statement days)) c.loop-claimed.drafts) (all_taken g c)
+    (c.loop-claimed.invariant.drafts honest w shows)
 
 pub returns-clause-agrees : goal.returns-clause-agrees
-returns-clause-agrees g c = λ sound lawful.
-    days_agree (g.K.Keeper.world c.args.keeper.now) c.args.days.items c.loop-claimed.drafts
-    (subst (λ days. AreDrafts day_cmp (g.K.Keeper.world c.args.keeper.now) (stated (map day_statement days))
-    c.loop-claimed.drafts) (all_taken g c) (c.loop-claimed.invariant.drafts sound)) lawful
+returns-clause-agrees g c = λ honest w shows lawful.
+    days_agree w c.args.days.items c.loop-claimed.drafts
+    (subst (λ days. AreDrafts day_cmp w (stated (map day_statement days)) c.loop-claimed.drafts) (all_taken g c)
+    (c.loop-claimed.invariant.drafts honest w shows)) lawful
+
+pub returns-in-Err-clause-kept : goal.returns-in-Err-clause-kept
+returns-in-Err-clause-kept g c = λ honest w shows.
+    let o = c.claim_day.ensures in
+    o.kept honest w (c.loop-claimed.invariant.kept (o.outside honest) w shows)

@@ -1,108 +1,202 @@
-use Rattle.std.proofs.Common.{refl, sym, ap, ◌∙◌}
+use Rattle.std.proofs.Common.{◌≡◌, map, Some, Err, inl, inr, refl, sym, ap, ◌∙◌, subst}
 use Rattle.mds_world.specs.Stated.{stated}
+use Rattle.mds_world.specs.World.{IsLawful, World}
 use Rattle.mds_versions.specs.declared.additions.Additions.{Additions}
-use Rattle.mds_service.proofs.Committed.{are_new, comes, lawful_commit, lawful_left, left, on_ok, refusal_as, step}
+use Rattle.mds_service.specs.Imports.{day_statement}
+use Rattle.mds_service.specs.declared.request.Answer.TheVariants as told
+use Rattle.mds_service.proofs.Committed.{are_new, comes, lawful_commit, refusal_as, taken_in}
 use Rattle.mds_service.proofs.importing.import.Goals as goal
 
-pub returns-in-Err-Refused-clause-step : goal.returns-in-Err-Refused-clause-step
-returns-in-Err-Refused-clause-step g c = λ sound old. (
-  c.in-Ok.ensures.done.0,
-  refusal_as _ _ _ _ c.in-Err-Refused.field-0 c.in-Err-Refused.refusal _ c.in-Ok.ensures.done.1
-      c.in-Ok-stated_by.ensures.days (c.in-Err-Refused.ensures.refused sound old) c.in-Err-Refused.field-0-is
-      c.in-Err-Refused.refusal-is,
-  c.in-Err-Refused.ensures.same sound,
+pub returns-in-Err-File-clause-step : goal.returns-in-Err-File-clause-step
+returns-in-Err-File-clause-step g c = λ honest w lawful shows. (
+  w,
+  lawful,
+  (
+    c.in-Err-File.ensures.fault c.in-Err-File.fault (ap Err c.in-Err-File.field-0-is)
+        ∙ ap Some (sym c.in-Err-File.fault-is),
+    refl,
+  ),
+  shows,
+  λ left may. inr (inl (refl, may)),
 )
 
+pub returns-in-Err-Memory-clause-step : goal.returns-in-Err-Memory-clause-step
+returns-in-Err-Memory-clause-step g c = λ honest w lawful shows. (w, lawful, refl, shows, λ left may. inr (inl (refl, may)))
+
+pub returns-in_default-clause-step : goal.returns-in_default-clause-step
+returns-in_default-clause-step g c = λ honest w lawful shows. (w, lawful, refl, shows, λ left may. inr (inl (refl, may)))
+
+pub returns-in-Err-Refused-clause-step : goal.returns-in-Err-Refused-clause-step
+returns-in-Err-Refused-clause-step g c = λ honest w lawful shows. (
+  w,
+  lawful,
+  (
+    c.in-Ok.ensures.done.0,
+    refusal_as _ _ _ (map day_statement c.in-Ok-stated_by.stated.days.items) c.in-Err-Refused.field-0 c.in-Err-Refused.refusal _ c.in-Ok.ensures.done.1
+        c.in-Ok-stated_by.ensures.days (c.in-Err-Refused.ensures.refused honest w shows lawful) c.in-Err-Refused.field-0-is
+        c.in-Err-Refused.refusal-is,
+    refl,
+  ),
+  c.gather.ensures.kept honest w shows,
+  λ left may. inr (inl (refl, c.gather.ensures.crash honest left may)),
+)
+
+pub returns-in-Err-Memory-gather-clause-step : goal.returns-in-Err-Memory-gather-clause-step
+returns-in-Err-Memory-gather-clause-step g c = λ honest w lawful shows. (
+  w,
+  lawful,
+  refl,
+  c.gather.ensures.kept honest w shows,
+  λ left may. inr (inl (refl, c.gather.ensures.crash honest left may)),
+)
+
+pub returns-in_default-new_details-clause-step : goal.returns-in_default-new_details-clause-step
+returns-in_default-new_details-clause-step g c = λ honest w lawful shows.
+    let early = c.new_details.ensures.outside honest in (
+      w,
+      lawful,
+      refl,
+      c.new_details.ensures.kept honest w (c.gather.ensures.kept early w shows),
+      λ left may. inr (inl (refl, c.gather.ensures.crash early left (c.new_details.ensures.crash honest left may))),
+    )
+
+pub returns-in_default-new_events-clause-step : goal.returns-in_default-new_events-clause-step
+returns-in_default-new_events-clause-step g c = λ honest w lawful shows.
+    let later = c.new_events.ensures.outside honest in
+    let early = c.new_details.ensures.outside later in (
+      w,
+      lawful,
+      refl,
+      c.new_events.ensures.kept honest w (c.new_details.ensures.kept later w (c.gather.ensures.kept early w shows)),
+      λ left may. inr (inl (
+        refl,
+        c.gather.ensures.crash early left (c.new_details.ensures.crash later left
+            (c.new_events.ensures.crash honest left may)),
+      )),
+    )
+
+pub returns-in_default-settle-clause-step : goal.returns-in_default-settle-clause-step
+returns-in_default-settle-clause-step g c = λ honest w lawful shows.
+    let later = c.new_events.ensures.outside honest in
+    let early = c.new_details.ensures.outside later in (
+      w,
+      lawful,
+      refl,
+      c.new_events.ensures.kept honest w (c.new_details.ensures.kept later w (c.gather.ensures.kept early w shows)),
+      λ left may. inr (inl (
+        refl,
+        c.gather.ensures.crash early left (c.new_details.ensures.crash later left
+            (c.new_events.ensures.crash honest left may)),
+      )),
+    )
+
 pub commit-requires-clause-new : goal.commit-requires-clause-new
-commit-requires-clause-new g c = λ third.
-    let second = c.in-Ok-new_events.ensures.before third in
-    let first = c.in-Ok-new_details.ensures.before second in
-    let one = c.in-Ok-gather.ensures.same first in
-    let two = c.in-Ok-new_details.ensures.same second in
-    let three = c.in-Ok-new_events.ensures.same third in
-    let now = three ∙ two ∙ one in
-    let x = comes _ _ _ c.in-Ok-stated_by.stated c.in-Ok-settle.additions c.in-Ok-settle.known _ _ one two
-    (c.in-Ok-stated_by.ensures.orderly _ c.in-Ok.ensures.done.0 c.in-Ok.ensures.done.1)
-    (c.in-Ok-settle.ensures _ _ (c.in-Ok-gather.ensures.drafts first)) c.in-Ok-new_details.ensures.apart
-    (c.in-Ok-new_details.ensures.just second) c.in-Ok-new_events.ensures.apart
-    (c.in-Ok-new_events.ensures.just third) in
+commit-requires-clause-new g c = λ sound.
+    let w : World = g.K.Keeper.world c.args.keeper.now in
+    let shows : g.K.Keeper.sound c.args.keeper.now → w ≡ w = λ _. refl in
+    let honest = g.met.K.Keeper.sound_honest c.new_events.new.keeper sound in
+    let later = c.new_events.ensures.outside honest in
+    let early = c.new_details.ensures.outside later in
+    let one = c.gather.ensures.kept early w shows in
+    let two = c.new_details.ensures.kept later w one in
+    let x = comes w c.in-Ok-stated_by.stated c.in-Ok-settle.additions c.in-Ok-settle.known _ _
+    (c.in-Ok-settle.ensures w _ (c.in-Ok-gather.ensures.drafts early w shows)) c.in-Ok-new_details.ensures.apart
+    (c.in-Ok-new_details.ensures.just later w one) c.in-Ok-new_events.ensures.apart
+    (c.in-Ok-new_events.ensures.just honest w two) in
     let a : Additions = record {
       heads = c.in-Ok-settle.additions.heads;
       versions = c.in-Ok-settle.additions.versions;
       details = c.in-Ok-new_details.details;
       events = c.in-Ok-new_events.events;
     } in
-    are_new _ _ _ _ _ _ x _ a now refl refl refl refl
+    are_new _ _ _ _ _ _ x _ a (c.new_events.ensures.kept honest w two sound) refl refl refl refl
 
 pub commit-requires-clause-lawful : goal.commit-requires-clause-lawful
-commit-requires-clause-lawful g c = λ third lawful.
-    let second = c.in-Ok-new_events.ensures.before third in
-    let first = c.in-Ok-new_details.ensures.before second in
-    let one = c.in-Ok-gather.ensures.same first in
-    let two = c.in-Ok-new_details.ensures.same second in
-    let three = c.in-Ok-new_events.ensures.same third in
-    let now = three ∙ two ∙ one in
-    let x = comes _ _ _ c.in-Ok-stated_by.stated c.in-Ok-settle.additions c.in-Ok-settle.known _ _ one two
-    (c.in-Ok-stated_by.ensures.orderly _ c.in-Ok.ensures.done.0 c.in-Ok.ensures.done.1)
-    (c.in-Ok-settle.ensures _ _ (c.in-Ok-gather.ensures.drafts first)) c.in-Ok-new_details.ensures.apart
-    (c.in-Ok-new_details.ensures.just second) c.in-Ok-new_events.ensures.apart
-    (c.in-Ok-new_events.ensures.just third) in
+commit-requires-clause-lawful g c = λ sound lawful.
+    let w : World = g.K.Keeper.world c.args.keeper.now in
+    let shows : g.K.Keeper.sound c.args.keeper.now → w ≡ w = λ _. refl in
+    let honest = g.met.K.Keeper.sound_honest c.new_events.new.keeper sound in
+    let later = c.new_events.ensures.outside honest in
+    let early = c.new_details.ensures.outside later in
+    let one = c.gather.ensures.kept early w shows in
+    let two = c.new_details.ensures.kept later w one in
+    let now = c.new_events.ensures.kept honest w two sound in
+    let x = comes w c.in-Ok-stated_by.stated c.in-Ok-settle.additions c.in-Ok-settle.known _ _
+    (c.in-Ok-settle.ensures w _ (c.in-Ok-gather.ensures.drafts early w shows)) c.in-Ok-new_details.ensures.apart
+    (c.in-Ok-new_details.ensures.just later w one) c.in-Ok-new_events.ensures.apart
+    (c.in-Ok-new_events.ensures.just honest w two) in
     let a : Additions = record {
       heads = c.in-Ok-settle.additions.heads;
       versions = c.in-Ok-settle.additions.versions;
       details = c.in-Ok-new_details.details;
       events = c.in-Ok-new_events.events;
     } in
-    lawful_commit _ _ _ _ _ _ x _ a now refl refl refl refl lawful (c.in-Ok-gather.ensures.agrees first)
+    let was : IsLawful w = subst IsLawful now lawful in
+    lawful_commit _ _ _ _ _ _ x _ a now refl refl refl refl was (c.in-Ok-gather.ensures.agrees early w shows was)
 
-pub returns-clause-step : goal.returns-clause-step
-returns-clause-step g c = λ sound old.
-    let third = c.commit.ensures.before sound in
-    let second = c.in-Ok-new_events.ensures.before third in
-    let first = c.in-Ok-new_details.ensures.before second in
-    let one = c.in-Ok-gather.ensures.same first in
-    let two = c.in-Ok-new_details.ensures.same second in
-    let three = c.in-Ok-new_events.ensures.same third in
-    let now = three ∙ two ∙ one in
-    let x = comes _ _ _ c.in-Ok-stated_by.stated c.in-Ok-settle.additions c.in-Ok-settle.known _ _ one two
-    (c.in-Ok-stated_by.ensures.orderly _ c.in-Ok.ensures.done.0 c.in-Ok.ensures.done.1)
-    (c.in-Ok-settle.ensures _ _ (c.in-Ok-gather.ensures.drafts first)) c.in-Ok-new_details.ensures.apart
-    (c.in-Ok-new_details.ensures.just second) c.in-Ok-new_events.ensures.apart
-    (c.in-Ok-new_events.ensures.just third) in
-    let done = on_ok c.commit.result _ (c.commit.ensures.ok sound) c.if-is_err.ensures.negation in
+pub returns-in-Ok-commit-clause-step : goal.returns-in-Ok-commit-clause-step
+returns-in-Ok-commit-clause-step g c = λ honest w lawful shows.
+    let last = c.commit.ensures.outside honest in
+    let later = c.new_events.ensures.outside last in
+    let early = c.new_details.ensures.outside later in
+    let one = c.gather.ensures.kept early w shows in
+    let two = c.new_details.ensures.kept later w one in
+    let x = comes w c.in-Ok-stated_by.stated c.in-Ok-settle.additions c.in-Ok-settle.known _ _
+    (c.in-Ok-settle.ensures w _ (c.in-Ok-gather.ensures.drafts early w shows)) c.in-Ok-new_details.ensures.apart
+    (c.in-Ok-new_details.ensures.just later w one) c.in-Ok-new_events.ensures.apart
+    (c.in-Ok-new_events.ensures.just last w two) in
     let a : Additions = record {
       heads = c.in-Ok-settle.additions.heads;
       versions = c.in-Ok-settle.additions.versions;
       details = c.in-Ok-new_details.details;
       events = c.in-Ok-new_events.events;
     } in
-    let all = left _ _ _ _ _ _ x _ _ a done now refl refl refl refl in
-    let s = step _ _ _ _ _ _ x _ _ c.len-added.result
-    (ap stated (sym c.in-Ok.ensures.done.1) ∙ c.in-Ok-stated_by.ensures.facts) all
-    (c.in-Ok-gather.ensures.agrees first old)
-    (c.len-added.ensures ∙ c.in-Ok-settle.additions.versions.ok.0) in
-    (c.in-Ok.ensures.done.0, s.0, s.1, s.2, s.3)
+    let sound = c.in-Ok-commit.ensures.open honest in
+    let now = c.new_events.ensures.kept last w two (c.commit.ensures.before sound) in
+    let t = taken_in _ _ _ _ _ _ x c.args.kind c.args.text.now _ _ a c.len-added.result c.in-Ok.ensures.done.0
+    (ap stated (sym c.in-Ok.ensures.done.1) ∙ c.in-Ok-stated_by.ensures.facts) now (c.in-Ok-commit.ensures.ok sound)
+    refl refl refl refl lawful (c.in-Ok-gather.ensures.agrees early w shows lawful)
+    (c.len-added.ensures ∙ c.in-Ok-settle.additions.versions.ok.0) in (
+      g.K.Keeper.world c.commit.new.self,
+      t.0,
+      t.1,
+      λ _. refl,
+      λ left may. inl (g.met.K.Keeper.settled c.commit.new.self sound left may),
+    )
 
-pub returns-clause-lawful : goal.returns-clause-lawful
-returns-clause-lawful g c = λ sound old.
-    let third = c.commit.ensures.before sound in
-    let second = c.in-Ok-new_events.ensures.before third in
-    let first = c.in-Ok-new_details.ensures.before second in
-    let one = c.in-Ok-gather.ensures.same first in
-    let two = c.in-Ok-new_details.ensures.same second in
-    let three = c.in-Ok-new_events.ensures.same third in
-    let now = three ∙ two ∙ one in
-    let x = comes _ _ _ c.in-Ok-stated_by.stated c.in-Ok-settle.additions c.in-Ok-settle.known _ _ one two
-    (c.in-Ok-stated_by.ensures.orderly _ c.in-Ok.ensures.done.0 c.in-Ok.ensures.done.1)
-    (c.in-Ok-settle.ensures _ _ (c.in-Ok-gather.ensures.drafts first)) c.in-Ok-new_details.ensures.apart
-    (c.in-Ok-new_details.ensures.just second) c.in-Ok-new_events.ensures.apart
-    (c.in-Ok-new_events.ensures.just third) in
-    let done = on_ok c.commit.result _ (c.commit.ensures.ok sound) c.if-is_err.ensures.negation in
+pub returns-in-Err-clause-step : goal.returns-in-Err-clause-step
+returns-in-Err-clause-step g c = λ honest w lawful shows.
+    let last = c.commit.ensures.outside honest in
+    let later = c.new_events.ensures.outside last in
+    let early = c.new_details.ensures.outside later in
+    let one = c.gather.ensures.kept early w shows in
+    let two = c.new_details.ensures.kept later w one in
+    let three = c.new_events.ensures.kept last w two in
+    let x = comes w c.in-Ok-stated_by.stated c.in-Ok-settle.additions c.in-Ok-settle.known _ _
+    (c.in-Ok-settle.ensures w _ (c.in-Ok-gather.ensures.drafts early w shows)) c.in-Ok-new_details.ensures.apart
+    (c.in-Ok-new_details.ensures.just later w one) c.in-Ok-new_events.ensures.apart
+    (c.in-Ok-new_events.ensures.just last w two) in
     let a : Additions = record {
       heads = c.in-Ok-settle.additions.heads;
       versions = c.in-Ok-settle.additions.versions;
       details = c.in-Ok-new_details.details;
       events = c.in-Ok-new_events.events;
-    } in
-    let all = left _ _ _ _ _ _ x _ _ a done now refl refl refl refl in
-    lawful_left _ _ _ _ _ _ x _ all old (c.in-Ok-gather.ensures.agrees first old)
+    } in (
+      w,
+      lawful,
+      refl,
+      λ sound. c.in-Err.ensures.err sound ∙ three (c.commit.ensures.before sound),
+      λ left may. elim (c.commit.ensures.crash honest left may) [
+        | inl was ↦ inr (inl (
+          refl,
+          c.gather.ensures.crash early left (c.new_details.ensures.crash later left
+              (c.new_events.ensures.crash last left was)),
+        ))
+        | inr it ↦
+            let t = taken_in _ _ _ _ _ _ x c.args.kind c.args.text.now _ left a c.len-added.result
+            c.in-Ok.ensures.done.0 (ap stated (sym c.in-Ok.ensures.done.1) ∙ c.in-Ok-stated_by.ensures.facts)
+            (three it.0) it.1 refl refl refl refl lawful (c.in-Ok-gather.ensures.agrees early w shows lawful)
+            (c.len-added.ensures ∙ c.in-Ok-settle.additions.versions.ok.0) in
+            inr (inr (refl, told.Imported c.len-added.result c.in-Ok-settle.known, (λ e. cc), t.1))
+      ],
+    )

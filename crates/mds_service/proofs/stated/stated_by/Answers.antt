@@ -1,4 +1,4 @@
-use Rattle.mds_service.proofs.LaidOut.{IsLaidOut, facts_told, laid_out, text_told, upto_told}
+use Rattle.mds_service.proofs.LaidOut.{IsLaidOut, facts_told, laid_out, order_told, upto_told}
 use Rattle.mds_service.proofs.stated.stated_by.Goals as goal
 
 laid : (c : goal.After-drop-header-3) → IsLaidOut c.args.delivery c.lay_out_blocks.new.out
@@ -13,4 +13,4 @@ pub returns-clause-days : goal.returns-clause-days
 returns-clause-days c = upto_told _ _ (laid c)
 
 pub returns-clause-orderly : goal.returns-clause-orderly
-returns-clause-orderly c text well is = text_told _ _ text (laid c) well is
+returns-clause-orderly c = order_told _ _ (laid c)

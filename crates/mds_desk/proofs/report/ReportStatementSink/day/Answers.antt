@@ -1,5 +1,5 @@
 use Rattle.std.proofs.Common.{◌++◌, ◌∷◌, [], sym, subst}
-use Rattle.mds_nem12.specs.Statements.Statement.{DayOf}
+use Rattle.mds_statements.specs.Statements.Statement.{DayOf}
 use Rattle.mds_nem12.specs.Told.{day_said}
 use Rattle.mds_desk.specs.Report.{IsReport}
 use Rattle.mds_desk.proofs.Reports.{report_push}

@@ -1,6 +1,7 @@
-use Rattle.std.proofs.Common.{arith}
+use Rattle.std.proofs.Common.{◌≤◌, arith}
 use Rattle.sqlite.specs.Held.{state}
 use Rattle.sqlite.specs.State.{HasCleanDisk, KeepsCommit}
+use Rattle.sqlite_trees.specs.View.{doubt}
 use Rattle.mds_versions.specs.Books.{BookValue}
 use Rattle.mds_tables.specs.Stores.{Holds, world_of}
 use Rattle.mds_store.proofs.Days.{day_found, holds_on, if_made}
@@ -13,8 +14,10 @@ returns-clause-book g c sound =
     let new = state g.S.Store c.versions_of.new.conn in
     let holds : Holds old = c.args.self.now.holds in
     let kept : HasCleanDisk mid → KeepsCommit old mid = λ clean. c.head_of.ensures.kept clean holds in
-    let later : Holds mid = holds_on old mid c.head_of.ensures.clean kept holds in
-    let between : HasCleanDisk mid = omega (arith, sound.0, c.versions_of.ensures.clean) in
+    let first : doubt old.is_clean ≤ doubt mid.is_clean = (c.head_of.ensures.survives holds).clean in
+    let later : Holds mid = holds_on old mid first kept holds in
+    let second : doubt mid.is_clean ≤ doubt new.is_clean = (c.versions_of.ensures.survives later).clean in
+    let between : HasCleanDisk mid = omega (arith, sound.0, second) in
     let book : BookValue = record {
       stream = c.args.stream;
       day = c.args.day;
@@ -23,6 +26,6 @@ returns-clause-book g c sound =
     } in
     rw c.ok_or.ensures.value
     (if_made (world_of old) book c.new.result _ c.new.ensures.some
-    (day_found old mid new c.head_of.ensures.clean c.versions_of.ensures.clean kept
+    (day_found old mid new first second kept
     (λ clean. c.versions_of.ensures.kept clean later) sound.0 sound.1 book
     (c.in_ok-head.ensures.found between holds) (c.in_ok-versions.ensures.found sound.0 later)))

@@ -1,13 +1,8 @@
-use Rattle.mds_versions.proofs.Planned.{copy_whole, planned, planning_more, planning_stop, start_planning}
+use Rattle.mds_versions.proofs.Planned.{planned, planning_more, planning_stop, start_planning}
 use Rattle.mds_versions.proofs.day_book.DayBook.plan.Goals as goal
 
 pub loop-claim-init : goal.loop-claim-init
 loop-claim-init c = start_planning _ _ _ _ c.new-draft.ensures c.in-Ok.ensures c.is_lawful.ensures
-
-pub take-requires : goal.take-requires
-take-requires c =
-    copy_whole _ _ _ _ c.loop-claim.invariant c.claim-item.result c.in-Ok-try_clone.copy c.loop-claim-test.true c.claim-item.is
-    c.in-Ok-try_clone.ensures c.requires.whole
 
 pub returns-in-Err-clause-refused : goal.returns-in-Err-clause-refused
 returns-in-Err-clause-refused c =

@@ -12,12 +12,12 @@ first_difference-requires-clause-as_many c =
     ap length c.deref.ensures.value
     ∙ as_many _ _ _ c.self.invariant c.args.claim c.in_default.ensures.none c.in-Some-get.claimed.now
     (found_entry _ c.args.claim.update c.seconds.ensures.order _ _ c.in-Some-get.ensures.value)
-    ∙ sym c.requires ∙ sym (ap length c.deref-in-Some-get.ensures.value)
+    ∙ sym c.args.claim.whole ∙ sym (ap length c.deref-in-Some-get.ensures.value)
 
 pub returns-in-Some-first_difference-clause-refused : goal.returns-in-Some-first_difference-clause-refused
 returns-in-Some-first_difference-clause-refused c =
     let m = found_entry _ c.args.claim.update c.seconds.ensures.order _ _ c.in-Some-get.ensures.value in
-    let many = as_many _ _ _ c.self.invariant c.args.claim c.in_default.ensures.none c.in-Some-get.claimed.now m ∙ sym c.requires in
+    let many = as_many _ _ _ c.self.invariant c.args.claim c.in_default.ensures.none c.in-Some-get.claimed.now m ∙ sym c.args.claim.whole in
     let q = rw (c.deref.ensures.value, c.deref-in-Some-get.ensures.value) at c.in-Some-first_difference.ensures.some in
     rw c.refused-in-Some-first_difference.ensures (
       refl,
@@ -52,7 +52,7 @@ invariant_of-self-2 c =
     let absent = absent_entry _ c.args.claim.update c.seconds.ensures.order _ c.in_default-get.ensures.value in
     let put = on_ok_now c.insert.result c.is_err.result _ c.insert.ensures.entries c.is_err.ensures.value c.if-is_err.false in
     let free = rw c.deref-2.ensures.value at c.in_default-first_conflict.ensures.none in
-    draft_more _ _ _ _ c.self.invariant c.args.claim c.in_default.ensures.none absent _ c.seconds.ensures.order put free c.requires
+    draft_more _ _ _ _ c.self.invariant c.args.claim c.in_default.ensures.none absent _ c.seconds.ensures.order put free c.args.claim.whole
 
 pub returns-clause-ok : goal.returns-clause-ok
 returns-clause-ok c =

@@ -1,0 +1,28 @@
+use Rattle.std.proofs.Common.{◌≡◌, ◌∙◌, sym, [], ◌∷◌}
+use Rattle.mds_desk.proofs.Requested.{did, if_done, if_failed, only_answer}
+use Rattle.mds_desk.proofs.performing.perform.Goals as goal
+
+pub returns-clause-done : goal.returns-clause-done
+returns-clause-done g c =
+    let told : c.in-Ok.answers.items ≡ c.answer-item.result ∷ [] =
+    sym c.as_slice.ensures.value
+    ∙ only_answer c.as_slice.result.now c.answer-item.result c.in-len1.len_at_least c.in-len1.len_below c.answer-item.is in
+    if_done c.print_answer.result _ _ (λ status printed honest sound lawful. (
+      c.answer-item.result,
+      did _ _ _ _ _ _ _ _ c.from_ref.ensures.value told (c.in-Ok.ensures.run honest sound lawful),
+      printed.0,
+      printed.1,
+    )) c.print_answer.ensures.done
+
+pub returns-clause-part : goal.returns-clause-part
+returns-clause-part g c failed honest sound lawful =
+    let told : c.in-Ok.answers.items ≡ c.answer-item.result ∷ [] =
+    sym c.as_slice.ensures.value
+    ∙ only_answer c.as_slice.result.now c.answer-item.result c.in-len1.len_at_least c.in-len1.len_below c.answer-item.is in
+    let printed = if_failed c.print_answer.result _ _ failed c.print_answer.ensures.part in (
+      c.answer-item.result,
+      did _ _ _ _ _ _ _ _ c.from_ref.ensures.value told (c.in-Ok.ensures.run honest sound lawful),
+      printed.1,
+      printed.2,
+      printed.3,
+    )

@@ -1,0 +1,532 @@
+-- Days to which heads and versions are added.
+use Rattle.std.proofs.Common.{◌≡◌, ℕ, List, [], ◌∷◌, ◌++◌, true, false, Option, Some, None, length, refl, sym, ap, ◌∙◌, subst, inl, inr, arith}
+use Rattle.std.specs.Prelude.{◌⊎◌, cond, map, IsSome}
+use Rattle.std.specs.BTreeMap.{BTreeMap, IsOrdered, get, insert_entry, is_at}
+use Rattle.std.specs.FinSet as set
+use Rattle.std.specs.Cmp.{tied_itself}
+use Rattle.std.specs.Map.{lookup}
+use Rattle.std.specs.Ordering.{is_eq}
+use Rattle.std.specs.declared.cmp.Ordering.TheVariants.{Less, Equal, Greater}
+use Rattle.mds_quantity.specs.declared.unit.Unit.{Unit as MeasureUnit}
+use Rattle.mds_names.specs.declared.stream.Stream.{Stream}
+use Rattle.mds_marks.specs.Reading.{ReadingValue}
+use Rattle.mds_world.specs.declared.facts.Head.{Head}
+use Rattle.mds_world.specs.declared.facts.Key.{Key}
+use Rattle.mds_world.specs.declared.facts.StreamDay.{StreamDay}
+use Rattle.mds_world.specs.Facts.{Fact}
+use Rattle.mds_world.specs.Facts.Fact.{HeadIs, VersionIs, DetailIs, EventIs, PeriodIs, HolidayIs, JobIs}
+use Rattle.mds_world.specs.Lists.{Member, append_left, append_right, in_map, map_in, member_append}
+use Rattle.mds_world.specs.Members.{in_list, in_union, list_in, union_left, union_right}
+use Rattle.mds_world.specs.Sets.{◌∈◌}
+use Rattle.mds_world.specs.World.{IsLawful, IsOn, World, union}
+use Rattle.mds_versions.specs.Books.{BookValue, IsDay, book_facts, book_world, head_facts, row_fact}
+use Rattle.mds_versions.specs.Content.{version_fact}
+use Rattle.mds_memory.specs.Stored.{AreOfTheirDays, IsChange, days_world, place_cmp}
+use Rattle.mds_memory.specs.StoredSteps.{AreBooks, AreChanged, AreLawfulDays, Holds, rows_book}
+use Rattle.mds_versions.specs.declared.day_book.Version.{Version}
+use Rattle.mds_memory.specs.declared.stored_days.InHand.{InHand}
+use Rattle.mds_memory.specs.declared.stored_days.Rows.{Rows}
+use Rattle.mds_memory.proofs.Places.{found_in, insert_here, insert_only, insert_other, not_absent, one_entry, place_exact, place_total}
+use Rattle.mds_memory.proofs.StoredDays.{day_found, day_there, day_unknown, one_day}
+
+abbrev pub Pending : Type 0
+Pending = BTreeMap StreamDay Rows
+
+there : {X : Type 0} (o : Option X) → IsSome o → (x : X) × (o ≡ Some x)
+there None s = cc
+there (Some x) s = (x, refl)
+
+none_there : IsSome {T = Rows} None → ⊥
+none_there s = cc
+
+is_some_at : {X : Type 0} (o : Option X) (x : X) → o ≡ Some x → IsSome o
+is_some_at o x e = subst IsSome (sym e) refl
+
+-- the value at a key, after it is put at one
+put_at : (k q : StreamDay) (v : Rows) (o n : Option Rows) (r : Rows) → n ≡ cond (is_eq (place_cmp k q)) (Some v) o
+    → n ≡ Some r → ((k ≡ q) × (v ≡ r)) ⊎ ((k ≡ q → ⊥) × (o ≡ Some r))
+put_at k q v o n r e f =
+    elim (place_cmp k q) as (λ c. place_cmp k q ≡ c → cond (is_eq c) (Some v) o ≡ Some r
+    → ((k ≡ q) × (v ≡ r)) ⊎ ((k ≡ q → ⊥) × (o ≡ Some r))) [
+      | Less ↦ λ c g. inr ((λ s. let b = sym c ∙ ap (place_cmp k) (sym s) ∙ tied_itself place_total k in cc), g)
+      | Equal ↦ λ c g. inl (place_exact k q c, (let h : v ≡ r = cc in h))
+      | Greater ↦ λ c g. inr ((λ s. let b = sym c ∙ ap (place_cmp k) (sym s) ∙ tied_itself place_total k in cc), g)
+    ] refl (sym e ∙ f)
+
+put_here : (k q : StreamDay) (v : Rows) (o n : Option Rows) → n ≡ cond (is_eq (place_cmp k q)) (Some v) o → k ≡ q → IsSome n
+put_here k q v o n e s =
+    let t : is_eq (place_cmp k q) ≡ true = ap (λ x. is_eq (place_cmp k x)) (sym s) ∙ ap is_eq (tied_itself place_total k) in
+    is_some_at n v (e ∙ ap (λ b. cond b (Some v) o) t)
+
+put_stays : (k q : StreamDay) (v : Rows) (o n : Option Rows) → n ≡ cond (is_eq (place_cmp k q)) (Some v) o → IsSome o → IsSome n
+put_stays k q v o n e s =
+    subst IsSome (sym e) (elim (is_eq (place_cmp k q)) as (λ b. IsSome (cond b (Some v) o)) [ true ↦ refl | false ↦ s ])
+
+-- the same where one is taken out
+out_at : (k q : StreamDay) (o n : Option Rows) (r : Rows) → n ≡ cond (is_eq (place_cmp k q)) None o → n ≡ Some r → o ≡ Some r
+out_at k q o n r e f =
+    elim (is_eq (place_cmp k q)) as (λ b. cond b None o ≡ Some r → o ≡ Some r) [
+      | true ↦ λ g. cc
+      | false ↦ λ g. g
+    ] (sym e ∙ f)
+
+out_stays : (k q : StreamDay) (o n : Option Rows) → n ≡ cond (is_eq (place_cmp k q)) None o → IsSome o → IsSome n ⊎ (k ≡ q)
+out_stays k q o n e s =
+    let t : IsSome (cond (is_eq (place_cmp k q)) None o) ⊎ (k ≡ q) =
+    elim (place_cmp k q) as (λ c. place_cmp k q ≡ c → IsSome (cond (is_eq c) None o) ⊎ (k ≡ q)) [
+      | Less ↦ λ c. inl s
+      | Equal ↦ λ c. inr (place_exact k q c)
+      | Greater ↦ λ c. inl s
+    ] refl in
+    elim t [ inl a ↦ inl (subst IsSome (sym e) a) | inr b ↦ inr b ]
+
+pub changed_start : (w : World) (closed : Pending) → closed.entries ≡ [] → IsOrdered place_cmp closed
+    → AreChanged w [] closed None
+changed_start w closed e ordered = record {
+  each = λ place rows g o. let h = sym (ap (λ es. lookup (is_at (place_cmp place)) es) e) ∙ g in cc;
+  hand = tt;
+  all = λ f m. absurd m;
+  ordered = ordered;
+}
+
+pub changed_close : (w : World) (more : List Fact) (old new : Pending) (hand : InHand)
+    → ((q : StreamDay) → get place_cmp new q ≡ cond (is_eq (place_cmp hand.place q)) (Some hand.rows) (get place_cmp old q))
+    → IsOrdered place_cmp new → AreChanged w more old (Some hand) → AreChanged w more new None
+changed_close w more old new hand u ordered a = record {
+  each = λ q r e o. elim (put_at hand.place q hand.rows (get place_cmp old q) (get place_cmp new q) r (u q) e) [
+    | inl p ↦ subst (λ k. Holds w more k r) p.0 (subst (λ v. Holds w more hand.place v) p.1 a.hand)
+    | inr p ↦ a.each q r p.1 p.0
+  ];
+  hand = tt;
+  all = λ f m. let r = a.all f m in (
+    r.0,
+    r.1,
+    elim r.2 [
+      | inl s ↦ inl (put_stays hand.place r.0 hand.rows (get place_cmp old r.0) (get place_cmp new r.0) (u r.0) s)
+      | inr s ↦ inl (put_here hand.place r.0 hand.rows (get place_cmp old r.0) (get place_cmp new r.0) (u r.0) s)
+    ],
+  );
+  ordered = ordered;
+}
+
+changed_taken : (w : World) (more : List Fact) (old new : Pending) (place : StreamDay) (rows : Rows)
+    → ((q : StreamDay) → get place_cmp new q ≡ cond (is_eq (place_cmp place q)) None (get place_cmp old q))
+    → IsOrdered place_cmp new → Holds w more place rows → AreChanged w more old None
+    → AreChanged w more new (Some (record { place = place; rows = rows }))
+changed_taken w more old new place rows u ordered h a = record {
+  each = λ q r e o. a.each q r (out_at place q (get place_cmp old q) (get place_cmp new q) r (u q) e) tt;
+  hand = h;
+  all = λ f m. let r = a.all f m in (
+    r.0,
+    r.1,
+    elim r.2 [
+      | inl s ↦ out_stays place r.0 (get place_cmp old r.0) (get place_cmp new r.0) (u r.0) s
+      | inr z ↦ absurd z
+    ],
+  );
+  ordered = ordered;
+}
+
+pub changed_again : (w : World) (more : List Fact) (old new : Pending) (place : StreamDay) (rows : Rows)
+    → ((q : StreamDay) → get place_cmp new q ≡ cond (is_eq (place_cmp place q)) None (get place_cmp old q))
+    → IsOrdered place_cmp new → get place_cmp old place ≡ Some rows → AreChanged w more old None
+    → AreChanged w more new (Some (record { place = place; rows = rows }))
+changed_again w more old new place rows u ordered e a =
+    changed_taken w more old new place rows u ordered (a.each place rows e tt) a
+
+pub changed_first : (w : World) (more : List Fact) (old new : Pending) (place : StreamDay) (rows : Rows)
+    → ((q : StreamDay) → get place_cmp new q ≡ cond (is_eq (place_cmp place q)) None (get place_cmp old q))
+    → IsOrdered place_cmp new → get place_cmp old place ≡ None → Holds w [] place rows → AreChanged w more old None
+    → AreChanged w more new (Some (record { place = place; rows = rows }))
+changed_first w more old new place rows u ordered e h a = changed_taken w more old new place rows u ordered (record {
+  whole = λ f on known. elim known [
+    | inl k ↦ h.whole f on (inl k)
+    | inr m ↦ let r = a.all f m in elim r.2 [
+      | inl s ↦ let same : r.0 ≡ place = one_day r.0 place f r.1 on in
+          let t : IsSome {T = Rows} None = subst IsSome e (subst (λ k. IsSome (get place_cmp old k)) same s) in absurd (none_there t)
+      | inr z ↦ absurd z
+    ]
+  ];
+  only = λ f m. elim (h.only f m) [ inl k ↦ inl k | inr z ↦ absurd z ];
+}) a
+
+-- one more fact, of the day in hand
+pub changed_push : (w : World) (more : List Fact) (f : Fact) (closed : Pending) (hand new : InHand)
+    → AreChanged w more closed (Some hand) → new.place ≡ hand.place → IsOn hand.place.stream hand.place.day f
+    → Holds w (more ++ f ∷ []) hand.place new.rows → AreChanged w (more ++ f ∷ []) closed (Some new)
+changed_push w more f closed hand new a e on h = record {
+  each = λ q r g other. let was = a.each q r g (λ s. other (e ∙ s)) in record {
+    whole = λ x at known. elim known [
+      | inl k ↦ was.whole x at (inl k)
+      | inr m ↦ elim (member_append x more (f ∷ []) m) [
+        | inl n ↦ was.whole x at (inr n)
+        | inr n ↦ elim n [
+          | inl s ↦ absurd (other (e ∙ one_day hand.place q f on (subst (IsOn q.stream q.day) s at)))
+          | inr z ↦ absurd z
+        ]
+      ]
+    ];
+    only = λ x m. elim (was.only x m) [ inl k ↦ inl k | inr n ↦ inr (append_left x more (f ∷ []) n) ];
+  };
+  hand = subst (λ k. Holds w (more ++ f ∷ []) k new.rows) (sym e) h;
+  all = λ x m. elim (member_append x more (f ∷ []) m) [
+    | inl n ↦ let r = a.all x n in (r.0, r.1, elim r.2 [ inl s ↦ inl s | inr s ↦ inr (e ∙ s) ])
+    | inr n ↦ elim n [
+      | inl s ↦ (hand.place, subst (IsOn hand.place.stream hand.place.day) (sym s) on, inr e)
+      | inr z ↦ absurd z
+    ]
+  ];
+  ordered = a.ordered;
+}
+
+not_in_head : (stream : Stream) (day : ℕ) (head : Option (ℕ × MeasureUnit)) (f : Fact) → ((h : Head) → f ≡ HeadIs h → ⊥)
+    → Member f (head_facts stream day head) → ⊥
+not_in_head stream day None f n m = m
+not_in_head stream day (Some form) f n (inl e) = n _ e
+not_in_head stream day (Some form) f n (inr z) = z
+
+holds_old : (w : World) (more : List Fact) (head : Head) (old new : Rows) (f : Fact)
+    → ((h : Head) → (HeadIs h ∈ w) ⊎ Member (HeadIs h) more → h.stream ≡ head.stream → h.day ≡ head.day → h ≡ head)
+    → Member (HeadIs head) (book_facts (rows_book (record { stream = head.stream; day = head.day }) new))
+    → (((x : Head) → f ≡ HeadIs x → ⊥) → Member f (book_facts (rows_book (record { stream = head.stream; day = head.day }) old))
+    → Member f (book_facts (rows_book (record { stream = head.stream; day = head.day }) new)))
+    → IsOn head.stream head.day f → (f ∈ w) ⊎ Member f more
+    → Member f (book_facts (rows_book (record { stream = head.stream; day = head.day }) old))
+    → Member f (book_facts (rows_book (record { stream = head.stream; day = head.day }) new))
+holds_old w more head old new (HeadIs x) one here stays on k m =
+    subst (λ h. Member (HeadIs h) (book_facts (rows_book (record { stream = head.stream; day = head.day }) new)))
+    (sym (one x k on.0 on.1)) here
+holds_old w more head old new (VersionIs key reading) one here stays on k m = stays (λ x e. cc) m
+holds_old w more head old new (DetailIs detail) one here stays on k m = absurd on
+holds_old w more head old new (EventIs event) one here stays on k m = absurd on
+holds_old w more head old new (PeriodIs key content) one here stays on k m = absurd on
+holds_old w more head old new (HolidayIs date) one here stays on k m = absurd on
+holds_old w more head old new (JobIs id content count) one here stays on k m = absurd on
+
+-- What a day holds with one more head, that of the day, which agrees with what is known.
+pub holds_head : (w : World) (more : List Fact) (head : Head) (old new : Rows)
+    → ((h : Head) → (HeadIs h ∈ w) ⊎ Member (HeadIs h) more → h.stream ≡ head.stream → h.day ≡ head.day → h ≡ head)
+    → new.head ≡ Some (head.length, head.unit) → new.versions ≡ old.versions
+    → Holds w more (record { stream = head.stream; day = head.day }) old
+    → Holds w (more ++ HeadIs head ∷ []) (record { stream = head.stream; day = head.day }) new
+holds_head w more head old new one e v h =
+    let place : StreamDay = record { stream = head.stream; day = head.day } in
+    let goal : Option (ℕ × MeasureUnit) → Type 0 = λ o. Member (HeadIs head) (head_facts head.stream head.day o) in
+    let here : Member (HeadIs head) (book_facts (rows_book place new)) =
+    append_left (HeadIs head) (head_facts head.stream head.day new.head) _ (subst goal (sym e) (inl refl)) in
+    let stays : (f : Fact) → ((x : Head) → f ≡ HeadIs x → ⊥) → Member f (book_facts (rows_book place old)) → Member f (book_facts (rows_book place new)) =
+    λ f n m. elim (member_append f (head_facts head.stream head.day old.head) _ m) [
+      | inl a ↦ absurd (not_in_head head.stream head.day old.head f n a)
+      | inr b ↦ append_right f (head_facts head.stream head.day new.head) _ (subst (λ x. Member f (map (row_fact head.stream head.day) x.items)) (sym v) b)
+    ] in
+    let known : (f : Fact) → (f ∈ w) ⊎ Member f (more ++ HeadIs head ∷ []) → ((f ∈ w) ⊎ Member f more) ⊎ (f ≡ HeadIs head) =
+    λ f k. elim k [
+      | inl a ↦ inl (inl a)
+      | inr m ↦ elim (member_append f more (HeadIs head ∷ []) m) [
+        | inl n ↦ inl (inr n)
+        | inr n ↦ elim n [ inl s ↦ inr s | inr z ↦ absurd z ]
+      ]
+    ] in
+    record {
+      whole = λ f on k. elim (known f k) [
+        | inl old_one ↦ holds_old w more head old new f one here (stays f) on old_one (h.whole f on old_one)
+        | inr s ↦ subst (λ x. Member x (book_facts (rows_book place new))) (sym s) here
+      ];
+      only = λ f m. elim (member_append f (head_facts head.stream head.day new.head) _ m) [
+        | inl a ↦ elim (subst (λ o. Member f (head_facts head.stream head.day o)) e a) [
+          | inl s ↦ inr (append_right f more (HeadIs head ∷ []) (inl s))
+          | inr z ↦ absurd z
+        ]
+        | inr b ↦ elim (h.only f (append_right f (head_facts head.stream head.day old.head) _ (subst (λ x. Member f (map (row_fact head.stream head.day) x.items)) v b))) [
+          | inl k ↦ inl k
+          | inr n ↦ inr (append_left f more (HeadIs head ∷ []) n)
+        ]
+      ];
+    }
+
+-- the same with one more version
+pub holds_version : (w : World) (more : List Fact) (key : Key) (reading : ReadingValue) (old new : Rows)
+    → new.head ≡ old.head
+    → new.versions.items ≡ old.versions.items ++ (key.interval, record { update = key.update; reading = reading }) ∷ []
+    → Holds w more (record { stream = key.stream; day = key.day }) old
+    → Holds w (more ++ VersionIs key reading ∷ []) (record { stream = key.stream; day = key.day }) new
+holds_version w more key reading old new e v h =
+    let g : ℕ × Version → Fact = row_fact key.stream key.day in
+    let row : ℕ × Version = (key.interval, record { update = key.update; reading = reading }) in
+    let place : StreamDay = record { stream = key.stream; day = key.day } in
+    let grown : (f : Fact) → Member f (book_facts (rows_book place old)) → Member f (book_facts (rows_book place new)) =
+    λ f m. elim (member_append f (head_facts key.stream key.day old.head) _ m) [
+      | inl a ↦ append_left f (head_facts key.stream key.day new.head) _ (subst (λ o. Member f (head_facts key.stream key.day o)) (sym e) a)
+      | inr b ↦ let r = in_map g old.versions.items f b in
+          append_right f (head_facts key.stream key.day new.head) _ (subst (λ x. Member x (map g new.versions.items)) (sym r.2)
+          (map_in g new.versions.items r.0 (subst (λ rows. Member r.0 rows) (sym v) (append_left r.0 old.versions.items (row ∷ []) r.1))))
+    ] in
+    record {
+      whole = λ f on k. elim k [
+        | inl a ↦ grown f (h.whole f on (inl a))
+        | inr m ↦ elim (member_append f more (VersionIs key reading ∷ []) m) [
+          | inl n ↦ grown f (h.whole f on (inr n))
+          | inr n ↦ elim n [
+            | inl s ↦ append_right f (head_facts key.stream key.day new.head) _ (subst (λ x. Member x (map g new.versions.items)) (sym s)
+                (map_in g new.versions.items row (subst (λ rows. Member row rows) (sym v) (append_right row old.versions.items (row ∷ []) (inl refl)))))
+            | inr z ↦ absurd z
+          ]
+        ]
+      ];
+      only = λ f m.
+          let from : Member f (book_facts (rows_book place old)) → (f ∈ w) ⊎ Member f (more ++ VersionIs key reading ∷ []) = λ n.
+          elim (h.only f n) [ inl k ↦ inl k | inr x ↦ inr (append_left f more (VersionIs key reading ∷ []) x) ] in
+          elim (member_append f (head_facts key.stream key.day new.head) _ m) [
+            | inl a ↦ from (append_left f (head_facts key.stream key.day old.head) _ (subst (λ o. Member f (head_facts key.stream key.day o)) e a))
+            | inr b ↦ let r = in_map g new.versions.items f b in
+                elim (member_append r.0 old.versions.items (row ∷ []) (subst (λ rows. Member r.0 rows) v r.1)) [
+                  | inl n ↦ from (append_right f (head_facts key.stream key.day old.head) _ (subst (λ x. Member x (map g old.versions.items)) (sym r.2) (map_in g old.versions.items r.0 n)))
+                  | inr n ↦ elim n [
+                    | inl s ↦ inr (append_right f more (VersionIs key reading ∷ []) (inl (r.2 ∙ ap g s)))
+                    | inr z ↦ absurd z
+                  ]
+                ]
+          ];
+    }
+
+get_at : (closed : Pending) (place : StreamDay) (rows : Rows) → IsOrdered place_cmp closed → Member (place, rows) closed.entries
+    → (o : Option Rows) → get place_cmp closed place ≡ o → o ≡ Some rows
+get_at closed place rows s m None e = absurd (not_absent closed.entries place rows m e)
+get_at closed place rows s m (Some r) e =
+    ap Some (one_entry closed.entries s place r rows (found_in closed.entries place r e) m)
+
+-- what is in the map holds
+closed_holds : (w : World) (more : List Fact) (closed : Pending) → AreChanged w more closed None → (place : StreamDay) (rows : Rows)
+    → Member (place, rows) closed.entries → Holds w more place rows
+closed_holds w more closed a place rows m = a.each place rows (get_at closed place rows a.ordered m _ refl) tt
+
+changed_day : (w : World) (more : List Fact) (closed : Pending) → AreChanged w more closed None
+    → (place : StreamDay) (rows : Rows) → Member (place, rows) closed.entries
+    → IsDay (union w (set.from_list more)) (rows_book place rows)
+changed_day w more closed a place rows m =
+    let h = closed_holds w more closed a place rows m in
+    record {
+      whole = λ f on k. elim (in_union w (set.from_list more) f k) [
+        | inl x ↦ list_in _ f (h.whole f on (inl x))
+        | inr x ↦ list_in _ f (h.whole f on (inr (in_list more f x)))
+      ];
+      only = λ f k. elim (h.only f (in_list _ f k)) [
+        | inl x ↦ union_left w (set.from_list more) f x
+        | inr x ↦ union_right w (set.from_list more) f (list_in more f x)
+      ];
+    }
+
+pub changed_lawful : (w : World) (more : List Fact) (closed : Pending) → IsLawful (union w (set.from_list more))
+    → AreChanged w more closed None → AreLawfulDays closed
+changed_lawful w more closed lawful a =
+    λ place rows m. (union w (set.from_list more), lawful, changed_day w more closed a place rows m)
+
+pub changed_end : (w : World) (more : List Fact) (closed : Pending) (books : BTreeMap StreamDay BookValue)
+    → AreChanged w more closed None → AreBooks closed books → IsChange w (set.from_list more) books
+changed_end w more closed books a b = record {
+  each = λ place book m f on.
+      let r = b.each place book m in
+      let d = changed_day w more closed a place r.0 r.1 in (
+        (λ k. d.only f (subst (λ x. f ∈ x) r.2 k)),
+        (λ k. subst (λ x. f ∈ x) (sym r.2) (d.whole f on k)),
+      );
+  all = λ f k.
+      let r = a.all f (in_list more f k) in
+      let s : IsSome (get place_cmp closed r.0) = elim r.2 [ inl s ↦ s | inr z ↦ absurd z ] in
+      let t = there (get place_cmp closed r.0) s in
+      let book = b.all r.0 t.0 (found_in closed.entries r.0 t.0 t.1) in
+      (r.0, book.0, book.1, r.1);
+}
+
+day_holds : (w : World) (place : StreamDay) (rows : Rows) → IsDay w (rows_book place rows) → Holds w [] place rows
+day_holds w place rows d = record {
+  whole = λ f on k. elim k [ inl a ↦ in_list _ f (d.whole f on a) | inr z ↦ absurd z ];
+  only = λ f m. inl (d.only f (list_in _ f m));
+}
+
+-- what is kept of a day, copied
+pub holds_kept : (days : BTreeMap StreamDay BookValue) (place : StreamDay) (book : BookValue) (rows : Rows)
+    → AreOfTheirDays days → lookup (is_at (place_cmp place)) days.entries ≡ Some book → rows.head ≡ book.head
+    → rows.versions.items ≡ book.rows → Holds (days_world days) [] place rows
+holds_kept days place book rows t e h v =
+    let at = day_there days place book t e in
+    let same : book ≡ rows_book place rows =
+    λ i. record { stream = at.0 i; day = at.1 i; head = sym h i; rows = sym v i } in
+    day_holds (days_world days) place rows (subst (IsDay (days_world days)) same (day_found days place book t e))
+
+pub holds_none : (days : BTreeMap StreamDay BookValue) (place : StreamDay) (rows : Rows) → AreOfTheirDays days
+    → lookup (is_at (place_cmp place)) days.entries ≡ None → rows.head ≡ None → rows.versions.items ≡ []
+    → Holds (days_world days) [] place rows
+holds_none days place rows t e h v =
+    let empty : book_world (rows_book place rows) ≡ set.empty =
+    λ i. book_world (record { stream = place.stream; day = place.day; head = h i; rows = v i }) in
+    day_holds (days_world days) place rows (day_unknown days place (rows_book place rows) t e (refl, refl) empty)
+
+-- Some of the days have become books: which are left, and the books.
+pub record AreMaking (closed : Pending) (left : List (StreamDay × Rows)) (books : BTreeMap StreamDay BookValue) : Type 0 where
+  pub each : (place : StreamDay) (book : BookValue) → Member (place, book) books.entries
+      → (rows : Rows) × Member (place, rows) closed.entries × (book_world book ≡ book_world (rows_book place rows))
+  pub all : (place : StreamDay) (rows : Rows) → Member (place, rows) closed.entries
+      → Member (place, rows) left ⊎ ((book : BookValue) × Member (place, book) books.entries)
+  pub some : (e : StreamDay × Rows) → Member e left → Member e closed.entries
+  pub theirs : AreOfTheirDays books
+
+pub making_start : (closed : Pending) (left : List (StreamDay × Rows)) (books : BTreeMap StreamDay BookValue)
+    → left ≡ closed.entries → books.entries ≡ [] → IsOrdered place_cmp books → AreMaking closed left books
+making_start closed left books l e o = record {
+  each = λ place book m. absurd (subst (λ es. Member (place, book) es) e m);
+  all = λ place rows m. inl (subst (λ es. Member (place, rows) es) (sym l) m);
+  some = λ x m. subst (λ es. Member x es) l m;
+  theirs = record {
+    theirs = λ place book m. absurd (subst (λ es. Member (place, book) es) e m);
+    ordered = o;
+  };
+}
+
+pub making_lawful : (closed : Pending) (left rest : List (StreamDay × Rows)) (books : BTreeMap StreamDay BookValue)
+    (place : StreamDay) (rows : Rows) → AreLawfulDays closed → AreMaking closed left books → left ≡ (place, rows) ∷ rest
+    → ((w : World) → IsLawful w → IsDay w (rows_book place rows) → ⊥) → ⊥
+making_lawful closed left rest books place rows lawful a l none =
+    let w = lawful place rows (a.some (place, rows) (subst (λ es. Member (place, rows) es) (sym l) (inl refl))) in
+    none w.0 w.1 w.2
+
+pub making_step : (closed : Pending) (left rest : List (StreamDay × Rows)) (books new : BTreeMap StreamDay BookValue)
+    (place : StreamDay) (rows : Rows) (book : BookValue) → AreMaking closed left books → left ≡ (place, rows) ∷ rest
+    → new.entries ≡ insert_entry place_cmp books.entries place book → IsOrdered place_cmp new
+    → (book.stream ≡ place.stream) × (book.day ≡ place.day) → book_world book ≡ book_world (rows_book place rows)
+    → AreMaking closed rest new
+making_step closed left rest books new place rows book a l e o at w =
+    let here : Member (place, rows) closed.entries =
+    a.some (place, rows) (subst (λ es. Member (place, rows) es) (sym l) (inl refl)) in
+    let put : Member (place, book) new.entries =
+    subst (λ es. Member (place, book) es) (sym e) (insert_here books.entries place book) in
+    let only : (x : StreamDay × BookValue) → Member x new.entries → (x ≡ (place, book)) ⊎ Member x books.entries = λ x m.
+    insert_only books.entries place book x (subst (λ es. Member x es) e m) in
+    record {
+      each = λ p b m. elim (only (p, b) m) [
+        | inl q ↦ (
+          rows,
+          subst (λ k. Member (k, rows) closed.entries) (ap (λ x. x.0) (sym q)) here,
+          ap (λ x. book_world x.1) q ∙ w ∙ ap (λ k. book_world (rows_book k rows)) (ap (λ x. x.0) (sym q)),
+        )
+        | inr n ↦ a.each p b n
+      ];
+      all = λ p r m. elim (a.all p r m) [
+        | inl n ↦ elim (subst (λ es. Member (p, r) es) l n) [
+          | inl q ↦ inr (book, subst (λ k. Member (k, book) new.entries) (ap (λ x. x.0) (sym q)) put)
+          | inr x ↦ inl x
+        ]
+        | inr n ↦ elim (insert_other books.entries place book (p, n.0) n.1) [
+          | inl x ↦ inr (n.0, subst (λ es. Member (p, n.0) es) (sym e) x)
+          | inr q ↦ inr (book, subst (λ k. Member (k, book) new.entries) (sym q) put)
+        ]
+      ];
+      some = λ x m. a.some x (subst (λ es. Member x es) (sym l) (inr m));
+      theirs = record {
+        theirs = λ p b m. elim (only (p, b) m) [
+          | inl q ↦ (ap (λ x. x.1.stream) q ∙ at.0 ∙ ap (λ x. x.0.stream) (sym q), ap (λ x. x.1.day) q ∙ at.1 ∙ ap (λ x. x.0.day) (sym q))
+          | inr n ↦ a.theirs.theirs p b n
+        ];
+        ordered = o;
+      };
+    }
+
+pub making_end : (closed : Pending) (left : List (StreamDay × Rows)) (books : BTreeMap StreamDay BookValue)
+    → AreMaking closed left books → left ≡ [] → AreOfTheirDays books × AreBooks closed books
+making_end closed left books a l = (
+  a.theirs,
+  record {
+    each = a.each;
+    all = λ p r m. elim (a.all p r m) [
+      | inl n ↦ absurd (subst (λ es. Member (p, r) es) l n)
+      | inr n ↦ n
+    ];
+  },
+)
+
+push_on : {A : Type 0} (ys : List A) (x : A) (s : List A) → (ys ++ x ∷ []) ++ s ≡ ys ++ x ∷ s
+push_on [] x s = refl
+push_on (y ∷ ys) x s = ap (λ l. y ∷ l) (push_on ys x s)
+
+nothing_on : {A : Type 0} (ys : List A) → ys ++ [] ≡ ys
+nothing_on [] = refl
+nothing_on (y ∷ ys) = ap (λ l. y ∷ l) (nothing_on ys)
+
+map_push : {A B : Type 0} (f : A → B) (xs : List A) (x : A) → map f (xs ++ x ∷ []) ≡ map f xs ++ f x ∷ []
+map_push f [] x = refl
+map_push f (y ∷ ys) x = ap (λ l. f y ∷ l) (map_push f ys x)
+
+then_push : {A : Type 0} (xs ys : List A) (x : A) → (xs ++ ys) ++ x ∷ [] ≡ xs ++ (ys ++ x ∷ [])
+then_push [] ys x = refl
+then_push (y ∷ xs) ys x = ap (λ l. y ∷ l) (then_push xs ys x)
+
+pub split_step : {A : Type 0} (ys r s xs : List A) (x : A) → ys ++ r ≡ xs → r ≡ x ∷ s → (ys ++ x ∷ []) ++ s ≡ xs
+split_step ys r s xs x e f = push_on ys x s ∙ ap (λ l. ys ++ l) (sym f) ∙ e
+
+pub none_left : {A : Type 0} (xs : List A) (n : ℕ) → n ≡ length xs → n ≡ 0 → xs ≡ []
+none_left [] n e z = refl
+none_left (x ∷ xs) n e z = absurd (omega (arith, e, z))
+
+pub split_end : {A : Type 0} (ys r xs : List A) → ys ++ r ≡ xs → r ≡ [] → ys ≡ xs
+split_end ys r xs e f = sym (nothing_on ys) ∙ ap (λ l. ys ++ l) (sym f) ∙ e
+
+pub fronts_start : (w : World) (heads yielded : List Head) (closed : Pending) (hand : Option InHand) → yielded ≡ heads
+    → AreChanged w (map HeadIs yielded) closed hand
+    → AreChanged w (map HeadIs heads ++ map version_fact []) closed hand
+fronts_start w heads yielded closed hand e a =
+    subst (λ l. AreChanged w l closed hand) (ap (λ l. map HeadIs l) e ∙ sym (nothing_on (map HeadIs heads))) a
+
+-- a head is put into the day in hand
+pub head_pushed : (w : World) (heads yielded rest : List Head) (versions : List (Key × ReadingValue)) (head : Head) (closed : Pending)
+    (hand new : InHand) → IsLawful (union w (set.from_list (map HeadIs heads ++ map version_fact versions)))
+    → (yielded ++ head ∷ []) ++ rest ≡ heads → hand.place ≡ record { stream = head.stream; day = head.day }
+    → AreChanged w (map HeadIs yielded) closed (Some hand) → new.place ≡ hand.place
+    → new.rows.head ≡ Some (head.length, head.unit) → new.rows.versions ≡ hand.rows.versions
+    → AreChanged w (map HeadIs (yielded ++ head ∷ [])) closed (Some new)
+head_pushed w heads yielded rest versions head closed hand new lawful split at a p h v =
+    let place : StreamDay = record { stream = head.stream; day = head.day } in
+    let all : World = union w (set.from_list (map HeadIs heads ++ map version_fact versions)) in
+    let among : (x : Head) → Member x (yielded ++ head ∷ []) → HeadIs x ∈ all = λ x m.
+    union_right w _ (HeadIs x) (list_in _ (HeadIs x) (append_left (HeadIs x) (map HeadIs heads) (map version_fact versions)
+    (map_in HeadIs heads x (subst (λ l. Member x l) split (append_left x (yielded ++ head ∷ []) rest m))))) in
+    let known : (x : Head) → (HeadIs x ∈ w) ⊎ Member (HeadIs x) (map HeadIs yielded) → HeadIs x ∈ all = λ x k. elim k [
+      | inl i ↦ union_left w _ (HeadIs x) i
+      | inr m ↦ let r = in_map HeadIs yielded (HeadIs x) m in
+          subst (λ f. f ∈ all) (sym r.2) (among r.0 (append_left r.0 yielded (head ∷ []) r.1))
+    ] in
+    let one : (x : Head) → (HeadIs x ∈ w) ⊎ Member (HeadIs x) (map HeadIs yielded) → x.stream ≡ head.stream → x.day ≡ head.day → x ≡ head =
+    λ x k s d. lawful.agrees.one_head x head (known x k) (among head (append_right head yielded (head ∷ []) (inl refl))) s d in
+    let holds : Holds w (map HeadIs yielded ++ HeadIs head ∷ []) place new.rows =
+    holds_head w (map HeadIs yielded) head hand.rows new.rows one h v (subst (λ k. Holds w (map HeadIs yielded) k hand.rows) at a.hand) in
+    let on : IsOn hand.place.stream hand.place.day (HeadIs head) =
+    subst (λ (k : StreamDay). IsOn k.stream k.day (HeadIs head)) (sym at) (refl, refl) in
+    subst (λ l. AreChanged w l closed (Some new)) (sym (map_push HeadIs yielded head))
+    (changed_push w (map HeadIs yielded) (HeadIs head) closed hand new a p on
+    (subst (λ k. Holds w (map HeadIs yielded ++ HeadIs head ∷ []) k new.rows) (sym at) holds))
+
+-- a version is put into the day in hand
+pub version_pushed : (w : World) (front : List Fact) (yielded : List (Key × ReadingValue)) (key : Key) (reading : ReadingValue)
+    (closed : Pending) (hand new : InHand) → hand.place ≡ record { stream = key.stream; day = key.day }
+    → AreChanged w (front ++ map version_fact yielded) closed (Some hand) → new.place ≡ hand.place
+    → new.rows.head ≡ hand.rows.head
+    → new.rows.versions.items ≡ hand.rows.versions.items ++ (key.interval, record { update = key.update; reading = reading }) ∷ []
+    → AreChanged w (front ++ map version_fact (yielded ++ (key, reading) ∷ [])) closed (Some new)
+version_pushed w front yielded key reading closed hand new at a p h v =
+    let more : List Fact = front ++ map version_fact yielded in
+    let f : Fact = VersionIs key reading in
+    let place : StreamDay = record { stream = key.stream; day = key.day } in
+    let holds : Holds w (more ++ f ∷ []) place new.rows =
+    holds_version w more key reading hand.rows new.rows h v (subst (λ k. Holds w more k hand.rows) at a.hand) in
+    let on : IsOn hand.place.stream hand.place.day f = subst (λ (k : StreamDay). IsOn k.stream k.day f) (sym at) (refl, refl) in
+    let same : more ++ f ∷ [] ≡ front ++ map version_fact (yielded ++ (key, reading) ∷ []) =
+    then_push front (map version_fact yielded) f ∙ ap (λ l. front ++ l) (sym (map_push version_fact yielded (key, reading))) in
+    subst (λ l. AreChanged w l closed (Some new)) same
+    (changed_push w more f closed hand new a p on (subst (λ k. Holds w (more ++ f ∷ []) k new.rows) (sym at) holds))
+
+-- where all is put and nothing is left in hand
+pub changed_all : (w : World) (front : List Fact) (yielded rest versions : List (Key × ReadingValue)) (n : ℕ) (closed : Pending)
+    (hand now : Option InHand) → yielded ++ rest ≡ versions → n ≡ length rest → n ≡ 0 → hand ≡ now
+    → AreChanged w (front ++ map version_fact yielded) closed hand → AreChanged w (front ++ map version_fact versions) closed now
+changed_all w front yielded rest versions n closed hand now split len zero at a =
+    subst (λ h. AreChanged w (front ++ map version_fact versions) closed h) at
+    (subst (λ l. AreChanged w (front ++ map version_fact l) closed hand) (split_end _ _ _ split (none_left _ _ len zero)) a)

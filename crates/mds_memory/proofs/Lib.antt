@@ -1,0 +1,11 @@
+pub mod Ascending
+pub mod Changed
+pub mod DetailStreams
+pub mod FirstNotes
+pub mod NoteOrder
+pub mod Notes
+pub mod Places
+pub mod Ranges
+pub mod StoredDays
+pub mod Kept
+pub mod Streams

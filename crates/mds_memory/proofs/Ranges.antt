@@ -1,0 +1,248 @@
+-- What a run through the notes from a first one on has found.
+use Rattle.std.specs.Prelude.{◌≡◌, ℕ, true, List, [], ◌∷◌, ◌++◌, map, Option, None, Some, IfNone, IfSome}
+use Rattle.std.specs.Borrow.{Bor}
+use Rattle.std.proofs.Common.{ap, subst, sym, refl, inl, inr, ◌∙◌}
+use Rattle.std.specs.BTreeMap.Range.{range_contains}
+use Rattle.std.specs.BTreeSet.{BTreeSet, IsOrdered, keys_between}
+use Rattle.std.specs.Cmp.{tied_itself}
+use Rattle.std.specs.Ordering.{is_le, nat_cmp, ordering_then}
+use Rattle.std.specs.declared.cmp.Ordering.TheVariants.{Less}
+use Rattle.std.specs.declared.ops.Bound.TheVariants.{Included, Unbounded}
+use Rattle.mds_names.specs.declared.stream.Stream.{Stream}
+use Rattle.mds_terms.specs.Details.{DetailsValue, details_cmp}
+use Rattle.mds_terms.specs.Event.{EventValue}
+use Rattle.mds_world.specs.Current.{IsGreatestDetail}
+use Rattle.mds_world.specs.declared.facts.Detail.{Detail}
+use Rattle.mds_world.specs.Facts.Fact.{DetailIs}
+use Rattle.mds_world.specs.Lists.{Apart, Member, append_left, append_right, in_map, map_in, member_append}
+use Rattle.mds_world.specs.Sets.{◌∈◌, both_and, split_and}
+use Rattle.mds_world.specs.World.{IsEventOf}
+use Rattle.mds_versions.specs.Queries.{AreEventsOf}
+use Rattle.mds_memory.specs.Stored.{notes_world}
+use Rattle.mds_memory.specs.StoredNotes.{HasDetailsOf, IsEventNoteOf, first_of_day}
+use Rattle.mds_memory.specs.declared.stored_notes.Note.{Note}
+use Rattle.mds_memory.specs.declared.stored_notes.Note.TheVariants.{Details, Event}
+use Rattle.mds_memory.proofs.Ascending as up
+use Rattle.mds_memory.proofs.Ascending.{Ascends}
+use Rattle.mds_memory.proofs.FirstNotes.{details_from, details_within, events_from, events_within, first_of, stream_total}
+use Rattle.mds_memory.proofs.NoteOrder.{note_cmp, total}
+use Rattle.mds_memory.proofs.Notes.{in_notes, notes_in}
+
+-- the notes from one on
+abbrev pub from : BTreeSet Note → Note → List Note
+from notes first = keys_between note_cmp (Included first) Unbounded notes
+
+from_in : (notes : BTreeSet Note) (first q : Note) → Member q (from notes first) → Member q notes.keys
+from_in notes first q m = (up.in_filter (range_contains note_cmp (Included first) Unbounded) notes.keys q m).0
+
+from_first : (notes : BTreeSet Note) (first q : Note) → Member q (from notes first) → is_le (note_cmp first q) ≡ true
+from_first notes first q m =
+    (split_and _ _ (up.in_filter (range_contains note_cmp (Included first) Unbounded) notes.keys q m).1).0
+
+in_from : (notes : BTreeSet Note) (first q : Note) → Member q notes.keys → is_le (note_cmp first q) ≡ true
+    → Member q (from notes first)
+in_from notes first q m l =
+    up.filter_in (range_contains note_cmp (Included first) Unbounded) notes.keys q m (both_and _ _ l refl)
+
+ascending : (notes : BTreeSet Note) (first : Note) → IsOrdered note_cmp notes → Ascends note_cmp (from notes first)
+ascending notes first o =
+    up.filtered (range_contains note_cmp (Included first) Unbounded) note_cmp notes.keys
+    (up.from_sorted note_cmp notes.keys o)
+
+-- a run stops at the end, or at the first that isn't of the kind
+abbrev pub HasStopped : (Note → Type 0) → List Note → Type 0
+HasStopped P [] = Unit {0}
+HasStopped P (x ∷ rest) = P x → ⊥
+
+-- so it has gone through all of the kind
+all_found : (P : Note → Type 0) (notes : BTreeSet Note) (first : Note) (seen left : List Note)
+    → IsOrdered note_cmp notes → seen ++ left ≡ from notes first → HasStopped P left
+    → ((x q : Note) → is_le (note_cmp first x) ≡ true → note_cmp x q ≡ Less → P q → P x)
+    → ((q : Note) → P q → is_le (note_cmp first q) ≡ true)
+    → (q : Note) → Member q notes.keys → P q → Member q seen
+all_found P notes first seen [] o e stop within least q m h =
+    elim (member_append q seen [] (subst (Member q) (sym e) (in_from notes first q m (least q h)))) [
+      | inl n ↦ n
+      | inr n ↦ absurd n
+    ]
+all_found P notes first seen (x ∷ rest) o e stop within least q m h =
+    elim (member_append q seen (x ∷ rest) (subst (Member q) (sym e) (in_from notes first q m (least q h)))) [
+      | inl n ↦ n
+      | inr n ↦ elim n [
+        | inl i ↦ absurd (stop (subst P i h))
+        | inr k ↦
+            let here : is_le (note_cmp first x) ≡ true =
+            from_first notes first x (subst (Member x) e (append_right x seen (x ∷ rest) (inl refl))) in
+            let a : Ascends note_cmp (seen ++ x ∷ rest) = subst (Ascends note_cmp) (sym e) (ascending notes first o) in
+            absurd (stop (within x q here ((up.back note_cmp seen (x ∷ rest) a).0 q k) h))
+      ]
+    ]
+
+-- ---- the events of a day
+
+pub record AreSoFar (notes : BTreeSet Note) (stream : Stream) (day : ℕ) (events : List EventValue) (left : List Note) : Type 0 where
+  pub run : map Event events ++ left ≡ from notes (Event (first_of_day stream day))
+  pub of_day : (e : EventValue) → Member e events → IsEventOf stream day e
+
+not_before_itself : (n : Note) → note_cmp n n ≡ Less → ⊥
+not_before_itself n e = cc (tied_itself total n)
+
+apart_of : (es : List EventValue) → Apart (map Event es) → Apart es
+apart_of [] a = tt
+apart_of (e ∷ es) a = ((λ m. a.0 (map_in Event es e m)), apart_of es a.1)
+
+pub events_done : (notes : BTreeSet Note) (stream : Stream) (day : ℕ) (events : List EventValue) (left : List Note)
+    → IsOrdered note_cmp notes → AreSoFar notes stream day events left → HasStopped (IsEventNoteOf stream day) left
+    → AreEventsOf (notes_world notes) stream day events
+events_done notes stream day events left o so stop =
+    let first = Event (first_of_day stream day) in
+    record {
+      each = λ e. (
+        (λ m. (
+          notes_in notes (Event e)
+              (from_in notes first (Event e)
+              (subst (Member (Event e)) so.run (append_left (Event e) (map Event events) left (map_in Event events e m)))),
+          so.of_day e m,
+        )),
+        (λ h.
+            let m = all_found (IsEventNoteOf stream day) notes first (map Event events) left o so.run stop
+            (events_within stream day) (events_from stream day) (Event e) (in_notes notes (Event e) h.0) (e, refl, h.1) in
+            let r = in_map Event events (Event e) m in
+            let same : e ≡ r.0 = cc r.2 in
+            subst (λ k. Member k events) (sym same) r.1),
+      );
+      apart = apart_of events (up.apart note_cmp not_before_itself (map Event events)
+          (up.front note_cmp (map Event events) left (subst (Ascends note_cmp) (sym so.run) (ascending notes first o))));
+    }
+
+map_push : (es : List EventValue) (e : EventValue) (left : List Note)
+    → map Event (es ++ e ∷ []) ++ left ≡ map Event es ++ Event e ∷ left
+map_push [] e left = refl
+map_push (x ∷ es) e left = ap (λ ns. Event x ∷ ns) (map_push es e left)
+
+pub one_event : (notes : BTreeSet Note) (stream : Stream) (day : ℕ) (old new : List EventValue) (left rest : List Note)
+    (note : Note) (event copy : EventValue) → AreSoFar notes stream day old left → left ≡ note ∷ rest
+    → note ≡ Event event → IsEventOf stream day event → copy ≡ event → new ≡ old ++ copy ∷ []
+    → AreSoFar notes stream day new rest
+one_event notes stream day old new left rest note event copy so next is of same push =
+    let whole : new ≡ old ++ event ∷ [] = push ∙ ap (λ e. old ++ e ∷ []) same in
+    record {
+      run =
+          ap (λ es. map Event es ++ rest) whole ∙ map_push old event rest
+          ∙ ap (λ n. map Event old ++ n ∷ rest) (sym is) ∙ ap (λ ns. map Event old ++ ns) (sym next) ∙ so.run;
+      of_day = λ e m. elim (member_append e old (event ∷ []) (subst (Member e) whole m)) [
+        | inl n ↦ so.of_day e n
+        | inr n ↦ elim n [ inl i ↦ subst (IsEventOf stream day) (sym i) of | inr z ↦ absurd z ]
+      ];
+    }
+
+-- ---- the details of a stream
+
+-- the last of those seen
+abbrev pub IsLast : Stream → List Note → Option (Bor Detail) → Type 0
+IsLast stream seen None = seen ≡ []
+IsLast stream seen (Some d) = (front : List Note) × (seen ≡ front ++ Details d.now ∷ []) × (d.now.stream ≡ stream)
+
+pub record IsRun (notes : BTreeSet Note) (stream : Stream) (last : Option (Bor Detail)) (left : List Note) : Type 0 where
+  pub seen : List Note
+  pub run : seen ++ left ≡ from notes (first_of stream)
+  pub is_last : IsLast stream seen last
+
+across_push : (seen : List Note) (x : Note) (rest : List Note) → (seen ++ x ∷ []) ++ rest ≡ seen ++ x ∷ rest
+across_push [] x rest = refl
+across_push (n ∷ seen) x rest = ap (λ ns. n ∷ ns) (across_push seen x rest)
+
+pub one_detail : (notes : BTreeSet Note) (stream : Stream) (last : Option (Bor Detail)) (left rest : List Note)
+    (note : Note) (detail : Bor Detail) → IsRun notes stream last left → left ≡ note ∷ rest
+    → note ≡ Details detail.now → detail.now.stream ≡ stream → IsRun notes stream (Some detail) rest
+one_detail notes stream last left rest note detail so next is of = record {
+  seen = so.seen ++ Details detail.now ∷ [];
+  run =
+      across_push so.seen (Details detail.now) rest ∙ ap (λ n. so.seen ++ n ∷ rest) (sym is)
+      ∙ ap (λ ns. so.seen ++ ns) (sym next) ∙ so.run;
+  is_last = (so.seen, refl, of);
+}
+
+all_details : (notes : BTreeSet Note) (stream : Stream) (seen left : List Note) → IsOrdered note_cmp notes
+    → seen ++ left ≡ from notes (first_of stream) → HasStopped (HasDetailsOf stream) left
+    → (moment : ℕ) (other : DetailsValue)
+    → DetailIs (record { stream = stream; moment = moment; details = other }) ∈ notes_world notes
+    → Member (Details (record { stream = stream; moment = moment; details = other })) seen
+all_details notes stream seen left o e stop moment other h =
+    let d : Detail = record { stream = stream; moment = moment; details = other } in
+    all_found (HasDetailsOf stream) notes (first_of stream) seen left o e stop
+    (details_within stream) (details_from stream) (Details d) (in_notes notes (Details d) h) (d, refl, refl)
+
+pub no_detail : (notes : BTreeSet Note) (stream : Stream) (left : List Note) → IsOrdered note_cmp notes
+    → IsRun notes stream None left → HasStopped (HasDetailsOf stream) left → (moment : ℕ) (other : DetailsValue)
+    → DetailIs (record { stream = stream; moment = moment; details = other }) ∈ notes_world notes → ⊥
+no_detail notes stream left o so stop moment other h =
+    subst (Member (Details (record { stream = stream; moment = moment; details = other }))) so.is_last
+    (all_details notes stream so.seen left o so.run stop moment other h)
+
+pub greatest_detail : (notes : BTreeSet Note) (stream : Stream) (last : Bor Detail) (left : List Note)
+    → IsOrdered note_cmp notes → IsRun notes stream (Some last) left → HasStopped (HasDetailsOf stream) left
+    → IsGreatestDetail (notes_world notes) stream last.now.moment last.now.details
+greatest_detail notes stream last left o so stop =
+    let d : Detail = last.now in
+    let e : Detail = record { stream = stream; moment = d.moment; details = d.details } in
+    let same : d ≡ e =
+    (λ i. record { stream = so.is_last.2 i; moment = d.moment; details = d.details }) in
+    let ends : so.seen ≡ so.is_last.0 ++ Details e ∷ [] =
+    so.is_last.1 ∙ ap (λ x. so.is_last.0 ++ Details x ∷ []) same in
+    let a : Ascends note_cmp (so.is_last.0 ++ Details e ∷ []) =
+    subst (Ascends note_cmp) ends
+    (up.front note_cmp so.seen left (subst (Ascends note_cmp) (sym so.run) (ascending notes (first_of stream) o))) in
+    record {
+      held = notes_in notes (Details e)
+          (from_in notes (first_of stream) (Details e)
+          (subst (Member (Details e)) so.run
+          (append_left (Details e) so.seen left
+          (subst (Member (Details e)) (sym ends) (append_right (Details e) so.is_last.0 (Details e ∷ []) (inl refl))))));
+      greatest = λ moment other h.
+          let n : Detail = record { stream = stream; moment = moment; details = other } in
+          let m = subst (Member (Details n)) ends (all_details notes stream so.seen left o so.run stop moment other h) in
+          let rest = ordering_then (nat_cmp moment d.moment) (details_cmp other d.details) in
+          let plain : note_cmp (Details n) (Details e) ≡ rest =
+          ap (λ r. ordering_then r rest) (tied_itself stream_total stream) in
+          elim (member_append (Details n) so.is_last.0 (Details e ∷ []) m) [
+            | inl k ↦ ap is_le (sym plain ∙ up.across note_cmp so.is_last.0 (Details e ∷ []) a _ (Details e) k (inl refl))
+            | inr k ↦ elim k [
+              | inl i ↦ ap is_le (sym plain ∙ ap (λ x. note_cmp x (Details e)) i ∙ tied_itself total (Details e))
+              | inr z ↦ absurd z
+            ]
+          ];
+    }
+
+pub events_begin : (notes : BTreeSet Note) (stream : Stream) (day : ℕ) (events : List EventValue) (first : Note)
+    (left : List Note) → events ≡ [] → first ≡ Event (first_of_day stream day) → left ≡ from notes first
+    → AreSoFar notes stream day events left
+events_begin notes stream day events first left none is all = record {
+  run = ap (λ es. map Event es ++ left) none ∙ all ∙ ap (from notes) is;
+  of_day = λ e m. absurd (subst (Member e) none m);
+}
+
+pub details_begin : (notes : BTreeSet Note) (stream : Stream) (first : Note) (left : List Note)
+    → first ≡ first_of stream → left ≡ from notes first → IsRun notes stream None left
+details_begin notes stream first left is all =
+    record { seen = []; run = all ∙ ap (from notes) is; is_last = refl }
+
+pub last_some : (notes : BTreeSet Note) (stream : Stream) (last : Option (Bor Detail)) (left : List Note)
+    → IsOrdered note_cmp notes → IsRun notes stream last left → HasStopped (HasDetailsOf stream) left
+    → IfSome last (λ d. IsGreatestDetail (notes_world notes) stream d.now.moment d.now.details)
+last_some notes stream None left o so stop = tt
+last_some notes stream (Some d) left o so stop = greatest_detail notes stream d left o so stop
+
+pub last_none : (notes : BTreeSet Note) (stream : Stream) (last : Option (Bor Detail)) (left : List Note)
+    → IsOrdered note_cmp notes → IsRun notes stream last left → HasStopped (HasDetailsOf stream) left
+    → IfNone last ((moment : ℕ) (other : DetailsValue)
+    → DetailIs (record { stream = stream; moment = moment; details = other }) ∈ notes_world notes → ⊥)
+last_none notes stream None left o so stop = no_detail notes stream left o so stop
+last_none notes stream (Some d) left o so stop = tt
+
+-- at the end, and at a note of another kind
+pub at_end : (P : Note → Type 0) (left : List Note) → left ≡ [] → HasStopped P left
+at_end P left e = subst (HasStopped P) (sym e) tt
+
+pub at_other : (P : Note → Type 0) (left rest : List Note) (x : Note) → left ≡ x ∷ rest → (P x → ⊥) → HasStopped P left
+at_other P left rest x e n = subst (HasStopped P) (sym e) n

@@ -1,0 +1,18 @@
+use Rattle.std.proofs.Common.{◌≡◌, ◌++◌, map}
+use Rattle.mds_world.specs.Facts.Fact.{HeadIs}
+use Rattle.mds_versions.specs.Content.{version_fact}
+use Rattle.mds_memory.specs.Stored.{days_world}
+use Rattle.mds_memory.specs.StoredSteps.{AreChanged}
+use Rattle.mds_memory.proofs.stored_days.changed_days.Given as goal
+
+abbrev pub invariant-loop-head : goal.invariant-loop-head
+invariant-loop-head l = record {
+  split : l.yielded ++ l.head-iterator.rest.items ≡ l.fn.heads.items;
+  changed : AreChanged (days_world l.days) (map HeadIs l.yielded) l.closed l.in_hand;
+}
+
+abbrev pub invariant-loop-key : goal.invariant-loop-key
+invariant-loop-key l = record {
+  split : l.yielded ++ l.key-iterator.rest.items ≡ l.fn.versions.items;
+  changed : AreChanged (days_world l.days) (map HeadIs l.fn.heads.items ++ map version_fact l.yielded) l.closed l.in_hand;
+}

@@ -1,0 +1,72 @@
+-- What a keeper in memory keeps, as a World.
+use Rattle.std.specs.Prelude.{◌≡◌, ◌↔◌, List, map}
+use Rattle.std.specs.List.{flat_map, AllPairs}
+use Rattle.std.specs.BTreeMap.{BTreeMap, IsOrdered}
+use Rattle.std.specs.BTreeSet.{BTreeSet}
+use Rattle.std.specs.FinSet as set
+use Rattle.std.specs.Ordering.{nat_cmp, ordering_then}
+use Rattle.std.specs.declared.cmp.Ordering.{Ordering}
+use Rattle.std.specs.declared.cmp.Ordering.TheVariants.{Less}
+use Rattle.mds_names.specs.declared.stream.Stream.{Stream}
+use Rattle.mds_world.specs.declared.facts.Detail.{Detail}
+use Rattle.mds_world.specs.declared.facts.Head.{Head}
+use Rattle.mds_world.specs.declared.facts.StreamDay.{StreamDay}
+use Rattle.mds_world.specs.Facts.{Fact}
+use Rattle.mds_world.specs.Facts.Fact.{HeadIs, DetailIs, EventIs}
+use Rattle.mds_world.specs.Lists.{Member}
+use Rattle.mds_world.specs.Sets.{◌∈◌}
+use Rattle.mds_world.specs.World.{IsLawful, IsOn, World, union}
+use Rattle.mds_versions.specs.Books.{BookValue, book_facts, book_world}
+use Rattle.mds_versions.specs.Queries.{stream_cmp}
+use Rattle.mds_memory.specs.declared.stored_notes.Note.{Note}
+use Rattle.mds_memory.specs.declared.stored_notes.Note.TheVariants.{Details, Event}
+
+abbrev pub note_fact : Note → Fact
+note_fact (Details detail) = DetailIs detail
+note_fact (Event event) = EventIs event
+
+abbrev pub notes_world : BTreeSet Note → World
+notes_world notes = set.from_list (map note_fact notes.keys)
+
+abbrev pub days_world : BTreeMap StreamDay BookValue → World
+days_world days = set.from_list (flat_map (λ entry. book_facts entry.1) days.entries)
+
+abbrev pub stored_world : BTreeMap StreamDay BookValue → BTreeSet Note → World
+stored_world days notes = union (days_world days) (notes_world notes)
+
+-- by stream, and then by date
+abbrev pub place_cmp : StreamDay → StreamDay → Ordering
+place_cmp a b = ordering_then (stream_cmp a.stream b.stream) (nat_cmp a.day b.day)
+
+-- each book is of the day that it stands under, and no two days are one
+pub record AreOfTheirDays (days : BTreeMap StreamDay BookValue) : Type 0 where
+  pub theirs : (place : StreamDay) (book : BookValue) → Member (place, book) days.entries
+      → (book.stream ≡ place.stream) × (book.day ≡ place.day)
+  pub ordered : IsOrdered place_cmp days
+
+-- what is stored is lawful, and each day stands in its place
+pub record IsStored (days : BTreeMap StreamDay BookValue) (notes : BTreeSet Note) : Type 0 where
+  pub lawful : IsLawful (stored_world days notes)
+  pub theirs : AreOfTheirDays days
+
+-- a day of which something is added is changed, and a changed day has what was kept of it and what is added
+pub record IsChange (w more : World) (changed : BTreeMap StreamDay BookValue) : Type 0 where
+  pub each : (place : StreamDay) (book : BookValue) → Member (place, book) changed.entries
+      → (f : Fact) → IsOn place.stream place.day f → (f ∈ book_world book) ↔ (f ∈ union w more)
+  pub all : (f : Fact) → f ∈ more
+      → (place : StreamDay) × (book : BookValue) × Member (place, book) changed.entries × IsOn place.stream place.day f
+
+-- each changed day has a place
+abbrev pub HasRoom : BTreeMap StreamDay BookValue → BTreeMap StreamDay BookValue → Type 0
+HasRoom days changed =
+    (place : StreamDay) (book : BookValue) → Member (place, book) changed.entries
+    → (kept : BookValue) × Member (place, kept) days.entries
+
+pub record AreHeadStreams (w : World) (streams : List Stream) : Type 0 where
+  pub each : (stream : Stream) → Member stream streams ↔ ((head : Head) × (HeadIs head ∈ w) × (head.stream ≡ stream))
+  pub ascending : AllPairs (λ a b. stream_cmp a b ≡ Less) streams
+
+pub record AreDetailStreams (w : World) (streams : List Stream) : Type 0 where
+  pub each : (stream : Stream) → Member stream streams
+      ↔ ((detail : Detail) × (DetailIs detail ∈ w) × (detail.stream ≡ stream))
+  pub ascending : AllPairs (λ a b. stream_cmp a b ≡ Less) streams

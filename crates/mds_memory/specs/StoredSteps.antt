@@ -1,0 +1,59 @@
+-- What days will hold while heads and versions are added to them.
+use Rattle.std.specs.Prelude.{◌≡◌, ◌⊎◌, List, Option, Some, None, IfSome, IsSome}
+use Rattle.std.specs.BTreeMap.{BTreeMap, IsOrdered, get}
+use Rattle.mds_world.specs.declared.facts.StreamDay.{StreamDay}
+use Rattle.mds_world.specs.Facts.{Fact}
+use Rattle.mds_world.specs.Lists.{Member}
+use Rattle.mds_world.specs.Sets.{◌∈◌}
+use Rattle.mds_world.specs.World.{IsLawful, IsOn, World}
+use Rattle.mds_versions.specs.Books.{BookValue, IsDay, book_facts, book_world}
+use Rattle.mds_memory.specs.Stored.{place_cmp}
+use Rattle.mds_memory.specs.declared.stored_days.InHand.{InHand}
+use Rattle.mds_memory.specs.declared.stored_days.Rows.{Rows}
+
+abbrev pub rows_book : StreamDay → Rows → BookValue
+rows_book place rows = record {
+  stream = place.stream;
+  day = place.day;
+  head = rows.head;
+  rows = rows.versions.items;
+}
+
+-- just what a World and more facts say of the day
+pub record Holds (w : World) (more : List Fact) (place : StreamDay) (rows : Rows) : Type 0 where
+  pub whole : (f : Fact) → IsOn place.stream place.day f → (f ∈ w) ⊎ Member f more
+      → Member f (book_facts (rows_book place rows))
+  pub only : (f : Fact) → Member f (book_facts (rows_book place rows)) → (f ∈ w) ⊎ Member f more
+
+-- another day than that in hand
+abbrev pub IsOther : Option InHand → StreamDay → Type 0
+IsOther None place = Unit {0}
+IsOther (Some hand) place = hand.place ≡ place → ⊥
+
+-- the day in hand
+abbrev pub IsTheOne : Option InHand → StreamDay → Type 0
+IsTheOne None place = ⊥
+IsTheOne (Some hand) place = hand.place ≡ place
+
+-- Each day that the added facts are on, and maybe others, holds what it will; one of them may be in hand, and then it
+-- isn't looked at in the map.
+pub record AreChanged (w : World) (more : List Fact) (closed : BTreeMap StreamDay Rows) (in_hand : Option InHand) : Type 0 where
+  pub each : (place : StreamDay) (rows : Rows) → get place_cmp closed place ≡ Some rows → IsOther in_hand place
+      → Holds w more place rows
+  pub hand : IfSome in_hand (λ hand. Holds w more hand.place hand.rows)
+  pub all : (f : Fact) → Member f more
+      → (place : StreamDay) × IsOn place.stream place.day f × (IsSome (get place_cmp closed place) ⊎ IsTheOne in_hand place)
+  pub ordered : IsOrdered place_cmp closed
+
+-- each is a day of a lawful World
+abbrev pub AreLawfulDays : BTreeMap StreamDay Rows → Type 0
+AreLawfulDays closed =
+    (place : StreamDay) (rows : Rows) → Member (place, rows) closed.entries
+    → (w : World) × IsLawful w × IsDay w (rows_book place rows)
+
+-- a book for each day, and no other
+pub record AreBooks (closed : BTreeMap StreamDay Rows) (books : BTreeMap StreamDay BookValue) : Type 0 where
+  pub each : (place : StreamDay) (book : BookValue) → Member (place, book) books.entries
+      → (rows : Rows) × Member (place, rows) closed.entries × (book_world book ≡ book_world (rows_book place rows))
+  pub all : (place : StreamDay) (rows : Rows) → Member (place, rows) closed.entries
+      → (book : BookValue) × Member (place, book) books.entries

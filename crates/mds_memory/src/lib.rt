@@ -1,0 +1,10 @@
+//! A keeper in memory.
+#![tactic(auto)]
+
+mod laws;
+mod memory;
+mod stored_days;
+mod stored_notes;
+
+pub use laws::a_memory_keeper_is_sound;
+pub use memory::MemoryKeeper;

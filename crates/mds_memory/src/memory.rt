@@ -1,0 +1,195 @@
+//! A keeper in memory.
+
+ghost use Rattle.std.specs.Prelude.{◌≡◌, ◌↔◌, ◌⊎◌, IfOk, is_some};
+ghost use Rattle.std.specs.FinSet as set;
+ghost use Rattle.std.specs.List.{AllPairs};
+ghost use Rattle.std.specs.declared.cmp.Ordering.TheVariants.{Less};
+ghost use Rattle.mds_names.specs.declared.stream.Stream.{Stream as AStream};
+ghost use Rattle.mds_world.specs.Lists.{Member};
+ghost use Rattle.mds_world.specs.World.{IsLawful};
+ghost use Rattle.mds_versions.specs.Queries.{stream_cmp};
+ghost use Rattle.mds_memory.specs.Stored.{AreHeadStreams, AreOfTheirDays, days_world};
+
+use crate::stored_days::{changed_days, day_of, make_room, put_days};
+use crate::stored_notes::{
+    Note, current_details, detail_streams, events_of, has_details, has_event, insert_notes,
+    notes_of, push_new,
+};
+use mds_terms::{Day, Details, Event, Stream};
+use mds_versions::{Additions, DayBook, Keeper, Unavailable};
+use mds_world::{Detail, StreamDay};
+use std::alloc::{AllocError, Global};
+use std::cmp::Ordering;
+use std::collections::{BTreeMap, BTreeSet};
+use std::marker::Model;
+
+/// Keeps a World in memory.
+#[derive(Drop)]
+pub struct MemoryKeeper {
+    alloc: Global,
+    /// The days by stream and date. One that has neither head nor version stands for nothing.
+    days: BTreeMap<StreamDay, DayBook>,
+    /// All details and events.
+    notes: BTreeSet<Note>,
+}
+
+impl Model for MemoryKeeper {
+    ghost use Rattle.std.specs.FinSet.{code};
+    ghost use Rattle.mds_world.specs.FactCodes.{coded_fact};
+    ghost use Rattle.mds_world.specs.World.{World};
+    ghost use Rattle.mds_memory.specs.Stored.{IsStored, stored_world};
+
+    ghost Value = { World };
+
+    ghost coded = { code coded_fact };
+
+    ghost view = { λ k. stored_world k.days k.notes };
+
+    ghost invariant = { λ k. IsStored k.days k.notes };
+}
+
+impl MemoryKeeper {
+    /// Keeps nothing yet, which breaks no law.
+    pub fn new(alloc: Global) -> MemoryKeeper
+        ensures nothing { result ≡ set.empty }
+        ensures lawful { IsLawful result }
+    {
+        MemoryKeeper {
+            alloc,
+            days: BTreeMap::new(alloc),
+            notes: BTreeSet::new(alloc),
+        }
+    }
+}
+
+impl Keeper for MemoryKeeper {
+    ghost world = { λ w. w };
+
+    // Nothing outside of the program has a hand in it, and no fault shuts it.
+    ghost honest = { λ _. Unit {0} };
+
+    ghost sound = { λ _. Unit {0} };
+
+    // It leaves its World as it is, neither less of it nor more.
+    ghost may_leave = { λ keeper left. left ≡ keeper };
+
+    ghost sound_honest = { λ _ _. tt };
+
+    ghost settled = { λ _ _ _ is. is };
+
+    fn day(&mut self, stream: Stream, day: Day) -> Result<DayBook, Unavailable> {
+        day_of(self.alloc, &self.days, stream, day).map_err(|_| Unavailable)
+    }
+
+    fn streams(&mut self) -> Result<Vec<Stream>, Unavailable> {
+        let Ok(of_days) = head_streams(self.alloc, &self.days) else {
+            return Err(Unavailable);
+        };
+        let Ok(of_details) = detail_streams(self.alloc, &self.notes) else {
+            return Err(Unavailable);
+        };
+        let Ok(streams) = merged(self.alloc, &of_days, &of_details) else {
+            return Err(Unavailable);
+        };
+        Ok(streams)
+    }
+
+    fn details(&mut self, stream: Stream) -> Result<Details, Unavailable> {
+        current_details(self.alloc, &self.notes, stream).map_err(|_| Unavailable)
+    }
+
+    fn has_details(&mut self, detail: &Detail) -> Result<bool, Unavailable> {
+        has_details(&self.notes, detail).map_err(|_| Unavailable)
+    }
+
+    fn events(&mut self, stream: Stream, day: Day) -> Result<Vec<Event>, Unavailable> {
+        events_of(self.alloc, &self.notes, stream, day).map_err(|_| Unavailable)
+    }
+
+    fn has_event(&mut self, event: &Event) -> Result<bool, Unavailable> {
+        has_event(&self.notes, event).map_err(|_| Unavailable)
+    }
+
+    // All that needs memory comes before the first change that shows, or is taken back.
+    fn commit(&mut self, additions: Additions) -> Result<(), Unavailable> {
+        let Additions {
+            heads,
+            versions,
+            details,
+            events,
+        } = additions;
+        let Ok(notes) = notes_of(self.alloc, details, events) else {
+            return Err(Unavailable);
+        };
+        let Ok(changed) = changed_days(self.alloc, &self.days, heads, versions) else {
+            return Err(Unavailable);
+        };
+        if make_room(self.alloc, &mut self.days, &changed).is_err() {
+            return Err(Unavailable);
+        }
+        if insert_notes(&mut self.notes, &notes).is_err() {
+            return Err(Unavailable);
+        }
+        put_days(&mut self.days, changed);
+        Ok(())
+    }
+}
+
+/// The streams that have a head, ascending, each once.
+fn head_streams(
+    alloc: Global,
+    days: &BTreeMap<StreamDay, DayBook>,
+) -> Result<Vec<Stream>, AllocError>
+    requires { AreOfTheirDays days.now }
+    ensures { IfOk result (λ streams. AreHeadStreams (days_world days.now) streams.items) }
+{
+    let mut streams = Vec::new(alloc);
+    for (place, book) in days {
+        // The days of a stream stand together.
+        if has_head(book) {
+            push_new(&mut streams, &place.stream)?;
+        }
+    }
+    Ok(streams)
+}
+
+/// Whether the day is known.
+fn has_head(book: &DayBook) -> bool
+    ensures { result ≡ is_some book.now.head }
+{
+    book.head().is_some()
+}
+
+/// The streams of two ascending lists, ascending, each once.
+fn merged(alloc: Global, a: &[Stream], b: &[Stream]) -> Result<Vec<Stream>, AllocError>
+    requires { AllPairs (λ x y. stream_cmp x y ≡ Less) a.now × AllPairs (λ x y. stream_cmp x y ≡ Less) b.now }
+    ensures each { IfOk result (λ streams. (stream : AStream)
+        → Member stream streams.items ↔ (Member stream a.now ⊎ Member stream b.now)) }
+    ensures ascending { IfOk result (λ streams. AllPairs (λ x y. stream_cmp x y ≡ Less) streams.items) }
+{
+    let mut streams = Vec::new(alloc);
+    let (mut left_a, mut left_b) = (a, b);
+    'streams: while let [x, rest_a @ ..] = left_a {
+        let [y, rest_b @ ..] = left_b else {
+            streams.extend_from_slice(left_a)?;
+            return Ok(streams);
+        };
+        match x.cmp(y) {
+            Ordering::Less => {
+                streams.push(*x)?;
+                left_a = rest_a;
+            }
+            Ordering::Greater => {
+                streams.push(*y)?;
+                left_b = rest_b;
+            }
+            Ordering::Equal => {
+                streams.push(*x)?;
+                left_a = rest_a;
+                left_b = rest_b;
+            }
+        }
+    }
+    streams.extend_from_slice(left_b)?;
+    Ok(streams)
+}

@@ -1,0 +1,257 @@
+//! The days that are kept in memory.
+
+ghost use Rattle.std.specs.Prelude.{◌≡◌, ◌++◌, [], IfOk, OnOk, List, Some, None, map};
+ghost use Rattle.std.specs.FinSet as set;
+ghost use Rattle.mds_world.specs.Facts.{Fact};
+ghost use Rattle.mds_world.specs.Facts.Fact.{HeadIs};
+ghost use Rattle.mds_world.specs.World.{IsLawful, World, union};
+ghost use Rattle.mds_versions.specs.Books.{IsDay, book_world};
+ghost use Rattle.mds_versions.specs.Content.{version_fact};
+ghost use Rattle.mds_memory.specs.Stored.{AreOfTheirDays, HasRoom, IsChange, days_world};
+ghost use Rattle.mds_memory.specs.StoredSteps.{AreBooks, AreChanged, AreLawfulDays, Holds};
+
+use mds_marks::Reading;
+use mds_quantity::Unit;
+use mds_terms::{Day, Length, Stream};
+use mds_versions::{DayBook, Version};
+use mds_world::{Head, Key, StreamDay};
+use std::alloc::{AllocError, Global};
+use std::collections::BTreeMap;
+
+/// A day that is kept; one of which nothing is known where it isn't.
+pub(crate) fn day_of(
+    alloc: Global,
+    days: &BTreeMap<StreamDay, DayBook>,
+    stream: Stream,
+    day: Day,
+) -> Result<DayBook, AllocError>
+    requires { AreOfTheirDays days.now }
+    ensures of_day { IfOk result (λ book. (book.stream ≡ stream) × (book.day ≡ day)) }
+    ensures book { IfOk result (IsDay (days_world days.now)) }
+{
+    let place = StreamDay { stream, day };
+    match days.get(&place) {
+        Some(book) => book.try_clone(alloc),
+        None => Ok(unknown_day(alloc, &place)),
+    }
+}
+
+/// A day of which nothing is known.
+fn unknown_day(alloc: Global, place: &StreamDay) -> DayBook
+    ensures of_day { (result.stream ≡ place.now.stream) × (result.day ≡ place.now.day) }
+    ensures empty { book_world result ≡ set.empty }
+{
+    let Some(book) = DayBook::new(place.stream, place.day, None, Vec::new(alloc)) else {
+        unreachable!();
+    };
+    book
+}
+
+/// What a day will hold: its head and its versions, these in any order.
+#[derive(Drop)]
+struct Rows {
+    head: Option<(Length, Unit)>,
+    versions: Vec<(u16, Version)>,
+}
+
+/// The day that is being changed.
+#[derive(Drop)]
+struct InHand {
+    place: StreamDay,
+    rows: Rows,
+}
+
+/// The days that heads and versions change, each with what was kept of it and what is added.
+pub(crate) fn changed_days(
+    alloc: Global,
+    days: &BTreeMap<StreamDay, DayBook>,
+    heads: Vec<Head>,
+    versions: Vec<(Key, Reading)>,
+) -> Result<BTreeMap<StreamDay, DayBook>, AllocError>
+    requires days { AreOfTheirDays days.now }
+    requires lawful { IsLawful (union (days_world days.now)
+        (set.from_list (map HeadIs heads.items ++ map version_fact versions.items))) }
+    ensures { IfOk result (λ changed. AreOfTheirDays changed × IsChange (days_world days.now)
+        (set.from_list (map HeadIs heads.items ++ map version_fact versions.items)) changed) }
+{
+    // Versions of one day mostly stand together, so the day in hand is kept out of the map.
+    let mut closed: BTreeMap<StreamDay, Rows> = BTreeMap::new(alloc);
+    let mut in_hand: Option<InHand> = None;
+    for head in heads {
+        let place = StreamDay {
+            stream: head.stream,
+            day: head.day,
+        };
+        let mut hand = opened(alloc, days, &mut closed, in_hand, &place)?;
+        hand.rows.head = Some((head.length, head.unit));
+        in_hand = Some(hand);
+    }
+    for (key, reading) in versions {
+        let place = StreamDay {
+            stream: key.stream,
+            day: key.day,
+        };
+        let mut hand = opened(alloc, days, &mut closed, in_hand, &place)?;
+        let version = Version {
+            update: key.update,
+            reading,
+        };
+        hand.rows.versions.push((key.interval, version))?;
+        in_hand = Some(hand);
+    }
+    let Some(hand) = in_hand else {
+        return books_of(alloc, closed);
+    };
+    close(&mut closed, hand)?;
+    books_of(alloc, closed)
+}
+
+/// Goes on to the day of this place: takes it out of those that were changed before, or copies what
+/// is kept of it. The day in hand before joins those, where it is another.
+fn opened(
+    alloc: Global,
+    days: &BTreeMap<StreamDay, DayBook>,
+    closed: &mut BTreeMap<StreamDay, Rows>,
+    in_hand: Option<InHand>,
+    place: &StreamDay,
+) -> Result<InHand, AllocError>
+    requires { AreOfTheirDays days.now }
+    ensures place { IfOk result (λ hand. hand.place ≡ place.now) }
+    ensures changed { IfOk result (λ hand. (more : List Fact)
+        → AreChanged (days_world days.now) more closed.old in_hand
+        → AreChanged (days_world days.now) more closed.new (Some hand)) }
+{
+    if let Some(hand) = in_hand {
+        if hand.place == *place {
+            return Ok(hand);
+        }
+        close(closed, hand)?;
+    }
+    taken(alloc, days, closed, place)
+}
+
+/// Puts the day in hand to the others.
+fn close(closed: &mut BTreeMap<StreamDay, Rows>, hand: InHand) -> Result<(), AllocError>
+    ensures { OnOk result ((w : World) (more : List Fact)
+        → AreChanged w more closed.old (Some hand) → AreChanged w more closed.new None) }
+{
+    closed.insert(hand.place, hand.rows)?;
+    Ok(())
+}
+
+/// Takes a day in hand.
+fn taken(
+    alloc: Global,
+    days: &BTreeMap<StreamDay, DayBook>,
+    closed: &mut BTreeMap<StreamDay, Rows>,
+    place: &StreamDay,
+) -> Result<InHand, AllocError>
+    requires { AreOfTheirDays days.now }
+    ensures place { IfOk result (λ hand. hand.place ≡ place.now) }
+    ensures changed { IfOk result (λ hand. (more : List Fact)
+        → AreChanged (days_world days.now) more closed.old None
+        → AreChanged (days_world days.now) more closed.new (Some hand)) }
+{
+    let rows = match closed.remove(place) {
+        Some(rows) => rows,
+        None => kept_rows(alloc, days, place)?,
+    };
+    Ok(InHand {
+        place: *place,
+        rows,
+    })
+}
+
+/// What is kept of a day, copied.
+fn kept_rows(
+    alloc: Global,
+    days: &BTreeMap<StreamDay, DayBook>,
+    place: &StreamDay,
+) -> Result<Rows, AllocError>
+    requires { AreOfTheirDays days.now }
+    ensures { IfOk result (Holds (days_world days.now) [] place.now) }
+{
+    let Some(book) = days.get(place) else {
+        return Ok(Rows {
+            head: None,
+            versions: Vec::new(alloc),
+        });
+    };
+    Ok(Rows {
+        head: book.head(),
+        versions: copied(alloc, book.rows())?,
+    })
+}
+
+/// A copy of versions.
+fn copied(alloc: Global, rows: &[(u16, Version)]) -> Result<Vec<(u16, Version)>, AllocError>
+    ensures { IfOk result (λ copy. copy.items ≡ rows.now) }
+{
+    let mut copy = Vec::with_capacity(alloc, rows.len())?;
+    for (interval, version) in rows {
+        let reading = version.reading.try_clone()?;
+        copy.push((
+            *interval,
+            Version {
+                update: version.update,
+                reading,
+            },
+        ))?;
+    }
+    Ok(copy)
+}
+
+/// The books of days that were changed.
+fn books_of(
+    alloc: Global,
+    closed: BTreeMap<StreamDay, Rows>,
+) -> Result<BTreeMap<StreamDay, DayBook>, AllocError>
+    requires { AreLawfulDays closed }
+    ensures { IfOk result (λ books. AreOfTheirDays books × AreBooks closed books) }
+{
+    let mut books = BTreeMap::new(alloc);
+    for (place, rows) in closed {
+        let Some(book) = DayBook::new(place.stream, place.day, rows.head, rows.versions) else {
+            unreachable!();
+        };
+        books.insert(place, book)?;
+    }
+    Ok(books)
+}
+
+/// Makes a place for each day that changes. What is kept stays as it is.
+pub(crate) fn make_room(
+    alloc: Global,
+    days: &mut BTreeMap<StreamDay, DayBook>,
+    changed: &BTreeMap<StreamDay, DayBook>,
+) -> Result<(), AllocError>
+    ensures same { days_world days.new ≡ days_world days.old }
+    ensures theirs { AreOfTheirDays days.old → AreOfTheirDays days.new }
+    ensures room { OnOk result (HasRoom days.new changed.now) }
+{
+    for place in changed.keys() {
+        if !days.contains_key(place) {
+            days.insert(*place, unknown_day(alloc, place))?;
+        }
+    }
+    Ok(())
+}
+
+/// Puts changed days, for which there is room, in the place of those that were kept.
+pub(crate) fn put_days(
+    days: &mut BTreeMap<StreamDay, DayBook>,
+    changed: BTreeMap<StreamDay, DayBook>,
+)
+    requires room { HasRoom days.old changed }
+    requires theirs { AreOfTheirDays days.old × AreOfTheirDays changed }
+    ensures theirs { AreOfTheirDays days.new }
+    ensures put { (w : World) → IsChange (days_world days.old) w changed
+        → days_world days.new ≡ union (days_world days.old) w }
+{
+    for (place, book) in changed {
+        // Where a key is there, it needs no memory.
+        let Ok(_) = days.insert(place, book) else {
+            unreachable!();
+        };
+    }
+}

@@ -1,0 +1,270 @@
+//! The details and events that are kept in memory.
+
+ghost use Rattle.std.specs.Prelude.{◌≡◌, ◌↔◌, ◌⊎◌, ◌++◌, IsTrue, IfNone, IfOk, IfSome, OnOk, OnErr, ℕ, map};
+ghost use Rattle.std.specs.FinSet as set;
+ghost use Rattle.mds_terms.specs.Details.{DetailsValue};
+ghost use Rattle.mds_world.specs.Current.{IsCurrentDetails, IsGreatestDetail, no_details};
+ghost use Rattle.mds_world.specs.Facts.Fact.{DetailIs, EventIs};
+ghost use Rattle.mds_world.specs.Lists.{Apart, Member};
+ghost use Rattle.mds_world.specs.Sets.{◌∈◌};
+ghost use Rattle.mds_world.specs.World.{IsEventOf, union};
+ghost use Rattle.mds_versions.specs.Queries.{AreEventsOf};
+ghost use Rattle.mds_memory.specs.Stored.{AreDetailStreams, note_fact, notes_world};
+ghost use Rattle.mds_memory.specs.StoredNotes.{HasDetailsOf, IsAtEnd, IsEventNoteOf, PutsLast, first_of_day};
+ghost use Rattle.mds_memory.specs.declared.stored_notes.Note.{Note as ANote};
+ghost use Rattle.mds_memory.specs.declared.stored_notes.Note.TheVariants.{Details as DetailsNote, Event as EventNote};
+
+use mds_terms::{Day, Details, Event, EventRef, Moment, PrintableText, Stream};
+use mds_world::Detail;
+use std::alloc::{AllocError, Global};
+use std::collections::BTreeSet;
+
+/// What is kept beside a day's head and versions.
+#[derive(PartialEq, Eq, PartialOrd, Ord, Drop)]
+pub(crate) enum Note {
+    Details(Detail),
+    Event(Event),
+}
+
+impl Note {
+    /// The same note once more.
+    fn try_clone(&self) -> Result<Note, AllocError>
+        ensures { IfOk result (λ note. note ≡ self.now) }
+    {
+        match self {
+            Note::Details(detail) => Ok(Note::Details(detail.try_clone()?)),
+            Note::Event(event) => Ok(Note::Event(event.try_clone()?)),
+        }
+    }
+
+    /// Its details, where it has details of this stream.
+    fn details_of(&self, stream: &Stream) -> Option<&Detail>
+        ensures some { IfSome result (λ detail. (self.now ≡ DetailsNote detail.now) × (detail.now.stream ≡ stream.now)) }
+        ensures none { IfNone result (HasDetailsOf stream.now self.now → ⊥) }
+    {
+        match self {
+            Note::Details(detail) if detail.stream == *stream => Some(detail),
+            _ => None,
+        }
+    }
+
+    /// Its event, where it is one of this day.
+    fn event_of(&self, stream: &Stream, day: Day) -> Option<&Event>
+        ensures some { IfSome result (λ event. (self.now ≡ EventNote event.now) × IsEventOf stream.now day event.now) }
+        ensures none { IfNone result (IsEventNoteOf stream.now day self.now → ⊥) }
+    {
+        match self {
+            Note::Event(event)
+                if event.nmi() == stream.nmi
+                    && event.suffix() == stream.suffix
+                    && event.day() == day => { Some(event) }
+            _ => None,
+        }
+    }
+}
+
+/// Details and events as notes.
+pub(crate) fn notes_of(
+    alloc: Global,
+    details: Vec<Detail>,
+    events: Vec<Event>,
+) -> Result<Vec<Note>, AllocError>
+    ensures { IfOk result (λ notes. map note_fact notes.items ≡ map DetailIs details.items ++ map EventIs events.items) }
+{
+    let mut notes = Vec::with_capacity(alloc, details.len().saturating_add(events.len()))?;
+    for detail in details {
+        notes.push(Note::Details(detail))?;
+    }
+    for event in events {
+        notes.push(Note::Event(event))?;
+    }
+    Ok(notes)
+}
+
+/// Adds notes that aren't there yet: all, or none where there is no memory.
+pub(crate) fn insert_notes(notes: &mut BTreeSet<Note>, more: &[Note]) -> Result<(), AllocError>
+    requires apart { Apart (map note_fact more.now) }
+    requires absent { (note : ANote) → Member note more.now → note_fact note ∈ notes_world notes.old → ⊥ }
+    ensures ok { OnOk result
+        (notes_world notes.new ≡ union (notes_world notes.old) (set.from_list (map note_fact more.now))) }
+    ensures err { OnErr result (notes_world notes.new ≡ notes_world notes.old) }
+{
+    for i in 0..more.len() {
+        let Ok(_) = insert_copy(notes, &more[i]) else {
+            take_out(notes, &more[..i]);
+            return Err(AllocError);
+        };
+    }
+    Ok(())
+}
+
+/// Inserts a copy of a note, or changes nothing.
+fn insert_copy(notes: &mut BTreeSet<Note>, note: &Note) -> Result<(), AllocError>
+    ensures ok { OnOk result ((q : ANote) → Member q notes.new.keys ↔ (Member q notes.old.keys ⊎ (q ≡ note.now))) }
+    ensures err { OnErr result (notes.new.keys ≡ notes.old.keys) }
+{
+    let Ok(copy) = note.try_clone() else {
+        return Err(AllocError);
+    };
+    match notes.insert(copy) {
+        Ok(_) => Ok(()),
+        Err(_) => Err(AllocError),
+    }
+}
+
+/// Takes notes out, which needs no memory.
+fn take_out(notes: &mut BTreeSet<Note>, some: &[Note])
+    ensures { (q : ANote) → Member q notes.new.keys ↔ (Member q notes.old.keys × (Member q some.now → ⊥)) }
+{
+    for note in some {
+        notes.remove(note);
+    }
+}
+
+/// The current details of a stream.
+pub(crate) fn current_details(
+    alloc: Global,
+    notes: &BTreeSet<Note>,
+    stream: Stream,
+) -> Result<Details, AllocError>
+    ensures { IfOk result (IsCurrentDetails (notes_world notes.now) stream) }
+{
+    match last_detail(alloc, notes, &stream) {
+        Some(detail) => detail.details.try_clone(),
+        None => Ok(empty_details(alloc)),
+    }
+}
+
+/// The last of the stream's details.
+fn last_detail<'a>(alloc: Global, notes: &'a BTreeSet<Note>, stream: &Stream) -> Option<&'a Detail>
+    ensures some { IfSome result (λ detail.
+        IsGreatestDetail (notes_world notes.now) stream.now detail.now.moment detail.now.details) }
+    ensures none { IfNone result ((moment : ℕ) (other : DetailsValue)
+        → DetailIs (record { stream = stream.now; moment = moment; details = other }) ∈ notes_world notes.now → ⊥) }
+{
+    let mut last = None;
+    for note in notes.range(first_detail(alloc, stream)..) {
+        let Some(detail) = note.details_of(stream) else {
+            break;
+        };
+        last = Some(detail);
+    }
+    last
+}
+
+/// The note of a stream's details that stands before all others.
+fn first_detail(alloc: Global, stream: &Stream) -> Note
+    ensures { result ≡ DetailsNote (record { stream = stream.now; moment = 0; details = no_details }) }
+{
+    Note::Details(Detail {
+        stream: *stream,
+        moment: Moment::from_seconds(0).unwrap(),
+        details: empty_details(alloc),
+    })
+}
+
+/// Details of which nothing is known. They take no memory.
+#[tactic(auto, unfolding(mds_terms::specs::Details::details_of))]
+fn empty_details(alloc: Global) -> Details
+    ensures { result ≡ no_details }
+{
+    Details::read(alloc, b"", b"", b"", b"", b"")
+        .unwrap()
+        .unwrap()
+}
+
+/// Whether these details are among the notes.
+pub(crate) fn has_details(notes: &BTreeSet<Note>, detail: &Detail) -> Result<bool, AllocError>
+    ensures { IfOk result (λ has. IsTrue has ↔ (DetailIs detail.now ∈ notes_world notes.now)) }
+{
+    let note = Note::Details(detail.try_clone()?);
+    Ok(has_note(notes, &note))
+}
+
+/// The events of a day, each once.
+pub(crate) fn events_of(
+    alloc: Global,
+    notes: &BTreeSet<Note>,
+    stream: Stream,
+    day: Day,
+) -> Result<Vec<Event>, AllocError>
+    ensures { IfOk result (λ events. AreEventsOf (notes_world notes.now) stream day events.items) }
+{
+    let mut events = Vec::new(alloc);
+    for note in notes.range(first_event(alloc, &stream, day)..) {
+        let Some(event) = note.event_of(&stream, day) else {
+            break;
+        };
+        events.push(event.try_clone()?)?;
+    }
+    Ok(events)
+}
+
+/// The note of a day's event that stands before all others. It takes no memory.
+fn first_event(alloc: Global, stream: &Stream, day: Day) -> Note
+    ensures { result ≡ EventNote (first_of_day stream.now day) }
+{
+    let event = EventRef {
+        nmi: stream.nmi,
+        suffix: stream.suffix,
+        day,
+        trans: None,
+        ticket: PrintableText::read(b"").unwrap(),
+        moment: None,
+        reading: PrintableText::read(b"").unwrap(),
+    };
+    Note::Event(event.to_event(alloc).unwrap())
+}
+
+/// Whether the event is among the notes.
+pub(crate) fn has_event(notes: &BTreeSet<Note>, event: &Event) -> Result<bool, AllocError>
+    ensures { IfOk result (λ has. IsTrue has ↔ (EventIs event.now ∈ notes_world notes.now)) }
+{
+    let note = Note::Event(event.try_clone()?);
+    Ok(has_note(notes, &note))
+}
+
+/// Whether the note is one of them.
+fn has_note(notes: &BTreeSet<Note>, note: &Note) -> bool
+    ensures { IsTrue result ↔ (note_fact note.now ∈ notes_world notes.now) }
+{
+    notes.contains(note)
+}
+
+/// The streams that have details, ascending, each once.
+pub(crate) fn detail_streams(
+    alloc: Global,
+    notes: &BTreeSet<Note>,
+) -> Result<Vec<Stream>, AllocError>
+    ensures { IfOk result (λ streams. AreDetailStreams (notes_world notes.now) streams.items) }
+{
+    let mut streams = Vec::new(alloc);
+    for note in notes {
+        let Note::Details(detail) = note else {
+            break;
+        };
+        push_new(&mut streams, &detail.stream)?;
+    }
+    Ok(streams)
+}
+
+/// Appends a stream, unless it is the last.
+pub(crate) fn push_new(streams: &mut Vec<Stream>, stream: &Stream) -> Result<(), AllocError>
+    ensures { OnOk result (PutsLast stream.now streams.old.items streams.new.items) }
+{
+    if is_last(streams, stream) {
+        return Ok(());
+    }
+    streams.push(*stream)?;
+    Ok(())
+}
+
+/// Whether the stream is the last of them.
+fn is_last(streams: &[Stream], stream: &Stream) -> bool
+    ensures { IsTrue result ↔ IsAtEnd stream.now streams.now }
+{
+    match streams.last() {
+        Some(last) => *last == *stream,
+        None => false,
+    }
+}

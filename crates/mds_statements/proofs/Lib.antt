@@ -1,0 +1,2 @@
+pub mod DaysDelivered
+pub mod OrderlyTests

@@ -1,0 +1,4 @@
+pub mod Delivered
+pub mod Orderly
+pub mod OrderlySteps
+pub mod Statements

@@ -1,0 +1,24 @@
+//! What a keeper over tables is, in the words of the library. The function does nothing.
+
+ghost use Rattle.std.specs.Prelude.{◌≡◌, ◌↔◌, IsTrue};
+ghost use Rattle.sqlite.specs.Held.{state};
+ghost use Rattle.sqlite.specs.State.{HasCleanDisk};
+ghost use Rattle.sqlite_trees.specs.Tree.{Trees};
+ghost use Rattle.mds_tables.specs.RowFacts.{world_in};
+ghost use Rattle.mds_tables.specs.Stores.{world_of};
+ghost use Rattle.mds_world.specs.World.{World};
+
+use crate::row_keeper::RowKeeper;
+use mds_versions::Keeper;
+use sqlite::Alter;
+
+/// It keeps the World that the rows of its tables name. It is honest while its disk is, and sound while its connection is
+/// open too. A crash may leave each World that tables name which the library's store may leave.
+pub fn a_keeper_is_its_tables<S: Alter>(_keeper: &RowKeeper<S>)
+    ensures world { ⟦<RowKeeper<S> as Keeper>⟧.world _keeper.now ≡ world_of (state S.Store _keeper.now.conn) }
+    ensures honest { ⟦<RowKeeper<S> as Keeper>⟧.honest _keeper.now ↔ HasCleanDisk (state S.Store _keeper.now.conn) }
+    ensures sound { ⟦<RowKeeper<S> as Keeper>⟧.sound _keeper.now
+        ↔ (HasCleanDisk (state S.Store _keeper.now.conn) × IsTrue (state S.Store _keeper.now.conn).is_open) }
+    ensures may_leave { (left : World) → ⟦<RowKeeper<S> as Keeper>⟧.may_leave _keeper.now left
+        ↔ ((trees : Trees) × (state S.Store _keeper.now.conn).may_leave trees × (world_in trees ≡ left)) }
+{}

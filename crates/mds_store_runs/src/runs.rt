@@ -1,0 +1,36 @@
+//! What a run over a store in tables promises, in the words of the library.
+
+ghost use Rattle.std.specs.Prelude.{◌≡◌, IfOk, IsTrue};
+ghost use Rattle.sqlite.specs.Held.{state};
+ghost use Rattle.sqlite.specs.State.{HasCleanDisk};
+ghost use Rattle.sqlite_trees.specs.Tree.{Trees};
+ghost use Rattle.mds_world.specs.World.{IsLawful, World};
+ghost use Rattle.mds_tables.specs.RowFacts.{world_in};
+ghost use Rattle.mds_tables.specs.Stores.{world_of};
+ghost use Rattle.mds_service.specs.Crashes.{MayLeave};
+ghost use Rattle.mds_service.specs.Machine.{Run};
+
+use mds_service::{Answer, Request, run};
+use mds_store::RowKeeper;
+use sqlite::Alter;
+use std::alloc::{AllocError, Global};
+
+/// Answers requests in their order over a store in tables: one answer for each.
+pub fn run_rows<S: Alter>(
+    alloc: Global,
+    keeper: &mut RowKeeper<S>,
+    requests: &[Request],
+) -> Result<Vec<Answer>, AllocError>
+    // While the disk gives back what was written, all answers are those of a run of the machine from the World that the
+    // tables named to a lawful one. The tables name that where the connection is still open, and what an open after a
+    // crash may find names it, or it with one more whole request whose answer was Unavailable.
+    ensures run { IfOk result (λ answers. HasCleanDisk (state S.Store keeper.new.conn)
+        → IsTrue (state S.Store keeper.old.conn).is_open → IsLawful (world_of (state S.Store keeper.old.conn))
+        → (w : World) × IsLawful w
+        × Run (world_of (state S.Store keeper.old.conn)) requests.now answers.items w
+        × (IsTrue (state S.Store keeper.new.conn).is_open → world_of (state S.Store keeper.new.conn) ≡ w)
+        × ((trees : Trees) → (state S.Store keeper.new.conn).may_leave trees
+        → MayLeave w requests.now answers.items (world_in trees))) }
+{
+    run(alloc, keeper, requests)
+}

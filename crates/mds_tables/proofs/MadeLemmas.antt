@@ -1,0 +1,96 @@
+-- What a crash may leave of a making.
+use Rattle.std.proofs.Common.{◌≡◌, inl, true, IsTrue, refl, sym, ap, subst, ◌∙◌, arith}
+use Rattle.sqlite.specs.Effect.{Database}
+use Rattle.sqlite.specs.State.{HasCleanDisk, State, Survives}
+use Rattle.sqlite.proofs.StateLemmas.{survives_then}
+use Rattle.sqlite_catalog.specs.Listing.{IsSound}
+use Rattle.mds_tables.specs.Making.{HasMade, KeepsNothing, LeavesMade, MakesThere, SaysVersion, schema_of}
+use Rattle.mds_tables.specs.Stores.{IsReady}
+use Rattle.mds_tables.specs.Tables.{no_schema, schema_1}
+use Rattle.mds_tables.proofs.CallLemmas.{survives_more}
+
+-- the same of its trees, under the schema that it has
+keeps_trees : (db : Database) → KeepsNothing db → KeepsNothing (record { schema = schema_1; trees = db.trees })
+keeps_trees db keeps =
+    record { store = record { schema = refl; version = keeps.store.version }; bare = keeps.bare; world = keeps.world }
+
+-- the beginning of a transaction leaves nothing
+begun : (s : State) → Survives s (record s { in_transaction = true }) (λ _. ⊥)
+begun s = record {
+  clean = omega arith;
+  shield = λ h. h;
+  counts = omega arith;
+  limit = refl;
+  closes = λ _ o. inl o;
+  crash = λ _ db may. inl may;
+}
+
+module _ (start begins first last said new : State) (is : begins ≡ record start { in_transaction = true })
+    (one : Survives begins first (λ _. ⊥)) (two : Survives first last (λ _. ⊥))
+    (three : Survives last said (λ _. ⊥)) (four : Survives said new (λ db. db ≡ said.now.trees))
+    (makes_first : MakesThere 0 4 begins first) (makes_last : MakesThere 4 8 first last)
+    (says : SaysVersion last said) where
+  module _ (clean : HasCleanDisk new) (is_open : IsTrue start.is_open) (none : start.now.schema ≡ no_schema) where
+    early : HasCleanDisk said
+    early = omega (arith, four.clean)
+
+    earlier : HasCleanDisk last
+    earlier = omega (arith, four.clean, three.clean)
+
+    earliest : HasCleanDisk first
+    earliest = omega (arith, four.clean, three.clean, two.clean)
+
+    open_then : IsTrue begins.is_open
+    open_then = rw is is_open
+
+    none_then : begins.now.schema ≡ schema_of 0
+    none_then = ap (λ (s : State). s.now.schema) is ∙ none
+
+    first_open : IsTrue first.is_open
+    first_open = makes_first.is_open earliest open_then
+
+    last_open : IsTrue last.is_open
+    last_open = makes_last.is_open earlier first_open
+
+    four_made : first.now.schema ≡ schema_of 4
+    four_made = makes_first.schema earliest open_then none_then
+
+    all_made : last.now.schema ≡ schema_1
+    all_made = makes_last.schema earlier first_open four_made
+
+    keeps : KeepsNothing said.now
+    keeps =
+        says.said early last_open all_made
+        (makes_last.empty earlier first_open four_made (makes_first.empty earliest open_then none_then tt))
+
+    sound : IsSound schema_1 said.now.trees
+    sound = says.sound early last_open all_made
+
+  -- what a crash may leave of the transaction
+  pub has_made : Survives start new (HasMade start)
+  has_made =
+      survives_then start said new (λ _. ⊥) (λ db. db ≡ said.now.trees) (HasMade start) (λ _ db none. absurd none)
+      (λ clean db same. record {
+        made = λ is_open none.
+            subst (λ trees. KeepsNothing (record { schema = schema_1; trees = trees })) (sym same)
+            (keeps_trees said.now (keeps clean is_open none));
+        sound = λ is_open none. subst (IsSound schema_1) (sym same) (sound clean is_open none);
+      })
+      (survives_more start last said (survives_more start first last (survives_more start begins first (subst (λ s. Survives start s (λ _. ⊥)) (sym is) (begun start)) one) two) three)
+      four
+
+-- the transaction sees what was committed
+seen : (old mid : State) → IsReady old mid → old.committed.schema ≡ no_schema → mid.now.schema ≡ no_schema
+seen old mid ready none = ap (λ (db : Database). db.schema) (ready.same.0.now_is ∙ ready.settled) ∙ none
+
+-- the same, told of what was committed, once the connection is known to be open
+pub leaves_made : (old mid new : State) → (HasCleanDisk mid → IsReady old mid) → Survives old mid (λ _. ⊥)
+    → Survives mid new (HasMade mid) → Survives old new (LeavesMade old)
+leaves_made old mid new ready one two =
+    survives_then old mid new (λ _. ⊥) (HasMade mid) (LeavesMade old) (λ _ db none. absurd none) (λ clean db has.
+    let it = ready (omega (arith, two.clean)) in
+    record {
+      was_open = it.same.0.was_open;
+      made = λ none. has.made it.same.0.is_open (seen old mid it none);
+      sound = λ none. has.sound it.same.0.is_open (seen old mid it none);
+    }) one two

@@ -1,6 +1,0 @@
-use Rattle.std.proofs.Common.{take}
-use Rattle.mds_versions.proofs.Notes.{AreWith}
-use Rattle.mds_versions.proofs.stored_notes.insert_notes.Given as goal
-
-abbrev pub invariant-loop-i : goal.invariant-loop-i
-invariant-loop-i l = AreWith l.notes.keys l.fn.notes.keys (take l.i l.more)
