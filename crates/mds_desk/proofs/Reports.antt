@@ -7,7 +7,7 @@ use Rattle.mds_records.specs.declared.file.FileKind.{FileKind}
 use Rattle.mds_records.specs.declared.file.FileKind.TheVariants.{Nem12}
 use Rattle.mds_nem12.specs.Faults.{fault_of}
 use Rattle.mds_statements.specs.Statements.{DayStatement, Statement}
-use Rattle.mds_statements.specs.Statements.Statement.{HeaderOf, DetailsOf, DayOf, EventOf}
+use Rattle.mds_statements.specs.Statements.Statement.{HeaderOf, DetailsOf, DayOf, EventOf, PeriodOf}
 use Rattle.mds_desk.specs.Report.{day_line, IsFaultOf, IsReport}
 
 -- the lines of statements and of further ones
@@ -23,6 +23,7 @@ report_append (DayOf day ∷ done) more a b h k = (
   report_append done more h.1 b h.4 k,
 )
 report_append (EventOf event ∷ done) more a b h k = report_append done more a b h k
+report_append (PeriodOf period ∷ done) more a b h k = report_append done more a b h k
 
 -- a day has its line
 pub report_push : (done : List Statement) (day : DayStatement) (date text : List ℕ) → IsReport done text → day_of date ≡ Some day.date
