@@ -94,7 +94,7 @@ impl DayData {
 
     /// Begins the day of a 300 record, on the line of a number, with the values that were read with
     /// it. Those that it held before are left in their place. It takes memory only for the text of a
-    /// reason, and after want of it the day is that which it was.
+    /// reason, and after want of it the day and the values are those that they were.
     pub fn begin(
         &mut self,
         line: u64,
@@ -113,6 +113,7 @@ impl DayData {
         }) }
         ensures left { OnOk result (values.new ≡ self.old.values) }
         ensures kept { OnErr result (self.new ≡ self.old) }
+        ensures returned { OnErr result (values.new ≡ values.old) }
         ensures memory { OnErr result (0 < length day.now.mark.reason.text.now) }
     {
         self.mark = day.mark.to_mark(self.alloc)?;
@@ -198,11 +199,13 @@ impl DayData {
         }
     }
 
-    /// The readings of its intervals, in order. It fails only for want of memory.
+    /// The readings of its intervals, in order. It fails only for want of memory, and takes none where
+    /// there is no interval.
     pub fn readings(&self) -> Result<Vec<Reading>, AllocError>
         requires { IsWhole self.now }
-        ensures { IfOk result (λ readings. readings.items
+        ensures value { IfOk result (λ readings. readings.items
             ≡ readings_of (length self.now.values) self.now.mark self.now.runs self.now.values) }
+        ensures memory { OnErr result (0 < length self.now.values) }
     {
         let mut readings = Vec::with_capacity(self.alloc, self.count())?;
         let mut runs = self.cover.runs();
@@ -296,10 +299,12 @@ fn lacks_value(values: &[Option<Quantity>], first: u16, last: u16) -> bool
     values[first - 1..last].iter().any(|value| value.is_none())
 }
 
-/// The reading of an interval with a mark and a value field, which go together.
+/// The reading of an interval with a mark and a value field, which go together. It takes memory only
+/// for the text of a reason.
 fn reading(mark: &Mark, value: Option<Quantity>) -> Result<Reading, AllocError>
     requires { IsTrue (is_reading mark.now.quality.flag (reading_by mark.now value).value) }
-    ensures { IfOk result (λ reading. reading ≡ reading_by mark.now value) }
+    ensures value { IfOk result (λ reading. reading ≡ reading_by mark.now value) }
+    ensures memory { OnErr result (0 < length mark.now.reason.text) }
 {
     let value = if mark.quality.flag() == NULL {
         None

@@ -2,4 +2,3 @@ pub mod Answer
 pub mod Performed
 pub mod Program
 pub mod Report
-pub mod Requests

@@ -12,8 +12,8 @@ use Rattle.mds_service.specs.Crashes.{MayLeave}
 use Rattle.mds_service.specs.Machine.{Step}
 use Rattle.mds_desk.specs.declared.performing.PerformFault.{PerformFault}
 use Rattle.mds_desk.specs.declared.performing.PerformFault.TheVariants.{Memory, Write}
-use Rattle.mds_desk.specs.declared.program.Status.{Status}
-use Rattle.mds_desk.specs.declared.program.Status.TheVariants as status
+use Rattle.mds_desk.specs.declared.outcome.Status.{Status}
+use Rattle.mds_desk.specs.declared.outcome.Status.TheVariants as status
 
 abbrev pub code_text : RefusalCode → List ℕ
 code_text LengthConflict = codes "M1"

@@ -1,16 +1,14 @@
 -- What the program prints, and the status that it ends with (profile).
-use Rattle.std.specs.Prelude.{ℕ, if◌then◌else◌, List, [], ◌∷◌, ◌++◌, codes, bytes_eq, Option, Some, None, Result, Ok, Err, Bool, false, ◌==◌}
+use Rattle.std.specs.Prelude.{ℕ, List, [], ◌++◌, codes, Result, Ok, Err}
 use Rattle.mds_records.specs.Printed.{fault_text}
-use Rattle.mds_store.specs.declared.starting.StoreFault.{StoreFault}
-use Rattle.mds_store.specs.declared.starting.StoreFault.TheVariants as store
 use Rattle.mds_desk.specs.declared.checking.CheckFault.{CheckFault}
 use Rattle.mds_desk.specs.declared.checking.CheckFault.TheVariants as check
 use Rattle.mds_desk.specs.declared.performing.PerformFault.{PerformFault}
 use Rattle.mds_desk.specs.declared.performing.PerformFault.TheVariants as perform
-use Rattle.mds_desk.specs.declared.program.Outcome.{Outcome}
-use Rattle.mds_desk.specs.declared.program.Outcome.TheVariants as outcome
-use Rattle.mds_desk.specs.declared.program.Status.{Status}
-use Rattle.mds_desk.specs.declared.program.Status.TheVariants as status
+use Rattle.mds_desk.specs.declared.outcome.Outcome.{Outcome}
+use Rattle.mds_desk.specs.declared.outcome.Outcome.TheVariants as outcome
+use Rattle.mds_desk.specs.declared.outcome.Status.{Status}
+use Rattle.mds_desk.specs.declared.outcome.Status.TheVariants as status
 
 -- the number of a status
 abbrev pub status_code : Status → ℕ
@@ -32,11 +30,6 @@ abbrev pub of_request : Result Status PerformFault → Outcome
 of_request (Ok s) = outcome.Answered s
 of_request (Err perform.Write) = outcome.NoOutput
 of_request (Err perform.Memory) = outcome.Unavailable
-
--- what the want of a store comes to
-abbrev pub of_store : StoreFault → Outcome
-of_store store.Unavailable = outcome.Unavailable
-of_store store.OtherSchema = outcome.OtherSchema
 
 -- the status of it
 abbrev pub status_of : Outcome → Status
@@ -64,18 +57,16 @@ outcome_text outcome.NoOutput = []
 outcome_text outcome.Unavailable = codes "U1\n"
 outcome_text outcome.OtherSchema = codes "U3\n"
 
--- a word that begins with -
-abbrev pub is_option : List ℕ → Bool
-is_option [] = false
-is_option (letter ∷ letters) = letter == 45
-
--- What words ask for: no words, or `check -`, that standard input is checked, and `check` with another word that doesn't
--- begin with - that the file of this name is. Other words ask for something else.
-abbrev pub requested : List (List ℕ) → Option (Option (List ℕ))
-requested [] = Some None
-requested (command ∷ []) = None
-requested (command ∷ name ∷ []) =
-    if bytes_eq command (codes "check")
-    then (if bytes_eq name (codes "-") then Some None else if is_option name then None else Some (Some name))
-    else None
-requested (command ∷ name ∷ more ∷ words) = None
+-- What it comes to where the store can't be closed after it: what was printed stands, and in place of what is still to be
+-- printed it is U1.
+abbrev pub after_failed_close : Outcome → Outcome
+after_failed_close outcome.Done = outcome.Done
+after_failed_close (outcome.Answered s) = outcome.Answered s
+after_failed_close outcome.Usage = outcome.Usage
+after_failed_close outcome.NoOutput = outcome.NoOutput
+after_failed_close outcome.Created = outcome.Unavailable
+after_failed_close (outcome.Fault fault) = outcome.Unavailable
+after_failed_close outcome.NoText = outcome.Unavailable
+after_failed_close outcome.NoInput = outcome.Unavailable
+after_failed_close outcome.Unavailable = outcome.Unavailable
+after_failed_close outcome.OtherSchema = outcome.Unavailable

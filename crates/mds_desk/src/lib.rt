@@ -1,16 +1,14 @@
-//! What the program `mdstore` does: the check of a file, over any reader and writer, and the program over any runtime.
+//! What the program does over any reader, writer and keeper: the check of a file, a request to a store, and what each comes to.
 #![tactic(auto)]
 
 mod checking;
+mod outcome;
 mod output;
 mod performing;
-mod program;
 mod report;
-mod storing;
 #[cfg(test)]
 mod tests;
-mod words;
 
 pub use checking::{CheckFault, check};
+pub use outcome::{Outcome, Status};
 pub use performing::{PerformFault, perform};
-pub use program::{Outcome, Request, Status, run};

@@ -7,8 +7,8 @@ ghost use Rattle.mds_world.specs.World.{IsLawful};
 ghost use Rattle.mds_records.specs.Printed.{fault_text};
 ghost use Rattle.mds_desk.specs.Performed.{Does, answer_status, answer_text, code_text, is_write_failure, place_text, refusal_text};
 
+use crate::outcome::Status;
 use crate::output::write_whole;
-use crate::program::Status;
 use arrayvec::ArrayString;
 use itoa::Buffer;
 use mds_lines::Sink;

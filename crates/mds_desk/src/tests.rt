@@ -1,4 +1,6 @@
+mod limits;
 mod made;
+mod outcomes;
 mod performing;
 mod slow;
 mod small;

@@ -3,10 +3,12 @@
 #![tactic(auto)]
 
 mod files;
+mod limits;
 mod rows;
 #[cfg(test)]
 mod tests;
 mod texts;
 
+pub use limits::{FILE_BYTES, file_at_the_limits, first_wrong_at_the_limits};
 pub use rows::{EARLIER, EXAMPLES, FIRST, Row, first_wrong, request_of};
 pub use texts::text_of;

@@ -29,6 +29,31 @@ const LATER: &str = "300,20240103,=A,,,20240104000000,;";
 /// That day, with an event twice.
 const NOTED: &str = "300,20240103,=A,,,20240104000000,;500,N,,,;500,N,,,;";
 
+/// A day of quality V, with the marks of its intervals.
+const MARKED: &[&str] = &[
+    "@#300,20240101,-1.5,<>V,,,20240103000000,;400,1,20,A,,;400,21,21,S14,999,Zähler gewechselt;",
+    "400,22,47,F52,076,;400,48,48,N,,;$",
+];
+
+/// A day of 5 minutes under two updates.
+const CORRECTED: &[&str] = &[
+    FIVE,
+    "&A,,,20240102010203,;300,20240101,&S14,1,,20240103000000,;$",
+];
+
+/// Two days, the later with two events.
+const BOTH_DAYS: &[&str] = &[
+    "@#300,20240101,*A,,,20240102010203,;",
+    LATER,
+    "500,S,,,;500,,B7,20240104000000,;$",
+];
+
+/// A file whose header and day are of the first moment; its 300 record doesn't say when it was updated.
+const OF_1970: &[&str] = &[
+    "100,NEM12,197001010000,MDP1,RETAILER;200,NEM1201009,E1,1,E1,N1,01009,kWh,30,19700101;",
+    "300,19700101,*A,,,,;500,O,,19700101000000,;$",
+];
+
 const DAY: &[&str] = &["20240101"];
 
 const LATER_DAY: &[&str] = &["20240103"];
@@ -36,13 +61,17 @@ const LATER_DAY: &[&str] = &["20240103"];
 const NOTHING: &[&str] = &[];
 
 /// The examples, each a list of requests.
-pub const EXAMPLES: [&[Row]; 6] = [
+pub const EXAMPLES: [&[Row]; 10] = [
     &TAKEN_IN,
     &FIVE_MINUTES,
     &LATEST_UPDATE,
     &CONFLICTS,
     &TWICE,
     &LATEST_DETAILS,
+    &MARKS,
+    &TWO_UPDATES,
+    &TWO_DAYS,
+    &FIRST_MOMENT,
 ];
 
 /// A file is taken in, once.
@@ -174,6 +203,77 @@ const LATEST_DETAILS: [Row; 5] = [
         "NEM1201009,B1=B1,1,N1,01010, NEM1201009,E1=E1,1,N1,LATER,20240203 ",
     ),
     ("day", &["20240102"], 0, "M10 0 0 0"),
+];
+
+/// A day of null data, and the same day with all kinds of marks and a value below zero.
+const MARKS: [Row; 7] = [
+    (
+        "import",
+        &["@#300,20240101,~N,,,20240102010203,;$"],
+        0,
+        "added 48 known 0",
+    ),
+    ("day", DAY, 0, "30 kWh 20240102010203 1:N,,, 48"),
+    ("versions", DAY, 48, "48 20240102010203:N,,,"),
+    ("import", MARKED, 0, "added 48 known 0"),
+    (
+        "day",
+        DAY,
+        0,
+        "30 kWh 20240103000000 1:A,,,-1.5 2:A,,,1.5 21:S14,999,Zähler gewechselt,1.5 22:F52,76,,1.5 48:N,,, 48",
+    ),
+    (
+        "versions",
+        DAY,
+        21,
+        "21 20240102010203:N,,, 20240103000000:S14,999,Zähler gewechselt,1.5",
+    ),
+    ("import", MARKED, 0, "added 0 known 48"),
+];
+
+/// A day of 5 minutes that comes with its correction.
+const TWO_UPDATES: [Row; 4] = [
+    ("import", CORRECTED, 0, "added 576 known 0"),
+    ("day", DAY, 0, "5 kWh 20240103000000 1:S14,1,,1 288"),
+    (
+        "versions",
+        DAY,
+        288,
+        "288 20240102010203:A,,,1 20240103000000:S14,1,,1",
+    ),
+    ("import", CORRECTED, 0, "added 0 known 576"),
+];
+
+/// Two days of a file are new. The events of a day stand in the order of their texts.
+const TWO_DAYS: [Row; 4] = [
+    ("import", BOTH_DAYS, 0, "added 96 known 0"),
+    ("day", DAY, 0, "30 kWh 20240102010203 1:A,,,1.5 48"),
+    (
+        "day",
+        LATER_DAY,
+        0,
+        "30 kWh 20240104000000 1:A,,,2 48 NEM1201009,E1,20240103,,B7,20240104000000, NEM1201009,E1,20240103,S,,,",
+    ),
+    ("import", BOTH_DAYS, 0, "added 0 known 96"),
+];
+
+/// All is of the first moment that there is, and of its day.
+const FIRST_MOMENT: [Row; 5] = [
+    ("import", OF_1970, 0, "added 48 known 0"),
+    (
+        "streams",
+        NOTHING,
+        0,
+        "NEM1201009,E1=E1,1,N1,01009,19700101 ",
+    ),
+    (
+        "day",
+        &["19700101"],
+        0,
+        "30 kWh 19700101000000 1:A,,,1.5 48 NEM1201009,E1,19700101,O,,19700101000000,",
+    ),
+    ("versions", &["19700101"], 48, "48 19700101000000:A,,,1.5"),
+    ("import", OF_1970, 0, "added 0 known 48"),
 ];
 
 /// A request: to import a file, for a day of the first file's stream, for the versions of an

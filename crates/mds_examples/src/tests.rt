@@ -1,6 +1,9 @@
 //! The examples over the keeper in memory.
 
-use crate::{EARLIER, EXAMPLES, FIRST, first_wrong, request_of, text_of};
+use crate::{
+    EARLIER, EXAMPLES, FIRST, file_at_the_limits, first_wrong, first_wrong_at_the_limits,
+    request_of, text_of,
+};
 use mds_memory::MemoryKeeper;
 use mds_service::{Answer, apply, run};
 use std::test::Fail;
@@ -31,6 +34,31 @@ fn a_list_of_requests_is_done(rt: HostRuntime) -> Result<(), Fail> {
             assert_eq!(rt; text_of(alloc, answer)?.as_str(), *wanted);
         }
     }
+    Ok(())
+}
+
+/// No request is answered, too.
+#[test]
+fn an_empty_list_is_done(rt: HostRuntime) -> Result<(), Fail> {
+    let alloc = rt.alloc();
+    let mut keeper = MemoryKeeper::new(alloc);
+    assert!(rt; run(alloc, &mut keeper, &[])?.is_empty());
+    Ok(())
+}
+
+/// The file at the limits is one, and all that it states is kept.
+#[test]
+fn the_limits_hold(rt: HostRuntime) -> Result<(), Fail> {
+    let alloc = rt.alloc();
+    let file = file_at_the_limits(alloc)?;
+    assert_eq!(rt; file.len(), 8_388_608);
+    let longest = file
+        .split(|byte| *byte == b'\n')
+        .map(|line| line.len())
+        .max();
+    assert_eq!(rt; longest, Some(16_384));
+    let mut keeper = MemoryKeeper::new(alloc);
+    assert_eq!(rt; first_wrong_at_the_limits(alloc, &mut keeper)?, None);
     Ok(())
 }
 

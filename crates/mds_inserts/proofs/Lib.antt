@@ -1,4 +1,3 @@
 pub mod CommitLemmas
-pub mod FactLemmas
 pub mod PutLemmas
 pub mod RowLemmas

@@ -41,7 +41,7 @@ use Rattle.mds_tables.specs.RowFacts.{detail_fact, event_fact, head_fact, versio
 use Rattle.mds_tables.specs.Stores.{Adds, Gains}
 use Rattle.mds_tables.specs.Tables.{detail_table, event_table, head_table, schema_1, tables_1, version_table}
 use Rattle.mds_inserts.specs.Writing.{KeepsOthers, Part, Puts, PutsAll, PutsThere, detail_part, event_part, head_part, version_part}
-use Rattle.mds_inserts.proofs.FactLemmas.{detail_back, event_back, head_back, version_back}
+use Rattle.mds_tables.proofs.FactLemmas.{detail_back, event_back, head_back, version_back}
 use Rattle.mds_inserts.proofs.RowLemmas.{gains_kept, gains_more, gains_one, kept_gains, say_more, world_after}
 
 -- no foreign key of these tables acts

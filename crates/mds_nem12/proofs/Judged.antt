@@ -21,8 +21,9 @@ use Rattle.mds_records.specs.declared.interval_event.IntervalEventRecord.{Interv
 use Rattle.mds_records.specs.declared.nmi_data_details.NmiDataDetailsRecord.{NmiDataDetailsRecord}
 use Rattle.mds_records.specs.declared.record.Record.{Record}
 use Rattle.mds_records.specs.declared.record.Record.TheVariants as of
+use Rattle.mds_nem12.specs.Answers.{takes_memory}
 use Rattle.mds_nem12.specs.Faults.{at_field, at_line, event_fault}
-use Rattle.mds_nem12.specs.FileReaderSteps.{Governs, IsRefusal, Says, fields_fault, last_governing, last_kind}
+use Rattle.mds_nem12.specs.FileReaderSteps.{Governs, IsStop, Says, fields_fault, last_governing, last_kind}
 use Rattle.mds_nem12.specs.Governing.{Governors, governors}
 use Rattle.mds_nem12.specs.Place.{is_in_place, is_kind}
 use Rattle.mds_nem12.specs.Said.{bare_null, count_in, event_in, header_in, run_in, values_in}
@@ -184,26 +185,42 @@ no_event g line kind other = ap (λ b. cond b (run_fault (count_in g.details) g.
 
 -- How a record is answered.
 
-pub refused_with : (o : Option FileFault) (fault : FileFault) (answer : Nem12Fault) → answer ≡ File fault → o ≡ Some fault → IsRefusal o answer
-refused_with o fault answer is some = subst (λ (t : Nem12Fault). IsRefusal o t) (sym is) some
+pub refused_with : (o : Option FileFault) (lack : Type 0) (fault : FileFault) (answer : Nem12Fault) → answer ≡ File fault → o ≡ Some fault
+    → IsStop o lack answer
+refused_with o lack fault answer is some = subst (λ (t : Nem12Fault). IsStop o lack t) (sym is) some
 
-refused_any : (o : Option FileFault) (answer : Nem12Fault) → IsRefusal None answer → IsRefusal o answer
-refused_any o (File fault) h = absurd (cc)
-refused_any o Memory h = tt
+refused_any : (L M : Type 0) (o : Option FileFault) (answer : Nem12Fault) → (L → M) → IsStop None L answer → IsStop o M answer
+refused_any L M o (File fault) more h = absurd (cc)
+refused_any L M o Memory more h = more h
 
-pub answered : {T : Type 0} (r : Result T Nem12Fault) (P Q : Type 0) (o : Option FileFault) → Q → MatchResult r (λ _. P) (IsRefusal None)
-    → MatchResult r (λ _. Q × P) (IsRefusal o)
-answered (Ok x) P Q o q h = (q, h)
-answered (Err answer) P Q o q h = refused_any o answer h
+pub answered : {T : Type 0} (r : Result T Nem12Fault) (P Q L M : Type 0) (o : Option FileFault) → Q → (L → M)
+    → MatchResult r (λ _. P) (IsStop None L) → MatchResult r (λ _. Q × P) (IsStop o M)
+answered (Ok x) P Q L M o q more h = (q, h)
+answered (Err answer) P Q L M o q more h = refused_any L M o answer more h
 
-pub answered_as : {T : Type 0} (r : Result T Nem12Fault) (P : Type 0) (o : Option FaultCode) (f : FaultCode → FileFault) (all : Option FileFault)
-    → all ≡ option_map f o → MatchResult r (λ _. (o ≡ None) × P) (IsRefusal (option_map f o)) → MatchResult r (λ _. (all ≡ None) × P) (IsRefusal all)
-answered_as (Ok x) P o f all e h = (e ∙ ap (option_map f) h.0, h.1)
-answered_as (Err answer) P o f all e h = subst (λ (p : Option FileFault). IsRefusal p answer) (sym e) h
+pub answered_as : {T : Type 0} (r : Result T Nem12Fault) (P L : Type 0) (o : Option FaultCode) (f : FaultCode → FileFault) (all : Option FileFault)
+    → all ≡ option_map f o → MatchResult r (λ _. (o ≡ None) × P) (IsStop (option_map f o) ((o ≡ None) × L))
+    → MatchResult r (λ _. (all ≡ None) × P) (IsStop all ((all ≡ None) × L))
+answered_as (Ok x) P L o f all e h = (e ∙ ap (option_map f) h.0, h.1)
+answered_as (Err (File fault)) P L o f all e h = e ∙ h
+answered_as (Err Memory) P L o f all e h = (e ∙ ap (option_map f) h.0, h.1)
+
+-- a 400 takes memory for its run
+run_answered : {T : Type 0} (r : Result T Nem12Fault) (P : Type 0) (g : Governors) (line : List ℕ) (o : Option FileFault)
+    → MatchResult r (λ _. (event_fault g line a.IntervalEvent ≡ None) × P) (IsStop o (event_fault g line a.IntervalEvent ≡ None))
+    → MatchResult r (λ _. (event_fault g line a.IntervalEvent ≡ None) × P)
+    (IsStop o ((event_fault g line a.IntervalEvent ≡ None) × (takes_memory g line (Some a.IntervalEvent) ≡ true)))
+run_answered (Ok x) P g line o h = h
+run_answered (Err (File fault)) P g line o h = h
+run_answered (Err Memory) P g line o h = (h, refl)
 
 pub answered_run : {T : Type 0} (r : Result T Nem12Fault) (P : Type 0) (g : Governors) (number : ℕ) (line : List ℕ) (kind : Kind)
     → kind ≡ a.IntervalEvent
-    → MatchResult r (λ _. (event_fault g line a.IntervalEvent ≡ None) × P) (IsRefusal (option_map (at_line number) (event_fault g line a.IntervalEvent)))
-    → MatchResult r (λ _. (event_fault g line kind ≡ None) × P) (IsRefusal (option_map (at_line number) (event_fault g line kind)))
+    → MatchResult r (λ _. (event_fault g line a.IntervalEvent ≡ None) × P)
+    (IsStop (option_map (at_line number) (event_fault g line a.IntervalEvent)) (event_fault g line a.IntervalEvent ≡ None))
+    → MatchResult r (λ _. (event_fault g line kind ≡ None) × P)
+    (IsStop (option_map (at_line number) (event_fault g line kind)) ((event_fault g line kind ≡ None) × (takes_memory g line (Some kind) ≡ true)))
 answered_run r P g number line kind same h =
-    subst (λ (k : Kind). MatchResult r (λ _. (event_fault g line k ≡ None) × P) (IsRefusal (option_map (at_line number) (event_fault g line k)))) (sym same) h
+    subst (λ (k : Kind). MatchResult r (λ _. (event_fault g line k ≡ None) × P)
+    (IsStop (option_map (at_line number) (event_fault g line k)) ((event_fault g line k ≡ None) × (takes_memory g line (Some k) ≡ true))))
+    (sym same) (run_answered r P g line _ h)

@@ -4,6 +4,7 @@ pub mod Faultless
 pub mod Governs
 pub mod Judged
 pub mod Kept
+pub mod Lacking
 pub mod Lasts
 pub mod LinesRead
 pub mod Longer

@@ -172,10 +172,14 @@ fields_fault g number line found = first_of (
     ∷ option_map (at_line number) (event_fault g line found)
     ∷ [])
 
--- a line is refused for the fault that it has, or for want of memory
+-- a line is refused for the fault that it has, or for want of memory, and then this holds
+abbrev pub IsStop : Option FileFault → Type 0 → Nem12Fault → Type 0
+IsStop found lack (File fault) = found ≡ Some fault
+IsStop found lack Memory = lack
+
+-- the same, whatever may hold
 abbrev pub IsRefusal : Option FileFault → Nem12Fault → Type 0
-IsRefusal found (File fault) = found ≡ Some fault
-IsRefusal found Memory = Unit {0}
+IsRefusal found answer = IsStop found (Unit {0}) answer
 
 -- a record can be kept
 abbrev pub CanFollow : Record → LastRecord → Type 0

@@ -1,7 +1,7 @@
 -- What a line is judged by: the last record before it, the header, the 200 and the 300 that govern it, and the runs of
 -- that 300. MDFF Specification: a 300 belongs to the last 200 before it, 400 and 500 records to the last 300. Lines are
 -- named by their numbers, from 1, empty ones included.
-use Rattle.std.specs.Prelude.{ℕ, suc, zero, ◌-◌, Bool, false, ◌==◌, ◌&&◌, nat_lt, if◌then◌else◌, List, [], ◌∷◌, length, take, filter, slice_index_or, Option, Some, None, unwrap_or, is_some}
+use Rattle.std.specs.Prelude.{ℕ, suc, zero, ◌-◌, Bool, false, not, ◌==◌, ◌&&◌, ◌||◌, nat_lt, if◌then◌else◌, List, [], ◌∷◌, length, take, filter, slice_index_or, Option, Some, None, unwrap_or, is_some}
 use Rattle.std.specs.List.{last_or, flat_map, range_with_len}
 use Rattle.std.specs.Result.{result_ok}
 use Rattle.mds_lines.specs.Kinds.{kind_of}
@@ -75,6 +75,12 @@ governors before = record {
   day = line_at before (governing_day before);
   runs = runs_of before (governing_day before);
 }
+
+-- a record of a kind, where a line is one, ends the day in progress: it comes after a 300 or a 400, and is no 400
+abbrev pub ends_day : Governors → Option Kind → Bool
+ends_day g None = false
+ends_day g (Some kind) =
+    not (is_kind kind IntervalEvent) && (is_this IntervalData g.previous || is_this IntervalEvent g.previous)
 
 -- the last 300 has V, no 200 stands after it, and its runs leave an interval out
 abbrev pub has_gap : Governors → Bool

@@ -8,8 +8,9 @@ ghost use Rattle.mds_lines.specs.declared.line.Kind.{Kind as AKind};
 ghost use Rattle.mds_days.specs.Days.{IsWhole, run_value};
 ghost use Rattle.mds_days.specs.RunFaults.{run_fault};
 ghost use Rattle.mds_nem12.specs.Faults.{at_line as fault_at, at_field as field_fault_at, end_fault, event_fault, kind_fault, record_fault, text_fault};
-ghost use Rattle.mds_nem12.specs.FileReaderSteps.{HasTaken, IsRefusal};
-ghost use Rattle.mds_nem12.specs.Governing.{governors, has_gap};
+ghost use Rattle.mds_nem12.specs.Answers.{MayLack, MayLackMemory, takes_memory};
+ghost use Rattle.mds_nem12.specs.FileReaderSteps.{HasTaken, IsRefusal, IsStop};
+ghost use Rattle.mds_nem12.specs.Governing.{ends_day, governors, has_gap, record_kind};
 ghost use Rattle.mds_nem12.specs.Statements.{statements};
 ghost use Rattle.mds_nem12.specs.Told.{is_headed};
 
@@ -201,6 +202,9 @@ impl<T: StatementSink + Drop> FileReader<T> {
             (λ _. (text_fault before (text_of line.now) ≡ None)
             × HasTaken T.told (before ++ text_of line.now ∷ []) self.new)
             (IsRefusal (text_fault before (text_of line.now))) }
+        ensures memory { (before : List (List ℕ)) → HasTaken T.told before self.old
+            → number_of line.now ≡ length before + 1 → result ≡ Err AFault.Memory
+            → MayLackMemory before (text_of line.now) }
         ensures again { IfSome (fault_answered self.old) (λ fault. (result ≡ Err fault)
             × (fault_answered self.new ≡ Some fault)) }
         ensures kept { IfErr result (λ fault. fault_answered self.new ≡ Some fault) }
@@ -219,6 +223,9 @@ impl<T: StatementSink + Drop> FileReader<T> {
             (λ _. (text_fault before (text_of line.now) ≡ None)
             × HasTaken T.told (before ++ text_of line.now ∷ []) self.new)
             (IsRefusal (text_fault before (text_of line.now))) }
+        ensures memory { (before : List (List ℕ)) → HasTaken T.told before self.old
+            → number_of line.now ≡ length before + 1 → result ≡ Err AFault.Memory
+            → MayLackMemory before (text_of line.now) }
         ensures kept { IfErr result (λ fault. self.new.fault ≡ Some fault) }
     {
         match self.take_line(line) {
@@ -237,7 +244,7 @@ impl<T: StatementSink + Drop> FileReader<T> {
             → MatchResult result
             (λ _. (text_fault before (text_of line.now) ≡ None)
             × HasTaken T.told (before ++ text_of line.now ∷ []) self.new)
-            (IsRefusal (text_fault before (text_of line.now))) }
+            (IsStop (text_fault before (text_of line.now)) (MayLackMemory before (text_of line.now))) }
     {
         if line.is_empty() {
             return Ok(());
@@ -253,8 +260,9 @@ impl<T: StatementSink + Drop> FileReader<T> {
             (λ _. (kind_fault (governors before) (length before + 1) (text_of line.now)
             (kind_of (text_of line.now)) ≡ None)
             × HasTaken T.told (before ++ text_of line.now ∷ []) self.new)
-            (IsRefusal (kind_fault (governors before) (length before + 1) (text_of line.now)
-            (kind_of (text_of line.now)))) }
+            (IsStop (kind_fault (governors before) (length before + 1) (text_of line.now) (kind_of (text_of line.now)))
+            (MayLack (governors before) (text_of line.now) (record_kind (text_of line.now))
+            (kind_fault (governors before) (length before + 1) (text_of line.now) (kind_of (text_of line.now))))) }
     {
         match line.kind() {
             Ok(kind) => self.take_record(line, kind),
@@ -271,7 +279,9 @@ impl<T: StatementSink + Drop> FileReader<T> {
             → MatchResult result
             (λ _. (record_fault (governors before) (length before + 1) (text_of line.now) kind ≡ None)
             × HasTaken T.told (before ++ text_of line.now ∷ []) self.new)
-            (IsRefusal (record_fault (governors before) (length before + 1) (text_of line.now) kind)) }
+            (IsStop (record_fault (governors before) (length before + 1) (text_of line.now) kind)
+            (MayLack (governors before) (text_of line.now) (Some kind)
+            (record_fault (governors before) (length before + 1) (text_of line.now) kind))) }
     {
         if !self.last.allows(kind) {
             return Err(at_line(FaultCode::OutOfPlace, line));
@@ -291,7 +301,9 @@ impl<T: StatementSink + Drop> FileReader<T> {
             → MatchResult result
             (λ _. (gap_fault (governors before) (length before + 1) kind ≡ None)
             × IsReady T.told before kind self.new)
-            (IsRefusal (gap_fault (governors before) (length before + 1) kind)) }
+            (IsStop (gap_fault (governors before) (length before + 1) kind)
+            ((gap_fault (governors before) (length before + 1) kind ≡ None)
+            × (ends_day (governors before) (Some kind) ≡ true))) }
         ensures last { self.new.last ≡ self.old.last }
     {
         if kind == Kind::IntervalEvent {
@@ -317,7 +329,8 @@ impl<T: StatementSink + Drop> FileReader<T> {
         requires whole { has_open_day self.old.last ≡ true → IsWhole self.old.day }
         ensures closed { (before : List (List ℕ)) → HasTaken T.told before self.old
             → has_gap (governors before) ≡ false
-            → MatchResult result (λ _. HasClosed T.told before self.new) (IsRefusal None) }
+            → MatchResult result (λ _. HasClosed T.told before self.new)
+            (IsStop None (has_open_day self.old.last ≡ true)) }
         ensures last { self.new.last ≡ self.old.last }
     {
         match self.last.open_day() {
@@ -338,7 +351,9 @@ impl<T: StatementSink + Drop> FileReader<T> {
             → MatchResult result
             (λ _. (fields_fault (governors before) (length before + 1) (text_of line.now) kind ≡ None)
             × HasTaken T.told (before ++ text_of line.now ∷ []) self.new)
-            (IsRefusal (fields_fault (governors before) (length before + 1) (text_of line.now) kind)) }
+            (IsStop (fields_fault (governors before) (length before + 1) (text_of line.now) kind)
+            ((fields_fault (governors before) (length before + 1) (text_of line.now) kind ≡ None)
+            × (takes_memory (governors before) (text_of line.now) (Some kind) ≡ true))) }
     {
         let length = self.last.length();
         match read_record(line, kind, FileKind::Nem12, length, &mut self.values) {
@@ -363,8 +378,9 @@ impl<T: StatementSink + Drop> FileReader<T> {
             → MatchResult result
             (λ _. (event_fault (governors before) (text_of line.now) kind ≡ None)
             × HasTaken T.told (before ++ text_of line.now ∷ []) self.new)
-            (IsRefusal (option_map (fault_at (length before + 1))
-            (event_fault (governors before) (text_of line.now) kind))) }
+            (IsStop (option_map (fault_at (length before + 1)) (event_fault (governors before) (text_of line.now) kind))
+            ((event_fault (governors before) (text_of line.now) kind ≡ None)
+            × (takes_memory (governors before) (text_of line.now) (Some kind) ≡ true))) }
     {
         match record {
             Record::Header(header) => self.keep_header(header),
@@ -430,7 +446,8 @@ impl<T: StatementSink + Drop> FileReader<T> {
             → field_fault FileKind.Nem12 Kind.IntervalData (count_in (governors before).details) text ≡ None
             → IsIntervalData (count_in (governors before).details) text day.now
             → self.old.values ≡ map quantity_in (values_of (count_in (governors before).details) text)
-            → MatchResult result (λ _. HasTaken T.told (before ++ text ∷ []) self.new) (IsRefusal None) }
+            → MatchResult result (λ _. HasTaken T.told (before ++ text ∷ []) self.new)
+            (IsStop None (takes_memory (governors before) text (Some Kind.IntervalData) ≡ true)) }
     {
         let governing = self.last.governing().unwrap();
         match self.day.begin(number, day, &mut self.values) {
@@ -457,8 +474,9 @@ impl<T: StatementSink + Drop> FileReader<T> {
             → MatchResult result
             (λ _. (event_fault (governors before) (text_of line.now) Kind.IntervalEvent ≡ None)
             × HasTaken T.told (before ++ text_of line.now ∷ []) self.new)
-            (IsRefusal (option_map (fault_at (length before + 1))
-            (event_fault (governors before) (text_of line.now) Kind.IntervalEvent))) }
+            (IsStop (option_map (fault_at (length before + 1))
+            (event_fault (governors before) (text_of line.now) Kind.IntervalEvent))
+            (event_fault (governors before) (text_of line.now) Kind.IntervalEvent ≡ None)) }
     {
         match self.day.run_fault(event) {
             Some(code) => Err(at_line(code, line)),

@@ -12,3 +12,4 @@ pub mod SelectLemmas
 pub mod SelectTexts
 pub mod TypedLemmas
 pub mod TypedRows
+pub mod WrittenLemmas

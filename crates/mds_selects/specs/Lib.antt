@@ -1,3 +1,4 @@
 pub mod Shown
 pub mod Found
 pub mod Added
+pub mod Written

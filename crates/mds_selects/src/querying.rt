@@ -1,8 +1,8 @@
 //! What is asked of a store, found by queries. A store that can't answer, or holds a row that the store didn't write,
 //! is unavailable.
 
-ghost use Rattle.std.specs.Prelude.{◌≡◌, ◌≢◌, ◌⊎◌, ◌<◌, ◌^◌, ◌↔◌, ℕ, [], ◌∷◌, false, map, pos, All, IfOk, IsTrue, OnOk, Some};
-ghost use Rattle.std.specs.Bool.{MatchBool};
+ghost use Rattle.std.specs.Prelude.{◌≡◌, ◌≢◌, ◌⊎◌, ◌<◌, ◌^◌, ◌↔◌, ℕ, List, [], ◌∷◌, false, length, map, pos, All, IfOk, IsOkAnd, IsTrue, OnErr, OnOk, Some};
+ghost use Rattle.std.specs.Bool.{MatchBool, OnFalse};
 ghost use Rattle.std.specs.FinSet.{IsAntisymmetric};
 ghost use Rattle.std.specs.List.{AllPairs};
 ghost use Rattle.std.specs.declared.cmp.Ordering.TheVariants.{Less};
@@ -18,6 +18,12 @@ ghost use Rattle.mds_tables.specs.RowFacts.{int_at};
 ghost use Rattle.mds_tables.specs.Stores.{AreOpen, Holds, HoldsTables, world_of};
 ghost use Rattle.mds_selects.specs.Found.{AreRowsOf, IsHeadOf};
 ghost use Rattle.mds_selects.specs.Shown.{AreEventsIn, AreFirstDetails, AreStreamsIn, AreVersionsIn, IsDetailRow, IsOnlyHead, SaysVersion};
+ghost use Rattle.sqlite_value.specs.Order.{Row as RowValue};
+ghost use Rattle.mds_marks.specs.Reading.{ReadingValue};
+ghost use Rattle.mds_world.specs.declared.facts.Detail.{Detail as DetailValue};
+ghost use Rattle.mds_world.specs.declared.facts.Head.{Head as HeadValue};
+ghost use Rattle.mds_world.specs.declared.facts.Key.{Key as KeyValue};
+ghost use Rattle.mds_selects.specs.Written.{IsRowOfDetail, IsRowOfHead, IsRowOfVersion, IsWrittenDetail, text_length};
 ghost use Rattle.mds_selects.specs.Added.{AreAdded, IsAdded, SaysEvent, SaysStream};
 
 use crate::rows::{
@@ -103,7 +109,8 @@ pub fn head_of<S: Alter>(
 
 /// The length and unit of the one head among rows.
 fn only_head(rows: &[Row]) -> Result<Option<(Length, Unit)>, Unavailable>
-    ensures { IfOk result (IsOnlyHead rows.now) }
+    ensures ok { IfOk result (IsOnlyHead rows.now) }
+    ensures err { OnErr result ((rows.now ≢ []) × ((row : RowValue) (head : HeadValue) → rows.now ≡ row ∷ [] → ¬ IsRowOfHead row head)) }
 {
     match rows {
         [] => Ok(None),
@@ -162,7 +169,9 @@ fn all_versions(alloc: Global, rows: &[Row]) -> Result<Vec<(u16, Version)>, Unav
 
 /// The version of a row, with its interval.
 fn version_at(alloc: Global, row: &Row) -> Result<(u16, Version), Unavailable>
-    ensures { IfOk result (SaysVersion row.now) }
+    ensures ok { IfOk result (SaysVersion row.now) }
+    ensures err { OnErr result ((key : KeyValue) (reading : ReadingValue) → IsRowOfVersion row.now key reading
+        → 0 < length reading.mark.reason.text) }
 {
     let Ok(it) = version_in(alloc, row) else {
         return Err(Unavailable);
@@ -204,6 +213,8 @@ pub fn current_details<S: Alter>(
 fn first_details(alloc: Global, rows: &[Row]) -> Result<Details, Unavailable>
     ensures first { IfOk result (AreFirstDetails rows.now) }
     ensures all { IfOk result (λ details. All (λ row. IsDetailRow row) rows.now) }
+    ensures err { OnErr result (All IsWrittenDetail rows.now → (row : RowValue) × (later : List RowValue) × (rows.now ≡ row ∷ later)
+        × ((detail : DetailValue) → IsRowOfDetail row detail → 0 < text_length detail.details)) }
 {
     let are_lawful = are_detail_rows(rows);
     if !are_lawful {
@@ -217,7 +228,8 @@ fn first_details(alloc: Global, rows: &[Row]) -> Result<Details, Unavailable>
 
 /// The details of a row.
 fn details_at(alloc: Global, row: &Row) -> Result<Details, Unavailable>
-    ensures { IfOk result (λ details. AreFirstDetails (row.now ∷ []) details) }
+    ensures ok { IfOk result (λ details. AreFirstDetails (row.now ∷ []) details) }
+    ensures err { OnErr result ((detail : DetailValue) → IsRowOfDetail row.now detail → 0 < text_length detail.details) }
 {
     let Ok(detail) = detail_in(alloc, row) else {
         return Err(Unavailable);
@@ -227,7 +239,8 @@ fn details_at(alloc: Global, row: &Row) -> Result<Details, Unavailable>
 
 /// Whether all rows are ones of details that the store writes.
 fn are_detail_rows(rows: &[Row]) -> bool
-    ensures { IsTrue result → All (λ row. IsDetailRow row) rows.now }
+    ensures yes { IsTrue result → All (λ row. IsDetailRow row) rows.now }
+    ensures no { OnFalse result (¬ All IsWrittenDetail rows.now) }
 {
     for i in 0..rows.len() {
         let is_lawful = is_detail_row(&rows[i]);
@@ -238,10 +251,10 @@ fn are_detail_rows(rows: &[Row]) -> bool
     true
 }
 
-/// Details of which nothing is known.
+/// Details of which nothing is known. They take no memory.
 #[tactic(auto, unfolding(mds_terms::specs::Details::details_of))]
 fn empty_details(alloc: Global) -> Result<Details, Unavailable>
-    ensures { IfOk result (λ details. details ≡ no_details) }
+    ensures { IsOkAnd result (λ details. details ≡ no_details) }
 {
     match Details::read(alloc, b"", b"", b"", b"", b"") {
         Ok(Some(details)) => Ok(details),

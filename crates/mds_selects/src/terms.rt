@@ -1,15 +1,32 @@
 //! Rows that queries answer, as terms. `None` where a row isn't one that the store writes.
 
-ghost use Rattle.std.specs.Prelude.{◌≡◌, ◌<◌, ◌^◌, ◌∷◌, pos, Some, IfOk, IfSome, IsTrue};
+ghost use Rattle.std.specs.Prelude.{◌≡◌, ◌≢◌, ◌<◌, ◌≤◌, ◌+◌, ◌^◌, ◌∷◌, ℕ, ℤ, List, Option, length, pos, unsigned_abs, Some, IfErr, IfNone, IfOk, IfSome, IsTrue, OnErr, string_bytes};
+ghost use Rattle.std.specs.Bool.{OnFalse};
+ghost use Rattle.std.specs.Str.{is_utf8};
 ghost use Rattle.sqlite.specs.declared.types.Value.TheVariants.{Int, Null, Text};
 ghost use Rattle.sqlite.specs.Order.{column};
+ghost use Rattle.mds_calendar.specs.Length.{is_length};
+ghost use Rattle.mds_names.specs.Names.{is_name, nmi_length, suffix_length};
+ghost use Rattle.mds_names.specs.declared.stream.Stream.{Stream as StreamValue};
+ghost use Rattle.mds_quantity.specs.Quantity.{limit};
+ghost use Rattle.mds_quantity.specs.Unit.{unit_text};
+ghost use Rattle.mds_quantity.specs.declared.unit.Unit.{Unit as UnitValue};
+ghost use Rattle.mds_marks.specs.Quality.{QualityValue, is_quality, null, quality_text};
+ghost use Rattle.mds_marks.specs.Reading.{ReadingValue};
 ghost use Rattle.mds_world.specs.Facts.Fact.{DetailIs, EventIs, HeadIs, VersionIs};
-ghost use Rattle.mds_tables.specs.RowFacts.{detail_fact, event_fact, head_fact, letter_in, natural_at, optional, optional_at, version_fact};
-ghost use Rattle.mds_terms.specs.BorrowedTexts.{details_in, event_in};
+ghost use Rattle.mds_world.specs.declared.facts.Detail.{Detail as DetailValue};
+ghost use Rattle.mds_world.specs.declared.facts.Head.{Head as HeadValue};
+ghost use Rattle.mds_world.specs.declared.facts.Key.{Key as KeyValue};
+ghost use Rattle.mds_tables.specs.Cells.{letter_text, number_cell, optional_cell};
+ghost use Rattle.mds_tables.specs.RowFacts.{detail_fact, event_fact, head_fact, letter_in, natural_at, optional_at, quality_named, text_at as bytes_in, unit_named, version_fact};
+ghost use Rattle.mds_terms.specs.BorrowedTexts.{details_in, event_in, text_of};
+ghost use Rattle.mds_terms.specs.Event.{EventValue, is_trans};
+ghost use Rattle.mds_terms.specs.Printable.{is_printable};
 ghost use Rattle.mds_selects.specs.Shown.{IsDetailRow, amount_in, shown_details, shown_key, shown_reading};
+ghost use Rattle.mds_selects.specs.Written.{BeginsWith, IsDay, IsMoment, IsRowOfDetail, IsRowOfEvent, IsRowOfHead, IsRowOfVersion, text_length};
 
-use mds_marks::{Mark, Quality, Reading, Reason};
-use mds_quantity::{Quantity, Unit};
+use mds_marks::{Mark, Quality, Reading, Reason, qualities_read_back};
+use mds_quantity::{Quantity, Unit, units_read_back};
 use mds_terms::{
     Day, DetailsRef, Event, EventRef, Length, Moment, Nmi, PrintableText, Stream, Suffix, TransCode,
 };
@@ -21,7 +38,8 @@ use std::alloc::Global;
 
 /// The text in a column.
 fn text_at<'a>(row: &'a Row, at: usize) -> Option<&'a [u8]>
-    ensures { IfSome result (λ text. column row.now at ≡ Text text.now) }
+    ensures some { IfSome result (λ text. column row.now at ≡ Text text.now) }
+    ensures none { IfNone result ((text : List ℕ) → column row.now at ≢ Text text) }
 {
     match row.get_ref(at) {
         Ok(ValueRef::Text(text)) => Some(text),
@@ -31,7 +49,8 @@ fn text_at<'a>(row: &'a Row, at: usize) -> Option<&'a [u8]>
 
 /// The number in a column.
 fn int_at(row: &Row, at: usize) -> Option<i64>
-    ensures { IfSome result (λ number. column row.now at ≡ Int number) }
+    ensures some { IfSome result (λ number. column row.now at ≡ Int number) }
+    ensures none { IfNone result ((number : ℤ) → column row.now at ≢ Int number) }
 {
     match row.get_ref(at) {
         Ok(ValueRef::Int(number)) => Some(number),
@@ -39,52 +58,115 @@ fn int_at(row: &Row, at: usize) -> Option<i64>
     }
 }
 
+/// The NMI in a column.
+fn nmi_at(row: &Row, at: usize) -> Option<Nmi>
+    ensures some { IfSome result (λ nmi. column row.now at ≡ Text nmi) }
+    ensures none { IfNone result ((nmi : List ℕ) → IsTrue (is_name nmi_length nmi) → column row.now at ≢ Text nmi) }
+{
+    Nmi::read(text_at(row, at)?)
+}
+
+/// The suffix in a column.
+fn suffix_at(row: &Row, at: usize) -> Option<Suffix>
+    ensures some { IfSome result (λ suffix. column row.now at ≡ Text suffix) }
+    ensures none { IfNone result ((suffix : List ℕ) → IsTrue (is_name suffix_length suffix) → column row.now at ≢ Text suffix) }
+{
+    Suffix::read(text_at(row, at)?)
+}
+
 /// The stream of a row that begins with it.
 pub(crate) fn stream_in(row: &Row) -> Option<Stream>
-    ensures { IfSome result (λ stream. (column row.now 0 ≡ Text stream.nmi) × (column row.now 1 ≡ Text stream.suffix)) }
+    ensures some { IfSome result (λ stream. (column row.now 0 ≡ Text stream.nmi) × (column row.now 1 ≡ Text stream.suffix)) }
+    ensures none { IfNone result ((stream : StreamValue) → ¬ BeginsWith row.now stream) }
 {
-    Stream::read(text_at(row, 0)?, text_at(row, 1)?)
+    Some(Stream {
+        nmi: nmi_at(row, 0)?,
+        suffix: suffix_at(row, 1)?,
+    })
 }
 
 /// The day in a column.
 fn day_at(row: &Row, at: usize) -> Option<Day>
-    ensures { IfSome result (λ day. column row.now at ≡ Int (pos day)) }
+    ensures some { IfSome result (λ day. column row.now at ≡ Int (pos day)) }
+    ensures none { IfNone result ((day : ℕ) → IsDay day → column row.now at ≢ number_cell day) }
 {
     Day::from_number(int_at(row, at)?)
 }
 
 /// The moment in a column.
 fn moment_at(row: &Row, at: usize) -> Option<Moment>
-    ensures { IfSome result (λ moment. column row.now at ≡ Int (pos moment)) }
+    ensures some { IfSome result (λ moment. column row.now at ≡ Int (pos moment)) }
+    ensures none { IfNone result ((moment : ℕ) → IsMoment moment → column row.now at ≢ number_cell moment) }
 {
     Moment::from_seconds(int_at(row, at)?)
 }
 
+/// The length of intervals in a column.
+fn length_at(row: &Row, at: usize) -> Option<Length>
+    ensures some { IfSome result (λ length. column row.now at ≡ Int (pos length)) }
+    ensures none { IfNone result ((length : ℕ) → IsTrue (is_length length) → column row.now at ≢ number_cell length) }
+{
+    Length::from_minutes(int_at(row, at)?)
+}
+
+/// The unit in a column.
+fn unit_at(row: &Row, at: usize) -> Option<Unit>
+    ensures some { IfSome result (λ unit. unit_named (bytes_in row.now at) ≡ unit) }
+    ensures none { IfNone result ((unit : UnitValue) → column row.now at ≢ Text (unit_text unit)) }
+{
+    units_read_back();
+    Unit::read(text_at(row, at)?)
+}
+
 /// The head that a row is.
 pub(crate) fn head_in(row: &Row) -> Option<Head>
-    ensures { IfSome result (λ head. head_fact (Null ∷ row.now) ≡ HeadIs head) }
+    ensures some { IfSome result (λ head. head_fact (Null ∷ row.now) ≡ HeadIs head) }
+    ensures none { IfNone result ((head : HeadValue) → ¬ IsRowOfHead row.now head) }
 {
     Some(Head {
         stream: stream_in(row)?,
         day: day_at(row, 2)?,
-        length: Length::from_minutes(int_at(row, 3)?)?,
-        unit: Unit::read(text_at(row, 4)?)?,
+        length: length_at(row, 3)?,
+        unit: unit_at(row, 4)?,
     })
 }
 
-/// A code, which is -1 where there is none: `None` where it is neither.
-fn code_in(number: i64) -> Option<Option<u16>>
-    ensures { IfSome result (λ code. optional number ≡ code) }
+/// The quality in a column.
+fn quality_at(row: &Row, at: usize) -> Option<Quality>
+    ensures some { IfSome result (λ quality. quality_named (bytes_in row.now at) ≡ quality) }
+    ensures none { IfNone result ((quality : QualityValue) → IsTrue (is_quality quality.flag quality.method)
+        → column row.now at ≢ Text (quality_text quality)) }
 {
-    match number {
+    qualities_read_back();
+    Quality::read(text_at(row, at)?)
+}
+
+/// The code in a column, which is -1 where there is none: `None` where it is neither.
+fn code_at(row: &Row, at: usize) -> Option<Option<u16>>
+    ensures some { IfSome result (λ code. optional_at row.now at ≡ code) }
+    ensures none { IfNone result ((code : Option ℕ) → IfSome code (λ n. n < 2 ^ 16) → column row.now at ≢ optional_cell code) }
+{
+    match int_at(row, at)? {
         -1 => Some(None),
-        _ => Some(Some(u16::try_from(number).ok()?)),
+        number => Some(Some(u16::try_from(number).ok()?)),
     }
 }
 
-/// The value of a reading: none where its quality is N.
+/// The note in a column.
+fn note_at<'a>(row: &'a Row, at: usize) -> Option<&'a str>
+    ensures some { IfSome result (λ note. column row.now at ≡ Text note.now) }
+    ensures none { IfNone result ((note : List ℕ) → IsTrue (is_utf8 note) → column row.now at ≢ Text note) }
+{
+    match str::from_utf8(text_at(row, at)?) {
+        Ok(note) => Some(note),
+        Err(_) => None,
+    }
+}
+
+/// The value of a reading: none where its quality is N, whatever the amount.
 fn value_in(quality: Quality, amount: i64) -> Option<Option<Quantity>>
-    ensures { IfSome result (λ value. value ≡ amount_in quality amount) }
+    ensures some { IfSome result (λ value. value ≡ amount_in quality amount) }
+    ensures none { IfNone result ((quality.flag ≢ null) × (limit ≤ unsigned_abs amount)) }
 {
     if quality.flag() == b'N' {
         return Some(None);
@@ -103,26 +185,43 @@ struct ReadingRef<'a> {
 
 /// What the columns of a version from its quality on say.
 fn reading_ref_in<'a>(row: &'a Row) -> Option<ReadingRef<'a>>
-    ensures { IfSome result (λ it. shown_reading row.now
+    ensures some { IfSome result (λ it. shown_reading row.now
         ≡ record { mark = record { quality = it.quality; reason = record { code = it.code; text = it.note.now } }; value = it.value }) }
+    ensures none { IfNone result ((key : KeyValue) (reading : ReadingValue) → ¬ IsRowOfVersion row.now key reading) }
 {
-    let quality = Quality::read(text_at(row, 5)?)?;
+    let quality = quality_at(row, 5)?;
     Some(ReadingRef {
         quality,
-        code: code_in(int_at(row, 6)?)?,
-        note: str::from_utf8(text_at(row, 7)?).ok()?,
+        code: code_at(row, 6)?,
+        note: note_at(row, 7)?,
         value: value_in(quality, int_at(row, 8)?)?,
     })
 }
 
-/// The reading that the columns of a version from its quality on are.
+/// A text of its own. An empty one takes no memory.
+fn copy_of(alloc: Global, text: &str) -> Result<String, Unavailable>
+    ensures value { IfOk result (λ copy. string_bytes copy ≡ text.now) }
+    ensures only { OnErr result (0 < length text.now) }
+{
+    if text.is_empty() {
+        return Ok(String::new(alloc));
+    }
+    match String::from_str(alloc, text) {
+        Ok(copy) => Ok(copy),
+        Err(_) => Err(Unavailable),
+    }
+}
+
+/// The reading that the columns of a version from its quality on are. It takes memory only for a note.
 fn reading_in(alloc: Global, row: &Row) -> Result<Reading, Unavailable>
-    ensures { IfOk result (λ reading. shown_reading row.now ≡ reading) }
+    ensures ok { IfOk result (λ reading. shown_reading row.now ≡ reading) }
+    ensures err { OnErr result ((key : KeyValue) (reading : ReadingValue) → IsRowOfVersion row.now key reading
+        → 0 < length reading.mark.reason.text) }
 {
     let Some(it) = reading_ref_in(row) else {
         return Err(Unavailable);
     };
-    let Ok(note) = String::from_str(alloc, it.note) else {
+    let Ok(note) = copy_of(alloc, it.note) else {
         return Err(Unavailable);
     };
     let Some(reason) = Reason::new(it.code, note) else {
@@ -132,12 +231,17 @@ fn reading_in(alloc: Global, row: &Row) -> Result<Reading, Unavailable>
         quality: it.quality,
         reason,
     };
-    Reading::new(mark, it.value).ok_or(Unavailable)
+    match Reading::new(mark, it.value) {
+        Some(reading) => Ok(reading),
+        None => Err(Unavailable),
+    }
 }
 
-/// The version that a row is.
+/// The version that a row is. It takes memory only for a note.
 pub(crate) fn version_in(alloc: Global, row: &Row) -> Result<(Key, Reading), Unavailable>
-    ensures { IfOk result (λ it. version_fact (Null ∷ row.now) ≡ VersionIs it.0 it.1) }
+    ensures ok { IfOk result (λ it. version_fact (Null ∷ row.now) ≡ VersionIs it.0 it.1) }
+    ensures err { OnErr result ((key : KeyValue) (reading : ReadingValue) → IsRowOfVersion row.now key reading
+        → 0 < length reading.mark.reason.text) }
 {
     let Some(key) = key_in(row) else {
         return Err(Unavailable);
@@ -146,51 +250,72 @@ pub(crate) fn version_in(alloc: Global, row: &Row) -> Result<(Key, Reading), Una
     Ok((key, reading))
 }
 
+/// The number of an interval in a column.
+fn interval_at(row: &Row, at: usize) -> Option<u16>
+    ensures some { IfSome result (λ interval. column row.now at ≡ Int (pos interval)) }
+    ensures none { IfNone result ((interval : ℕ) → interval < 2 ^ 16 → column row.now at ≢ number_cell interval) }
+{
+    u16::try_from(int_at(row, at)?).ok()
+}
+
 /// Where a version stands.
 fn key_in(row: &Row) -> Option<Key>
-    ensures { IfSome result (λ key. key ≡ shown_key row.now) }
+    ensures some { IfSome result (λ key. key ≡ shown_key row.now) }
+    ensures none { IfNone result ((key : KeyValue) (reading : ReadingValue) → ¬ IsRowOfVersion row.now key reading) }
 {
     Some(Key {
         stream: stream_in(row)?,
         day: day_at(row, 2)?,
-        interval: u16::try_from(int_at(row, 3)?).ok()?,
+        interval: interval_at(row, 3)?,
         update: moment_at(row, 4)?,
     })
 }
 
-/// A day that is -1 where there is none: `None` where the number is neither.
-fn next_in(number: i64) -> Option<Option<Day>>
-    ensures { IfSome result (λ day. optional number ≡ day) }
+/// The day in a column, which is -1 where there is none: `None` where the number is neither.
+fn next_at(row: &Row, at: usize) -> Option<Option<Day>>
+    ensures some { IfSome result (λ day. optional_at row.now at ≡ day) }
+    ensures none { IfNone result ((day : Option ℕ) → IfSome day IsDay → column row.now at ≢ optional_cell day) }
 {
-    match number {
+    match int_at(row, at)? {
         -1 => Some(None),
-        _ => Some(Some(Day::from_number(number)?)),
+        number => Some(Some(Day::from_number(number)?)),
     }
+}
+
+/// The printable text in a column.
+fn printable_at<'a>(row: &'a Row, at: usize) -> Option<PrintableText<'a>>
+    ensures some { IfSome result (λ text. column row.now at ≡ Text (text_of text)) }
+    ensures none { IfNone result ((text : List ℕ) → IsTrue (is_printable text) → column row.now at ≢ Text text) }
+{
+    PrintableText::read(text_at(row, at)?)
 }
 
 /// What a row says of a meter, borrowed from it.
 fn details_ref_in<'a>(row: &'a Row) -> Option<DetailsRef<'a>>
-    ensures { IfSome result (λ details. shown_details row.now ≡ details_in details) }
+    ensures some { IfSome result (λ details. shown_details row.now ≡ details_in details) }
+    ensures none { IfNone result ((detail : DetailValue) → ¬ IsRowOfDetail row.now detail) }
 {
     Some(DetailsRef {
-        configuration: PrintableText::read(text_at(row, 3)?)?,
-        register: PrintableText::read(text_at(row, 4)?)?,
-        datastream: PrintableText::read(text_at(row, 5)?)?,
-        meter: PrintableText::read(text_at(row, 6)?)?,
-        next: next_in(int_at(row, 7)?)?,
+        configuration: printable_at(row, 3)?,
+        register: printable_at(row, 4)?,
+        datastream: printable_at(row, 5)?,
+        meter: printable_at(row, 6)?,
+        next: next_at(row, 7)?,
     })
 }
 
 /// Whether the moment and the next day of a row of details are ones that the store writes.
 pub(crate) fn is_detail_row(row: &Row) -> bool
-    ensures { IsTrue result → IsDetailRow row.now }
+    ensures yes { IsTrue result → IsDetailRow row.now }
+    ensures no { OnFalse result ((detail : DetailValue) → ¬ IsRowOfDetail row.now detail) }
 {
     is_natural_at(row, 2) && is_optional_at(row, 7)
 }
 
 /// Whether a column has a number that isn't below 0.
 fn is_natural_at(row: &Row, at: usize) -> bool
-    ensures { IsTrue result → natural_at row.now at < 2 ^ 63 }
+    ensures yes { IsTrue result → natural_at row.now at < 2 ^ 63 }
+    ensures no { OnFalse result ((n : ℕ) → column row.now at ≢ number_cell n) }
 {
     match int_at(row, at) {
         Some(number) => number >= 0,
@@ -200,7 +325,8 @@ fn is_natural_at(row: &Row, at: usize) -> bool
 
 /// Whether a column has a number that isn't below -1.
 fn is_optional_at(row: &Row, at: usize) -> bool
-    ensures { IsTrue result → IfSome (optional_at row.now at) (λ n. n < 2 ^ 63) }
+    ensures yes { IsTrue result → IfSome (optional_at row.now at) (λ n. n < 2 ^ 63) }
+    ensures no { OnFalse result ((n : Option ℕ) → column row.now at ≢ optional_cell n) }
 {
     match int_at(row, at) {
         Some(number) => number >= -1,
@@ -208,15 +334,18 @@ fn is_optional_at(row: &Row, at: usize) -> bool
     }
 }
 
-/// The details that a row is.
+/// The details that a row is. It takes memory only for their texts.
 pub(crate) fn detail_in(alloc: Global, row: &Row) -> Result<Detail, Unavailable>
-    ensures { IfOk result (λ detail. detail_fact (Null ∷ row.now) ≡ DetailIs detail) }
+    ensures ok { IfOk result (λ detail. detail_fact (Null ∷ row.now) ≡ DetailIs detail) }
+    ensures err { OnErr result ((detail : DetailValue) → IsRowOfDetail row.now detail → 0 < text_length detail.details) }
 {
-    let (Some(stream), Some(moment), Some(details)) = (
-        stream_in(row),
-        moment_at(row, 2),
-        details_ref_in(row),
-    ) else {
+    let Some(stream) = stream_in(row) else {
+        return Err(Unavailable);
+    };
+    let Some(moment) = moment_at(row, 2) else {
+        return Err(Unavailable);
+    };
+    let Some(details) = details_ref_in(row) else {
         return Err(Unavailable);
     };
     let Ok(details) = details.to_details(alloc) else {
@@ -229,47 +358,56 @@ pub(crate) fn detail_in(alloc: Global, row: &Row) -> Result<Detail, Unavailable>
     })
 }
 
-/// A transaction code that is empty where there is none: `None` where the text is neither.
-fn trans_in(text: &[u8]) -> Option<Option<TransCode>>
-    ensures { IfSome result (λ code. letter_in text.now ≡ code) }
+/// The transaction code in a column, whose text is empty where there is none: `None` where it is neither.
+fn trans_at(row: &Row, at: usize) -> Option<Option<TransCode>>
+    ensures some { IfSome result (λ code. letter_in (bytes_in row.now at) ≡ code) }
+    ensures none { IfNone result ((code : Option ℕ) → IsTrue (is_trans code) → column row.now at ≢ Text (letter_text code)) }
 {
+    let text = text_at(row, at)?;
     if text.is_empty() {
         return Some(None);
     }
     Some(Some(TransCode::read(text)?))
 }
 
-/// A moment that is -1 where there is none: `None` where the number is neither.
-fn read_at_in(number: i64) -> Option<Option<Moment>>
-    ensures { IfSome result (λ moment. optional number ≡ moment) }
+/// The moment in a column, which is -1 where there is none: `None` where the number is neither.
+fn read_at(row: &Row, at: usize) -> Option<Option<Moment>>
+    ensures some { IfSome result (λ moment. optional_at row.now at ≡ moment) }
+    ensures none { IfNone result ((moment : Option ℕ) → IfSome moment IsMoment → column row.now at ≢ optional_cell moment) }
 {
-    match number {
+    match int_at(row, at)? {
         -1 => Some(None),
-        _ => Some(Some(Moment::from_seconds(number)?)),
+        number => Some(Some(Moment::from_seconds(number)?)),
     }
 }
 
 /// The event that a row is, borrowed from it.
 fn event_ref_in<'a>(row: &'a Row) -> Option<EventRef<'a>>
-    ensures { IfSome result (λ event. event_fact (Null ∷ row.now) ≡ EventIs (event_in event)) }
+    ensures some { IfSome result (λ event. event_fact (Null ∷ row.now) ≡ EventIs (event_in event)) }
+    ensures none { IfNone result ((event : EventValue) → ¬ IsRowOfEvent row.now event) }
 {
     Some(EventRef {
-        nmi: Nmi::read(text_at(row, 0)?)?,
-        suffix: Suffix::read(text_at(row, 1)?)?,
+        nmi: nmi_at(row, 0)?,
+        suffix: suffix_at(row, 1)?,
         day: day_at(row, 2)?,
-        trans: trans_in(text_at(row, 3)?)?,
-        ticket: PrintableText::read(text_at(row, 4)?)?,
-        moment: read_at_in(int_at(row, 5)?)?,
-        reading: PrintableText::read(text_at(row, 6)?)?,
+        trans: trans_at(row, 3)?,
+        ticket: printable_at(row, 4)?,
+        moment: read_at(row, 5)?,
+        reading: printable_at(row, 6)?,
     })
 }
 
-/// The event that a row is.
+/// The event that a row is. It takes memory only for its texts.
 pub(crate) fn event_at(alloc: Global, row: &Row) -> Result<Event, Unavailable>
-    ensures { IfOk result (λ event. event_fact (Null ∷ row.now) ≡ EventIs event) }
+    ensures ok { IfOk result (λ event. event_fact (Null ∷ row.now) ≡ EventIs event) }
+    ensures err { OnErr result ((event : EventValue) → IsRowOfEvent row.now event
+        → 0 < length event.ticket + length event.reading) }
 {
     let Some(event) = event_ref_in(row) else {
         return Err(Unavailable);
     };
-    event.to_event(alloc).map_err(|_| Unavailable)
+    match event.to_event(alloc) {
+        Ok(event) => Ok(event),
+        Err(_) => Err(Unavailable),
+    }
 }

@@ -1,10 +1,15 @@
 -- What calls on a connection leave, put together.
-use Rattle.std.proofs.Common.{◌≡◌, inl, inr, ℕ, List, Bool, true, false, IsTrue, Ok, Err, Result, refl, sym, subst, arith}
+use Rattle.std.proofs.Common.{◌≡◌, ◌≤◌, inl, inr, ℕ, List, [], length, codes, Bool, true, false, IsTrue, Ok, Err, Result, refl, sym, ap, subst, arith}
+use Rattle.sqlite.specs.Listing.{understood}
 use Rattle.sqlite.specs.Order.{Row}
-use Rattle.sqlite.specs.State.{State, IsNotRun, Survives, KeepsCommit, ExecutesInside}
+use Rattle.sqlite.specs.Schema.{Schema}
+use Rattle.sqlite.specs.State.{State, Fails, IsNotRun, Survives, KeepsCommit, ExecutesInside}
 use Rattle.sqlite.specs.declared.error.Error.{Error}
 use Rattle.sqlite.proofs.InsideLemmas.{inside_keeps}
 use Rattle.sqlite.proofs.StateLemmas.{survives_then}
+use Rattle.sqlite_resolve.specs.declared.compiled.Compiled.{Compiled}
+use Rattle.sqlite_resolve.specs.declared.error.CompileError.{CompileError}
+use Rattle.sqlite_tied.specs.Compute.{everything}
 use Rattle.mds_tables.specs.Stores.{ChangesNothing}
 
 pub survives_same : (s : State) → Survives s s (λ _. ⊥)
@@ -46,3 +51,32 @@ pub not_run : (old new : State) (sql : List ℕ) (params : Row) (e : Error) → 
 unfolding IsNotRun
 not_run old new sql params e (inl h) = inl h.1
 not_run old new sql params e (inr h) = inr h.3
+
+-- a text that is one statement, without a parameter, which doesn't read the time
+abbrev IsWhole : List ℕ → Result Compiled CompileError → Type 0
+IsWhole sql (Ok c) = (length sql ≤ c.tail) × (c.names ≡ []) × (c.formats ≡ [])
+IsWhole sql (Err e) = ⊥
+
+abbrev select_1 : List ℕ
+select_1 = codes "SELECT 1"
+
+select_1_whole : (schema : Schema) → IsWhole select_1 (understood schema select_1)
+unfolding understood everything
+select_1_whole schema = (omega arith, refl, refl)
+
+-- it is run under any schema, unless the store fails
+pub select_1_runs : (old new : State) (e : Error) → IsNotRun old new select_1 [] e → Fails old new ⊥ e
+unfolding IsNotRun
+select_1_runs old new e (inr fails) = fails
+select_1_runs old new e (inl h) =
+    let whole = select_1_whole old.now.schema in
+    absurd (elim (h.0) [
+      | inl fault ↦ subst (IsWhole select_1) fault.1 whole
+      | inr known ↦
+          let it = subst (IsWhole select_1) known.1 whole in
+          elim (known.2) [
+            | inl long ↦ long.0 it.0
+            | inr (inl given) ↦ given.0 (sym (ap length it.1))
+            | inr (inr timed) ↦ timed.0 it.2
+          ]
+    ])

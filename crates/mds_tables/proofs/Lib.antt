@@ -2,6 +2,7 @@ pub mod CallLemmas
 pub mod CreateLemmas
 pub mod CreateTexts
 pub mod Creates
+pub mod FactLemmas
 pub mod InsertLemmas
 pub mod InsertTexts
 pub mod KnownLemmas

@@ -1,7 +1,7 @@
 //! The program `mdstore`.
 #![tactic(auto)]
 
-use mds_desk::run;
+use mds_program::run;
 use std::process::ExitCode;
 
 fn main(rt: HostRuntime) -> ExitCode {

@@ -19,4 +19,4 @@ returns-clause-found g c clean holds =
     (finds_head c.args.stream.now c.args.day (omega (arith, c.number.ensures.last)) old.committed.trees
     (sound ready begun asked held clean) rows
     (shows ready begun asked held clean _ (c.in-Ok-head_rows.ensures.ok clean)))
-    (subst (λ rs. IfOk c.only_head.result (IsOnlyHead rs)) c.deref.ensures.value c.only_head.ensures)
+    (subst (λ rs. IfOk c.only_head.result (IsOnlyHead rs)) c.deref.ensures.value c.only_head.ensures.ok)

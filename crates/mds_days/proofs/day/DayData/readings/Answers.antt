@@ -13,7 +13,7 @@ reading-requires c =
 
 pub loop-k-preserved : goal.loop-k-preserved
 loop-k-preserved c = (
-  readings_push c.self.inside.mark c.self.inside.cover.runs c.self.inside.values c.loop-k.k _ _ c.in_ok-reading.field-0 _ _ c.loop-k.invariant.0 c.in_ok-push.ensures.items c.in_ok-reading.ensures
+  readings_push c.self.inside.mark c.self.inside.cover.runs c.self.inside.values c.loop-k.k _ _ c.in_ok-reading.field-0 _ _ c.loop-k.invariant.0 c.in_ok-push.ensures.items c.in_ok-reading.ensures.value
       (c.mark_from.ensures.mark ∙ c.loop-k.invariant.1.marks (c.loop-k.k + 1) (omega arith))
       (get_or_read _ _ _ c.loop-k-test.true c.value-item.is None ∙ ap (λ values. get_or values c.loop-k.k None) c.as_slice-value-items.ensures.value),
   GoOn-next _ _ _ _ c.loop-k.k c.loop-k.invariant.1 c.mark_from.ensures.lawful c.mark_from.ensures.later,

@@ -1,4 +1,4 @@
-use Rattle.std.proofs.Common.{◌≡◌, ◌∙◌, ◌+◌, length, Ok, ap, subst, sym}
+use Rattle.std.proofs.Common.{◌≡◌, ◌∙◌, ◌+◌, length, Ok, Some, ap, subst, sym}
 use Rattle.mds_lines.specs.declared.line.Kind.{Kind}
 use Rattle.mds_lines.specs.declared.line.Kind.TheVariants as a
 use Rattle.mds_records.specs.FieldFaults.{field_fault}
@@ -6,6 +6,7 @@ use Rattle.mds_records.specs.declared.file.FileKind.TheVariants.{Nem12}
 use Rattle.mds_records.specs.Records.{Spells}
 use Rattle.mds_records.specs.declared.record.Record.{Record}
 use Rattle.mds_records.specs.declared.record.Record.TheVariants as of
+use Rattle.mds_nem12.specs.Answers.{takes_memory}
 use Rattle.mds_nem12.specs.FileReaderSteps.{last_kind}
 use Rattle.mds_nem12.specs.Governing.{governors}
 use Rattle.mds_nem12.specs.Place.{is_in_place, is_kind}
@@ -24,7 +25,8 @@ returns-in-Header g c = λ before kind is ready number place none spells values.
     let closed = ready.other other in
     let kind_is = is ∙ ap Ok same in
     let spells = subst (λ (k : Kind). Spells k n text (of.Header c.in-Header.header)) same here in
-    answered c.keep_header.result _ _ _ (no_event (governors before) text kind other)
+    let none = no_event (governors before) text kind other in
+    answered c.keep_header.result _ _ _ _ _ none (λ _. (none, ap (λ k. takes_memory (governors before) text (Some k)) same))
     (c.keep_header.ensures before text kind_is closed (ap (is_in_place (last_kind c.args.self.now.last)) (sym same) ∙ place) spells)
 
 pub returns-in-NmiDataDetails : goal.returns-in-NmiDataDetails
@@ -37,7 +39,8 @@ returns-in-NmiDataDetails g c = λ before kind is ready number place none spells
     let closed = ready.other other in
     let kind_is = is ∙ ap Ok same in
     let spells = subst (λ (k : Kind). Spells k n text (of.NmiDataDetails c.in-NmiDataDetails.details)) same here in
-    answered c.keep_details.result _ _ _ (no_event (governors before) text kind other)
+    let none = no_event (governors before) text kind other in
+    answered c.keep_details.result _ _ _ _ _ none (λ _. (none, ap (λ k. takes_memory (governors before) text (Some k)) same))
     (c.keep_details.ensures before text kind_is closed (c.number.ensures ∙ number) spells)
 
 pub returns-in-IntervalData : goal.returns-in-IntervalData
@@ -50,7 +53,8 @@ returns-in-IntervalData g c = λ before kind is ready number place none spells v
     let closed = ready.other other in
     let kind_is = is ∙ ap Ok same in
     let spells = subst (λ (k : Kind). Spells k n text (of.IntervalData c.in-IntervalData.day)) same here in
-    answered c.keep_day.result _ _ _ (no_event (governors before) text kind other)
+    let event = no_event (governors before) text kind other in
+    answered c.keep_day.result _ _ _ _ _ event (λ takes. (event, ap (λ k. takes_memory (governors before) text (Some k)) same ∙ takes))
     (c.keep_day.ensures before text kind_is closed (c.number-in-IntervalData.ensures ∙ number) (ap (λ k. field_fault Nem12 k n text) (sym same) ∙ none) spells (values same))
 
 pub returns-in-B2bDetails : goal.returns-in-B2bDetails
@@ -63,7 +67,8 @@ returns-in-B2bDetails g c = λ before kind is ready number place none spells val
     let closed = ready.other other in
     let kind_is = is ∙ ap Ok same in
     let spells = subst (λ (k : Kind). Spells k n text (of.B2bDetails c.in-B2bDetails.event)) same here in
-    answered c.keep_event.result _ _ _ (no_event (governors before) text kind other)
+    let none = no_event (governors before) text kind other in
+    answered c.keep_event.result _ _ _ _ _ none (λ _. (none, ap (λ k. takes_memory (governors before) text (Some k)) same))
     (c.keep_event.ensures before text kind_is closed spells)
 
 pub returns-in-EndOfData : goal.returns-in-EndOfData

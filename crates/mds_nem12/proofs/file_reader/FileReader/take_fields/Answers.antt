@@ -16,7 +16,7 @@ returns-in-Ok g c = λ before ready number.
     let count = ready_count _ before kind c.args.self.now c.length-length.result ready c.requires.place c.length-length.ensures in
     let none = sym (fields_same kind m n text count) ∙ c.in-Ok.ensures.spells.0 in
     let spells = spells_same kind m n text c.in-Ok.record count c.in-Ok.ensures.spells.1 in
-    answered_as c.keep.result _ _ (at_line (length before + 1)) _ (fields_none (governors before) (length before + 1) text kind none)
+    answered_as c.keep.result _ _ _ (at_line (length before + 1)) _ (fields_none (governors before) (length before + 1) text kind none)
     (c.keep.ensures before kind c.requires.known (ready_with _ before kind c.args.self.now _ ready) number c.requires.place none spells
     (λ day. c.in-Ok.ensures.held day ∙ ap (λ k. map quantity_in (values_of k text)) (count day)))
 
@@ -28,5 +28,5 @@ returns-in-Err g c = λ before ready number.
     let m = value_count c.length-length.result in
     let count = ready_count _ before kind c.args.self.now c.length-length.result ready c.requires.place c.length-length.ensures in
     let some = sym (fields_same kind m n text count) ∙ c.in-Err.ensures.spells in
-    refused_with _ _ _ c.at_field.ensures
+    refused_with _ _ _ _ c.at_field.ensures
     (fields_some (governors before) (length before + 1) text kind c.in-Err.fault some ∙ ap (λ k. Some (at_field k c.in-Err.fault)) (sym number))

@@ -1,0 +1,148 @@
+//! What a run comes to, what is printed of it, and the status that it ends with.
+
+ghost use Rattle.std.specs.Prelude.{◌≡◌, ◌↔◌, IsTrue, Some};
+ghost use Rattle.mds_desk.specs.Program.{after_failed_close, of_check, of_request, outcome_text, status_code, status_of};
+
+use crate::checking::CheckFault;
+use crate::performing::PerformFault;
+use mds_records::FileFault;
+use std::fmt;
+
+/// The status that a run ends with.
+#[derive(Clone, Copy, Debug, PartialEq, Eq)]
+pub enum Status {
+    /// All was done.
+    Done,
+    /// The file isn't well formed, or what it states was refused.
+    Fault,
+    /// The words ask for nothing that the program does.
+    Usage,
+    /// Something that is needed can't be had: the file, the store, the output or memory.
+    Unavailable,
+}
+
+/// What a run comes to.
+#[derive(Clone, Copy, Debug, PartialEq, Eq)]
+pub enum Outcome {
+    /// All was done, and all that is to be printed was.
+    Done,
+    /// A store was made.
+    Created,
+    /// A request was answered, and the answer was printed.
+    Answered(Status),
+    /// The file isn't well formed.
+    Fault(FileFault),
+    /// The words ask for nothing that the program does, and what they may be was printed.
+    Usage,
+    /// A word isn't text in UTF-8.
+    NoText,
+    /// The file can't be read.
+    NoInput,
+    /// What is to be printed can't be.
+    NoOutput,
+    /// There is no memory, or the store can't be had (U1).
+    Unavailable,
+    /// The database isn't a store of this schema, or not an empty one to make a store in (U3).
+    OtherSchema,
+}
+
+impl Status {
+    ghost use Rattle.mds_desk.specs.declared.outcome.Status.{Status as AStatus};
+
+    /// A law: statuses are equal where they are the same.
+    pub fn one_equality()
+        ensures { (a b : AStatus) → IsTrue (⟦<Status as PartialEq>⟧.eq a b) ↔ (a ≡ b) }
+    {}
+
+    /// Its number: 0, 1, 2 or 3, in the order above.
+    pub fn code(self) -> u8
+        ensures { result ≡ status_code self }
+    {
+        match self {
+            Status::Done => 0,
+            Status::Fault => 1,
+            Status::Usage => 2,
+            Status::Unavailable => 3,
+        }
+    }
+}
+
+impl Outcome {
+    ghost use Rattle.mds_desk.specs.declared.outcome.Outcome.{Outcome as AnOutcome};
+
+    /// A law: outcomes are equal where they are the same.
+    pub fn one_equality()
+        ensures { (a b : AnOutcome) → IsTrue (⟦<Outcome as PartialEq>⟧.eq a b) ↔ (a ≡ b) }
+    {}
+
+    /// What a run comes to that checked a file.
+    pub fn of_check(answer: Result<(), CheckFault>) -> Outcome
+        ensures { result ≡ of_check answer }
+    {
+        match answer {
+            Ok(()) => Outcome::Done,
+            Err(CheckFault::File(fault)) => Outcome::Fault(fault),
+            Err(CheckFault::Read) => Outcome::NoInput,
+            Err(CheckFault::Write) => Outcome::NoOutput,
+            Err(CheckFault::Memory) => Outcome::Unavailable,
+        }
+    }
+
+    /// What a run comes to that did a request.
+    pub fn of_request(answer: Result<Status, PerformFault>) -> Outcome
+        ensures { result ≡ of_request answer }
+    {
+        match answer {
+            Ok(status) => Outcome::Answered(status),
+            Err(PerformFault::Write) => Outcome::NoOutput,
+            Err(PerformFault::Memory) => Outcome::Unavailable,
+        }
+    }
+
+    /// What it comes to where the store can't be closed after it. What was answered stands, since the file and its log
+    /// together are the store.
+    pub fn after_failed_close(self) -> Outcome
+        ensures { result ≡ after_failed_close self }
+    {
+        match self {
+            Outcome::Done | Outcome::Answered(_) | Outcome::Usage | Outcome::NoOutput => self,
+            Outcome::Created
+            | Outcome::Fault(_)
+            | Outcome::NoText
+            | Outcome::NoInput
+            | Outcome::Unavailable
+            | Outcome::OtherSchema => Outcome::Unavailable,
+        }
+    }
+
+    /// The status to end with.
+    pub fn status(self) -> Status
+        ensures { result ≡ status_of self }
+    {
+        match self {
+            Outcome::Done | Outcome::Created => Status::Done,
+            Outcome::Answered(status) => status,
+            Outcome::Fault(_) => Status::Fault,
+            Outcome::Usage | Outcome::NoText => Status::Usage,
+            Outcome::NoInput | Outcome::NoOutput | Outcome::Unavailable | Outcome::OtherSchema =>
+                Status::Unavailable,
+        }
+    }
+}
+
+/// What is still to be printed of it, each time one line or nothing.
+impl fmt::Display for Outcome {
+    ghost output = { λ outcome. Some (outcome_text outcome) };
+
+    fn fmt<W: fmt::Write>(&self, f: &mut fmt::Formatter<W>) -> fmt::Result {
+        match self {
+            Outcome::Done | Outcome::Answered(_) | Outcome::Usage | Outcome::NoOutput => Ok(()),
+            Outcome::Created => f.write_str("created\n"),
+            Outcome::Fault(fault) => write!(f, "{fault}\n"),
+            Outcome::NoText => f.write_str("a word is not UTF-8\n"),
+            Outcome::NoInput => f.write_str("cannot read file\n"),
+            Outcome::Unavailable => f.write_str("U1\n"),
+            Outcome::OtherSchema => f.write_str("U3\n"),
+        }
+    }
+}

@@ -1,0 +1,150 @@
+//! What stands at the path of a store before it is opened, so that a refusal leaves just that.
+
+use crate::store_file::LockedFiles;
+use std::fs::OpenOptions;
+use std::io::ErrorKind;
+use std::os::unix::fs::OpenOptionsExt;
+use std::path::PathBuf;
+use std::{fs, io};
+
+/// The fewest bytes of a database, those of the least page.
+const SHORTEST_DATABASE: u64 = 512;
+
+/// The fewest bytes of a log that holds a page: its header, and the least page behind a header of its own.
+const SHORTEST_LOG: u64 = 32 + 24 + SHORTEST_DATABASE;
+
+/// The file of a store and its log, as a call found them.
+#[derive(Drop)]
+pub(crate) struct Place {
+    // The file that a link leads to.
+    file: PathBuf,
+    // How many bytes it had; none where the call made it.
+    file_bytes: Option<u64>,
+    // The log lies beside that file.
+    log: String,
+    // How many bytes the log had; none where it wasn't there.
+    log_bytes: Option<u64>,
+}
+
+/// What a file and its log may be.
+#[derive(Clone, Copy)]
+pub(crate) enum Standing {
+    /// The file has no bytes, or isn't there, and the log has none.
+    Nothing,
+    /// The file has some bytes, but fewer than any database, and the log has none.
+    NoDatabase,
+    /// The file isn't there, and the log has bytes.
+    LogAlone,
+    /// Together they may be a database.
+    Files,
+}
+
+impl Place {
+    /// The place of a file that is there.
+    pub(crate) fn of_file(rt: &HostRuntime, path: &str) -> io::Result<Place> {
+        let found = fs::metadata(rt, path)?;
+        if !found.is_file() {
+            return Err(ErrorKind::Unsupported.into());
+        }
+        Place::look(rt, path, Some(found.len()))
+    }
+
+    /// The place of a file, which is made where there is none, so that nobody else can have made it.
+    pub(crate) fn to_make(rt: &HostRuntime, path: &str) -> io::Result<Place> {
+        let made = OpenOptions::new()
+            .write(true)
+            .create_new(true)
+            .mode(0o644)
+            .open(rt, path);
+        match made {
+            Ok(_) => (),
+            Err(error) if error.kind() == ErrorKind::AlreadyExists => {
+                return Place::of_file(rt, path);
+            }
+            Err(error) => return Err(error),
+        }
+        match Place::look(rt, path, None) {
+            Ok(place) => Ok(place),
+            Err(error) => {
+                let _ = fs::remove_file(rt, path);
+                Err(error)
+            }
+        }
+    }
+
+    /// Notes what stands beside a file that is there by now.
+    fn look(rt: &HostRuntime, path: &str, file_bytes: Option<u64>) -> io::Result<Place> {
+        let file = fs::canonicalize(rt, path)?;
+        let log = format!(in rt.alloc(); "{}-wal", file.as_str())?;
+        let log_bytes = bytes_of(rt, log.as_str())?;
+        Ok(Place {
+            file,
+            file_bytes,
+            log,
+            log_bytes,
+        })
+    }
+
+    /// What the file and its log may be.
+    pub(crate) fn standing(&self) -> Standing {
+        let has_log = self.log_bytes.unwrap_or(0) > 0;
+        match self.file_bytes {
+            None if has_log => Standing::LogAlone,
+            _ if has_log => Standing::Files,
+            None | Some(0) => Standing::Nothing,
+            Some(bytes) if bytes < SHORTEST_DATABASE => Standing::NoDatabase,
+            Some(_) => Standing::Files,
+        }
+    }
+
+    /// Removes the log, which is empty or all of which is in the file. While the files are locked nobody else uses it.
+    /// One that can't be removed does no harm.
+    pub(crate) fn remove_log(&self, rt: &HostRuntime, _locked: &LockedFiles) {
+        let _ = fs::remove_file(rt, self.log.as_str());
+    }
+
+    /// Takes away what the call made, while the files are locked.
+    pub(crate) fn restore(&self, rt: &HostRuntime, locked: &LockedFiles) {
+        match self.standing() {
+            Standing::Nothing => {
+                let _ = put_back(rt, self.log.as_str(), self.log_bytes);
+                let _ = put_back(rt, self.file.as_str(), self.file_bytes);
+            }
+            // A log that holds a page may be needed.
+            _ if self.log_bytes.is_none() && is_shorter(rt, self.log.as_str(), SHORTEST_LOG) => {
+                self.remove_log(rt, locked);
+            }
+            _ => (),
+        }
+    }
+
+    /// Takes away the file that the call made, where it couldn't be opened and has no bytes yet.
+    pub(crate) fn take_away_file(&self, rt: &HostRuntime) {
+        if self.file_bytes.is_none() && is_shorter(rt, self.file.as_str(), 1) {
+            let _ = fs::remove_file(rt, self.file.as_str());
+        }
+    }
+}
+
+/// How many bytes a file has, if it is there. What isn't a file, as a folder or a link, is an error.
+fn bytes_of(rt: &HostRuntime, path: &str) -> io::Result<Option<u64>> {
+    match fs::symlink_metadata(rt, path) {
+        Ok(found) if found.is_file() => Ok(Some(found.len())),
+        Ok(_) => Err(ErrorKind::Unsupported.into()),
+        Err(error) if error.kind() == ErrorKind::NotFound => Ok(None),
+        Err(error) => Err(error),
+    }
+}
+
+/// Whether a file is there and has fewer bytes than so many.
+fn is_shorter(rt: &HostRuntime, path: &str, length: u64) -> bool {
+    matches!(bytes_of(rt, path), Ok(Some(bytes)) if bytes < length)
+}
+
+/// Removes a file that wasn't there, and cuts one that had no bytes.
+fn put_back(rt: &HostRuntime, path: &str, before: Option<u64>) -> io::Result<()> {
+    match before {
+        None => fs::remove_file(rt, path),
+        Some(_) => OpenOptions::new().write(true).open(rt, path)?.set_len(0),
+    }
+}

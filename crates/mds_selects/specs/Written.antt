@@ -1,0 +1,73 @@
+-- Rows that the store writes: the cells of terms, each of which is lawful.
+use Rattle.std.specs.Prelude.{◌≡◌, ◌≤◌, ◌<◌, ◌+◌, ◌*◌, ◌^◌, ℕ, length, IfSome, IsTrue}
+use Rattle.sqlite_value.specs.Order.{Row, column}
+use Rattle.sqlite.specs.declared.types.Value.TheVariants.{Text}
+use Rattle.mds_calendar.specs.Calendar.{day_seconds, last_day}
+use Rattle.mds_calendar.specs.Length.{is_length}
+use Rattle.mds_names.specs.Names.{is_name, nmi_length, suffix_length}
+use Rattle.mds_names.specs.declared.stream.Stream.{Stream}
+use Rattle.mds_marks.specs.Reading.{ReadingValue, is_lawful}
+use Rattle.mds_terms.specs.Details.{DetailsValue, is_details}
+use Rattle.mds_terms.specs.Event.{EventValue, is_event}
+use Rattle.mds_world.specs.declared.facts.Detail.{Detail}
+use Rattle.mds_world.specs.declared.facts.Head.{Head}
+use Rattle.mds_world.specs.declared.facts.Key.{Key}
+use Rattle.mds_tables.specs.Cells.{detail_cells, event_cells, head_cells, version_cells}
+
+-- the number of a day that there is
+abbrev pub IsDay : ℕ → Type 0
+IsDay day = day ≤ last_day
+
+-- the seconds of a moment that there is
+abbrev pub IsMoment : ℕ → Type 0
+IsMoment moment = moment < (last_day + 1) * day_seconds
+
+-- the two names are names
+pub record IsStream (s : Stream) : Type 0 where
+  pub nmi : IsTrue (is_name nmi_length s.nmi)
+  pub suffix : IsTrue (is_name suffix_length s.suffix)
+
+-- a row begins with a stream
+pub record BeginsWith (row : Row) (s : Stream) : Type 0 where
+  pub lawful : IsStream s
+  pub nmi : column row 0 ≡ Text s.nmi
+  pub suffix : column row 1 ≡ Text s.suffix
+
+-- a row is that of a head
+pub record IsRowOfHead (row : Row) (head : Head) : Type 0 where
+  pub cells : row ≡ head_cells head
+  pub stream : IsStream head.stream
+  pub day : IsDay head.day
+  pub length : IsTrue (is_length head.length)
+
+-- a row is that of a version
+pub record IsRowOfVersion (row : Row) (key : Key) (reading : ReadingValue) : Type 0 where
+  pub cells : row ≡ version_cells key reading
+  pub stream : IsStream key.stream
+  pub day : IsDay key.day
+  pub interval : key.interval < 2 ^ 16
+  pub update : IsMoment key.update
+  pub lawful : IsTrue (is_lawful reading)
+
+-- a row is that of details
+pub record IsRowOfDetail (row : Row) (detail : Detail) : Type 0 where
+  pub cells : row ≡ detail_cells detail
+  pub stream : IsStream detail.stream
+  pub moment : IsMoment detail.moment
+  pub details : IsTrue (is_details detail.details)
+  pub next : IfSome detail.details.next IsDay
+
+-- a row of details that the store writes
+abbrev pub IsWrittenDetail : Row → Type 0
+IsWrittenDetail row = (detail : Detail) × IsRowOfDetail row detail
+
+-- the bytes of the texts of details
+abbrev pub text_length : DetailsValue → ℕ
+text_length d = length d.configuration + length d.register + length d.datastream + length d.meter
+
+-- a row is that of an event
+pub record IsRowOfEvent (row : Row) (event : EventValue) : Type 0 where
+  pub cells : row ≡ event_cells event
+  pub lawful : IsTrue (is_event event)
+  pub day : IsDay event.day
+  pub moment : IfSome event.moment IsMoment

@@ -1,0 +1,17 @@
+-- What an answer to words asks for.
+use Rattle.std.specs.Prelude.{ℕ, List, Option, Some, None}
+use Rattle.mds_words.specs.declared.words.Input.{Input}
+use Rattle.mds_words.specs.declared.words.Input.TheVariants.{Standard, File}
+use Rattle.mds_words.specs.declared.words.Words.{Words}
+use Rattle.mds_words.specs.declared.words.Words.TheVariants.{Check, Init, Import}
+
+-- standard input, or the file of a name
+abbrev pub input_value : Input → Option (List ℕ)
+input_value Standard = None
+input_value (File name) = Some name.now
+
+-- a check, and of what
+abbrev pub asked_check : Words → Option (Option (List ℕ))
+asked_check (Check input) = Some (input_value input)
+asked_check (Init store) = None
+asked_check (Import store input) = None

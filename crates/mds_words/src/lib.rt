@@ -1,0 +1,9 @@
+//! The words of a call: what they ask for, or what is to be printed where they ask for nothing.
+#![tactic(auto)]
+
+mod grammar;
+#[cfg(test)]
+mod tests;
+mod words;
+
+pub use words::{Input, Words, WordsFault, read_words};

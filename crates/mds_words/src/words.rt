@@ -1,0 +1,76 @@
+//! What the words of a call ask for.
+
+ghost use Rattle.std.specs.Prelude.{◌≡◌, Some, IfSome, IsOkAnd, map, option_map, string_bytes};
+ghost use Rattle.mds_words.specs.Asked.{asked_check, input_value};
+ghost use Rattle.mds_words.specs.Words.{input_of, requested};
+
+use crate::grammar::read_by_grammar;
+use std::alloc::Global;
+
+/// What is read.
+#[derive(Clone, Copy)]
+pub enum Input<'a> {
+    /// Standard input.
+    Standard,
+    /// The file of a name.
+    File(&'a str),
+}
+
+/// What the words of a call ask for.
+#[derive(Clone, Copy)]
+pub enum Words<'a> {
+    /// That a file is checked.
+    Check { input: Input<'a> },
+    /// That a store is made in the file of a name.
+    Init { store: &'a str },
+    /// That a file is imported into the store in the file of a name.
+    Import { store: &'a str, input: Input<'a> },
+}
+
+/// Why words ask for nothing.
+#[derive(Debug, Drop)]
+pub enum WordsFault {
+    /// There was no memory to read them.
+    Memory,
+    /// What is wrong with them, or the help that they ask for: this is to be printed.
+    Text(String),
+}
+
+impl<'a> Input<'a> {
+    /// What a word names: `-` is standard input, and any other word a file.
+    pub fn new(word: &'a str) -> Input<'a>
+        ensures { input_value result ≡ input_of word.now }
+    {
+        match word {
+            "-" => Input::Standard,
+            _ => Input::File(word),
+        }
+    }
+}
+
+/// What the words that follow the program's name ask for.
+pub fn read_words<'a>(alloc: Global, words: &'a [String]) -> Result<Words<'a>, WordsFault>
+    // Words that plainly ask for a check are understood so.
+    ensures check { IfSome (requested (map string_bytes words.now)) (λ input.
+        IsOkAnd result (λ asked. asked_check asked ≡ Some input)) }
+{
+    match plain_check(words) {
+        Some(input) => Ok(Words::Check { input }),
+        None => read_by_grammar(alloc, words),
+    }
+}
+
+/// What is to be checked, where the words are `check FILE` or none: a word that begins with `-` may be one for help.
+fn plain_check(words: &[String]) -> Option<Input<'_>>
+    ensures { option_map input_value result ≡ requested (map string_bytes words.now) }
+{
+    match words {
+        [] => Some(Input::Standard),
+        [command, name] if command.as_str() == "check" => match name.as_bytes() {
+            b"-" => Some(Input::Standard),
+            [b'-', ..] => None,
+            _ => Some(Input::File(name.as_str())),
+        },
+        _ => None,
+    }
+}
