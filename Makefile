@@ -8,24 +8,11 @@ all: bin/mdstore
 
 SOURCES := $(shell find crates -path '*/out' -prune -o -type f -print) crates.txt HANDLES
 
-# The crates that the program stands on are proved and built first, four at a time, each after those that it stands on.
+# The program and the crates that it stands on are proved, four crates at a time, each after those that it stands on; then it is linked.
 bin/mdstore: $(SOURCES)
-	$(MAKE) --no-print-directory --jobs 4 --output-sync=target $(call libraries,mdstore)
-	cd crates/mdstore && rt run < stdin > /dev/null
+	cd crates/mdstore && rt all check --jobs 4 && rt run < stdin > /dev/null
 	mkdir -p bin
 	cp crates/mdstore/out/mdstore bin/mdstore
-
-CRATES := $(shell sed -n 's/^\([a-z0-9_]*\):.*/\1/p' crates.txt)
-
-# The libraries of a crate that are crates of this repository.
-libraries = $(addprefix library-,$(filter $(CRATES),$(shell sed -n 's/^$(1)://p' crates.txt)))
-
-define library
-.PHONY: library-$(1)
-library-$(1): $(call libraries,$(1))
-	cd crates/$(1) && rt lib --jobs 1
-endef
-$(foreach crate,$(CRATES),$(eval $(call library,$(crate))))
 
 test:
 	rt ci

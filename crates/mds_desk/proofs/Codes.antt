@@ -1,8 +1,11 @@
--- The codes of faults have at most three letters.
+-- The codes of faults and of refusals have at most three letters.
 use Rattle.std.proofs.Common.{◌≤◌, length, arith}
 use Rattle.mds_records.specs.Printed.{code_text}
 use Rattle.mds_records.specs.declared.file.FaultCode.{FaultCode}
 use Rattle.mds_records.specs.declared.file.FaultCode.TheVariants.{NotText, UnknownRecord, OutOfPlace, FieldCount, BadField, RunRange, RunOrder, RunGap, MissingEnd, TooLarge, WrongFile, NoValue}
+use Rattle.mds_versions.specs.Refusals.{code_text as rule_text}
+use Rattle.mds_versions.specs.declared.refusal.RefusalCode.{RefusalCode}
+use Rattle.mds_versions.specs.declared.refusal.RefusalCode.TheVariants.{LengthConflict, UnitConflict, VersionConflict, JobReused, Protected, StaleUpdate, NoLikeDay, TooLong, NoAnchor, UnknownDay, BadJob}
 
 pub code_short : (code : FaultCode) → length (code_text code) ≤ 3
 code_short NotText = omega arith
@@ -17,3 +20,16 @@ code_short MissingEnd = omega arith
 code_short TooLarge = omega arith
 code_short WrongFile = omega arith
 code_short NoValue = omega arith
+
+pub rule_short : (code : RefusalCode) → length (rule_text code) ≤ 3
+rule_short LengthConflict = omega arith
+rule_short UnitConflict = omega arith
+rule_short VersionConflict = omega arith
+rule_short JobReused = omega arith
+rule_short Protected = omega arith
+rule_short StaleUpdate = omega arith
+rule_short NoLikeDay = omega arith
+rule_short TooLong = omega arith
+rule_short NoAnchor = omega arith
+rule_short UnknownDay = omega arith
+rule_short BadJob = omega arith

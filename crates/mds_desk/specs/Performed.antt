@@ -1,9 +1,7 @@
 -- What a command prints of an answer, and the status that it ends with (profile).
-use Rattle.std.specs.Prelude.{◌≡◌, ℕ, List, [], ◌∷◌, ◌++◌, ◌==◌, if◌then◌else◌, codes, decimal, Bool, true, false, Result, Ok, Err}
+use Rattle.std.specs.Prelude.{◌≡◌, ℕ, List, [], ◌∷◌, ◌++◌, codes, decimal, Bool, true, false, Result, Ok, Err}
 use Rattle.mds_records.specs.Printed.{fault_text}
-use Rattle.mds_versions.specs.declared.refusal.Refusal.{Refusal}
-use Rattle.mds_versions.specs.declared.refusal.RefusalCode.{RefusalCode}
-use Rattle.mds_versions.specs.declared.refusal.RefusalCode.TheVariants.{LengthConflict, UnitConflict, UnknownDay, VersionConflict}
+use Rattle.mds_versions.specs.Refusals.{refusal_text}
 use Rattle.mds_world.specs.World.{IsLawful, World}
 use Rattle.mds_service.specs.declared.request.Request.{Request}
 use Rattle.mds_service.specs.declared.request.Answer.{Answer}
@@ -14,22 +12,6 @@ use Rattle.mds_desk.specs.declared.performing.PerformFault.{PerformFault}
 use Rattle.mds_desk.specs.declared.performing.PerformFault.TheVariants.{Memory, Write}
 use Rattle.mds_desk.specs.declared.outcome.Status.{Status}
 use Rattle.mds_desk.specs.declared.outcome.Status.TheVariants as status
-
-abbrev pub code_text : RefusalCode → List ℕ
-code_text LengthConflict = codes "M1"
-code_text UnitConflict = codes "M2"
-code_text VersionConflict = codes "M3"
-code_text UnknownDay = codes "M10"
-
--- a number behind its name, where it isn't 0
-abbrev pub place_text : List ℕ → ℕ → List ℕ
-place_text name n = if n == 0 then [] else (name ++ decimal n)
-
--- the code, and line, field and interval where they are told
-abbrev pub refusal_text : Refusal → List ℕ
-refusal_text r =
-    code_text r.code ++ place_text (codes " line ") r.line ++ place_text (codes " field ") r.field
-    ++ place_text (codes " interval ") r.interval
 
 -- what is printed of an answer, as a line; no command asks for a day, for versions or for streams yet
 abbrev pub answer_text : Answer → List ℕ

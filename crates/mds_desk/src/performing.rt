@@ -5,7 +5,8 @@ ghost use Rattle.std.specs.Io.KnownBytes.{Appends as AppendsKnown, Keeps};
 ghost use Rattle.mds_service.specs.declared.request.Answer.{Answer as AnAnswer};
 ghost use Rattle.mds_world.specs.World.{IsLawful};
 ghost use Rattle.mds_records.specs.Printed.{fault_text};
-ghost use Rattle.mds_desk.specs.Performed.{Does, answer_status, answer_text, code_text, is_write_failure, place_text, refusal_text};
+ghost use Rattle.mds_versions.specs.Refusals.{place_text, refusal_text};
+ghost use Rattle.mds_desk.specs.Performed.{Does, answer_status, answer_text, is_write_failure};
 
 use crate::outcome::Status;
 use crate::output::write_whole;
@@ -14,7 +15,7 @@ use itoa::Buffer;
 use mds_lines::Sink;
 use mds_records::FileFault;
 use mds_service::{Answer, Request, run};
-use mds_versions::{Keeper, Refusal, RefusalCode};
+use mds_versions::{Keeper, Refusal};
 use std::alloc::Global;
 
 /// Room for a line. The longest is a refusal's, of at most 87 bytes.
@@ -141,11 +142,12 @@ fn fault_line(fault: &FileFault) -> Line
     line
 }
 
+#[tactic(auto, using(crate::proofs::Codes::rule_short))]
 fn refusal_line(refusal: &Refusal) -> Line
     ensures { result.bytes ≡ refusal_text refusal.now ++ codes "\n" }
 {
     let mut line = Line::new();
-    line.push_str(refusal_code(refusal.code));
+    line.push_str(refusal.code.text());
     push_place(&mut line, " line ", refusal.line);
     push_place(&mut line, " field ", refusal.field);
     push_place(&mut line, " interval ", u64::from(refusal.interval));
@@ -179,17 +181,5 @@ fn push_place(line: &mut Line, name: &str, number: u64)
 {
     if number != 0 {
         push_number(line, name, number);
-    }
-}
-
-fn refusal_code(code: RefusalCode) -> &'static str
-    ensures text { result.now ≡ code_text code }
-    ensures short { length result.now ≤ 3 }
-{
-    match code {
-        RefusalCode::LengthConflict => "M1",
-        RefusalCode::UnitConflict => "M2",
-        RefusalCode::VersionConflict => "M3",
-        RefusalCode::UnknownDay => "M10",
     }
 }

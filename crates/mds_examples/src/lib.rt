@@ -9,6 +9,6 @@ mod rows;
 mod tests;
 mod texts;
 
-pub use limits::{FILE_BYTES, file_at_the_limits, first_wrong_at_the_limits};
+pub use limits::{file_at_the_limits, first_wrong_at_the_limits};
 pub use rows::{EARLIER, EXAMPLES, FIRST, Row, first_wrong, request_of};
 pub use texts::text_of;

@@ -12,7 +12,7 @@ use mds_versions::Keeper;
 use std::alloc::{AllocError, Global};
 
 /// How many bytes the file has.
-pub const FILE_BYTES: usize = 8_388_608;
+const FILE_BYTES: usize = 8_388_608;
 
 /// The most bytes of a line, its line feed included.
 const LINE_BYTES: usize = 16_385;

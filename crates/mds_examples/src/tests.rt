@@ -1,11 +1,14 @@
 //! The examples over the keeper in memory.
 
+use crate::files::file_of;
 use crate::{
     EARLIER, EXAMPLES, FIRST, file_at_the_limits, first_wrong, first_wrong_at_the_limits,
     request_of, text_of,
 };
 use mds_memory::MemoryKeeper;
-use mds_service::{Answer, apply, run};
+use mds_records::FileKind;
+use mds_service::{Answer, Request, apply, run};
+use mds_terms::{Day, Stream};
 use std::test::Fail;
 
 #[test]
@@ -33,6 +36,41 @@ fn a_list_of_requests_is_done(rt: HostRuntime) -> Result<(), Fail> {
         for (answer, (_, _, _, wanted)) in told.iter().zip(rows) {
             assert_eq!(rt; text_of(alloc, answer)?.as_str(), *wanted);
         }
+    }
+    Ok(())
+}
+
+/// The call that README shows stands here between two marks, by which the gate holds one against the other.
+#[test]
+fn the_call_of_the_readme(rt: HostRuntime) -> Result<(), Fail> {
+    let alloc = rt.alloc();
+    let bytes = file_of(alloc, FIRST)?;
+    let stream = Stream::read(b"NEM1201009", b"E1").expect(&rt, "no stream");
+    let day = Day::read(b"20240101").expect(&rt, "no day");
+    // README begins.
+    let mut keeper = MemoryKeeper::new(alloc);
+    let requests = [
+        Request::Import {
+            kind: FileKind::Nem12,
+            bytes,
+        },
+        Request::Day { stream, day },
+        Request::Versions {
+            stream,
+            day,
+            interval: 7,
+        },
+    ];
+    let answers = run(alloc, &mut keeper, &requests)?;
+    // README ends.
+    let texts = [
+        "added 48 known 0",
+        "30 kWh 20240102010203 1:A,,,1.5 48",
+        "7 20240102010203:A,,,1.5",
+    ];
+    assert_eq!(rt; answers.len(), texts.len());
+    for (answer, text) in answers.iter().zip(&texts) {
+        assert_eq!(rt; text_of(alloc, answer)?.as_str(), *text);
     }
     Ok(())
 }

@@ -2,7 +2,6 @@
 
 use mds_marks::Reading;
 use mds_service::{Answer, DayAnswer, StreamAnswer, VersionsAnswer};
-use mds_versions::RefusalCode;
 use std::alloc::{AllocError, Global};
 
 /// The text of an answer.
@@ -14,13 +13,8 @@ pub fn text_of(alloc: Global, answer: &Answer) -> Result<String, AllocError> {
         Answer::Streams(answers) => streams_text(alloc, answers),
         Answer::File(fault) => format!(in alloc; "{fault}"),
         Answer::Refused(refusal) => {
-            let code = match refusal.code {
-                RefusalCode::LengthConflict => "M1",
-                RefusalCode::UnitConflict => "M2",
-                RefusalCode::VersionConflict => "M3",
-                RefusalCode::UnknownDay => "M10",
-            };
             let (line, field, interval) = (refusal.line, refusal.field, refusal.interval);
+            let code = refusal.code;
             format!(in alloc; "{code} {line} {field} {interval}")
         }
         Answer::Unavailable => String::from_str(alloc, "unavailable"),

@@ -1,7 +1,9 @@
 -- What a commit does, and what a crash may leave of it.
-use Rattle.std.proofs.Common.{◌≡◌, map, refl, sym, ap, subst, ◌∙◌, arith}
+use Rattle.std.proofs.Common.{◌≡◌, inl, inr, ℕ, List, map, IfErr, IsTrue, Option, None, Some, Ok, Err, Result, subst₂, refl, sym, ap, subst, ◌∙◌, arith}
 use Rattle.sqlite.specs.Effect.{Database}
-use Rattle.sqlite.specs.State.{HasCleanDisk, State, Survives}
+use Rattle.sqlite.specs.Order.{Row}
+use Rattle.sqlite.specs.State.{Fails, HasCleanDisk, State, Survives}
+use Rattle.sqlite.specs.declared.error.Error.{Error}
 use Rattle.sqlite.proofs.StateLemmas.{survives_then}
 use Rattle.sqlite_catalog.specs.Listing.{IsSound}
 use Rattle.sqlite_trees.specs.Tree.{Trees}
@@ -9,7 +11,16 @@ use Rattle.mds_versions.specs.declared.additions.Additions.{Additions}
 use Rattle.mds_tables.specs.RowFacts.{int_at}
 use Rattle.mds_tables.specs.Stores.{Commits, Holds, IsReady, IsStore, LeavesAdded}
 use Rattle.mds_tables.specs.Tables.{schema_1}
+use Rattle.mds_tables.proofs.CauseLemmas.{fails_since, fails_until, store_fails}
+use Rattle.mds_inserts.specs.Parts.{rows_in}
+use Rattle.mds_inserts.specs.Refusals.{FailsToPut, RefusesOne}
 use Rattle.mds_inserts.specs.Writing.{HasAdded, LeavesWritten, Writes}
+
+-- it isn't ready, since the store failed
+pub not_ready : (old new : State) (rows : List (ℕ × Row)) (e : Error) → Fails old new ⊥ e → FailsToPut old new rows old.committed e
+not_ready old new rows e h =
+    inl (fails_until old new new ⊥ (RefusesOne old.step_limit rows old.committed None) (λ x. absurd x) (omega arith) e
+    (store_fails old new ⊥ e h))
 
 module _ (old mid new : State) (added : Additions) (ready : HasCleanDisk mid → IsReady old mid)
     (one : Survives old mid (λ _. ⊥)) (holds : Holds old) where
@@ -67,3 +78,19 @@ module _ (old mid new : State) (added : Additions) (ready : HasCleanDisk mid →
         rows = after.rows;
         world = after.world;
       }
+
+  -- and one with an error says why
+  pub committed_fails : {X : Type 0} → HasCleanDisk mid → (r : Result X Error)
+      → (IsTrue mid.is_open → mid.now.schema ≡ schema_1 → IsSound schema_1 mid.now.trees
+      → IfErr r (FailsToPut mid new (rows_in added) mid.now))
+      → IfErr r (FailsToPut old new (rows_in added) old.committed)
+  committed_fails early (Ok x) why = tt
+  committed_fails early (Err e) why =
+      let is_open = (ready early).same.0.is_open in
+      let refuses = λ (stop : Option Error) (h : RefusesOne mid.step_limit (rows_in added) mid.now stop).
+      subst₂ (λ limit db. RefusesOne limit (rows_in added) db stop) one.limit (now_is early) h in
+      elim (why is_open (schema_is early) (is_sound early)) [
+        | inl failed ↦ inl (fails_since old mid new _ (RefusesOne old.step_limit (rows_in added) old.committed None) (refuses None)
+            one.counts is_open e failed)
+        | inr refused ↦ inr (refuses (Some e) refused)
+      ]

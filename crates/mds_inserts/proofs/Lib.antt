@@ -1,3 +1,4 @@
 pub mod CommitLemmas
+pub mod FailLemmas
 pub mod PutLemmas
 pub mod RowLemmas

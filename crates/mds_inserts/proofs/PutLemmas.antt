@@ -1,10 +1,10 @@
 -- Rows that are put into the tables in a transaction.
-use Rattle.std.proofs.Common.{◌≡◌, ◌≤◌, ◌<◌, ◌+◌, ◌++◌, ◌/◌, ◌==◌, ℕ, List, [], ◌∷◌, drop, length, map, take, get_or, slice_get, IsPermutation, IsTrue, Some, None, Ok, Err, Result, OnOk, Option, refl, sym, ap, subst, ◌∙◌, arith}
-use Rattle.std.proofs.lemmas.List.{append-nil, map-append, take_more}
+use Rattle.std.proofs.Common.{◌≡◌, ◌≤◌, ◌<◌, ◌+◌, ◌++◌, ◌/◌, ◌==◌, inl, inr, ℕ, List, [], ◌∷◌, drop, length, map, take, get_or, slice_get, IsPermutation, IsTrue, Some, None, Ok, Err, Result, OnOk, Option, refl, sym, ap, subst, ◌∙◌, arith}
+use Rattle.std.proofs.lemmas.List.{append-nil, map-append, take-append-drop, take_more}
 use Rattle.std.proofs.lemmas.List.Sorted.{IsPermutation-refl}
 use Rattle.sqlite.specs.Command.TheVariants.{Insert}
 use Rattle.sqlite.specs.Does.{Does}
-use Rattle.sqlite.specs.Effect.{value_rows}
+use Rattle.sqlite.specs.Effect.{Database, value_rows}
 use Rattle.sqlite.specs.Listing.{understood}
 use Rattle.sqlite.specs.Source.TheVariants.{Values}
 use Rattle.sqlite.specs.State.{ExecutesInside, HasCleanDisk, State, mode_of}
@@ -40,7 +40,12 @@ use Rattle.mds_tables.specs.Cells.{detail_cells, event_cells, head_cells, option
 use Rattle.mds_tables.specs.RowFacts.{detail_fact, event_fact, head_fact, version_fact}
 use Rattle.mds_tables.specs.Stores.{Adds, Gains}
 use Rattle.mds_tables.specs.Tables.{detail_table, event_table, head_table, schema_1, tables_1, version_table}
-use Rattle.mds_inserts.specs.Writing.{KeepsOthers, Part, Puts, PutsAll, PutsThere, detail_part, event_part, head_part, version_part}
+use Rattle.mds_inserts.specs.Parts.{Part, detail_part, event_part, head_part, rows_of, version_part}
+use Rattle.mds_inserts.specs.Refusals.{FailsToPut, RefusesOne, TakesAll, insert_of}
+use Rattle.mds_inserts.specs.Writing.{KeepsOthers, Puts, PutsAll, PutsThere}
+use Rattle.mds_tables.proofs.CauseLemmas.{IsWhole, fails_since, fails_until, stopped_as}
+use Rattle.sqlite.specs.declared.error.Error.{Error}
+use Rattle.sqlite_tied.specs.Compute.{everything}
 use Rattle.mds_tables.proofs.FactLemmas.{detail_back, event_back, head_back, version_back}
 use Rattle.mds_inserts.proofs.RowLemmas.{gains_kept, gains_more, gains_one, kept_gains, say_more, world_after}
 
@@ -52,6 +57,8 @@ cast_optional : (o : Option ℕ) → cast Integer (optional_cell o) ≡ optional
 cast_optional None = cast_int _
 cast_optional (Some n) = cast_int _
 
+-- ---- a row that is put, or refused
+
 -- a text that puts one row into a table
 module _ (table : Table) (at : ℕ) (text : List ℕ) (terms : List Term) (width : ℕ)
     (placed : slice_get schema_1.tables at ≡ Some (simple table))
@@ -59,52 +66,70 @@ module _ (table : Table) (at : ℕ) (text : List ℕ) (terms : List Term) (width
     (plain : IsPlain (understood schema_1 text))
     {A : Type 0} (cells : A → Row) (fact : A → Fact) (read : Row → Fact) where
   abbrev part : Part A
-  part = record { tree = table.tree; cells = cells; fact = fact; read = read }
+  part = record { place = at; tree = table.tree; cells = cells; fact = fact; read = read }
 
-  puts_row : (old new : State) (item : A) (count : ℕ)
-      → value_rows (cells item ++ []) width (length terms / width) terms ≡ (Null ∷ cells item) ∷ []
-      → cast_all table.columns (cells item) ≡ cells item
-      → old.now.schema ≡ schema_1 → ExecutesInside 0 text (cells item) old new (Ok count) → Puts part old new (item ∷ [])
-  puts_row old new item count one kept has ran =
-      let db = old.now.trees in
-      let values = cells item in
-      let w = runs_as text values old new schema_1 has _ is plain count ran.0 in
-      let stated = statement_of text (understood schema_1 text) in
-      let does =
-      subst (λ s. Does old.step_limit (mode_of old) values (record old.now { schema = s }) stated None
-      (Insert at (Values terms width)) (Ok (w.tally, new.now))) has w.changed in
-      let it =
-      adds old.step_limit Enforced schema_1 table values db values terms width one kept (idle table.tree)
-      (mode_of old) stated at w.tally new.now refl placed does in
-      let put : OneMore schema_1 db new.now.trees table values = it.1 in
-      record {
-        schema = it.0;
-        rows =
-            subst (λ rows. IsPermutation (map (drop 1) (db table.tree) ++ values ∷ []) (map (drop 1) rows)) (sym put.rows)
-            (gains_one (Int (next_rowid (db table.tree))) values (db table.tree) put.fresh);
-        others = put.others;
-        committed = ran.1.committed_is;
-        sound = subst (λ s. IsSound s new.now.trees) it.0 w.sound;
-      }
+  module _ (old new : State) (item : A) (shape : insert_of at (cells item) ≡ Insert at (Values terms width)) where
+    puts_row : (count : ℕ) → value_rows (cells item ++ []) width (length terms / width) terms ≡ (Null ∷ cells item) ∷ []
+        → cast_all table.columns (cells item) ≡ cells item
+        → old.now.schema ≡ schema_1 → ExecutesInside 0 text (cells item) old new (Ok count) → Puts part old new (item ∷ [])
+    puts_row count one kept has ran =
+        let db = old.now.trees in
+        let values = cells item in
+        let w = runs_as text values old new schema_1 has _ is plain count ran.0 in
+        let stated = statement_of text (understood schema_1 text) in
+        let does =
+        subst (λ s. Does old.step_limit (mode_of old) values (record old.now { schema = s }) stated None
+        (Insert at (Values terms width)) (Ok (w.tally, new.now))) has w.changed in
+        let it =
+        adds old.step_limit Enforced schema_1 table values db values terms width one kept (idle table.tree)
+        (mode_of old) stated at w.tally new.now refl placed does in
+        let put : OneMore schema_1 db new.now.trees table values = it.1 in
+        record {
+          schema = it.0;
+          rows =
+              subst (λ rows. IsPermutation (map (drop 1) (db table.tree) ++ values ∷ []) (map (drop 1) rows)) (sym put.rows)
+              (gains_one (Int (next_rowid (db table.tree))) values (db table.tree) put.fresh);
+          others = put.others;
+          committed = ran.1.committed_is;
+          sound = subst (λ s. IsSound s new.now.trees) it.0 w.sound;
+          took = (
+            w.tally,
+            new.now,
+            subst (λ k. Does old.step_limit (mode_of old) values old.now [] None k (Ok (w.tally, new.now))) (sym shape) w.changed,
+            refl,
+          );
+        }
 
-  puts_there : (old new : State) (item : A) (count : ℕ)
-      → value_rows (cells item ++ []) width (length terms / width) terms ≡ (Null ∷ cells item) ∷ []
-      → cast_all table.columns (cells item) ≡ cells item
-      → ((id : Value) → read (id ∷ cells item) ≡ fact item)
-      → (HasCleanDisk new → ExecutesInside 0 text (cells item) old new (Ok count)) → PutsThere part old new (item ∷ [])
-  puts_there old new item count one kept says runs = record {
-    was_open = λ clean _. (runs clean).1.was_open;
-    is_open = λ clean _. (runs clean).1.is_open;
-    puts = λ clean _ has _. puts_row old new item count one kept has (runs clean);
-    said = (says, tt);
-  }
+    puts_there : (count : ℕ) → value_rows (cells item ++ []) width (length terms / width) terms ≡ (Null ∷ cells item) ∷ []
+        → cast_all table.columns (cells item) ≡ cells item
+        → ((id : Value) → read (id ∷ cells item) ≡ fact item)
+        → (HasCleanDisk new → ExecutesInside 0 text (cells item) old new (Ok count)) → PutsThere part old new (item ∷ [])
+    puts_there count one kept says runs = record {
+      was_open = λ clean _. (runs clean).1.was_open;
+      is_open = λ clean _. (runs clean).1.is_open;
+      inside = λ clean _. (runs clean).1.mode;
+      puts = λ clean _ has _. puts_row count one kept has (runs clean);
+      said = (says, tt);
+    }
+
+    fails_to_put : (e : Error) → IsWhole text (length (cells item)) (understood schema_1 text) → old.now.schema ≡ schema_1
+        → ExecutesInside 0 text (cells item) old new (Err e) → FailsToPut old new (rows_of part (item ∷ [])) old.now e
+    fails_to_put e whole has ran =
+        let because = λ (stop : Option Error)
+        (refused : Does old.step_limit (mode_of old) (cells item) old.now [] None (Insert at (Values terms width)) (Err stop)).
+        subst (λ k. Does old.step_limit (mode_of old) (cells item) old.now [] None k (Err stop)) (sym shape) refused in
+        elim (stopped_as text (cells item) old new schema_1 has (Insert at (Values terms width)) is plain whole tt e ran) [
+          | inl refused ↦ inr (inl (because (Some e) refused))
+          | inr failed ↦ inl (fails_until old new new _ (RefusesOne old.step_limit (rows_of part (item ∷ [])) old.now None)
+              (λ big. inl (because None big)) (omega arith) e failed)
+        ]
 
 pub puts_head : (old new : State) (h : Head) (count : ℕ) → unit_of (unit_text h.unit) ≡ Some h.unit
     → (HasCleanDisk new → ExecutesInside 0 insert_head (head_cells h) old new (Ok count))
     → PutsThere head_part old new (h ∷ [])
 puts_head old new h count reads runs =
     puts_there head_table 1 insert_head head_terms 6 refl insert_head_is insert_head_plain head_cells HeadIs head_fact
-    old new h count refl (rw (cast_int, cast_int)) (λ id. head_back id h reads) runs
+    old new h refl count refl (rw (cast_int, cast_int)) (λ id. head_back id h reads) runs
 
 pub puts_version : (old new : State) (k : Key) (r : ReadingValue) (count : ℕ)
     → ((q : QualityValue) → IsTrue (is_quality q.flag q.method) → quality_of (quality_text q) ≡ Some q)
@@ -114,7 +139,7 @@ pub puts_version : (old new : State) (k : Key) (r : ReadingValue) (count : ℕ)
 puts_version old new k r count reads known runs =
     puts_there version_table 2 insert_version version_terms 10 refl insert_version_is insert_version_plain
     (λ (version : Key × ReadingValue). version_cells version.0 version.1) content.version_fact version_fact
-    old new (k, r) count refl (rw (cast_int, cast_int, cast_int, cast_optional, cast_int))
+    old new (k, r) refl count refl (rw (cast_int, cast_int, cast_int, cast_optional, cast_int))
     (λ id. version_back id k r reads known) runs
 
 pub puts_detail : (old new : State) (d : Detail) (count : ℕ)
@@ -122,14 +147,59 @@ pub puts_detail : (old new : State) (d : Detail) (count : ℕ)
     → PutsThere detail_part old new (d ∷ [])
 puts_detail old new d count runs =
     puts_there detail_table 3 insert_detail detail_terms 9 refl insert_detail_is insert_detail_plain detail_cells DetailIs
-    detail_fact old new d count refl (rw (cast_int, cast_optional)) (λ id. detail_back id d) runs
+    detail_fact old new d refl count refl (rw (cast_int, cast_optional)) (λ id. detail_back id d) runs
 
 pub puts_event : (old new : State) (e : EventValue) (count : ℕ)
     → (HasCleanDisk new → ExecutesInside 0 insert_event (event_cells e) old new (Ok count))
     → PutsThere event_part old new (e ∷ [])
 puts_event old new e count runs =
     puts_there event_table 4 insert_event event_terms 8 refl insert_event_is insert_event_plain event_cells EventIs
-    event_fact old new e count refl (rw (cast_int, cast_optional)) (λ id. event_back id e) runs
+    event_fact old new e refl count refl (rw (cast_int, cast_optional)) (λ id. event_back id e) runs
+
+head_whole : IsWhole insert_head 5 (understood schema_1 insert_head)
+unfolding understood everything
+head_whole = (omega arith, refl, refl)
+
+version_whole : IsWhole insert_version 9 (understood schema_1 insert_version)
+unfolding understood everything
+version_whole = (omega arith, refl, refl)
+
+detail_whole : IsWhole insert_detail 8 (understood schema_1 insert_detail)
+unfolding understood everything
+detail_whole = (omega arith, refl, refl)
+
+event_whole : IsWhole insert_event 7 (understood schema_1 insert_event)
+unfolding understood everything
+event_whole = (omega arith, refl, refl)
+
+pub fails_head : (old new : State) (h : Head) (e : Error) → old.now.schema ≡ schema_1
+    → ExecutesInside 0 insert_head (head_cells h) old new (Err e) → FailsToPut old new (rows_of head_part (h ∷ [])) old.now e
+fails_head old new h e has ran =
+    fails_to_put head_table 1 insert_head head_terms 6 refl insert_head_is insert_head_plain head_cells HeadIs head_fact
+    old new h refl e head_whole has ran
+
+pub fails_version : (old new : State) (k : Key) (r : ReadingValue) (e : Error) → old.now.schema ≡ schema_1
+    → ExecutesInside 0 insert_version (version_cells k r) old new (Err e)
+    → FailsToPut old new (rows_of version_part ((k, r) ∷ [])) old.now e
+fails_version old new k r e has ran =
+    fails_to_put version_table 2 insert_version version_terms 10 refl insert_version_is insert_version_plain
+    (λ (version : Key × ReadingValue). version_cells version.0 version.1) content.version_fact version_fact
+    old new (k, r) refl e version_whole has ran
+
+pub fails_detail : (old new : State) (d : Detail) (e : Error) → old.now.schema ≡ schema_1
+    → ExecutesInside 0 insert_detail (detail_cells d) old new (Err e) → FailsToPut old new (rows_of detail_part (d ∷ [])) old.now e
+fails_detail old new d e has ran =
+    fails_to_put detail_table 3 insert_detail detail_terms 9 refl insert_detail_is insert_detail_plain detail_cells DetailIs
+    detail_fact old new d refl e detail_whole has ran
+
+pub fails_event : (old new : State) (event : EventValue) (e : Error) → old.now.schema ≡ schema_1
+    → ExecutesInside 0 insert_event (event_cells event) old new (Err e)
+    → FailsToPut old new (rows_of event_part (event ∷ [])) old.now e
+fails_event old new event e has ran =
+    fails_to_put event_table 4 insert_event event_terms 8 refl insert_event_is insert_event_plain event_cells EventIs
+    event_fact old new event refl e event_whole has ran
+
+-- ---- rows that are put one after another
 
 same_others : (tree : ℕ) (a : Trees) (tables : List Table) → KeepsOthers tree a a tables
 same_others tree a [] = tt
@@ -140,11 +210,45 @@ kept_others : (tree : ℕ) (a b c : Trees) (tables : List Table) → KeepsOthers
 kept_others tree a b c [] p q = tt
 kept_others tree a b c (t ∷ ts) p q = (λ other. q.0 other ∙ p.0 other, kept_others tree a b c ts p.1 q.1)
 
+-- a database that takes some rows and then others takes all of them
+takes_then : (limit : Option ℕ) (xs ys : List (ℕ × Row)) (a b c : Database) → TakesAll limit xs a b → TakesAll limit ys b c
+    → TakesAll limit (xs ++ ys) a c
+takes_then limit [] ys a b c p q = subst (λ db. TakesAll limit ys db c) p q
+takes_then limit (x ∷ xs) ys a b c p q = (p.0, p.1, p.2, takes_then limit xs ys p.1 b c p.3 q)
+
+-- one that refuses a row of some refuses a row of these and others
+refuses_more : (limit : Option ℕ) (xs ys : List (ℕ × Row)) (db : Database) (stop : Option Error) → RefusesOne limit xs db stop
+    → RefusesOne limit (xs ++ ys) db stop
+refuses_more limit [] ys db stop h = absurd h
+refuses_more limit (x ∷ xs) ys db stop (inl h) = inl h
+refuses_more limit (x ∷ xs) ys db stop (inr (tally, next, took, h)) = inr (tally, next, took, refuses_more limit xs ys next stop h)
+
+-- and one that took some refuses a row of these and others, where it then refuses one of the others
+refuses_later : (limit : Option ℕ) (xs ys : List (ℕ × Row)) (a b : Database) (stop : Option Error) → TakesAll limit xs a b
+    → RefusesOne limit ys b stop → RefusesOne limit (xs ++ ys) a stop
+refuses_later limit [] ys a b stop p h = subst (λ db. RefusesOne limit ys db stop) p h
+refuses_later limit (x ∷ xs) ys a b stop p h = inr (p.0, p.1, p.2, refuses_later limit xs ys p.1 b stop p.3 h)
+
+pub fails_more : (a c : State) (xs ys : List (ℕ × Row)) (db : Database) (e : Error) → FailsToPut a c xs db e
+    → FailsToPut a c (xs ++ ys) db e
+fails_more a c xs ys db e (inl failed) =
+    inl (fails_until a c c _ _ (λ big. refuses_more a.step_limit xs ys db None big) (omega arith) e failed)
+fails_more a c xs ys db e (inr refused) = inr (refuses_more a.step_limit xs ys db (Some e) refused)
+
+pub fails_later : (a b c : State) (xs ys : List (ℕ × Row)) (e : Error) → a.faults ≤ b.faults → IsTrue b.is_open
+    → b.step_limit ≡ a.step_limit → TakesAll a.step_limit xs a.now b.now → FailsToPut b c ys b.now e
+    → FailsToPut a c (xs ++ ys) a.now e
+fails_later a b c xs ys e up is_open limit took (inl failed) =
+    inl (fails_since a b c _ _ (λ big. refuses_later a.step_limit xs ys a.now b.now None took (rw limit at big)) up is_open e failed)
+fails_later a b c xs ys e up is_open limit took (inr refused) =
+    inr (refuses_later a.step_limit xs ys a.now b.now (Some e) took (rw limit at refused))
+
 module _ {A : Type 0} (part : Part A) where
   pub none_there : (s : State) → PutsThere part s s []
   none_there s = record {
     was_open = λ _ o. o;
     is_open = λ _ o. o;
+    inside = λ _ o. o;
     puts = λ _ _ has sound. record {
       schema = has;
       rows = subst (λ rows. IsPermutation rows (map (drop 1) (s.now.trees part.tree)))
@@ -152,38 +256,64 @@ module _ {A : Type 0} (part : Part A) where
       others = same_others part.tree s.now.trees tables_1;
       committed = refl;
       sound = sound;
+      took = refl;
     };
     said = tt;
   }
 
-  puts_then : (a b c : State) (xs ys : List A) → Puts part a b xs → Puts part b c ys → Puts part a c (xs ++ ys)
-  puts_then a b c xs ys p q = record {
+  puts_then : (a b c : State) (xs ys : List A) → b.step_limit ≡ a.step_limit → Puts part a b xs → Puts part b c ys
+      → Puts part a c (xs ++ ys)
+  puts_then a b c xs ys limit p q = record {
     schema = q.schema;
     rows = subst (λ rows. Gains part.tree rows a.now.trees c.now.trees) (sym (map-append part.cells xs ys))
         (gains_more part.tree (map part.cells xs) (map part.cells ys) a.now.trees b.now.trees c.now.trees p.rows q.rows);
     others = kept_others part.tree a.now.trees b.now.trees c.now.trees tables_1 p.others q.others;
     committed = q.committed ∙ p.committed;
     sound = q.sound;
+    took = subst (λ rows. TakesAll a.step_limit rows a.now c.now) (sym (map-append {B = ℕ × Row} (λ item. (part.place, part.cells item)) xs ys))
+        (takes_then a.step_limit (rows_of part xs) (rows_of part ys) a.now b.now c.now p.took (rw limit at (q.took)));
   }
 
-  there_then : (a b c : State) (xs ys : List A) → doubt b.is_clean ≤ doubt c.is_clean → PutsThere part a b xs
-      → PutsThere part b c ys → PutsThere part a c (xs ++ ys)
-  there_then a b c xs ys later p q = record {
+  there_then : (a b c : State) (xs ys : List A) → doubt b.is_clean ≤ doubt c.is_clean → b.step_limit ≡ a.step_limit
+      → PutsThere part a b xs → PutsThere part b c ys → PutsThere part a c (xs ++ ys)
+  there_then a b c xs ys later limit p q = record {
     was_open = λ clean o. p.was_open (omega arith) (q.was_open clean o);
     is_open = λ clean o. q.is_open clean (p.is_open (omega arith) o);
+    inside = λ clean o. q.inside clean (p.inside (omega arith) o);
     puts = λ clean o has sound.
         let first = p.puts (omega arith) o has sound in
-        puts_then a b c xs ys first (q.puts clean (p.is_open (omega arith) o) first.schema first.sound);
+        puts_then a b c xs ys limit first (q.puts clean (p.is_open (omega arith) o) first.schema first.sound);
     said = say_more part xs ys p.said q.said;
   }
 
   -- the step of a loop over a slice
   pub next_there : (a b c : State) (xs : List A) (at : ℕ) (x : A) → at < length xs → x ≡ get_or xs at x
-      → doubt b.is_clean ≤ doubt c.is_clean → PutsThere part a b (take at xs) → PutsThere part b c (x ∷ [])
-      → PutsThere part a c (take (at + 1) xs)
-  next_there a b c xs at x low is later p q =
+      → doubt b.is_clean ≤ doubt c.is_clean → b.step_limit ≡ a.step_limit → PutsThere part a b (take at xs)
+      → PutsThere part b c (x ∷ []) → PutsThere part a c (take (at + 1) xs)
+  next_there a b c xs at x low is later limit p q =
       subst (PutsThere part a c) (ap (λ y. take at xs ++ y ∷ []) is ∙ sym (take_more xs at x low))
-      (there_then a b c (take at xs) (x ∷ []) later p q)
+      (there_then a b c (take at xs) (x ∷ []) later limit p q)
+
+  -- the row of one of them fails to be put
+  pub next_fails : (a b c : State) (xs : List A) (at : ℕ) (x : A) → at < length xs → x ≡ get_or xs at x
+      → doubt b.is_clean ≤ doubt c.is_clean → b.step_limit ≡ a.step_limit → a.faults ≤ b.faults
+      → PutsThere part a b (take at xs) → HasCleanDisk c → IsTrue a.is_open → IsTrue a.in_transaction
+      → a.now.schema ≡ schema_1 → IsSound schema_1 a.now.trees → (e : Error)
+      → (IsTrue b.in_transaction → b.now.schema ≡ schema_1 → FailsToPut b c (rows_of part (x ∷ [])) b.now e)
+      → FailsToPut a c (rows_of part xs) a.now e
+  next_fails a b c xs at x low is later limit up p clean o inside has sound e fails =
+      let row : A → ℕ × Row = λ item. (part.place, part.cells item) in
+      let front : take (at + 1) xs ≡ take at xs ++ x ∷ [] = take_more xs at x low ∙ ap (λ y. take at xs ++ y ∷ []) (sym is) in
+      let first : rows_of part (take at xs) ++ rows_of part (x ∷ []) ≡ rows_of part (take (at + 1) xs) =
+      sym (map-append row (take at xs) (x ∷ [])) ∙ ap (rows_of part) (sym front) in
+      let whole : rows_of part (take (at + 1) xs) ++ rows_of part (drop (at + 1) xs) ≡ rows_of part xs =
+      sym (map-append row (take (at + 1) xs) (drop (at + 1) xs)) ∙ ap (rows_of part) (take-append-drop (at + 1) xs) in
+      let before = p.puts (omega arith) o has sound in
+      let failed = fails_later a b c (rows_of part (take at xs)) (rows_of part (x ∷ [])) e up (p.is_open (omega arith) o) limit
+      before.took (fails (p.inside (omega arith) inside) before.schema) in
+      subst (λ rows. FailsToPut a c rows a.now e) whole
+      (fails_more a c (rows_of part (take (at + 1) xs)) (rows_of part (drop (at + 1) xs)) a.now e
+      (subst (λ rows. FailsToPut a c rows a.now e) first failed))
 
 pub if_ok : {X E : Type 0} (r : Result X E) (A B : Type 0) → (A → B) → OnOk r A → OnOk r B
 if_ok (Ok x) A B f h = f h
@@ -247,6 +377,8 @@ all_there a b c d e added result bc cd de p q r = if_ok result _ _ (λ s.
           p.was_open (omega arith) (q.was_open (omega arith) (r.was_open (omega arith) (s.was_open clean o)));
       is_open = λ clean o.
           s.is_open clean (r.is_open (omega arith) (q.is_open (omega arith) (p.is_open (omega arith) o)));
+      inside = λ clean o.
+          s.inside clean (r.inside (omega arith) (q.inside (omega arith) (p.inside (omega arith) o)));
       schema = λ clean o has sound. (parts clean o has sound).3.schema;
       added = λ clean o has sound.
           let all = parts clean o has sound in

@@ -19,7 +19,7 @@ use Rattle.mds_versions.specs.Content.{content}
 use Rattle.mds_versions.specs.declared.additions.Additions.{Additions}
 use Rattle.mds_tables.specs.RowFacts.{detail_fact, event_fact, head_fact, holiday_fact, job_fact, period_fact, version_fact, world_in}
 use Rattle.mds_tables.specs.Stores.{Adds, Gains}
-use Rattle.mds_inserts.specs.Writing.{Part, detail_part, event_part, head_part, version_part}
+use Rattle.mds_inserts.specs.Parts.{Part, detail_part, event_part, head_part, version_part}
 
 -- a row under a fresh rowid is put between the others
 put_shuffles : (new : Row) (rows : List Row) → is_taken rows new ≡ false → IsPermutation (new ∷ rows) (put_row new rows)

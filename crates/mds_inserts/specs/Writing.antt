@@ -21,31 +21,8 @@ use Rattle.mds_tables.specs.Cells.{detail_cells, event_cells, head_cells, versio
 use Rattle.mds_tables.specs.RowFacts.{detail_fact, event_fact, head_fact, version_fact, world_in}
 use Rattle.mds_tables.specs.Stores.{Adds, Gains}
 use Rattle.mds_tables.specs.Tables.{schema_1, tables_1}
-
--- How things of one kind are kept: the tree of their table, the row of each without a rowid, its fact, and the fact that a
--- row of the table says.
-pub record Part (A : Type 0) : Type 0 where
-  pub tree : ℕ
-  pub cells : A → Row
-  pub fact : A → Fact
-  pub read : Row → Fact
-
-abbrev pub head_part : Part Head
-head_part = record { tree = 2; cells = head_cells; fact = HeadIs; read = head_fact }
-
-abbrev pub version_part : Part (Key × ReadingValue)
-version_part = record {
-  tree = 4;
-  cells = λ version. version_cells version.0 version.1;
-  fact = content.version_fact;
-  read = version_fact;
-}
-
-abbrev pub detail_part : Part Detail
-detail_part = record { tree = 6; cells = detail_cells; fact = DetailIs; read = detail_fact }
-
-abbrev pub event_part : Part EventValue
-event_part = record { tree = 8; cells = event_cells; fact = EventIs; read = event_fact }
+use Rattle.mds_inserts.specs.Parts.{Part, rows_of}
+use Rattle.mds_inserts.specs.Refusals.{TakesAll}
 
 -- every table but that of a tree is as it was
 abbrev pub KeepsOthers : ℕ → Trees → Trees → List Table → Type 0
@@ -60,11 +37,13 @@ module _ {A : Type 0} (part : Part A) (old new : State) (items : List A) where
     pub others : KeepsOthers part.tree old.now.trees new.now.trees tables_1
     pub committed : new.committed ≡ old.committed
     pub sound : IsSound schema_1 new.now.trees
+    pub took : TakesAll old.step_limit (rows_of part items) old.now new.now
 
   -- The same, where the connection is open and the tables are these. The row of each, under any rowid, says its fact.
   pub record PutsThere : Type 0 where
     pub was_open : HasCleanDisk new → IsTrue new.is_open → IsTrue old.is_open
     pub is_open : HasCleanDisk new → IsTrue old.is_open → IsTrue new.is_open
+    pub inside : HasCleanDisk new → IsTrue old.in_transaction → IsTrue new.in_transaction
     pub puts : HasCleanDisk new → IsTrue old.is_open → old.now.schema ≡ schema_1 → IsSound schema_1 old.now.trees → Puts
     pub said : AllByRecursion (λ item. (id : Value) → part.read (id ∷ part.cells item) ≡ part.fact item) items
 
@@ -78,6 +57,7 @@ pub record HasAdded (additions : Additions) (old new : Trees) : Type 0 where
 pub record PutsAll (old new : State) (additions : Additions) : Type 0 where
   pub was_open : HasCleanDisk new → IsTrue new.is_open → IsTrue old.is_open
   pub is_open : HasCleanDisk new → IsTrue old.is_open → IsTrue new.is_open
+  pub inside : HasCleanDisk new → IsTrue old.in_transaction → IsTrue new.in_transaction
   pub schema : HasCleanDisk new → IsTrue old.is_open → old.now.schema ≡ schema_1 → IsSound schema_1 old.now.trees
       → new.now.schema ≡ schema_1
   pub added : HasCleanDisk new → IsTrue old.is_open → old.now.schema ≡ schema_1 → IsSound schema_1 old.now.trees

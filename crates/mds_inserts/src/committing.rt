@@ -1,12 +1,16 @@
 //! A commit of additions.
 
-ghost use Rattle.std.specs.Prelude.{◌≡◌, false, OnErr, OnOk};
+ghost use Rattle.std.specs.Prelude.{◌≡◌, false, IfErr, IsTrue, OnErr, OnOk};
 ghost use Rattle.sqlite.specs.Held.{state};
 ghost use Rattle.sqlite.specs.State.{HasCleanDisk, KeepsCommit, Survives};
+ghost use Rattle.sqlite_catalog.specs.Listing.{IsSound};
+ghost use Rattle.mds_tables.specs.Tables.{schema_1};
+ghost use Rattle.mds_inserts.specs.Parts.{rows_in};
+ghost use Rattle.mds_inserts.specs.Refusals.{FailsToPut};
 ghost use Rattle.mds_tables.specs.Stores.{Commits, Holds, LeavesAdded};
 ghost use Rattle.mds_inserts.specs.Writing.{LeavesWritten, PutsAll, Writes};
 
-use crate::putting::{put_details, put_events, put_heads, put_versions};
+use crate::putting::put_each;
 use mds_tables::ready;
 use mds_versions::Additions;
 use sqlite::{Alter, Connection, Error, Transaction};
@@ -15,13 +19,17 @@ use sqlite::{Alter, Connection, Error, Transaction};
 fn put_all<S: Alter>(tx: &mut Transaction<'_, S>, additions: &Additions) -> Result<(), Error>
     ensures same_reference { tx.new.conn.ghost_name ≡ tx.old.conn.ghost_name }
     ensures ok { OnOk result (PutsAll (state S.Store tx.old.conn.now) (state S.Store tx.new.conn.now) additions.now) }
+    ensures cause { HasCleanDisk (state S.Store tx.new.conn.now) → IsTrue (state S.Store tx.old.conn.now).is_open
+        → IsTrue (state S.Store tx.old.conn.now).in_transaction
+        → (state S.Store tx.old.conn.now).now.schema ≡ schema_1 → IsSound schema_1 (state S.Store tx.old.conn.now).now.trees
+        → IfErr result (FailsToPut (state S.Store tx.old.conn.now) (state S.Store tx.new.conn.now) (rows_in additions.now) (state S.Store tx.old.conn.now).now) }
     ensures kept { HasCleanDisk (state S.Store tx.new.conn.now) → KeepsCommit (state S.Store tx.old.conn.now) (state S.Store tx.new.conn.now) }
     ensures survives { Survives (state S.Store tx.old.conn.now) (state S.Store tx.new.conn.now) (λ _. ⊥) }
 {
-    put_heads(tx, &additions.heads)?;
-    put_versions(tx, &additions.versions)?;
-    put_details(tx, &additions.details)?;
-    put_events(tx, &additions.events)
+    put_each(tx, &additions.heads)?;
+    put_each(tx, &additions.versions)?;
+    put_each(tx, &additions.details)?;
+    put_each(tx, &additions.events)
 }
 
 /// Puts all of it in a transaction of its own.
@@ -29,6 +37,9 @@ fn write<S: Alter>(conn: &mut Connection<S>, additions: &Additions) -> Result<()
     requires { conn.old.in_transaction ≡ false }
     ensures ok { HasCleanDisk (state S.Store conn.new) → OnOk result (Writes (state S.Store conn.old) (state S.Store conn.new) additions.now) }
     ensures err { HasCleanDisk (state S.Store conn.new) → OnErr result (KeepsCommit (state S.Store conn.old) (state S.Store conn.new)) }
+    ensures cause { HasCleanDisk (state S.Store conn.new) → IsTrue (state S.Store conn.old).is_open
+        → (state S.Store conn.old).now.schema ≡ schema_1 → IsSound schema_1 (state S.Store conn.old).now.trees
+        → IfErr result (FailsToPut (state S.Store conn.old) (state S.Store conn.new) (rows_in additions.now) (state S.Store conn.old).now) }
     ensures mode { conn.new.in_transaction ≡ false }
     ensures survives { Survives (state S.Store conn.old) (state S.Store conn.new) (LeavesWritten (state S.Store conn.old) additions.now) }
 {
@@ -44,6 +55,9 @@ pub fn commit<S: Alter>(conn: &mut Connection<S>, additions: &Additions) -> Resu
     ensures ok { HasCleanDisk (state S.Store conn.new) → Holds (state S.Store conn.old)
         → OnOk result (Commits (state S.Store conn.old) (state S.Store conn.new) additions.now) }
     ensures err { HasCleanDisk (state S.Store conn.new) → OnErr result (KeepsCommit (state S.Store conn.old) (state S.Store conn.new)) }
+    // The store failed, or the tables refuse one of the rows beside those that they have by then.
+    ensures cause { HasCleanDisk (state S.Store conn.new) → Holds (state S.Store conn.old)
+        → IfErr result (FailsToPut (state S.Store conn.old) (state S.Store conn.new) (rows_in additions.now) (state S.Store conn.old).committed) }
     ensures mode { conn.new.in_transaction ≡ false }
     ensures survives { Holds (state S.Store conn.old)
         → Survives (state S.Store conn.old) (state S.Store conn.new) (LeavesAdded (state S.Store conn.old) additions.now) }

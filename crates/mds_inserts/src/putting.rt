@@ -1,9 +1,13 @@
 //! Rows that are put into one table, in a transaction.
 
-ghost use Rattle.std.specs.Prelude.{◌≡◌, [], ◌∷◌, OnOk};
+ghost use Rattle.std.specs.Prelude.{◌≡◌, [], ◌∷◌, IfErr, IsTrue, OnOk};
 ghost use Rattle.sqlite.specs.Held.{state};
 ghost use Rattle.sqlite.specs.State.{HasCleanDisk, KeepsCommit, Survives};
-ghost use Rattle.mds_inserts.specs.Writing.{PutsThere, detail_part, event_part, head_part, version_part};
+ghost use Rattle.sqlite_catalog.specs.Listing.{IsSound};
+ghost use Rattle.mds_tables.specs.Tables.{schema_1};
+ghost use Rattle.mds_inserts.specs.Parts.{Part, detail_part, event_part, head_part, rows_of, version_part};
+ghost use Rattle.mds_inserts.specs.Refusals.{FailsToPut};
+ghost use Rattle.mds_inserts.specs.Writing.{PutsThere};
 
 use mds_marks::{Reading, qualities_read_back};
 use mds_quantity::units_read_back;
@@ -12,134 +16,99 @@ use mds_terms::Event;
 use mds_world::{Detail, Head, Key};
 use sqlite::{Alter, Error, Transaction};
 
-/// Puts a head.
-fn put_head<S: Alter>(tx: &mut Transaction<'_, S>, head: &Head) -> Result<(), Error>
-    ensures same_reference { tx.new.conn.ghost_name ≡ tx.old.conn.ghost_name }
-    ensures ok { OnOk result (PutsThere head_part (state S.Store tx.old.conn.now) (state S.Store tx.new.conn.now) (head.now ∷ [])) }
-    ensures kept { HasCleanDisk (state S.Store tx.new.conn.now) → KeepsCommit (state S.Store tx.old.conn.now) (state S.Store tx.new.conn.now) }
-    ensures survives { Survives (state S.Store tx.old.conn.now) (state S.Store tx.new.conn.now) (λ _. ⊥) }
-{
-    units_read_back();
-    let cells = head_cells(head);
-    tx.execute(
-        "INSERT INTO mds_head (nmi, suffix, day, length, unit) VALUES (?1, ?2, ?3, ?4, ?5)",
-        &cells,
-    )?;
-    Ok(())
+/// What becomes one row of a table.
+pub(crate) trait Put {
+    /// Its table, its cells, and what its row says.
+    ghost part: { Part Self };
+
+    /// Puts its row.
+    fn put<S: Alter>(&self, tx: &mut Transaction<'_, S>) -> Result<(), Error>
+        ensures same_reference { tx.new.conn.ghost_name ≡ tx.old.conn.ghost_name }
+        ensures ok { OnOk result (PutsThere part (state S.Store tx.old.conn.now) (state S.Store tx.new.conn.now) (self.now ∷ [])) }
+        ensures cause { HasCleanDisk (state S.Store tx.new.conn.now) → IsTrue (state S.Store tx.old.conn.now).in_transaction
+            → (state S.Store tx.old.conn.now).now.schema ≡ schema_1
+            → IfErr result (FailsToPut (state S.Store tx.old.conn.now) (state S.Store tx.new.conn.now) (rows_of part (self.now ∷ [])) (state S.Store tx.old.conn.now).now) }
+        ensures kept { HasCleanDisk (state S.Store tx.new.conn.now) → KeepsCommit (state S.Store tx.old.conn.now) (state S.Store tx.new.conn.now) }
+        ensures survives { Survives (state S.Store tx.old.conn.now) (state S.Store tx.new.conn.now) (λ _. ⊥) };
 }
 
-/// Puts heads.
-pub(crate) fn put_heads<S: Alter>(tx: &mut Transaction<'_, S>, heads: &[Head]) -> Result<(), Error>
+/// Puts the row of each.
+pub(crate) fn put_each<T: Put, S: Alter>(
+    tx: &mut Transaction<'_, S>,
+    items: &[T],
+) -> Result<(), Error>
     ensures same_reference { tx.new.conn.ghost_name ≡ tx.old.conn.ghost_name }
-    ensures ok { OnOk result (PutsThere head_part (state S.Store tx.old.conn.now) (state S.Store tx.new.conn.now) heads.now) }
+    ensures ok { OnOk result (PutsThere T.part (state S.Store tx.old.conn.now) (state S.Store tx.new.conn.now) items.now) }
+    ensures cause { HasCleanDisk (state S.Store tx.new.conn.now) → IsTrue (state S.Store tx.old.conn.now).is_open
+        → IsTrue (state S.Store tx.old.conn.now).in_transaction
+        → (state S.Store tx.old.conn.now).now.schema ≡ schema_1 → IsSound schema_1 (state S.Store tx.old.conn.now).now.trees
+        → IfErr result (FailsToPut (state S.Store tx.old.conn.now) (state S.Store tx.new.conn.now) (rows_of T.part items.now) (state S.Store tx.old.conn.now).now) }
     ensures kept { HasCleanDisk (state S.Store tx.new.conn.now) → KeepsCommit (state S.Store tx.old.conn.now) (state S.Store tx.new.conn.now) }
     ensures survives { Survives (state S.Store tx.old.conn.now) (state S.Store tx.new.conn.now) (λ _. ⊥) }
 {
-    for head in heads {
-        put_head(tx, head)?;
+    for item in items {
+        item.put(tx)?;
     }
     Ok(())
 }
 
-/// Puts a version.
-fn put_version<S: Alter>(
-    tx: &mut Transaction<'_, S>,
-    key: &Key,
-    reading: &Reading,
-) -> Result<(), Error>
-    ensures same_reference { tx.new.conn.ghost_name ≡ tx.old.conn.ghost_name }
-    ensures ok { OnOk result (PutsThere version_part (state S.Store tx.old.conn.now) (state S.Store tx.new.conn.now) ((key.now, reading.now) ∷ [])) }
-    ensures kept { HasCleanDisk (state S.Store tx.new.conn.now) → KeepsCommit (state S.Store tx.old.conn.now) (state S.Store tx.new.conn.now) }
-    ensures survives { Survives (state S.Store tx.old.conn.now) (state S.Store tx.new.conn.now) (λ _. ⊥) }
-{
-    qualities_read_back();
-    let (letters, count) = reading.mark().quality.letters();
-    tx.execute(
-        "INSERT INTO mds_version (nmi, suffix, day, slot, moment, quality, code, note, amount) VALUES (?1, ?2, ?3, ?4, ?5, ?6, ?7, ?8, ?9)",
-        &version_cells(key, reading, &letters[..count]),
-    )?;
-    Ok(())
-}
+impl Put for Head {
+    ghost part = { head_part };
 
-/// Puts versions.
-pub(crate) fn put_versions<S: Alter>(
-    tx: &mut Transaction<'_, S>,
-    versions: &[(Key, Reading)],
-) -> Result<(), Error>
-    ensures same_reference { tx.new.conn.ghost_name ≡ tx.old.conn.ghost_name }
-    ensures ok { OnOk result (PutsThere version_part (state S.Store tx.old.conn.now) (state S.Store tx.new.conn.now) versions.now) }
-    ensures kept { HasCleanDisk (state S.Store tx.new.conn.now) → KeepsCommit (state S.Store tx.old.conn.now) (state S.Store tx.new.conn.now) }
-    ensures survives { Survives (state S.Store tx.old.conn.now) (state S.Store tx.new.conn.now) (λ _. ⊥) }
-{
-    for version in versions {
-        put_version(tx, &version.0, &version.1)?;
+    fn put<S: Alter>(&self, tx: &mut Transaction<'_, S>) -> Result<(), Error> {
+        units_read_back();
+        let cells = head_cells(self);
+        tx.execute(
+            "INSERT INTO mds_head (nmi, suffix, day, length, unit) VALUES (?1, ?2, ?3, ?4, ?5)",
+            &cells,
+        )?;
+        Ok(())
     }
-    Ok(())
 }
 
-/// Puts details of a stream.
-fn put_detail<S: Alter>(tx: &mut Transaction<'_, S>, detail: &Detail) -> Result<(), Error>
-    ensures same_reference { tx.new.conn.ghost_name ≡ tx.old.conn.ghost_name }
-    ensures ok { OnOk result (PutsThere detail_part (state S.Store tx.old.conn.now) (state S.Store tx.new.conn.now) (detail.now ∷ [])) }
-    ensures kept { HasCleanDisk (state S.Store tx.new.conn.now) → KeepsCommit (state S.Store tx.old.conn.now) (state S.Store tx.new.conn.now) }
-    ensures survives { Survives (state S.Store tx.old.conn.now) (state S.Store tx.new.conn.now) (λ _. ⊥) }
-{
-    tx.execute(
-        "INSERT INTO mds_detail (nmi, suffix, moment, configuration, register, datastream, meter, next) VALUES (?1, ?2, ?3, ?4, ?5, ?6, ?7, ?8)",
-        &detail_cells(detail),
-    )?;
-    Ok(())
-}
+/// A version: where it stands, and its reading.
+impl Put for (Key, Reading) {
+    ghost part = { version_part };
 
-/// Puts details of streams.
-pub(crate) fn put_details<S: Alter>(
-    tx: &mut Transaction<'_, S>,
-    details: &[Detail],
-) -> Result<(), Error>
-    ensures same_reference { tx.new.conn.ghost_name ≡ tx.old.conn.ghost_name }
-    ensures ok { OnOk result (PutsThere detail_part (state S.Store tx.old.conn.now) (state S.Store tx.new.conn.now) details.now) }
-    ensures kept { HasCleanDisk (state S.Store tx.new.conn.now) → KeepsCommit (state S.Store tx.old.conn.now) (state S.Store tx.new.conn.now) }
-    ensures survives { Survives (state S.Store tx.old.conn.now) (state S.Store tx.new.conn.now) (λ _. ⊥) }
-{
-    for detail in details {
-        put_detail(tx, detail)?;
+    fn put<S: Alter>(&self, tx: &mut Transaction<'_, S>) -> Result<(), Error> {
+        let (key, reading) = (&self.0, &self.1);
+        qualities_read_back();
+        let (letters, count) = reading.mark().quality.letters();
+        tx.execute(
+            "INSERT INTO mds_version (nmi, suffix, day, slot, moment, quality, code, note, amount) VALUES (?1, ?2, ?3, ?4, ?5, ?6, ?7, ?8, ?9)",
+            &version_cells(key, reading, &letters[..count]),
+        )?;
+        Ok(())
     }
-    Ok(())
 }
 
-/// Puts an event.
-fn put_event<S: Alter>(tx: &mut Transaction<'_, S>, event: &Event) -> Result<(), Error>
-    ensures same_reference { tx.new.conn.ghost_name ≡ tx.old.conn.ghost_name }
-    ensures ok { OnOk result (PutsThere event_part (state S.Store tx.old.conn.now) (state S.Store tx.new.conn.now) (event.now ∷ [])) }
-    ensures kept { HasCleanDisk (state S.Store tx.new.conn.now) → KeepsCommit (state S.Store tx.old.conn.now) (state S.Store tx.new.conn.now) }
-    ensures survives { Survives (state S.Store tx.old.conn.now) (state S.Store tx.new.conn.now) (λ _. ⊥) }
-{
-    let (nmi, suffix) = (event.nmi(), event.suffix());
-    let (letter, count) = letter_of(event);
-    tx.execute(
-        "INSERT INTO mds_event (nmi, suffix, day, trans, ticket, moment, reading) VALUES (?1, ?2, ?3, ?4, ?5, ?6, ?7)",
-        &event_cells(
-            event,
-            nmi.text().as_bytes(),
-            suffix.text().as_bytes(),
-            &letter[..count],
-        ),
-    )?;
-    Ok(())
-}
+impl Put for Detail {
+    ghost part = { detail_part };
 
-/// Puts events.
-pub(crate) fn put_events<S: Alter>(
-    tx: &mut Transaction<'_, S>,
-    events: &[Event],
-) -> Result<(), Error>
-    ensures same_reference { tx.new.conn.ghost_name ≡ tx.old.conn.ghost_name }
-    ensures ok { OnOk result (PutsThere event_part (state S.Store tx.old.conn.now) (state S.Store tx.new.conn.now) events.now) }
-    ensures kept { HasCleanDisk (state S.Store tx.new.conn.now) → KeepsCommit (state S.Store tx.old.conn.now) (state S.Store tx.new.conn.now) }
-    ensures survives { Survives (state S.Store tx.old.conn.now) (state S.Store tx.new.conn.now) (λ _. ⊥) }
-{
-    for event in events {
-        put_event(tx, event)?;
+    fn put<S: Alter>(&self, tx: &mut Transaction<'_, S>) -> Result<(), Error> {
+        tx.execute(
+            "INSERT INTO mds_detail (nmi, suffix, moment, configuration, register, datastream, meter, next) VALUES (?1, ?2, ?3, ?4, ?5, ?6, ?7, ?8)",
+            &detail_cells(self),
+        )?;
+        Ok(())
     }
-    Ok(())
+}
+
+impl Put for Event {
+    ghost part = { event_part };
+
+    fn put<S: Alter>(&self, tx: &mut Transaction<'_, S>) -> Result<(), Error> {
+        let (nmi, suffix) = (self.nmi(), self.suffix());
+        let (letter, count) = letter_of(self);
+        tx.execute(
+            "INSERT INTO mds_event (nmi, suffix, day, trans, ticket, moment, reading) VALUES (?1, ?2, ?3, ?4, ?5, ?6, ?7)",
+            &event_cells(
+                self,
+                nmi.text().as_bytes(),
+                suffix.text().as_bytes(),
+                &letter[..count],
+            ),
+        )?;
+        Ok(())
+    }
 }

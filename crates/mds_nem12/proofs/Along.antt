@@ -18,7 +18,7 @@ use Rattle.mds_runs.specs.Runs.{AreRuns, AreRunsAfter, holds, is_in_range, last_
 use Rattle.mds_runs.specs.declared.cover.Run.{Run}
 use Rattle.mds_runs.proofs.RunFacts.{AreRunsAfter-push, last_end-is, run_at-found}
 use Rattle.mds_days.specs.RunFaults.{first_of, run_fault, when}
-use Rattle.mds_nem12.specs.Faults.{at_field, at_line, event_fault, fault_of, kind_fault, record_fault, text_fault}
+use Rattle.mds_nem12.specs.Faults.{at_field, at_line, fault_of_run, fault_of, kind_fault, record_fault, text_fault}
 use Rattle.mds_nem12.specs.Governing.{Governors, governors, governing_day, record_kind, runs_by, runs_of}
 use Rattle.mds_nem12.specs.Place.{is_in_place}
 use Rattle.mds_nem12.specs.Said.{count_in, run_in, values_in}
@@ -107,7 +107,7 @@ event_taken : (g : Governors) (number : ℕ) (x : List ℕ) → record_fault g n
     → run_fault (count_in g.details) g.runs (values_in (count_in g.details) g.day) (run_in x) ≡ None
 event_taken g number x e =
     last_none number (option_map (at_line number) (when (not (is_in_place g.previous a.IntervalEvent)) code.OutOfPlace)) None
-    (option_map (at_field number) (field_fault Nem12 a.IntervalEvent (count_in g.details) x)) (event_fault g x a.IntervalEvent) e
+    (option_map (at_field number) (field_fault Nem12 a.IntervalEvent (count_in g.details) x)) (fault_of_run g x a.IntervalEvent) e
 
 -- by the kind of the line
 runs_joined : (before : List (List ℕ)) (x : List ℕ) (day : ℕ) (o : Option Kind) → record_kind x ≡ o → governing_day before ≡ day

@@ -1,5 +1,5 @@
 -- What a record says is what its line says, and its faults are judged alike by what governs it and by what the reader keeps.
-use Rattle.std.proofs.Common.{◌≡◌, ℕ, ◌+◌, ◌≤◌, Bool, true, false, ◌||◌, cond, ltb, List, [], ◌∷◌, length, drop, Option, Some, None, unwrap_or, Result, Ok, Err, MatchResult, refl, sym, ◌∙◌, ap, subst, arith}
+use Rattle.std.proofs.Common.{◌≡◌, ℕ, ◌+◌, ◌≤◌, Bool, true, false, ◌||◌, cond, ltb, List, [], ◌∷◌, length, drop, Option, Some, None, IsSome, unwrap_or, Result, Ok, Err, MatchResult, refl, sym, ◌∙◌, ap, subst, arith}
 use Rattle.std.specs.Option.{option_map}
 use Rattle.std.proofs.lemmas.Bool.Decides.{nat_tests}
 use Rattle.std.proofs.lemmas.List.{length-drop, length-take-le}
@@ -22,8 +22,8 @@ use Rattle.mds_records.specs.declared.nmi_data_details.NmiDataDetailsRecord.{Nmi
 use Rattle.mds_records.specs.declared.record.Record.{Record}
 use Rattle.mds_records.specs.declared.record.Record.TheVariants as of
 use Rattle.mds_nem12.specs.Answers.{takes_memory}
-use Rattle.mds_nem12.specs.Faults.{at_field, at_line, event_fault}
-use Rattle.mds_nem12.specs.FileReaderSteps.{Governs, IsStop, Says, fields_fault, last_governing, last_kind}
+use Rattle.mds_nem12.specs.Faults.{at_field, at_line, fault_of_run}
+use Rattle.mds_nem12.specs.FileReaderSteps.{CanFollow, Governs, IsStop, Says, fields_fault, has_day, has_open_day, last_governing, last_kind, last_moment}
 use Rattle.mds_nem12.specs.Governing.{Governors, governors}
 use Rattle.mds_nem12.specs.Place.{is_in_place, is_kind}
 use Rattle.mds_nem12.specs.Said.{bare_null, count_in, event_in, header_in, run_in, values_in}
@@ -116,19 +116,91 @@ values_length n line none =
 abbrev pub kind_by : Record → Kind
 kind_by (of.Header r) = a.Header
 kind_by (of.NmiDataDetails r) = a.NmiDataDetails
+kind_by (of.AccumulationData r) = a.AccumulationData
 kind_by (of.IntervalData r) = a.IntervalData
 kind_by (of.IntervalEvent r) = a.IntervalEvent
 kind_by (of.B2bDetails r) = a.B2bDetails
+kind_by (of.AccumulationB2bDetails r) = a.AccumulationB2bDetails
 kind_by of.EndOfData = a.EndOfData
 
 pub spelled : (kind : Kind) (n : ℕ) (line : List ℕ) (r : Record) → Spells kind n line r → kind ≡ kind_by r
 spelled a.Header n line (of.Header r) s = refl
 spelled a.NmiDataDetails n line (of.NmiDataDetails r) s = refl
+spelled a.AccumulationData n line (of.AccumulationData r) s = refl
 spelled a.IntervalData n line (of.IntervalData r) s = refl
 spelled a.IntervalEvent n line (of.IntervalEvent r) s = refl
 spelled a.B2bDetails n line (of.B2bDetails r) s = refl
+spelled a.AccumulationB2bDetails n line (of.AccumulationB2bDetails r) s = refl
 spelled a.EndOfData n line of.EndOfData s = refl
 spelled kind n line r s = absurd s
+
+-- A record of a kind that is in place can be kept: what it goes on from is there. Records of accumulation data are in place
+-- nowhere.
+moment_there : (last : LastRecord) → is_in_place (last_kind last) a.NmiDataDetails ≡ true → IsSome (last_moment last)
+moment_there state.Nothing place = absurd (cc)
+moment_there (state.Header moment) place = refl
+moment_there (state.Details g) place = refl
+moment_there (state.Day g) place = refl
+moment_there (state.Run g) place = refl
+moment_there (state.Event g) place = refl
+moment_there state.End place = absurd (cc)
+
+governing_there : (last : LastRecord) → is_in_place (last_kind last) a.IntervalData ≡ true → IsSome (last_governing last)
+governing_there state.Nothing place = absurd (cc)
+governing_there (state.Header moment) place = absurd (cc)
+governing_there (state.Details g) place = refl
+governing_there (state.Day g) place = refl
+governing_there (state.Run g) place = refl
+governing_there (state.Event g) place = refl
+governing_there state.End place = absurd (cc)
+
+open_there : (last : LastRecord) → is_in_place (last_kind last) a.IntervalEvent ≡ true → has_open_day last ≡ true
+open_there state.Nothing place = absurd (cc)
+open_there (state.Header moment) place = absurd (cc)
+open_there (state.Details g) place = absurd (cc)
+open_there (state.Day g) place = refl
+open_there (state.Run g) place = refl
+open_there (state.Event g) place = absurd (cc)
+open_there state.End place = absurd (cc)
+
+day_there : (last : LastRecord) → is_in_place (last_kind last) a.B2bDetails ≡ true → has_day last ≡ true
+day_there state.Nothing place = absurd (cc)
+day_there (state.Header moment) place = absurd (cc)
+day_there (state.Details g) place = absurd (cc)
+day_there (state.Day g) place = refl
+day_there (state.Run g) place = refl
+day_there (state.Event g) place = refl
+day_there state.End place = absurd (cc)
+
+no_accumulation : (last : LastRecord) → is_in_place (last_kind last) a.AccumulationData ≡ true → ⊥
+no_accumulation state.Nothing place = cc
+no_accumulation (state.Header moment) place = cc
+no_accumulation (state.Details g) place = cc
+no_accumulation (state.Day g) place = cc
+no_accumulation (state.Run g) place = cc
+no_accumulation (state.Event g) place = cc
+no_accumulation state.End place = cc
+
+no_accumulation_b2b : (last : LastRecord) → is_in_place (last_kind last) a.AccumulationB2bDetails ≡ true → ⊥
+no_accumulation_b2b state.Nothing place = cc
+no_accumulation_b2b (state.Header moment) place = cc
+no_accumulation_b2b (state.Details g) place = cc
+no_accumulation_b2b (state.Day g) place = cc
+no_accumulation_b2b (state.Run g) place = cc
+no_accumulation_b2b (state.Event g) place = cc
+no_accumulation_b2b state.End place = cc
+
+pub can_follow : (kind : Kind) (n : ℕ) (line : List ℕ) (r : Record) (last : LastRecord) → Spells kind n line r
+    → is_in_place (last_kind last) kind ≡ true → CanFollow r last
+can_follow a.Header n line (of.Header r) last s place = tt
+can_follow a.NmiDataDetails n line (of.NmiDataDetails r) last s place = moment_there last place
+can_follow a.AccumulationData n line (of.AccumulationData r) last s place = no_accumulation last place
+can_follow a.IntervalData n line (of.IntervalData r) last s place = governing_there last place
+can_follow a.IntervalEvent n line (of.IntervalEvent r) last s place = open_there last place
+can_follow a.B2bDetails n line (of.B2bDetails r) last s place = day_there last place
+can_follow a.AccumulationB2bDetails n line (of.AccumulationB2bDetails r) last s place = no_accumulation_b2b last place
+can_follow a.EndOfData n line of.EndOfData last s place = tt
+can_follow kind n line r last s place = absurd s
 
 -- The number of values matters to a 300 alone.
 pub fields_same : (kind : Kind) (m n : ℕ) (line : List ℕ) → (kind ≡ a.IntervalData → m ≡ n)
@@ -147,8 +219,10 @@ pub spells_same : (kind : Kind) (m n : ℕ) (line : List ℕ) (r : Record) → (
 spells_same a.IntervalData m n line r same s = subst (λ (k : ℕ). Spells a.IntervalData k line r) (same refl) s
 spells_same a.Header m n line (of.Header r) same s = s
 spells_same a.NmiDataDetails m n line (of.NmiDataDetails r) same s = s
+spells_same a.AccumulationData m n line (of.AccumulationData r) same s = s
 spells_same a.IntervalEvent m n line (of.IntervalEvent r) same s = s
 spells_same a.B2bDetails m n line (of.B2bDetails r) same s = s
+spells_same a.AccumulationB2bDetails m n line (of.AccumulationB2bDetails r) same s = s
 spells_same a.EndOfData m n line of.EndOfData same s = s
 spells_same kind m n line r same s = absurd s
 
@@ -170,17 +244,17 @@ last_of None = refl
 last_of (Some fault) = refl
 
 pub fields_none : (g : Governors) (number : ℕ) (line : List ℕ) (kind : Kind) → field_fault Nem12 kind (count_in g.details) line ≡ None
-    → fields_fault g number line kind ≡ option_map (at_line number) (event_fault g line kind)
+    → fields_fault g number line kind ≡ option_map (at_line number) (fault_of_run g line kind)
 fields_none g number line kind none =
-    ap (λ o. first_of (option_map (at_field number) o ∷ option_map (at_line number) (event_fault g line kind) ∷ [])) none
-    ∙ last_of (option_map (at_line number) (event_fault g line kind))
+    ap (λ o. first_of (option_map (at_field number) o ∷ option_map (at_line number) (fault_of_run g line kind) ∷ [])) none
+    ∙ last_of (option_map (at_line number) (fault_of_run g line kind))
 
 pub fields_some : (g : Governors) (number : ℕ) (line : List ℕ) (kind : Kind) (fault : FieldFault)
     → field_fault Nem12 kind (count_in g.details) line ≡ Some fault → fields_fault g number line kind ≡ Some (at_field number fault)
 fields_some g number line kind fault some =
-    ap (λ o. first_of (option_map (at_field number) o ∷ option_map (at_line number) (event_fault g line kind) ∷ [])) some
+    ap (λ o. first_of (option_map (at_field number) o ∷ option_map (at_line number) (fault_of_run g line kind) ∷ [])) some
 
-pub no_event : (g : Governors) (line : List ℕ) (kind : Kind) → is_kind kind a.IntervalEvent ≡ false → event_fault g line kind ≡ None
+pub no_event : (g : Governors) (line : List ℕ) (kind : Kind) → is_kind kind a.IntervalEvent ≡ false → fault_of_run g line kind ≡ None
 no_event g line kind other = ap (λ b. cond b (run_fault (count_in g.details) g.runs (values_in (count_in g.details) g.day) (run_in line)) None) other
 
 -- How a record is answered.
@@ -207,20 +281,20 @@ answered_as (Err Memory) P L o f all e h = (e ∙ ap (option_map f) h.0, h.1)
 
 -- a 400 takes memory for its run
 run_answered : {T : Type 0} (r : Result T Nem12Fault) (P : Type 0) (g : Governors) (line : List ℕ) (o : Option FileFault)
-    → MatchResult r (λ _. (event_fault g line a.IntervalEvent ≡ None) × P) (IsStop o (event_fault g line a.IntervalEvent ≡ None))
-    → MatchResult r (λ _. (event_fault g line a.IntervalEvent ≡ None) × P)
-    (IsStop o ((event_fault g line a.IntervalEvent ≡ None) × (takes_memory g line (Some a.IntervalEvent) ≡ true)))
+    → MatchResult r (λ _. (fault_of_run g line a.IntervalEvent ≡ None) × P) (IsStop o (fault_of_run g line a.IntervalEvent ≡ None))
+    → MatchResult r (λ _. (fault_of_run g line a.IntervalEvent ≡ None) × P)
+    (IsStop o ((fault_of_run g line a.IntervalEvent ≡ None) × (takes_memory g line (Some a.IntervalEvent) ≡ true)))
 run_answered (Ok x) P g line o h = h
 run_answered (Err (File fault)) P g line o h = h
 run_answered (Err Memory) P g line o h = (h, refl)
 
 pub answered_run : {T : Type 0} (r : Result T Nem12Fault) (P : Type 0) (g : Governors) (number : ℕ) (line : List ℕ) (kind : Kind)
     → kind ≡ a.IntervalEvent
-    → MatchResult r (λ _. (event_fault g line a.IntervalEvent ≡ None) × P)
-    (IsStop (option_map (at_line number) (event_fault g line a.IntervalEvent)) (event_fault g line a.IntervalEvent ≡ None))
-    → MatchResult r (λ _. (event_fault g line kind ≡ None) × P)
-    (IsStop (option_map (at_line number) (event_fault g line kind)) ((event_fault g line kind ≡ None) × (takes_memory g line (Some kind) ≡ true)))
+    → MatchResult r (λ _. (fault_of_run g line a.IntervalEvent ≡ None) × P)
+    (IsStop (option_map (at_line number) (fault_of_run g line a.IntervalEvent)) (fault_of_run g line a.IntervalEvent ≡ None))
+    → MatchResult r (λ _. (fault_of_run g line kind ≡ None) × P)
+    (IsStop (option_map (at_line number) (fault_of_run g line kind)) ((fault_of_run g line kind ≡ None) × (takes_memory g line (Some kind) ≡ true)))
 answered_run r P g number line kind same h =
-    subst (λ (k : Kind). MatchResult r (λ _. (event_fault g line k ≡ None) × P)
-    (IsStop (option_map (at_line number) (event_fault g line k)) ((event_fault g line k ≡ None) × (takes_memory g line (Some k) ≡ true))))
+    subst (λ (k : Kind). MatchResult r (λ _. (fault_of_run g line k ≡ None) × P)
+    (IsStop (option_map (at_line number) (fault_of_run g line k)) ((fault_of_run g line k ≡ None) × (takes_memory g line (Some k) ≡ true))))
     (sym same) (run_answered r P g line _ h)

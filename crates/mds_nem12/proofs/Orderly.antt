@@ -23,7 +23,7 @@ use Rattle.mds_records.specs.declared.file.FileFault.{FileFault}
 use Rattle.mds_records.specs.declared.file.FileKind.TheVariants.{Nem12}
 use Rattle.mds_runs.specs.declared.cover.Run.{Run}
 use Rattle.mds_days.specs.RunFaults.{first_of, when}
-use Rattle.mds_nem12.specs.Faults.{at_field, at_line, event_fault, fault_of, record_fault, text_fault}
+use Rattle.mds_nem12.specs.Faults.{at_field, at_line, fault_of_run, fault_of, record_fault, text_fault}
 use Rattle.mds_nem12.specs.FileReaderSteps.{gap_fault}
 use Rattle.mds_nem12.specs.Governing.{Governors, governors, line_at, record_kind, runs_of}
 use Rattle.mds_statements.specs.Statements.{days_in, days_of, Statement, DayStatement}
@@ -216,7 +216,7 @@ record_placed g number line kind e =
     let place = when (not (is_in_place g.previous kind)) code.OutOfPlace in
     let fields = field_fault Nem12 kind (count_in g.details) line in
     let none = first_third (option_map (at_line number) place) (gap_fault g number kind) (option_map (at_field number) fields)
-    (option_map (at_line number) (event_fault g line kind)) e in
+    (option_map (at_line number) (fault_of_run g line kind)) e in
     (not_when (is_in_place g.previous kind) code.OutOfPlace (mapped_none (at_line number) place none.0), mapped_none (at_field number) fields none.1)
 
 -- where a 400 or a 500 may stand, a 300 may

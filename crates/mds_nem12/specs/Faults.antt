@@ -30,8 +30,8 @@ at_field number Count = at_line number code.FieldCount
 at_field number (Bad field) = record { code = code.BadField; line = number; field = field }
 
 -- L6, L7, L12 of a 400; other records have none of them
-abbrev pub event_fault : Governors → List ℕ → Kind → Option FaultCode
-event_fault g line kind =
+abbrev pub fault_of_run : Governors → List ℕ → Kind → Option FaultCode
+fault_of_run g line kind =
     let n = count_in g.details in
     if is_kind kind IntervalEvent then run_fault n g.runs (values_in n g.day) (run_in line) else None
 
@@ -42,7 +42,7 @@ record_fault g number line kind = first_of (
     option_map (at_line number) (when (not (is_in_place g.previous kind)) code.OutOfPlace)
     ∷ option_map (at_line number) (when (not (is_kind kind IntervalEvent) && has_gap g) code.RunGap)
     ∷ option_map (at_field number) (field_fault Nem12 kind (count_in g.details) line)
-    ∷ option_map (at_line number) (event_fault g line kind)
+    ∷ option_map (at_line number) (fault_of_run g line kind)
     ∷ [])
 
 -- the first fault of a line that isn't empty: L1, L2, and those of a record

@@ -11,7 +11,7 @@ use Rattle.mds_records.specs.declared.record.Record.{Record}
 use Rattle.mds_records.specs.declared.record.Record.TheVariants as of
 use Rattle.mds_days.specs.Days.{DayValue}
 use Rattle.mds_days.specs.RunFaults.{first_of, when}
-use Rattle.mds_nem12.specs.Faults.{at_field, at_line, event_fault}
+use Rattle.mds_nem12.specs.Faults.{at_field, at_line, fault_of_run}
 use Rattle.mds_nem12.specs.Governing.{Governors, governors, has_gap}
 use Rattle.mds_nem12.specs.OpenDays.{IsClosed, IsOpen}
 use Rattle.mds_nem12.specs.Place.{is_kind}
@@ -169,7 +169,7 @@ gap_fault g number found =
 abbrev pub fields_fault : Governors → ℕ → List ℕ → Kind → Option FileFault
 fields_fault g number line found = first_of (
     option_map (at_field number) (field_fault Nem12 found (count_in g.details) line)
-    ∷ option_map (at_line number) (event_fault g line found)
+    ∷ option_map (at_line number) (fault_of_run g line found)
     ∷ [])
 
 -- a line is refused for the fault that it has, or for want of memory, and then this holds
@@ -181,7 +181,7 @@ IsStop found lack Memory = lack
 abbrev pub IsRefusal : Option FileFault → Nem12Fault → Type 0
 IsRefusal found answer = IsStop found (Unit {0}) answer
 
--- a record can be kept
+-- a record can be kept; one of accumulation data stands in no NEM12 file
 abbrev pub CanFollow : Record → LastRecord → Type 0
 CanFollow (of.Header r) before = Unit {0}
 CanFollow (of.NmiDataDetails r) before = IsSome (last_moment before)
@@ -189,3 +189,5 @@ CanFollow (of.IntervalData r) before = IsSome (last_governing before)
 CanFollow (of.IntervalEvent r) before = has_open_day before ≡ true
 CanFollow (of.B2bDetails r) before = has_day before ≡ true
 CanFollow of.EndOfData before = Unit {0}
+CanFollow (of.AccumulationData r) before = ⊥
+CanFollow (of.AccumulationB2bDetails r) before = ⊥

@@ -7,7 +7,7 @@ ghost use Rattle.mds_lines.specs.Numbered.{number_of, text_of};
 ghost use Rattle.mds_lines.specs.declared.line.Kind.{Kind as AKind};
 ghost use Rattle.mds_days.specs.Days.{IsWhole, run_value};
 ghost use Rattle.mds_days.specs.RunFaults.{run_fault};
-ghost use Rattle.mds_nem12.specs.Faults.{at_line as fault_at, at_field as field_fault_at, end_fault, event_fault, kind_fault, record_fault, text_fault};
+ghost use Rattle.mds_nem12.specs.Faults.{at_line as fault_at, at_field as field_fault_at, end_fault, fault_of_run, kind_fault, record_fault, text_fault};
 ghost use Rattle.mds_nem12.specs.Answers.{MayLack, MayLackMemory, takes_memory};
 ghost use Rattle.mds_nem12.specs.FileReaderSteps.{HasTaken, IsRefusal, IsStop};
 ghost use Rattle.mds_nem12.specs.Governing.{ends_day, governors, has_gap, record_kind};
@@ -376,10 +376,10 @@ impl<T: StatementSink + Drop> FileReader<T> {
             → self.old.values
             ≡ map quantity_in (values_of (count_in (governors before).details) (text_of line.now)))
             → MatchResult result
-            (λ _. (event_fault (governors before) (text_of line.now) kind ≡ None)
+            (λ _. (fault_of_run (governors before) (text_of line.now) kind ≡ None)
             × HasTaken T.told (before ++ text_of line.now ∷ []) self.new)
-            (IsStop (option_map (fault_at (length before + 1)) (event_fault (governors before) (text_of line.now) kind))
-            ((event_fault (governors before) (text_of line.now) kind ≡ None)
+            (IsStop (option_map (fault_at (length before + 1)) (fault_of_run (governors before) (text_of line.now) kind))
+            ((fault_of_run (governors before) (text_of line.now) kind ≡ None)
             × (takes_memory (governors before) (text_of line.now) (Some kind) ≡ true))) }
     {
         match record {
@@ -392,6 +392,7 @@ impl<T: StatementSink + Drop> FileReader<T> {
                 self.last = LastRecord::End;
                 Ok(())
             }
+            Record::AccumulationData(_) | Record::AccumulationB2bDetails(_) => unreachable!(),
         }
     }
 
@@ -472,11 +473,11 @@ impl<T: StatementSink + Drop> FileReader<T> {
             → number_of line.now ≡ length before + 1
             → IsIntervalEvent (text_of line.now) event.now
             → MatchResult result
-            (λ _. (event_fault (governors before) (text_of line.now) Kind.IntervalEvent ≡ None)
+            (λ _. (fault_of_run (governors before) (text_of line.now) Kind.IntervalEvent ≡ None)
             × HasTaken T.told (before ++ text_of line.now ∷ []) self.new)
             (IsStop (option_map (fault_at (length before + 1))
-            (event_fault (governors before) (text_of line.now) Kind.IntervalEvent))
-            (event_fault (governors before) (text_of line.now) Kind.IntervalEvent ≡ None)) }
+            (fault_of_run (governors before) (text_of line.now) Kind.IntervalEvent))
+            (fault_of_run (governors before) (text_of line.now) Kind.IntervalEvent ≡ None)) }
     {
         match self.day.run_fault(event) {
             Some(code) => Err(at_line(code, line)),

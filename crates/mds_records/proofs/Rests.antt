@@ -9,6 +9,9 @@ use Rattle.std.proofs.lemmas.Bool.Decides.{nat_tests}
 use Rattle.std.proofs.lemmas.List.{get_or-drop, drop-drop}
 use denote.Ref.{Bor}
 use Rattle.mds_lines.specs.Rest.{fields_left, first_of, are_blank}
+use Rattle.mds_records.specs.declared.accumulation_data.MeterFields.{MeterFields}
+use Rattle.mds_records.specs.declared.register_read.ReadFields.{ReadFields}
+use Rattle.mds_records.specs.RecordSteps.{HasMeterFields, HasReadFields}
 
 -- where there is no comma, the text is its one field
 pub one_field : (text : List ℕ) (n : ℕ) → n ≡ position_or_len is_comma text → n ≡ length text → fields_of text ≡ text ∷ []
@@ -36,6 +39,33 @@ taken_at fields left k e = ap first_of e ∙ get_or-drop k fields 0 [] ∙ ap (�
 
 pub left_at : (fields left rest : List (List ℕ)) (k : ℕ) → left ≡ drop k fields → rest ≡ drop 1 left → rest ≡ drop (k + 1) fields
 left_at fields left rest k e h = h ∙ ap (drop 1) e ∙ one_more fields k
+
+pub left_after : (fields left rest : List (List ℕ)) (k n : ℕ) → left ≡ drop k fields → rest ≡ drop n left → rest ≡ drop (k + n) fields
+left_after fields left rest k n e h = h ∙ ap (drop n) e ∙ drop-drop n k fields
+
+-- fields of what is left are fields of the line
+pub field_at : (fields left : List (List ℕ)) (k i : ℕ) → left ≡ drop k fields → get_or left i [] ≡ get_or fields (k + i) []
+field_at fields left k i e = ap (λ xs. get_or xs i []) e ∙ get_or-drop k fields i []
+
+pub read_at : (fields left : List (List ℕ)) (k : ℕ) (f : ReadFields) → left ≡ drop k fields → HasReadFields left 0 f → HasReadFields fields k f
+read_at fields left k f e h = record {
+  reading = h.reading ∙ taken_at fields left k e;
+  moment = h.moment ∙ field_at fields left k 1 e;
+  quality = h.quality ∙ field_at fields left k 2 e;
+  reason_code = h.reason_code ∙ field_at fields left k 3 e;
+  reason_text = h.reason_text ∙ field_at fields left k 4 e;
+}
+
+pub meter_at : (fields left : List (List ℕ)) (k : ℕ) (f : MeterFields) → left ≡ drop k fields → HasMeterFields left 0 f → HasMeterFields fields k f
+meter_at fields left k f e h = record {
+  nmi = h.nmi ∙ taken_at fields left k e;
+  configuration = h.configuration ∙ field_at fields left k 1 e;
+  register = h.register ∙ field_at fields left k 2 e;
+  suffix = h.suffix ∙ field_at fields left k 3 e;
+  datastream = h.datastream ∙ field_at fields left k 4 e;
+  meter = h.meter ∙ field_at fields left k 5 e;
+  direction = h.direction ∙ field_at fields left k 6 e;
+}
 
 above : (n k : ℕ) → ltb 0 (n - k) ≡ not (ltb n (k + 1))
 above n k = search (rules, nat_tests)

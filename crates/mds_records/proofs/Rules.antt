@@ -1,10 +1,11 @@
 -- The first fault of a record's fields, from tests of each field.
-use Rattle.std.proofs.Common.{◌≡◌, ℕ, zero, suc, ◌+◌, ◌-◌, ◌<◌, Bool, true, false, not, ◌||◌, eqb, List, [], ◌∷◌, length, map, get_or, Option, Some, None, option_map, refl, arith, rules, tests, find, if◌then◌else◌, bytes_eq}
+use Rattle.std.proofs.Common.{◌≡◌, ℕ, zero, suc, ◌+◌, ◌-◌, ◌<◌, Bool, true, false, not, ◌||◌, eqb, List, [], ◌∷◌, ◌++◌, length, map, get_or, Option, Some, None, option_map, refl, ap, arith, rules, tests, find, if◌then◌else◌, bytes_eq}
 use Rattle.std.specs.List.{range_with_len}
 use Rattle.std.proofs.lemmas.Bool.Decides.{nat_tests}
 use Rattle.mds_records.specs.declared.file.FileKind.{FileKind}
 use Rattle.mds_records.specs.declared.file.FileKind.TheVariants.{Nem12}
 use Rattle.mds_lines.specs.declared.line.Kind.{Kind}
+use Rattle.mds_records.specs.declared.fault.FieldFault.{FieldFault}
 use Rattle.mds_records.specs.declared.fault.FieldFault.TheVariants.{WrongFile, Count, Bad}
 use Rattle.mds_records.specs.FieldFaults.{field_fault, is_of_other_file, has_wrong_count, layout_of, least_bad, is_bad}
 use Rattle.mds_records.specs.Layouts.{Form, Rule, Nothing, may, must, fits, file_name}
@@ -79,3 +80,14 @@ pub each_passed : (is_other is_whole : Bool) (tests : List Bool) → outcome is_
 each_passed true is_whole tests h k lt = cc
 each_passed false false tests h k lt = cc
 each_passed false true tests h k lt = none_fails 2 tests (no_bad (first_false 2 tests) h) k lt
+
+-- a bad field of some of the fields is the first of all where those before it passed
+pub bad_in : (from : ℕ) (good more : List Bool) (fault : FieldFault) → option_map Bad (first_false from good) ≡ Some fault → option_map Bad (first_false from (good ++ more)) ≡ Some fault
+bad_in from [] more fault h = absurd (cc)
+bad_in from (true ∷ good) more fault h = bad_in (from + 1) good more fault h
+bad_in from (false ∷ good) more fault h = h
+
+pub passed_in : (from next : ℕ) (good more : List Bool) → from + length good ≡ next → first_false from good ≡ None → first_false from (good ++ more) ≡ first_false next more
+passed_in from next [] more n h = let same : from ≡ next = omega arith in ap (λ k. first_false k more) same
+passed_in from next (true ∷ good) more n h = let n : from + 1 + length good ≡ next = omega arith in passed_in (from + 1) next good more n h
+passed_in from next (false ∷ good) more n h = absurd (cc)

@@ -1,5 +1,5 @@
 -- What the terms of a record say of its fields.
-use Rattle.std.proofs.Common.{◌≡◌, ℕ, ◌<◌, ◌≤◌, ◌||◌, ◌&&◌, Bool, true, false, eqb, leb, if◌then◌else◌, List, [], ◌∷◌, length, Option, Some, None, option_map, is_some, IfSome, refl, sym, ◌∙◌, ap, arith, ◌⊎◌, inl, inr}
+use Rattle.std.proofs.Common.{◌≡◌, ℕ, ◌<◌, ◌≤◌, ◌||◌, ◌&&◌, Bool, true, false, eqb, leb, if◌then◌else◌, List, [], ◌∷◌, length, Option, Some, None, option_map, is_some, is_ok, IfSome, refl, sym, ◌∙◌, ap, arith, ◌⊎◌, inl, inr}
 use Rattle.std.proofs.lemmas.Bool.{true≢false}
 use Rattle.std.proofs.lemmas.Bool.Decides.{nat_tests}
 use Rattle.std.proofs.lemmas.Str.{IsUtf8-nil, is_utf8-from_IsUtf8, chars-nil}
@@ -7,6 +7,7 @@ use Rattle.std.specs.Char.{is_ascii_digit}
 use Rattle.std.specs.List.{list_all}
 use Rattle.std.specs.Str.Parse.{digits_value}
 use Rattle.std.specs.Option.{option_and_then}
+use Rattle.mds_quantity.specs.Quantity.{denoted}
 use Rattle.mds_quantity.specs.Unit.{unit_of}
 use Rattle.mds_calendar.specs.Calendar.{day_of, moment_of, date_time_of}
 use Rattle.mds_marks.specs.BorrowedMarks.{reason_value, mark_value}
@@ -20,7 +21,7 @@ use Rattle.mds_terms.specs.BorrowedTexts.{text_of}
 use Rattle.mds_terms.specs.Parts.{optional}
 use Rattle.mds_terms.specs.Printable.{is_printable}
 use Rattle.mds_terms.specs.declared.printable.PrintableText.{PrintableText}
-use Rattle.mds_records.specs.Layouts.{has_flag, interval_number_of, is_event_quality}
+use Rattle.mds_records.specs.Layouts.{has_flag, interval_number_of, is_single_quality}
 use Rattle.mds_records.proofs.Rules.{suc_is_not}
 
 -- the empty text is no date and time, no day, no unit, no number of an interval and no quality
@@ -31,6 +32,14 @@ no_date_time = refl
 pub no_day : is_some (day_of []) ≡ false
 unfolding day_of
 no_day = refl
+
+pub no_moment : is_some (moment_of []) ≡ false
+unfolding moment_of day_of
+no_moment = refl
+
+pub no_quantity : is_ok (denoted []) ≡ false
+unfolding denoted
+no_quantity = refl
 
 pub no_unit : is_some (unit_of []) ≡ false
 unfolding unit_of
@@ -44,9 +53,9 @@ pub no_quality : is_some (quality_of []) ≡ false
 unfolding quality_of
 no_quality = refl
 
-pub no_event_quality : is_event_quality [] ≡ false
+pub no_single_quality : is_single_quality [] ≡ false
 unfolding quality_of
-no_event_quality = refl
+no_single_quality = refl
 
 -- but it is printable, and the code and the text of a reason
 pub empty_printable : is_printable [] ≡ true
@@ -82,6 +91,21 @@ reason_good None false code text e = refl
 reason_good (Some r) true None text e = absurd (cc)
 reason_good (Some r) true (Some n) text e = refl
 reason_good (Some r) false code text e = absurd (cc)
+
+-- a reason can be read exactly if its text is good and its code is
+pub reason_there : (code text : List ℕ) (r : Option ReasonRef) → option_map reason_value r ≡ reason_of code text → is_some r ≡ (is_reason_text text && is_some (code_of code))
+unfolding reason_of
+reason_there code text r e = reason_good r (is_reason_text text) (code_of code) text e
+
+pub both_true : (a b : Bool) → true ≡ (a && b) → (true ≡ a) × (true ≡ b)
+both_true true true e = (refl, refl)
+both_true true false e = absurd (cc)
+both_true false b e = absurd (cc)
+
+-- where it was read, both are good
+pub reason_parts_of : (code text : List ℕ) (r : Option ReasonRef) (x : ReasonRef) → r ≡ Some x → option_map reason_value r ≡ reason_of code text → (true ≡ is_reason_text text) × (true ≡ is_some (code_of code))
+reason_parts_of code text r x is e =
+    both_true (is_reason_text text) (is_some (code_of code)) (sym (ap (λ (o : Option ReasonRef). is_some o) is) ∙ reason_there code text r e)
 
 -- a reason of a code alone can be read exactly if that can be
 pub code_alone : (code : List ℕ) (r : Option ReasonRef) → option_map reason_value r ≡ reason_of code [] → is_some r ≡ is_some (code_of code)

@@ -1,6 +1,6 @@
 -- The layouts of the records, each as one row of a table: what its fields hold, from field 2 on. MDFF Specification,
--- the tables of the 100, 200, 300, 400, 500 and 900 records. Which fields may be empty, how long a text may be and
--- which fields may be left off is this project's profile.
+-- the tables of the 100, 200, 250, 300, 400, 500, 550 and 900 records. Which fields may be empty, how long a text may
+-- be and which fields may be left off is this project's profile.
 use Rattle.std.specs.Prelude.{ℕ, ◌+◌, Bool, true, false, ◌&&◌, ◌==◌, nat_le, if◌then◌else◌, List, [], ◌∷◌, ◌++◌, length, replicate, codes, bytes_eq, Option, Some, None, is_some, is_ok}
 use Rattle.std.specs.Char.{is_ascii_digit}
 use Rattle.std.specs.List.{list_all, list_any}
@@ -16,6 +16,8 @@ use Rattle.mds_terms.specs.Event.{letter_of}
 use Rattle.mds_terms.specs.Printable.{is_printable}
 use Rattle.mds_lines.specs.declared.line.Kind.{Kind}
 use Rattle.mds_lines.specs.declared.line.Kind.TheVariants.{Header, NmiDataDetails, AccumulationData, IntervalData, IntervalEvent, B2bDetails, AccumulationB2bDetails, EndOfData}
+use Rattle.mds_records.specs.declared.direction.Direction.{Direction}
+use Rattle.mds_records.specs.declared.direction.Direction.TheVariants.{Import, Export}
 use Rattle.mds_records.specs.declared.file.FileKind.{FileKind}
 use Rattle.mds_records.specs.declared.file.FileKind.TheVariants.{Nem12}
 
@@ -32,11 +34,12 @@ pub data Form : Type 0 where
   Value : Form
   IntervalNumber : Form
   QualityMethod : Form
-  EventQuality : Form
+  SingleQuality : Form
   ReasonNumber : Form
   ReasonWords : Form
   MomentTime : Form
   TransLetter : Form
+  DirectionLetter : Form
   Nothing : Form
 
 -- the name of a kind of file, in field 2 of its header
@@ -53,6 +56,17 @@ interval_number_of text =
     if nat_le 1 (length text) && nat_le (length text) 4 && list_all is_ascii_digit text
     then Some (digits_value 10 text) else None
 
+-- the direction that a letter is
+abbrev pub direction_of : List ℕ → Option Direction
+direction_of text =
+    if bytes_eq text (codes "I") then Some Import
+    else (if bytes_eq text (codes "E") then Some Export else None)
+
+-- the letter of a direction
+abbrev pub direction_text : Direction → List ℕ
+direction_text Import = codes "I"
+direction_text Export = codes "E"
+
 -- a quality's flag is one of these letters
 abbrev pub has_flag : List ℕ → Option QualityValue → Bool
 has_flag letters None = false
@@ -63,9 +77,9 @@ has_flag letters (Some quality) = list_any (λ letter. quality.flag == letter) l
 abbrev pub means_values : List ℕ → Bool
 means_values quality = has_flag (codes "AEFS") (quality_of quality)
 
--- the quality of an event: any but variable, which says that events follow
-abbrev pub is_event_quality : List ℕ → Bool
-is_event_quality quality = has_flag (codes "AEFNS") (quality_of quality)
+-- the quality of a run, or of a read of a register: any but variable, which says that runs follow
+abbrev pub is_single_quality : List ℕ → Bool
+is_single_quality quality = has_flag (codes "AEFNS") (quality_of quality)
 
 -- a field that isn't empty is of its form
 abbrev pub fits : FileKind → Form → List ℕ → Bool
@@ -80,11 +94,12 @@ fits file DayDate text = is_some (day_of text)
 fits file Value text = is_ok (denoted text)
 fits file IntervalNumber text = is_some (interval_number_of text)
 fits file QualityMethod text = is_some (quality_of text)
-fits file EventQuality text = is_event_quality text
+fits file SingleQuality text = is_single_quality text
 fits file ReasonNumber text = is_some (code_of text)
 fits file ReasonWords text = is_reason_text text
 fits file MomentTime text = is_some (moment_of text)
 fits file TransLetter text = is_some (letter_of text)
+fits file DirectionLetter text = is_some (direction_of text)
 fits file Nothing text = false
 
 -- a field: whether it may be empty, and what it has to be else
@@ -98,28 +113,36 @@ must form = record { may_be_empty = false; form = form }
 abbrev pub may : Form → Rule
 may form = record { may_be_empty = true; form = form }
 
--- The fields after the indicator; a 300 has n values, which may be empty or not. A 250 and a 550 stand in no NEM12
--- file: their layouts come with NEM13.
+-- a read of a register: what it shows, when, and the quality of that with its reason
+abbrev pub read_layout : Rule → List Rule
+read_layout quality = may Printable ∷ must MomentTime ∷ quality ∷ may ReasonNumber ∷ may ReasonWords ∷ []
+
+-- The fields after the indicator; a 300 has n values, which may be empty or not. A 250 has two reads, the previous and
+-- the current.
 abbrev pub layout : Kind → ℕ → Bool → List Rule
 layout Header n values_may_be_empty = must FileName ∷ must DateTime ∷ may Printable ∷ may Printable ∷ []
 layout NmiDataDetails n values_may_be_empty =
     must NmiName ∷ may Printable ∷ may Printable ∷ must SuffixName ∷ may Printable ∷ may Printable ∷ must UnitName
     ∷ must LengthInMinutes ∷ may DayDate ∷ []
-layout AccumulationData n values_may_be_empty = []
+layout AccumulationData n values_may_be_empty =
+    must NmiName ∷ may Printable ∷ may Printable ∷ must SuffixName ∷ may Printable ∷ may Printable ∷ must DirectionLetter
+    ∷ read_layout (may SingleQuality) ++ read_layout (must SingleQuality)
+    ++ must Value ∷ must UnitName ∷ may DayDate ∷ may MomentTime ∷ may MomentTime ∷ []
 layout IntervalData n values_may_be_empty =
     must DayDate ∷ replicate n (record { may_be_empty = values_may_be_empty; form = Value })
     ++ must QualityMethod ∷ may ReasonNumber ∷ may ReasonWords ∷ may MomentTime ∷ may MomentTime ∷ []
 layout IntervalEvent n values_may_be_empty =
-    must IntervalNumber ∷ must IntervalNumber ∷ must EventQuality ∷ may ReasonNumber ∷ may ReasonWords ∷ []
+    must IntervalNumber ∷ must IntervalNumber ∷ must SingleQuality ∷ may ReasonNumber ∷ may ReasonWords ∷ []
 layout B2bDetails n values_may_be_empty = may TransLetter ∷ may Printable ∷ may MomentTime ∷ may Printable ∷ []
-layout AccumulationB2bDetails n values_may_be_empty = []
+layout AccumulationB2bDetails n values_may_be_empty =
+    may TransLetter ∷ may Printable ∷ may TransLetter ∷ may Printable ∷ []
 layout EndOfData n values_may_be_empty = []
 
 -- the least number of fields, the indicator included: trailing fields may be left off down to it
 abbrev pub least_count : Kind → ℕ → ℕ
 least_count Header n = 3
 least_count NmiDataDetails n = 9
-least_count AccumulationData n = 1
+least_count AccumulationData n = 20
 least_count IntervalData n = n + 3
 least_count IntervalEvent n = 4
 least_count B2bDetails n = 1

@@ -1,5 +1,5 @@
 -- The record that a line spells: its fields by name, each read once into its term.
--- MDFF Specification, the tables of the 100, 200, 300, 400, 500 and 900 records.
+-- MDFF Specification, the tables of the 100, 200, 250, 300, 400, 500, 550 and 900 records.
 use Rattle.std.specs.Prelude.{◌≡◌, ℕ, ◌+◌, false, not, ◌&&◌, ◌==◌, List, take, drop, fold, flat_map, ℤ, pos, ◌+ℤ◌, Option, Some, None, is_none, Result, Ok, Err}
 use Rattle.std.specs.List.{list_any}
 use Rattle.std.specs.Option.{option_to_list}
@@ -11,22 +11,26 @@ use Rattle.mds_calendar.specs.Calendar.{day_of, moment_of, date_time_of}
 use Rattle.mds_calendar.specs.Length.{count_of, length_of}
 use Rattle.mds_names.specs.Names.{nmi_of, suffix_of}
 use Rattle.mds_marks.specs.Mark.{mark_of}
-use Rattle.mds_marks.specs.BorrowedMarks.{mark_value}
-use Rattle.mds_marks.specs.Quality.{null, variable}
+use Rattle.mds_marks.specs.BorrowedMarks.{mark_value, reason_value}
+use Rattle.mds_marks.specs.Quality.{null, quality_of, variable}
+use Rattle.mds_marks.specs.Reason.{reason_of}
 use Rattle.mds_terms.specs.BorrowedTexts.{text_of}
 use Rattle.mds_terms.specs.Event.{letter_of}
 use Rattle.mds_terms.specs.Parts.{optional}
 use Rattle.mds_lines.specs.declared.line.Kind.{Kind}
-use Rattle.mds_lines.specs.declared.line.Kind.TheVariants.{Header, NmiDataDetails, IntervalData, IntervalEvent, B2bDetails, EndOfData}
+use Rattle.mds_lines.specs.declared.line.Kind.TheVariants.{Header, NmiDataDetails, AccumulationData, IntervalData, IntervalEvent, B2bDetails, AccumulationB2bDetails, EndOfData}
 use Rattle.mds_lines.specs.Lines.{fields_of, field}
 use Rattle.mds_records.specs.declared.header.HeaderRecord.{HeaderRecord}
 use Rattle.mds_records.specs.declared.nmi_data_details.NmiDataDetailsRecord.{NmiDataDetailsRecord}
 use Rattle.mds_records.specs.declared.interval_data.IntervalDataRecord.{IntervalDataRecord}
 use Rattle.mds_records.specs.declared.interval_event.IntervalEventRecord.{IntervalEventRecord}
 use Rattle.mds_records.specs.declared.b2b_details.B2bDetailsRecord.{B2bDetailsRecord}
+use Rattle.mds_records.specs.declared.accumulation_data.AccumulationDataRecord.{AccumulationDataRecord}
+use Rattle.mds_records.specs.declared.register_read.RegisterRead.{RegisterRead}
+use Rattle.mds_records.specs.declared.accumulation_b2b_details.AccumulationB2bDetailsRecord.{AccumulationB2bDetailsRecord}
 use Rattle.mds_records.specs.declared.record.Record.{Record}
 use Rattle.mds_records.specs.declared.record.Record.TheVariants as of
-use Rattle.mds_records.specs.Layouts.{interval_number_of}
+use Rattle.mds_records.specs.Layouts.{direction_of, interval_number_of}
 
 -- how many values a 300 has, by the length of its intervals
 abbrev pub value_count : Option ℕ → ℕ
@@ -68,6 +72,31 @@ pub record IsNmiDataDetails (line : List ℕ) (r : NmiDataDetailsRecord) : Type 
   pub length : length_of (field line 9) ≡ Some r.length
   pub next : optional day_of (field line 10) ≡ Some r.details.next
 
+-- what a register showed, when, its quality, which may be absent, and the reason for that
+pub record IsRegisterRead (reading moment quality code text : List ℕ) (r : RegisterRead) : Type 0 where
+  pub reading_is : text_of r.reading ≡ reading
+  pub moment_is : moment_of moment ≡ Some r.moment
+  pub quality_is : quality_of quality ≡ r.quality
+  pub reason_is : reason_of code text ≡ Some (reason_value r.reason)
+
+-- 250
+pub record IsAccumulationData (line : List ℕ) (r : AccumulationDataRecord) : Type 0 where
+  pub nmi : nmi_of (field line 2) ≡ Some r.stream.nmi
+  pub configuration : text_of r.configuration ≡ field line 3
+  pub register : text_of r.register ≡ field line 4
+  pub suffix : suffix_of (field line 5) ≡ Some r.stream.suffix
+  pub datastream : text_of r.datastream ≡ field line 6
+  pub meter : text_of r.meter ≡ field line 7
+  pub direction : direction_of (field line 8) ≡ Some r.direction
+  pub previous :
+      IsRegisterRead (field line 9) (field line 10) (field line 11) (field line 12) (field line 13) r.previous
+  pub current :
+      IsRegisterRead (field line 14) (field line 15) (field line 16) (field line 17) (field line 18) r.current
+  pub quantity : denoted (field line 19) ≡ Ok r.quantity
+  pub unit : unit_of (field line 20) ≡ Some r.unit
+  pub next : optional day_of (field line 21) ≡ Some r.next
+  pub update : optional moment_of (field line 22) ≡ Some r.update
+
 -- 300, of n values
 pub record IsIntervalData (n : ℕ) (line : List ℕ) (r : IntervalDataRecord) : Type 0 where
   pub date : day_of (field line 2) ≡ Some r.date
@@ -88,13 +117,22 @@ pub record IsB2bDetails (line : List ℕ) (r : B2bDetailsRecord) : Type 0 where
   pub moment : optional moment_of (field line 4) ≡ Some r.moment
   pub reading : text_of r.reading ≡ field line 5
 
+-- 550
+pub record IsAccumulationB2bDetails (line : List ℕ) (r : AccumulationB2bDetailsRecord) : Type 0 where
+  pub previous_trans : optional letter_of (field line 2) ≡ Some r.previous_trans
+  pub previous_ticket : text_of r.previous_ticket ≡ field line 3
+  pub current_trans : optional letter_of (field line 4) ≡ Some r.current_trans
+  pub current_ticket : text_of r.current_ticket ≡ field line 5
+
 -- the record that a line of a kind spells
 abbrev pub Spells : Kind → ℕ → List ℕ → Record → Type 0
 Spells Header n line (of.Header r) = IsHeader line r
 Spells NmiDataDetails n line (of.NmiDataDetails r) = IsNmiDataDetails line r
+Spells AccumulationData n line (of.AccumulationData r) = IsAccumulationData line r
 Spells IntervalData n line (of.IntervalData r) = IsIntervalData n line r
 Spells IntervalEvent n line (of.IntervalEvent r) = IsIntervalEvent line r
 Spells B2bDetails n line (of.B2bDetails r) = IsB2bDetails line r
+Spells AccumulationB2bDetails n line (of.AccumulationB2bDetails r) = IsAccumulationB2bDetails line r
 Spells EndOfData n line of.EndOfData = Unit {0}
 Spells kind n line r = ⊥
 

@@ -1,8 +1,9 @@
 //! The first fault of a record's fields.
 
-ghost use Rattle.std.specs.Prelude.{◌≡◌, ◌+◌, ◌^◌, ◌<◌, ◌&&◌, ◌↔◌, IsTrue, Some, None, MatchResult, length, option_copied};
+ghost use Rattle.std.specs.Prelude.{◌≡◌, ◌+◌, ◌^◌, ◌<◌, ◌&&◌, ◌↔◌, IsTrue, Some, None, MatchResult, length, option_copied, option_map};
 ghost use Rattle.mds_lines.specs.Rest.{fields_left, are_blank};
 ghost use Rattle.mds_records.specs.RecordSteps.{first_false, outcome};
+ghost use Rattle.mds_records.specs.declared.fault.FieldFault.TheVariants.{Bad};
 
 use mds_lines::is_blank_from;
 
@@ -39,7 +40,16 @@ pub(crate) fn first_fault(is_other: bool, is_whole: bool, good: &[bool]) -> Resu
     if !is_whole {
         return Err(FieldFault::Count);
     }
-    match least_bad(2, good) {
+    first_bad(2, good)
+}
+
+/// The fault of fields of numbers from one on: the first of them that isn't good.
+pub(crate) fn first_bad(from: usize, good: &[bool]) -> Result<(), FieldFault>
+    requires { from + length good.now < 2 ^ 64 }
+    ensures { MatchResult result (λ _. first_false from good.now ≡ None)
+        (λ fault. option_map Bad (first_false from good.now) ≡ Some fault) }
+{
+    match least_bad(from, good) {
         Some(number) => Err(FieldFault::Bad(number)),
         None => Ok(()),
     }

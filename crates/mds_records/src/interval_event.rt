@@ -1,18 +1,17 @@
 //! The 400 record, which marks some intervals of the day before it.
 
-ghost use Rattle.std.specs.Prelude.{◌≡◌, ◌==◌, ℕ, false, Some, None, IfOk, MatchResult, codes};
+ghost use Rattle.std.specs.Prelude.{◌≡◌, ◌==◌, ℕ, false, Some, None, IfOk, MatchResult};
 ghost use Rattle.mds_lines.specs.declared.line.Kind.{Kind};
 ghost use Rattle.mds_marks.specs.Quality.{variable};
 ghost use Rattle.mds_records.specs.declared.file.FileKind.{FileKind};
 ghost use Rattle.mds_records.specs.FieldFaults.{field_fault};
-ghost use Rattle.mds_records.specs.Layouts.{has_flag};
-ghost use Rattle.mds_records.specs.RecordSteps.{HasEventFields};
+ghost use Rattle.mds_records.specs.RecordSteps.{HasRunFields};
 ghost use Rattle.mds_records.specs.Records.{IsIntervalEvent};
 
 use crate::fault::{FieldFault, first_fault, has_right_count};
-use crate::term::{interval_number, mark_parts};
+use crate::term::{interval_number, is_single_quality, mark_parts};
 use mds_lines::next_field;
-use mds_terms::{MarkRef, Quality};
+use mds_terms::MarkRef;
 
 /// A 400 record: the mark of the intervals from the first to the last, counted from 1.
 #[derive(Clone, Copy)]
@@ -24,7 +23,7 @@ pub struct IntervalEventRecord<'a> {
 
 /// The fields of a 400 record, good or bad.
 #[derive(Clone, Copy)]
-struct EventFields<'a> {
+struct RunFields<'a> {
     first: &'a [u8],
     last: &'a [u8],
     quality: &'a [u8],
@@ -41,7 +40,7 @@ pub(crate) fn read_interval_event(text: &[u8]) -> Result<IntervalEventRecord<'_>
         (λ fault. field_fault file Kind.IntervalEvent n text.now ≡ Some fault) }
     ensures marked { IfOk result (λ r. (r.mark.quality.flag == variable) ≡ false) }
 {
-    let fields = split_event(text);
+    let fields = split_run(text);
     let first = interval_number(fields.first);
     let last = interval_number(fields.last);
     let (quality, code, text) = (fields.quality, fields.reason_code, fields.reason_text);
@@ -50,7 +49,7 @@ pub(crate) fn read_interval_event(text: &[u8]) -> Result<IntervalEventRecord<'_>
     let good = [
         first.is_some(),
         last.is_some(),
-        is_event_quality(parts.quality),
+        is_single_quality(&parts.quality),
         parts.has_code,
         parts.has_text,
     ];
@@ -66,8 +65,8 @@ pub(crate) fn read_interval_event(text: &[u8]) -> Result<IntervalEventRecord<'_>
 }
 
 /// The fields of a 400 record, good or bad.
-fn split_event(text: &[u8]) -> EventFields<'_>
-    ensures { HasEventFields text.now result }
+fn split_run(text: &[u8]) -> RunFields<'_>
+    ensures { HasRunFields text.now result }
 {
     let (_, rest) = next_field(Some(text));
     let (first, rest) = next_field(rest);
@@ -76,22 +75,12 @@ fn split_event(text: &[u8]) -> EventFields<'_>
     let (quality, rest) = next_field(rest);
     let (reason_code, rest) = next_field(rest);
     let (reason_text, rest) = next_field(rest);
-    EventFields {
+    RunFields {
         first,
         last,
         quality,
         reason_code,
         reason_text,
         is_whole: has_right_count(has_least, rest),
-    }
-}
-
-/// Whether a quality is that of an event: any but V.
-fn is_event_quality(quality: Option<Quality>) -> bool
-    ensures { result ≡ has_flag (codes "AEFNS") quality }
-{
-    match quality {
-        Some(quality) => matches!(quality.flag(), b'A' | b'E' | b'F' | b'N' | b'S'),
-        None => false,
     }
 }

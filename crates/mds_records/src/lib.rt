@@ -2,7 +2,10 @@
 //! names of the lines and fields that they are read from are given on.
 #![tactic(auto)]
 
+mod accumulation_b2b_details;
+mod accumulation_data;
 mod b2b_details;
+mod direction;
 mod fault;
 mod file;
 mod header;
@@ -11,9 +14,13 @@ mod interval_event;
 mod interval_values;
 mod nmi_data_details;
 mod record;
+mod register_read;
 mod term;
 
+pub use accumulation_b2b_details::AccumulationB2bDetailsRecord;
+pub use accumulation_data::AccumulationDataRecord;
 pub use b2b_details::B2bDetailsRecord;
+pub use direction::Direction;
 pub use fault::FieldFault;
 pub use file::{FaultCode, FileFault, FileKind};
 pub use header::HeaderRecord;
@@ -25,6 +32,7 @@ pub use mds_lines::{
 };
 pub use nmi_data_details::NmiDataDetailsRecord;
 pub use record::{Record, read_record};
+pub use register_read::RegisterRead;
 
 #[cfg(test)]
 mod tests;

@@ -7,6 +7,10 @@ ghost use Rattle.mds_records.specs.declared.file.FileKind.{FileKind as AFileKind
 ghost use Rattle.mds_records.specs.FieldFaults.{field_fault};
 ghost use Rattle.mds_records.specs.Records.{GoesWith, Spells, quantity_in, value_count, values_of};
 
+use crate::accumulation_b2b_details::{
+    AccumulationB2bDetailsRecord, read_accumulation_b2b_details,
+};
+use crate::accumulation_data::{AccumulationDataRecord, read_accumulation_data};
 use crate::b2b_details::{B2bDetailsRecord, read_b2b_details};
 use crate::fault::{FieldFault, first_fault};
 use crate::file::FileKind;
@@ -23,16 +27,17 @@ use mds_terms::Length;
 pub enum Record<'a> {
     Header(HeaderRecord<'a>),
     NmiDataDetails(NmiDataDetailsRecord<'a>),
+    AccumulationData(AccumulationDataRecord<'a>),
     IntervalData(IntervalDataRecord<'a>),
     IntervalEvent(IntervalEventRecord<'a>),
     B2bDetails(B2bDetailsRecord<'a>),
+    AccumulationB2bDetails(AccumulationB2bDetailsRecord<'a>),
     EndOfData,
 }
 
-/// Reads the record that a line of a known kind spells: one that a NEM12 file can hold. A 300 comes
-/// with the length of its intervals, that of the 200 that governs it, and leaves its values in
-/// `values`: any values where it has a fault. The other kinds leave what that holds. It takes no
-/// memory.
+/// Reads the record that a line of a known kind spells. A 300 comes with the length of its
+/// intervals, that of the 200 that governs it, and leaves its values in `values`: any values where
+/// it has a fault. The other kinds leave what that holds. It takes no memory.
 pub fn read_record<'a>(
     line: &Line<'a>,
     kind: Kind,
@@ -42,8 +47,6 @@ pub fn read_record<'a>(
 ) -> Result<Record<'a>, FieldFault>
     requires known { kind_of (text_of line.now) ≡ Ok kind }
     requires length { kind ≡ Kind.IntervalData → IsSome length }
-    requires interval { kind ≢ Kind.AccumulationData }
-    requires interval_b2b { kind ≢ Kind.AccumulationB2bDetails }
     ensures spells { MatchResult result
         (λ r. (field_fault file kind (value_count length) (text_of line.now) ≡ None)
         × Spells kind (value_count length) (text_of line.now) r)
@@ -63,6 +66,10 @@ pub fn read_record<'a>(
             Ok(details) => Ok(Record::NmiDataDetails(details)),
             Err(fault) => Err(fault),
         },
+        Kind::AccumulationData => match read_accumulation_data(text) {
+            Ok(period) => Ok(Record::AccumulationData(period)),
+            Err(fault) => Err(fault),
+        },
         Kind::IntervalData => match length {
             Some(length) => match read_interval_data(text, length.count(), values) {
                 Ok(day) => Ok(Record::IntervalData(day)),
@@ -78,7 +85,10 @@ pub fn read_record<'a>(
             Ok(details) => Ok(Record::B2bDetails(details)),
             Err(fault) => Err(fault),
         },
-        Kind::AccumulationData | Kind::AccumulationB2bDetails => unreachable!(),
+        Kind::AccumulationB2bDetails => match read_accumulation_b2b_details(text) {
+            Ok(details) => Ok(Record::AccumulationB2bDetails(details)),
+            Err(fault) => Err(fault),
+        },
         Kind::EndOfData => {
             read_end(text)?;
             Ok(Record::EndOfData)

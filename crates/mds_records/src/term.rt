@@ -1,15 +1,15 @@
 //! The terms that several kinds of records hold.
 
-ghost use Rattle.std.specs.Prelude.{◌≡◌, ◌≤◌, if◌then◌else◌, length, Some, None, is_some, option_map};
+ghost use Rattle.std.specs.Prelude.{◌≡◌, ◌≤◌, if◌then◌else◌, length, Some, None, codes, is_some, option_map};
 ghost use Rattle.std.specs.Char.{is_ascii_digit};
 ghost use Rattle.std.specs.List.{list_all};
 ghost use Rattle.std.specs.Str.Parse.{digits_value};
 ghost use Rattle.mds_calendar.specs.Calendar.{day_of, moment_of};
-ghost use Rattle.mds_marks.specs.BorrowedMarks.{mark_value};
+ghost use Rattle.mds_marks.specs.BorrowedMarks.{mark_value, reason_value};
 ghost use Rattle.mds_marks.specs.Mark.{mark_of};
 ghost use Rattle.mds_marks.specs.Quality.{quality_of};
-ghost use Rattle.mds_marks.specs.Reason.{code_of, is_reason_text};
-ghost use Rattle.mds_records.specs.Layouts.{interval_number_of};
+ghost use Rattle.mds_marks.specs.Reason.{code_of, is_reason_text, reason_of};
+ghost use Rattle.mds_records.specs.Layouts.{has_flag, interval_number_of};
 ghost use Rattle.mds_terms.specs.Event.{letter_of};
 ghost use Rattle.mds_terms.specs.Parts.{optional};
 
@@ -52,6 +52,34 @@ pub(crate) fn mark_parts(
     }
 }
 
+/// What is good of the fields of a reason.
+#[derive(Clone, Copy)]
+pub(crate) struct ReasonParts {
+    /// Whether the field of the code is good.
+    pub has_code: bool,
+    /// Whether the field of the text is good.
+    pub has_text: bool,
+}
+
+/// What is good of the fields that a reason was read from. They are read again only where it is
+/// none.
+pub(crate) fn reason_parts(reason: &Option<ReasonRef<'_>>, code: &[u8], text: &[u8]) -> ReasonParts
+    requires { option_map reason_value reason.now ≡ reason_of code.now text.now }
+    ensures code { result.has_code ≡ is_some (code_of code.now) }
+    ensures text { result.has_text ≡ is_reason_text text.now }
+{
+    match reason {
+        Some(_) => ReasonParts {
+            has_code: true,
+            has_text: true,
+        },
+        None => ReasonParts {
+            has_code: is_code(code),
+            has_text: is_text(text),
+        },
+    }
+}
+
 /// Whether a text is empty or the code of a reason.
 #[cold]
 #[inline(never)]
@@ -68,6 +96,16 @@ fn is_text(text: &[u8]) -> bool
     ensures { result ≡ is_reason_text text.now }
 {
     ReasonRef::read(b"", text).is_some()
+}
+
+/// Whether there is a quality of a run or of a read: any but V.
+pub(crate) fn is_single_quality(quality: &Option<Quality>) -> bool
+    ensures { result ≡ has_flag (codes "AEFNS") quality.now }
+{
+    match quality {
+        Some(quality) => matches!(quality.flag(), b'A' | b'E' | b'F' | b'N' | b'S'),
+        None => false,
+    }
 }
 
 /// Reads a day, or none from the empty text.

@@ -1,4 +1,4 @@
--- What drafts of different days add, one after the other.
+-- What merges of different days add, one after the other.
 use Rattle.std.specs.Prelude.{◌≡◌, ◌⊎◌, ℕ, ◌+◌, List, [], ◌∷◌, ◌++◌, map, length, Option, Some, None, true, refl}
 use Rattle.std.proofs.Common.{sym, ap, ◌∙◌, subst, inl, inr, arith, suc, zero}
 use Rattle.std.specs.BTreeMap.{BTreeMap, IsOrdered, get, is_at}
@@ -25,31 +25,31 @@ use Rattle.mds_world.specs.Sets.{◌∈◌, difference_in, in_difference, in_int
 use Rattle.mds_world.specs.World.{IsOn, World, union}
 use Rattle.mds_versions.specs.Books.{book_world}
 use Rattle.mds_versions.specs.Content.{content_facts, version_fact}
-use Rattle.mds_versions.specs.Drafts.{DraftValue, Settles}
+use Rattle.mds_versions.specs.DayMerges.{DayMergeValue, Settles}
 use Rattle.mds_versions.specs.Queries.{stream_cmp}
 use Rattle.mds_versions.specs.declared.additions.Additions.{Additions}
 use Rattle.mds_service.specs.DayFacts.{on_book, on_one_day}
-use Rattle.mds_service.specs.Imports.{AreDrafts, IsDraftOf, IsOfDays, IsSettled, MatchDraft}
+use Rattle.mds_service.specs.Imports.{AreMerges, IsMergeOf, IsOfDays, IsSettled, MatchMerge}
 
 -- heads and versions as facts
 abbrev pub day_facts : Additions → List Fact
 day_facts a = map HeadIs a.heads.items ++ map version_fact a.versions.items
 
-abbrev pub new_of : DraftValue → World
-new_of draft = set.difference draft.said (book_world draft.book)
+abbrev pub new_of : DayMergeValue → World
+new_of merge = set.difference merge.said (book_world merge.book)
 
-abbrev pub known_of : DraftValue → World
-known_of draft = set.intersection (countable draft.said) (countable (book_world draft.book))
+abbrev pub known_of : DayMergeValue → World
+known_of merge = set.intersection (countable merge.said) (countable (book_world merge.book))
 
 abbrev Entry : Type 0
-Entry = StreamDay × DraftValue
+Entry = StreamDay × DayMergeValue
 
--- how many are known, draft by draft
+-- how many are known, merge by merge
 abbrev pub known_sum : List Entry → ℕ
 known_sum [] = 0
 known_sum (e ∷ es) = set.len (known_of e.1) + known_sum es
 
--- no fact is said in two of the drafts
+-- no fact is said in two of the merges
 abbrev pub SayApart : List Entry → Type 0
 SayApart [] = Unit {0}
 SayApart (e ∷ es) = ((x : Entry) → Member x es → (f : Fact) → f ∈ e.1.said → f ∈ x.1.said → ⊥) × SayApart es
@@ -65,7 +65,7 @@ pub record IsPart (all rest : List Entry) (a : Additions) (known : ℕ) : Type 0
   pub apart : SayApart done → Apart (day_facts a)
   pub known_is : known ≡ known_sum done
 
--- ---- one more draft
+-- ---- one more merge
 say_front : (es : List Entry) (e : Entry) → SayApart (es ++ e ∷ []) → SayApart es
 say_front [] e s = tt
 say_front (x ∷ es) e s = ((λ y m. s.0 y (append_left y es (e ∷ []) m)), say_front es e s.1)
@@ -209,7 +209,7 @@ part_start all rest a e none =
       known_is = refl;
     }
 
--- ---- the drafts of a file's days
+-- ---- the merges of a file's days
 pub days_total : IsTotalOrder {K = StreamDay} (λ a b. ordering_then (stream_cmp a.stream b.stream) (nat_cmp a.day b.day))
 days_total =
     then_total
@@ -272,8 +272,8 @@ known_in [] f e m h = absurd m
 known_in (x ∷ es) f e (inl i) h = union_left (known_of x.1) (known_all es) f (subst (λ z. f ∈ known_of z.1) i h)
 known_in (x ∷ es) f e (inr m) h = union_right (known_of x.1) (known_all es) f (known_in es f e m h)
 
--- what is known of a draft is counted, said, and in its book
-known_parts : (d : DraftValue) (f : Fact) → f ∈ known_of d
+-- what is known of a merge is counted, said, and in its book
+known_parts : (d : DayMergeValue) (f : Fact) → f ∈ known_of d
     → (f ∈ d.said) × (f ∈ book_world d.book) × (is_counted f ≡ true)
 known_parts d f h =
     let p = in_intersection total exact _ _ f h in
@@ -298,49 +298,49 @@ length_map : {A B : Type 0} (f : A → B) (xs : List A) → length (map f xs) �
 length_map f [] = refl
 length_map f (x ∷ xs) = ap suc (length_map f xs)
 
-match_at : (w facts : World) (s : Stream) (d : ℕ) (o : Option DraftValue) (draft : DraftValue) → o ≡ Some draft
-    → MatchDraft w facts s d o → IsDraftOf w facts s d draft
-match_at w facts s d o draft e m = subst (MatchDraft w facts s d) e m
+match_at : (w facts : World) (s : Stream) (d : ℕ) (o : Option DayMergeValue) (merge : DayMergeValue) → o ≡ Some merge
+    → MatchMerge w facts s d o → IsMergeOf w facts s d merge
+match_at w facts s d o merge e m = subst (MatchMerge w facts s d) e m
 
--- each fact is said in a draft
-said_in : (R : StreamDay → StreamDay → Ordering) (w facts : World) (drafts : BTreeMap StreamDay DraftValue)
-    → AreDrafts R w facts drafts → IsOfDays facts → (f : Fact) → f ∈ facts
-    → (e : Entry) × Member e drafts.entries × (s : Stream) × (d : ℕ) × IsDraftOf w facts s d e.1 × IsOn s d f
-said_in R w facts drafts are of f h =
+-- each fact is said in a merge
+said_in : (R : StreamDay → StreamDay → Ordering) (w facts : World) (merges : BTreeMap StreamDay DayMergeValue)
+    → AreMerges R w facts merges → IsOfDays facts → (f : Fact) → f ∈ facts
+    → (e : Entry) × Member e merges.entries × (s : Stream) × (d : ℕ) × IsMergeOf w facts s d e.1 × IsOn s d f
+said_in R w facts merges are of f h =
     let on = of f h in
     let key : StreamDay = record { stream = on.0; day = on.1 } in
-    go (get R drafts key) refl (are on.0 on.1)
+    go (get R merges key) refl (are on.0 on.1)
   where
-    go : (o : Option DraftValue) → get R drafts (record { stream = (of f h).0; day = (of f h).1 }) ≡ o
-        → MatchDraft w facts (of f h).0 (of f h).1 o
-        → (e : Entry) × Member e drafts.entries × (s : Stream) × (d : ℕ) × IsDraftOf w facts s d e.1 × IsOn s d f
+    go : (o : Option DayMergeValue) → get R merges (record { stream = (of f h).0; day = (of f h).1 }) ≡ o
+        → MatchMerge w facts (of f h).0 (of f h).1 o
+        → (e : Entry) × Member e merges.entries × (s : Stream) × (d : ℕ) × IsMergeOf w facts s d e.1 × IsOn s d f
     go None e m = absurd (m f h (of f h).2)
-    go (Some draft) e m =
-        let r = place_from_lookup (is_at (R (record { stream = (of f h).0; day = (of f h).1 }))) drafts.entries draft e in
-        ((r.1, draft), place_member (r.1, draft) drafts.entries r.0 r.2, (of f h).0, (of f h).1, m, (of f h).2)
+    go (Some merge) e m =
+        let r = place_from_lookup (is_at (R (record { stream = (of f h).0; day = (of f h).1 }))) merges.entries merge e in
+        ((r.1, merge), place_member (r.1, merge) merges.entries r.0 r.2, (of f h).0, (of f h).1, m, (of f h).2)
 
 module _ {R : StreamDay → StreamDay → Ordering} (o : IsTotalOrder R) (w facts : World)
-    (drafts : BTreeMap StreamDay DraftValue) (ordered : IsOrdered R drafts) (are : AreDrafts R w facts drafts)
+    (merges : BTreeMap StreamDay DayMergeValue) (ordered : IsOrdered R merges) (are : AreMerges R w facts merges)
     (of : IsOfDays facts) where
-  draft_at : (e : Entry) → Member e drafts.entries → IsDraftOf w facts e.0.stream e.0.day e.1
-  draft_at e m =
-      let p = member_place e drafts.entries m in
-      match_at w facts e.0.stream e.0.day (get R drafts e.0) e.1
-      (btree_map_get_place o drafts p.0 e.0 e.1 ordered p.1) (are e.0.stream e.0.day)
+  merge_at : (e : Entry) → Member e merges.entries → IsMergeOf w facts e.0.stream e.0.day e.1
+  merge_at e m =
+      let p = member_place e merges.entries m in
+      match_at w facts e.0.stream e.0.day (get R merges e.0) e.1
+      (btree_map_get_place o merges p.0 e.0 e.1 ordered p.1) (are e.0.stream e.0.day)
 
-  all_apart : SayApart drafts.entries
-  all_apart = say_apart o drafts.entries ordered (λ e m f h. (((draft_at e m).said f).0 h).1)
+  all_apart : SayApart merges.entries
+  all_apart = say_apart o merges.entries ordered (λ e m f h. (((merge_at e m).said f).0 h).1)
 
   -- of what is said of a day the World has just what its book has
-  in_book : (s : Stream) (d : ℕ) (draft : DraftValue) → IsDraftOf w facts s d draft → (f : Fact) → IsOn s d f → f ∈ w
-      → f ∈ book_world draft.book
-  in_book s d draft x f on h = x.book.whole f (on_book w facts s d draft x f on) h
+  in_book : (s : Stream) (d : ℕ) (merge : DayMergeValue) → IsMergeOf w facts s d merge → (f : Fact) → IsOn s d f → f ∈ w
+      → f ∈ book_world merge.book
+  in_book s d merge x f on h = x.book.whole f (on_book w facts s d merge x f on) h
 
-  known_whole : known_all drafts.entries ≡ set.intersection (countable facts) (countable w)
+  known_whole : known_all merges.entries ≡ set.intersection (countable facts) (countable w)
   known_whole = same_by _ _
       (λ f h.
-      let r = in_known drafts.entries f h in
-      let x = draft_at r.0 r.1 in
+      let r = in_known merges.entries f h in
+      let x = merge_at r.0 r.1 in
       let p = known_parts r.0.1 f r.2 in
       intersection_in total exact (countable facts) (countable w) f
       (retain_in total exact facts is_counted f ((x.said f).0 p.0).0 p.2)
@@ -349,34 +349,34 @@ module _ {R : StreamDay → StreamDay → Ordering} (o : IsTotalOrder R) (w fact
       let p = in_intersection total exact (countable facts) (countable w) f h in
       let a = in_retain total exact facts is_counted f p.0 in
       let b = in_retain total exact w is_counted f p.1 in
-      let r = said_in R w facts drafts are of f a.0 in
+      let r = said_in R w facts merges are of f a.0 in
       let x = r.4 in
-      known_in drafts.entries f r.0 r.1 (intersection_in total exact (countable r.0.1.said)
+      known_in merges.entries f r.0 r.1 (intersection_in total exact (countable r.0.1.said)
       (countable (book_world r.0.1.book)) f
       (retain_in total exact r.0.1.said is_counted f ((x.said f).1 (a.0, r.5)) a.1)
       (retain_in total exact (book_world r.0.1.book) is_counted f (in_book r.2 r.3 r.0.1 x f r.5 b.0) a.1)))
 
-  new_facts : (a : Additions) (known : ℕ) → IsPart drafts.entries [] a known → (f : Fact) → Member f (day_facts a)
+  new_facts : (a : Additions) (known : ℕ) → IsPart merges.entries [] a known → (f : Fact) → Member f (day_facts a)
       → f ∈ set.difference facts w
   new_facts a known p f m =
       let r = p.within f m in
       let at = subst (Member r.0) (sym (p.split ∙ append_nil p.done)) r.1 in
-      let x = draft_at r.0 at in
+      let x = merge_at r.0 at in
       let q = in_difference total exact r.0.1.said (book_world r.0.1.book) f r.2 in
       let said = (x.said f).0 q.0 in
       difference_in total exact facts w f said.0 (λ h. q.1 (in_book r.0.0.stream r.0.0.day r.0.1 x f said.1 h))
 
-  facts_new : (a : Additions) (known : ℕ) → IsPart drafts.entries [] a known → (f : Fact)
+  facts_new : (a : Additions) (known : ℕ) → IsPart merges.entries [] a known → (f : Fact)
       → f ∈ set.difference facts w → Member f (day_facts a)
   facts_new a known p f h =
       let q = in_difference total exact facts w f h in
-      let r = said_in R w facts drafts are of f q.0 in
+      let r = said_in R w facts merges are of f q.0 in
       let x = r.4 in
       p.whole r.0 (subst (Member r.0) (p.split ∙ append_nil p.done) r.1) f
       (difference_in total exact r.0.1.said (book_world r.0.1.book) f ((x.said f).1 (q.0, r.5))
       (λ k. q.1 (x.book.only f k)))
 
-  pub settled_all : (a : Additions) (known : ℕ) → IsPart drafts.entries [] a known → IsSettled w facts a known
+  pub settled_all : (a : Additions) (known : ℕ) → IsPart merges.entries [] a known → IsSettled w facts a known
   settled_all a known p =
       let versions = map version_fact a.versions.items in
       let apart : Apart (day_facts a) =
@@ -407,6 +407,6 @@ module _ {R : StreamDay → StreamDay → Ordering} (o : IsTotalOrder R) (w fact
             (λ f h. list_in (day_facts a) f (facts_new a known p f h));
         added = sym (length_map version_fact a.versions.items)
             ∙ sym (len_list versions (apart_parts (map HeadIs a.heads.items) versions apart).1) ∙ ap set.len mine;
-        known_count = p.known_is ∙ ap known_sum (sym (p.split ∙ append_nil p.done)) ∙ sum_len drafts.entries all_apart
+        known_count = p.known_is ∙ ap known_sum (sym (p.split ∙ append_nil p.done)) ∙ sum_len merges.entries all_apart
             ∙ ap set.len known_whole;
       }

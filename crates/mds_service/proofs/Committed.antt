@@ -16,11 +16,11 @@ use Rattle.mds_world.specs.Sets.{◌∈◌}
 use Rattle.mds_world.specs.Stated.{stated}
 use Rattle.mds_world.specs.World.{Agrees, IsLawful, World, union}
 use Rattle.mds_versions.specs.Content.{AreNew, content, content_facts, version_fact}
-use Rattle.mds_versions.specs.Drafts.{IfRefused}
+use Rattle.mds_versions.specs.DayMerges.{IfRefused}
 use Rattle.mds_versions.specs.Merge.{IsRefusal, Breaks, upto}
 use Rattle.mds_versions.specs.declared.additions.Additions.{Additions}
-use Rattle.mds_versions.specs.declared.draft.Stop.{Stop}
-use Rattle.mds_versions.specs.declared.draft.Stop.TheVariants.{Refused}
+use Rattle.mds_versions.specs.declared.day_merge.Stop.{Stop}
+use Rattle.mds_versions.specs.declared.day_merge.Stop.TheVariants.{Refused}
 use Rattle.mds_versions.specs.declared.refusal.Refusal.{Refusal}
 use Rattle.mds_service.proofs.TakenIn.{IsAdded, IsOther, added_absent, added_apart, added_whole, agrees_whole, countable_whole, kind, lawful_union}
 use Rattle.mds_service.specs.DayFacts.{of_days}

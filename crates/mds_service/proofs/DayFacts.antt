@@ -18,8 +18,8 @@ use Rattle.mds_world.specs.Lists.{Member, in_map, map_in}
 use Rattle.mds_world.specs.Sets.{◌∈◌}
 use Rattle.mds_world.specs.World.{IsCurrent, IsKnownDay, IsLawful, World}
 use Rattle.mds_versions.specs.Books.{BookValue, IsDay, book_world}
-use Rattle.mds_versions.specs.BookFacts.{head_in_book, head_of_book, row_in_book, row_of_head}
-use Rattle.mds_versions.specs.BookPlaces.{place_of}
+use Rattle.mds_versions.proofs.BookFacts.{head_in_book, head_of_book, row_in_book, row_of_head}
+use Rattle.mds_versions.proofs.BookPlaces.{place_of}
 use Rattle.mds_versions.specs.BookRows.{AreVersionsOf}
 use Rattle.mds_versions.specs.Queries.{AreEventsOf, AreKnownStreams}
 use Rattle.mds_versions.specs.declared.day_book.Version.{Version}

@@ -1,4 +1,4 @@
--- The drafts of a file's days, and the World with what the lines so far state.
+-- The merges of a file's days, and the World with what the lines so far state.
 use Rattle.std.specs.Prelude.{◌≡◌, ◌↔◌, ◌⊎◌, ℕ, ◌<◌, List, [], ◌∷◌, ◌++◌, Bool, true, false, cond, length, get_or, take, map, Option, Some, None, Result, Ok, Err, OnOk, IfErr, is_err, is_some, refl}
 use Rattle.std.proofs.Common.{sym, ap, ◌∙◌, subst, inl, inr}
 use Rattle.std.specs.BTreeMap.{BTreeMap, WritesThrough, get, is_at}
@@ -19,34 +19,34 @@ use Rattle.mds_world.specs.Sets.{◌∈◌, decided, not_in_empty, same_bool}
 use Rattle.mds_world.specs.Stated.{stated}
 use Rattle.mds_world.specs.World.{Agrees, IsLawful, IsOn, World, union}
 use Rattle.mds_versions.specs.Books.{BookValue, IsDay, book_world}
-use Rattle.mds_versions.specs.Drafts.{DraftValue, IfRefused}
-use Rattle.mds_versions.specs.declared.draft.Stop.{Stop}
-use Rattle.mds_versions.specs.declared.draft.Stop.TheVariants.{Refused, Memory}
+use Rattle.mds_versions.specs.DayMerges.{DayMergeValue, IfRefused}
+use Rattle.mds_versions.specs.declared.day_merge.Stop.{Stop}
+use Rattle.mds_versions.specs.declared.day_merge.Stop.TheVariants.{Refused, Memory}
 use Rattle.mds_versions.specs.declared.refusal.Refusal.{Refusal}
 use Rattle.mds_versions.specs.Merge.{Breaks, HasTwoLengths, HasTwoReadings, HasTwoUnits, IsRefusal, claim_world, upto}
 use Rattle.mds_versions.specs.declared.refusal.RefusalCode.{RefusalCode}
-use Rattle.mds_versions.specs.declared.refusal.RefusalCode.TheVariants.{LengthConflict, UnitConflict, VersionConflict, UnknownDay}
-use Rattle.mds_service.specs.DayFacts.{draft_in, line_on, of_days, on_one_day}
+use Rattle.mds_versions.specs.declared.refusal.RefusalCode.TheVariants.{LengthConflict, UnitConflict, VersionConflict, JobReused, Protected, StaleUpdate, NoLikeDay, TooLong, NoAnchor, UnknownDay, BadJob}
+use Rattle.mds_service.specs.DayFacts.{day_merge_in, line_on, of_days, on_one_day}
 use Rattle.mds_service.specs.DayOrder.{IsExact, day_cmp, day_exact}
-use Rattle.mds_service.specs.Imports.{AreDrafts, AreInOrder, IsDraftOf, IsOfDays, MatchDraft, day_statement}
+use Rattle.mds_service.specs.Imports.{AreMerges, AreInOrder, IsMergeOf, IsOfDays, MatchMerge, day_statement}
 use Rattle.mds_service.proofs.Lines.{claim_of, refusal_at, stated_more}
 use Rattle.mds_service.specs.declared.stated_day.StatedDay.{StatedDay}
 
--- what a day's draft was told before a claim: its book is the day's, and of the facts it has just those of the day
+-- what a day's merge was told before a claim: its book is the day's, and of the facts it has just those of the day
 pub record IsOpen (w facts : World) (s : Stream) (d : ℕ) (book : BookValue) (said : World) : Type 0 where
   pub stream : book.stream ≡ s
   pub day : book.day ≡ d
   pub book_is : IsDay w book
   pub told : (f : Fact) → (f ∈ said) ↔ ((f ∈ facts) × IsOn s d f)
 
-pub open_draft : (w facts : World) (s : Stream) (d : ℕ) (draft : DraftValue) → IsDraftOf w facts s d draft
-    → IsOpen w facts s d draft.book draft.said
-open_draft w facts s d draft x = record { stream = x.stream; day = x.day; book_is = x.book; told = x.said }
+pub open_merge : (w facts : World) (s : Stream) (d : ℕ) (merge : DayMergeValue) → IsMergeOf w facts s d merge
+    → IsOpen w facts s d merge.book merge.said
+open_merge w facts s d merge x = record { stream = x.stream; day = x.day; book_is = x.book; told = x.said }
 
-pub open_new : (w facts : World) (s : Stream) (d : ℕ) (book : BookValue) (draft : DraftValue) → MatchDraft w facts s d None
-    → (book.stream ≡ s) × (book.day ≡ d) → IsDay w book → draft ≡ record { book = book; said = set.empty }
-    → IsOpen w facts s d draft.book draft.said
-open_new w facts s d book draft none of_day is e =
+pub open_new : (w facts : World) (s : Stream) (d : ℕ) (book : BookValue) (merge : DayMergeValue) → MatchMerge w facts s d None
+    → (book.stream ≡ s) × (book.day ≡ d) → IsDay w book → merge ≡ record { book = book; said = set.empty }
+    → IsOpen w facts s d merge.book merge.said
+open_new w facts s d book merge none of_day is e =
     subst (λ k. IsOpen w facts s d k.book k.said) (sym e) (record {
       stream = of_day.0;
       day = of_day.1;
@@ -54,12 +54,12 @@ open_new w facts s d book draft none of_day is e =
       told = λ f. ((λ h. absurd (not_in_empty total exact f h)), (λ p. absurd (none f p.0 p.1)));
     })
 
--- What one more line does, where its facts are of the day of the draft that it goes to.
+-- What one more line does, where its facts are of the day of the merge that it goes to.
 module _ (w facts one : World) (s : Stream) (d : ℕ) (on : (f : Fact) → f ∈ one → IsOn s d f) where
   module _ (book : BookValue) (said : World) (x : IsOpen w facts s d book said) where
-    taken : (draft : DraftValue) → draft.book ≡ book → draft.said ≡ union said one
-        → Agrees (union (book_world draft.book) draft.said) → IsDraftOf w (union facts one) s d draft
-    taken draft e h agrees = record {
+    taken : (merge : DayMergeValue) → merge.book ≡ book → merge.said ≡ union said one
+        → Agrees (union (book_world merge.book) merge.said) → IsMergeOf w (union facts one) s d merge
+    taken merge e h agrees = record {
       stream = ap (λ b. b.stream) e ∙ x.stream;
       day = ap (λ b. b.day) e ∙ x.day;
       book = subst (IsDay w) (sym e) x.book_is;
@@ -177,7 +177,14 @@ module _ (w facts one : World) (s : Stream) (d : ℕ) (on : (f : Fact) → f ∈
         readings_up i b.2,
         (λ j l q. b.3 j l (readings_down j q)),
       )
+      breaks_opaque JobReused i b = absurd b
+      breaks_opaque Protected i b = absurd b
+      breaks_opaque StaleUpdate i b = absurd b
+      breaks_opaque NoLikeDay i b = absurd b
+      breaks_opaque TooLong i b = absurd b
+      breaks_opaque NoAnchor i b = absurd b
       breaks_opaque UnknownDay i b = absurd b
+      breaks_opaque BadJob i b = absurd b
 
       -- what breaks a rule in a day's part breaks it in the whole
       breaks_up : (code : RefusalCode) (i : ℕ) → Breaks (union (book_world book) (union said one)) code i
@@ -185,11 +192,11 @@ module _ (w facts one : World) (s : Stream) (d : ℕ) (on : (f : Fact) → f ∈
       unfolding small whole
       breaks_up code i b = breaks_opaque code i b
 
-  -- the other drafts stay as they are
-  more : (stream : Stream) (day : ℕ) (o : Option DraftValue) → MatchDraft w facts stream day o
-      → ((f : Fact) → f ∈ one → IsOn stream day f → ⊥) → MatchDraft w (union facts one) stream day o
+  -- the other merges stay as they are
+  more : (stream : Stream) (day : ℕ) (o : Option DayMergeValue) → MatchMerge w facts stream day o
+      → ((f : Fact) → f ∈ one → IsOn stream day f → ⊥) → MatchMerge w (union facts one) stream day o
   more stream day None m n = λ f h p. elim (in_union facts one f h) [ inl a ↦ m f a p | inr a ↦ n f a p ]
-  more stream day (Some draft) m n = record {
+  more stream day (Some merge) m n = record {
     stream = m.stream;
     day = m.day;
     book = m.book;
@@ -200,22 +207,22 @@ module _ (w facts one : World) (s : Stream) (d : ℕ) (on : (f : Fact) → f ∈
     agrees = m.agrees;
   }
 
--- A draft is put at its day.
+-- A merge is put at its day.
 put : (cmp : StreamDay → StreamDay → Ordering) → IsExact cmp → (w facts one : World) (key : StreamDay)
-    (old new : BTreeMap StreamDay DraftValue) (draft : DraftValue)
-    → ((f : Fact) → f ∈ one → IsOn key.stream key.day f) → AreDrafts cmp w facts old
-    → ((q : StreamDay) → get cmp new q ≡ cond (is_eq (cmp key q)) (Some draft) (get cmp old q))
-    → IsDraftOf w (union facts one) key.stream key.day draft → AreDrafts cmp w (union facts one) new
-put cmp law w facts one key old new draft on x u is = λ stream day.
+    (old new : BTreeMap StreamDay DayMergeValue) (merge : DayMergeValue)
+    → ((f : Fact) → f ∈ one → IsOn key.stream key.day f) → AreMerges cmp w facts old
+    → ((q : StreamDay) → get cmp new q ≡ cond (is_eq (cmp key q)) (Some merge) (get cmp old q))
+    → IsMergeOf w (union facts one) key.stream key.day merge → AreMerges cmp w (union facts one) new
+put cmp law w facts one key old new merge on x u is = λ stream day.
     let q : StreamDay = record { stream = stream; day = day } in
-    subst (MatchDraft w (union facts one) stream day) (sym (u q)) (elim (decided (is_eq (cmp key q))) [
+    subst (MatchMerge w (union facts one) stream day) (sym (u q)) (elim (decided (is_eq (cmp key q))) [
       | inl e ↦
           let same : key ≡ q = law.one key q e in
-          subst (λ b. MatchDraft w (union facts one) stream day (cond b (Some draft) (get cmp old q))) (sym e)
-          (subst (λ k. IsDraftOf w (union facts one) k.stream k.day draft) same is)
+          subst (λ b. MatchMerge w (union facts one) stream day (cond b (Some merge) (get cmp old q))) (sym e)
+          (subst (λ k. IsMergeOf w (union facts one) k.stream k.day merge) same is)
       | inr n ↦
           let off : is_eq (cmp key q) ≡ false = same_bool _ _ (λ e. absurd (n e)) (λ e. cc) in
-          subst (λ b. MatchDraft w (union facts one) stream day (cond b (Some draft) (get cmp old q))) (sym off)
+          subst (λ b. MatchMerge w (union facts one) stream day (cond b (Some merge) (get cmp old q))) (sym off)
           (more w facts one key.stream key.day on stream day (get cmp old q) (x stream day)
           (λ f h p.
           let e = on_one_day key.stream stream key.day day f (on f h) p in
@@ -223,27 +230,27 @@ put cmp law w facts one key old new draft on x u is = λ stream day.
           n (subst (λ k. is_eq (cmp key k) ≡ true) same (law.tied key))))
     ])
 
--- what a claim states of its draft's day is what its line states
+-- what a claim states of its merge's day is what its line states
 same_line : (x : StatedDay) (s : Stream) (d : ℕ) → s ≡ x.stream → d ≡ x.day
     → claim_world s d x.claim ≡ claim_world x.stream x.day x.claim
 same_line x s d e f = λ i. claim_world (e i) (f i) x.claim
 
--- A line's claim is taken into its day's draft.
+-- A line's claim is taken into its day's merge.
 pub step_taken : (cmp : StreamDay → StreamDay → Ordering) → IsExact cmp → (w facts : World) (x : StatedDay)
-    (old new : BTreeMap StreamDay DraftValue) (book : BookValue) (said : World) (draft : DraftValue)
-    → AreDrafts cmp w facts old → IsOpen w facts x.stream x.day book said
-    → (draft.book ≡ book) × (draft.said ≡ union said (claim_world book.stream book.day x.claim))
-    × Agrees (union (book_world draft.book) draft.said)
+    (old new : BTreeMap StreamDay DayMergeValue) (book : BookValue) (said : World) (merge : DayMergeValue)
+    → AreMerges cmp w facts old → IsOpen w facts x.stream x.day book said
+    → (merge.book ≡ book) × (merge.said ≡ union said (claim_world book.stream book.day x.claim))
+    × Agrees (union (book_world merge.book) merge.said)
     → ((q : StreamDay) → get cmp new q
-    ≡ cond (is_eq (cmp (record { stream = x.stream; day = x.day }) q)) (Some draft) (get cmp old q))
-    → AreDrafts cmp w (union facts (claim_world x.stream x.day x.claim)) new
-step_taken cmp law w facts x old new book said draft drafts opened t u =
-    put cmp law w facts (claim_world x.stream x.day x.claim) (record { stream = x.stream; day = x.day }) old new draft
-    (line_on x) drafts u
-    (taken w facts (claim_world x.stream x.day x.claim) x.stream x.day (line_on x) book said opened draft t.0
+    ≡ cond (is_eq (cmp (record { stream = x.stream; day = x.day }) q)) (Some merge) (get cmp old q))
+    → AreMerges cmp w (union facts (claim_world x.stream x.day x.claim)) new
+step_taken cmp law w facts x old new book said merge merges opened t u =
+    put cmp law w facts (claim_world x.stream x.day x.claim) (record { stream = x.stream; day = x.day }) old new merge
+    (line_on x) merges u
+    (taken w facts (claim_world x.stream x.day x.claim) x.stream x.day (line_on x) book said opened merge t.0
     (t.1 ∙ ap (union said) (same_line x book.stream book.day opened.stream opened.day)) t.2)
 
--- A line's claim that its day's draft refuses.
+-- A line's claim that its day's merge refuses.
 pub step_refused : (w facts : World) (x : StatedDay) (book : BookValue) (said : World)
     → IsOpen w facts x.stream x.day book said → Agrees (union w facts) → (code : RefusalCode) (i : ℕ)
     → Breaks (union (book_world book) (union said (claim_world book.stream book.day x.claim))) code i
@@ -254,20 +261,20 @@ step_refused w facts x book said opened agrees code i b =
     (same_line x book.stream book.day opened.stream opened.day) b)
 
 -- Where each day agrees, all agree.
-module _ (cmp : StreamDay → StreamDay → Ordering) (w facts : World) (drafts : BTreeMap StreamDay DraftValue)
-    (x : AreDrafts cmp w facts drafts) (of : IsOfDays facts) (g : Agrees w) where
-  day_agrees : (s : Stream) (d : ℕ) (o : Option DraftValue) → MatchDraft w facts s d o → (f : Fact) → f ∈ facts
+module _ (cmp : StreamDay → StreamDay → Ordering) (w facts : World) (merges : BTreeMap StreamDay DayMergeValue)
+    (x : AreMerges cmp w facts merges) (of : IsOfDays facts) (g : Agrees w) where
+  day_agrees : (s : Stream) (d : ℕ) (o : Option DayMergeValue) → MatchMerge w facts s d o → (f : Fact) → f ∈ facts
       → IsOn s d f → (part : World) × Agrees part × ((k : Fact) → k ∈ union w facts → IsOn s d k → k ∈ part)
   day_agrees s d None m f h on = absurd (m f h on)
-  day_agrees s d (Some draft) m f h on =
-      (union (book_world draft.book) draft.said, m.agrees, draft_in w facts s d draft m)
+  day_agrees s d (Some merge) m f h on =
+      (union (book_world merge.book) merge.said, m.agrees, day_merge_in w facts s d merge m)
 
   part_of : (s : Stream) (d : ℕ) (f : Fact) → f ∈ facts → IsOn s d f
       → (part : World) × Agrees part × ((k : Fact) → k ∈ union w facts → IsOn s d k → k ∈ part)
-  part_of s d f h on = day_agrees s d (get cmp drafts (record { stream = s; day = d })) (x s d) f h on
+  part_of s d f h on = day_agrees s d (get cmp merges (record { stream = s; day = d })) (x s d) f h on
 
-  pub drafts_agree : Agrees (union w facts)
-  drafts_agree = record {
+  pub merges_agree : Agrees (union w facts)
+  merges_agree = record {
     one_head = λ a b i j e f. elim (in_union w facts (HeadIs a) i) [
       | inl p ↦ elim (in_union w facts (HeadIs b) j) [
         | inl q ↦ g.one_head a b p q e f
@@ -309,79 +316,79 @@ if_refused (Refused refusal) P Q h f = f refusal h
 if_refused Memory P Q h f = tt
 
 -- the map after what `get_mut` lent was written
-pub written : (key : StreamDay) (old new : BTreeMap StreamDay DraftValue) (found draft : DraftValue)
-    → Some found ≡ get day_cmp old key → WritesThrough day_cmp (day_cmp key) old draft new
-    → (q : StreamDay) → get day_cmp new q ≡ cond (is_eq (day_cmp key q)) (Some draft) (get day_cmp old q)
-written key old new found draft e h = (h.3 (ap is_some (sym e))).0
+pub written : (key : StreamDay) (old new : BTreeMap StreamDay DayMergeValue) (found merge : DayMergeValue)
+    → Some found ≡ get day_cmp old key → WritesThrough day_cmp (day_cmp key) old merge new
+    → (q : StreamDay) → get day_cmp new q ≡ cond (is_eq (day_cmp key q)) (Some merge) (get day_cmp old q)
+written key old new found merge e h = (h.3 (ap is_some (sym e))).0
 
--- A line's claim goes to the draft that `get_mut` found.
-pub found_taken : (w : World) (x : StatedDay) (old new : BTreeMap StreamDay DraftValue) (found draft : DraftValue)
+-- A line's claim goes to the merge that `get_mut` found.
+pub found_taken : (w : World) (x : StatedDay) (old new : BTreeMap StreamDay DayMergeValue) (found merge : DayMergeValue)
     (result : Result (Unit {0}) Stop) → Some found ≡ get day_cmp old (record { stream = x.stream; day = x.day })
-    → WritesThrough day_cmp (day_cmp (record { stream = x.stream; day = x.day })) old draft new
-    → OnOk result ((draft.book ≡ found.book)
-    × (draft.said ≡ union found.said (claim_world found.book.stream found.book.day x.claim))
-    × Agrees (union (book_world draft.book) draft.said))
-    → OnOk result ((facts : World) → AreDrafts day_cmp w facts old
-    → AreDrafts day_cmp w (union facts (claim_world x.stream x.day x.claim)) new)
-found_taken w x old new found draft (Ok u) e h t = λ facts drafts.
-    step_taken day_cmp day_exact w facts x old new found.book found.said draft drafts
-    (open_draft w facts x.stream x.day found (subst (MatchDraft w facts x.stream x.day) (sym e) (drafts x.stream x.day)))
-    t (written (record { stream = x.stream; day = x.day }) old new found draft e h)
-found_taken w x old new found draft (Err stop) e h t = tt
+    → WritesThrough day_cmp (day_cmp (record { stream = x.stream; day = x.day })) old merge new
+    → OnOk result ((merge.book ≡ found.book)
+    × (merge.said ≡ union found.said (claim_world found.book.stream found.book.day x.claim))
+    × Agrees (union (book_world merge.book) merge.said))
+    → OnOk result ((facts : World) → AreMerges day_cmp w facts old
+    → AreMerges day_cmp w (union facts (claim_world x.stream x.day x.claim)) new)
+found_taken w x old new found merge (Ok u) e h t = λ facts merges.
+    step_taken day_cmp day_exact w facts x old new found.book found.said merge merges
+    (open_merge w facts x.stream x.day found (subst (MatchMerge w facts x.stream x.day) (sym e) (merges x.stream x.day)))
+    t (written (record { stream = x.stream; day = x.day }) old new found merge e h)
+found_taken w x old new found merge (Err stop) e h t = tt
 
--- The draft that `get_mut` found refuses a line's claim.
-pub found_refused : (w : World) (x : StatedDay) (old : BTreeMap StreamDay DraftValue) (found : DraftValue)
+-- The merge that `get_mut` found refuses a line's claim.
+pub found_refused : (w : World) (x : StatedDay) (old : BTreeMap StreamDay DayMergeValue) (found : DayMergeValue)
     (result : Result (Unit {0}) Stop) → Some found ≡ get day_cmp old (record { stream = x.stream; day = x.day })
     → IfErr result (λ stop. IfRefused stop (λ refusal. (refusal.line ≡ x.claim.line) × (refusal.field ≡ 0)
     × Breaks (union (book_world found.book) (union found.said
     (claim_world found.book.stream found.book.day x.claim))) refusal.code refusal.interval))
     → IfErr result (λ stop. IfRefused stop (λ refusal. (refusal.line ≡ x.claim.line) × (refusal.field ≡ 0)
-    × ((facts : World) → AreDrafts day_cmp w facts old → Agrees (union w facts)
+    × ((facts : World) → AreMerges day_cmp w facts old → Agrees (union w facts)
     → Breaks (union w (union facts (claim_world x.stream x.day x.claim))) refusal.code refusal.interval)))
 found_refused w x old found (Ok u) e h = tt
 found_refused w x old found (Err Memory) e h = tt
 found_refused w x old found (Err (Refused refusal)) e h = (
   h.0,
   h.1,
-  λ facts drafts agrees.
+  λ facts merges agrees.
       step_refused w facts x found.book found.said
-      (open_draft w facts x.stream x.day found (subst (MatchDraft w facts x.stream x.day) (sym e) (drafts x.stream x.day)))
+      (open_merge w facts x.stream x.day found (subst (MatchMerge w facts x.stream x.day) (sym e) (merges x.stream x.day)))
       agrees refusal.code refusal.interval h.2,
 )
 
--- One more line is in the drafts.
-pub drafts_more : (w : World) (days : List StatedDay) (x : StatedDay) (old new : BTreeMap StreamDay DraftValue)
-    → AreDrafts day_cmp w (stated (map day_statement days)) old
-    → ((facts : World) → AreDrafts day_cmp w facts old
-    → AreDrafts day_cmp w (union facts (claim_world x.stream x.day x.claim)) new)
-    → AreDrafts day_cmp w (stated (map day_statement (days ++ x ∷ []))) new
-drafts_more w days x old new h f =
-    subst (λ u. AreDrafts day_cmp w u new) (sym (stated_more days x)) (f (stated (map day_statement days)) h)
+-- One more line is in the merges.
+pub merges_more : (w : World) (days : List StatedDay) (x : StatedDay) (old new : BTreeMap StreamDay DayMergeValue)
+    → AreMerges day_cmp w (stated (map day_statement days)) old
+    → ((facts : World) → AreMerges day_cmp w facts old
+    → AreMerges day_cmp w (union facts (claim_world x.stream x.day x.claim)) new)
+    → AreMerges day_cmp w (stated (map day_statement (days ++ x ∷ []))) new
+merges_more w days x old new h f =
+    subst (λ u. AreMerges day_cmp w u new) (sym (stated_more days x)) (f (stated (map day_statement days)) h)
 
-pub days_agree : (w : World) (days : List StatedDay) (drafts : BTreeMap StreamDay DraftValue)
-    → AreDrafts day_cmp w (stated (map day_statement days)) drafts → IsLawful w
+pub days_agree : (w : World) (days : List StatedDay) (merges : BTreeMap StreamDay DayMergeValue)
+    → AreMerges day_cmp w (stated (map day_statement days)) merges → IsLawful w
     → Agrees (union w (stated (map day_statement days)))
-days_agree w days drafts x lawful =
-    drafts_agree day_cmp w (stated (map day_statement days)) drafts x (of_days days) lawful.agrees
+days_agree w days merges x lawful =
+    merges_agree day_cmp w (stated (map day_statement days)) merges x (of_days days) lawful.agrees
 
--- no draft is there at the start
-pub no_drafts : (w : World) (drafts : BTreeMap StreamDay DraftValue) → drafts.entries ≡ []
-    → AreDrafts day_cmp w (stated (map day_statement [])) drafts
-no_drafts w drafts e = λ stream day.
-    subst (λ es. MatchDraft w (stated []) stream day (lookup (is_at (day_cmp (record { stream = stream; day = day }))) es))
+-- no merge is there at the start
+pub no_merges : (w : World) (merges : BTreeMap StreamDay DayMergeValue) → merges.entries ≡ []
+    → AreMerges day_cmp w (stated (map day_statement [])) merges
+no_merges w merges e = λ stream day.
+    subst (λ es. MatchMerge w (stated []) stream day (lookup (is_at (day_cmp (record { stream = stream; day = day }))) es))
     (sym e) (λ f h on. absurd (not_in_empty total exact f h))
 
--- A file's first line whose draft refuses it.
-pub refused_here : (w : World) (days before : List StatedDay) (x : StatedDay) (drafts : BTreeMap StreamDay DraftValue)
+-- A file's first line whose merge refuses it.
+pub refused_here : (w : World) (days before : List StatedDay) (x : StatedDay) (merges : BTreeMap StreamDay DayMergeValue)
     (refusal : Refusal) → AreInOrder days → before ≡ take (length before) days
     → (length before < length days) × (x ≡ get_or days (length before) x)
-    → AreDrafts day_cmp w (stated (map day_statement before)) drafts → IsLawful w
+    → AreMerges day_cmp w (stated (map day_statement before)) merges → IsLawful w
     → (refusal.line ≡ x.claim.line) × (refusal.field ≡ 0)
-    × ((facts : World) → AreDrafts day_cmp w facts drafts → Agrees (union w facts)
+    × ((facts : World) → AreMerges day_cmp w facts merges → Agrees (union w facts)
     → Breaks (union w (union facts (claim_world x.stream x.day x.claim))) refusal.code refusal.interval)
     → IsRefusal w (λ line. upto line (map day_statement days)) refusal
-refused_here w days before x drafts refusal lines front here h lawful t =
-    let agrees = days_agree w before drafts h lawful in
+refused_here w days before x merges refusal lines front here h lawful t =
+    let agrees = days_agree w before merges h lawful in
     let breaks = t.2 (stated (map day_statement before)) h agrees in
     refusal_at w days (length before) x refusal lines here.0
     (subst (λ ds. Agrees (union w (stated (map day_statement ds)))) front agrees)

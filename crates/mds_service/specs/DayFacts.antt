@@ -1,4 +1,4 @@
--- The facts of a file's days, and those of the drafts of its days.
+-- The facts of a file's days, and those of the merges of its days.
 use Rattle.std.specs.Prelude.{◌≡◌, ℕ, ◌+◌, List, [], ◌∷◌, ◌++◌, map, Option, Some, None, refl}
 use Rattle.std.proofs.Common.{sym, ap, ◌∙◌, subst, inl, inr}
 use Rattle.std.proofs.lemmas.Grind.{flat_map-append}
@@ -17,10 +17,10 @@ use Rattle.mds_world.specs.Sets.{◌∈◌, list_append}
 use Rattle.mds_world.specs.Stated.{facts_of, stated, versions_from}
 use Rattle.mds_world.specs.World.{IsOn, World, union}
 use Rattle.mds_versions.specs.Books.{BookValue, book_facts, book_world, head_facts, row_fact}
-use Rattle.mds_versions.specs.Drafts.{DraftValue}
+use Rattle.mds_versions.specs.DayMerges.{DayMergeValue}
 use Rattle.mds_versions.specs.Merge.{claim_facts, claim_world}
 use Rattle.mds_versions.specs.declared.day_book.Version.{Version}
-use Rattle.mds_service.specs.Imports.{IsDraftOf, IsOfDays, day_statement}
+use Rattle.mds_service.specs.Imports.{IsMergeOf, IsOfDays, day_statement}
 use Rattle.mds_service.specs.declared.stated_day.StatedDay.{StatedDay}
 
 -- a fact is of one day at most
@@ -91,22 +91,22 @@ book_on book f h =
       | inr a ↦ rows_on book.stream book.day book.rows f a
     ]
 
--- A draft and its day: the World of its book and of what it was told is just the day's part of both.
-module _ (w facts : World) (s : Stream) (d : ℕ) (draft : DraftValue) (x : IsDraftOf w facts s d draft) where
-  pub on_book : (f : Fact) → IsOn s d f → IsOn draft.book.stream draft.book.day f
-  on_book f h = subst (λ t. IsOn t draft.book.day f) (sym x.stream) (subst (λ e. IsOn s e f) (sym x.day) h)
+-- A merge and its day: the World of its book and of what it was told is just the day's part of both.
+module _ (w facts : World) (s : Stream) (d : ℕ) (merge : DayMergeValue) (x : IsMergeOf w facts s d merge) where
+  pub on_book : (f : Fact) → IsOn s d f → IsOn merge.book.stream merge.book.day f
+  on_book f h = subst (λ t. IsOn t merge.book.day f) (sym x.stream) (subst (λ e. IsOn s e f) (sym x.day) h)
 
-  pub draft_in : (f : Fact) → f ∈ union w facts → IsOn s d f → f ∈ union (book_world draft.book) draft.said
-  draft_in f h on = elim (in_union w facts f h) [
-    | inl a ↦ union_left (book_world draft.book) draft.said f (x.book.whole f (on_book f on) a)
-    | inr a ↦ union_right (book_world draft.book) draft.said f ((x.said f).1 (a, on))
+  pub day_merge_in : (f : Fact) → f ∈ union w facts → IsOn s d f → f ∈ union (book_world merge.book) merge.said
+  day_merge_in f h on = elim (in_union w facts f h) [
+    | inl a ↦ union_left (book_world merge.book) merge.said f (x.book.whole f (on_book f on) a)
+    | inr a ↦ union_right (book_world merge.book) merge.said f ((x.said f).1 (a, on))
   ]
 
-  pub in_draft : (f : Fact) → f ∈ union (book_world draft.book) draft.said → (f ∈ union w facts) × IsOn s d f
-  in_draft f h = elim (in_union (book_world draft.book) draft.said f h) [
+  pub in_day_merge : (f : Fact) → f ∈ union (book_world merge.book) merge.said → (f ∈ union w facts) × IsOn s d f
+  in_day_merge f h = elim (in_union (book_world merge.book) merge.said f h) [
     | inl a ↦ (
       union_left w facts f (x.book.only f a),
-      subst (λ t. IsOn t d f) x.stream (subst (λ e. IsOn draft.book.stream e f) x.day (book_on draft.book f a)),
+      subst (λ t. IsOn t d f) x.stream (subst (λ e. IsOn merge.book.stream e f) x.day (book_on merge.book f a)),
     )
     | inr a ↦ let p = (x.said f).0 a in (union_right w facts f p.0, p.1)
   ]

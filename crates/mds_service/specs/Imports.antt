@@ -1,4 +1,4 @@
--- What a file states, laid out flat, and the drafts of its days.
+-- What a file states, laid out flat, and the merges of its days.
 use Rattle.std.specs.Prelude.{◌≡◌, ◌↔◌, ℕ, ◌<◌, List, [], ◌++◌, map, length, Option, Some, None}
 use Rattle.std.specs.BTreeMap.{BTreeMap, get}
 use Rattle.std.specs.List.{AllPairs}
@@ -17,7 +17,7 @@ use Rattle.mds_world.specs.Stated.{stated}
 use Rattle.mds_world.specs.World.{Agrees, IsOn, World, union}
 use Rattle.mds_versions.specs.Books.{IsDay, book_world}
 use Rattle.mds_versions.specs.Content.{version_fact}
-use Rattle.mds_versions.specs.Drafts.{DraftValue}
+use Rattle.mds_versions.specs.DayMerges.{DayMergeValue}
 use Rattle.mds_versions.specs.declared.additions.Additions.{Additions}
 use Rattle.mds_service.specs.declared.stated.Stated.{Stated}
 use Rattle.mds_service.specs.declared.stated_day.StatedDay.{StatedDay}
@@ -44,23 +44,23 @@ stated_world s =
 abbrev pub AreInOrder : List StatedDay → Type 0
 AreInOrder days = AllPairs (λ a b. a.claim.line < b.claim.line) days
 
--- the draft has the day's book, and of the facts just those of its day
-pub record IsDraftOf (w facts : World) (s : Stream) (d : ℕ) (draft : DraftValue) : Type 0 where
-  pub stream : draft.book.stream ≡ s
-  pub day : draft.book.day ≡ d
-  pub book : IsDay w draft.book
-  pub said : (f : Fact) → (f ∈ draft.said) ↔ ((f ∈ facts) × IsOn s d f)
-  pub agrees : Agrees (union (book_world draft.book) draft.said)
+-- the merge has the day's book, and of the facts just those of its day
+pub record IsMergeOf (w facts : World) (s : Stream) (d : ℕ) (merge : DayMergeValue) : Type 0 where
+  pub stream : merge.book.stream ≡ s
+  pub day : merge.book.day ≡ d
+  pub book : IsDay w merge.book
+  pub said : (f : Fact) → (f ∈ merge.said) ↔ ((f ∈ facts) × IsOn s d f)
+  pub agrees : Agrees (union (book_world merge.book) merge.said)
 
-abbrev pub MatchDraft : World → World → Stream → ℕ → Option DraftValue → Type 0
-MatchDraft w facts stream day None = (f : Fact) → f ∈ facts → IsOn stream day f → ⊥
-MatchDraft w facts stream day (Some draft) = IsDraftOf w facts stream day draft
+abbrev pub MatchMerge : World → World → Stream → ℕ → Option DayMergeValue → Type 0
+MatchMerge w facts stream day None = (f : Fact) → f ∈ facts → IsOn stream day f → ⊥
+MatchMerge w facts stream day (Some merge) = IsMergeOf w facts stream day merge
 
--- Each day that the facts are of has its draft, and no other day has one.
-abbrev pub AreDrafts : (StreamDay → StreamDay → Ordering) → World → World → BTreeMap StreamDay DraftValue → Type 0
-AreDrafts cmp w facts drafts =
+-- Each day that the facts are of has its merge, and no other day has one.
+abbrev pub AreMerges : (StreamDay → StreamDay → Ordering) → World → World → BTreeMap StreamDay DayMergeValue → Type 0
+AreMerges cmp w facts merges =
     (stream : Stream) (day : ℕ)
-    → MatchDraft w facts stream day (get cmp drafts (record { stream = stream; day = day }))
+    → MatchMerge w facts stream day (get cmp merges (record { stream = stream; day = day }))
 
 -- each of the facts is a head or a version
 abbrev pub IsOfDays : World → Type 0

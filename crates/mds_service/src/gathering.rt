@@ -1,33 +1,33 @@
-//! The drafts of the days that a file states something of.
+//! The merges of the days that a file states something of.
 
 ghost use Rattle.std.specs.Prelude.{◌≡◌, IfOk, IfErr, OnOk, map};
 ghost use Rattle.mds_world.specs.Stated.{stated};
 ghost use Rattle.mds_world.specs.World.{Agrees, IsLawful, World, union};
-ghost use Rattle.mds_versions.specs.Drafts.{IfRefused};
+ghost use Rattle.mds_versions.specs.DayMerges.{IfRefused};
 ghost use Rattle.mds_versions.specs.Merge.{Breaks, IsRefusal, claim_world, upto};
-ghost use Rattle.mds_service.specs.Imports.{AreDrafts, AreInOrder, day_statement};
+ghost use Rattle.mds_service.specs.Imports.{AreMerges, AreInOrder, day_statement};
 
 use crate::stated_day::StatedDay;
-use mds_versions::{Draft, Keeper, Stop, StreamDay};
+use mds_versions::{DayMerge, Keeper, Stop, StreamDay};
 use std::alloc::Global;
 use std::collections::BTreeMap;
 
-/// Puts what each line claims into the draft of its day, in the order of the lines, or answers the
+/// Puts what each line claims into the merge of its day, in the order of the lines, or answers the
 /// first line that breaks a rule, and which.
 pub(crate) fn gather<K: Keeper>(
     alloc: Global,
     keeper: &mut K,
     days: Vec<StatedDay>,
-) -> Result<BTreeMap<StreamDay, Draft>, Stop>
+) -> Result<BTreeMap<StreamDay, DayMerge>, Stop>
     requires { AreInOrder days.items }
     ensures outside { K.honest keeper.new → K.honest keeper.old }
     ensures before { K.sound keeper.new → K.sound keeper.old }
 
     // Of each World that the keeper keeps if it is sound: where there are no days, it isn't asked.
-    ensures drafts { K.honest keeper.new → (w : World) → (K.sound keeper.old → K.world keeper.old ≡ w)
-        → IfOk result (AreDrafts ⟦<StreamDay as Ord>⟧.cmp w (stated (map day_statement days.items))) }
+    ensures merges { K.honest keeper.new → (w : World) → (K.sound keeper.old → K.world keeper.old ≡ w)
+        → IfOk result (AreMerges ⟦<StreamDay as Ord>⟧.cmp w (stated (map day_statement days.items))) }
     ensures agrees { K.honest keeper.new → (w : World) → (K.sound keeper.old → K.world keeper.old ≡ w) → IsLawful w
-        → IfOk result (λ drafts. Agrees (union w (stated (map day_statement days.items)))) }
+        → IfOk result (λ merges. Agrees (union w (stated (map day_statement days.items)))) }
     ensures refused { K.honest keeper.new → (w : World) → (K.sound keeper.old → K.world keeper.old ≡ w) → IsLawful w
         → IfErr result (λ stop.
         IfRefused stop (IsRefusal w (λ line. upto line (map day_statement days.items)))) }
@@ -37,36 +37,36 @@ pub(crate) fn gather<K: Keeper>(
         → K.sound keeper.new → K.world keeper.new ≡ w }
     ensures crash { K.honest keeper.new → (left : World) → K.may_leave keeper.new left → K.may_leave keeper.old left }
 {
-    let mut drafts: BTreeMap<StreamDay, Draft> = BTreeMap::new(alloc);
+    let mut merges: BTreeMap<StreamDay, DayMerge> = BTreeMap::new(alloc);
     for claimed in days {
-        if let Err(stop) = claim_day(alloc, keeper, &mut drafts, claimed) {
+        if let Err(stop) = claim_day(alloc, keeper, &mut merges, claimed) {
             return Err(stop);
         }
     }
-    Ok(drafts)
+    Ok(merges)
 }
 
-/// Puts what a line claims into the draft of its day, which is opened where there is none.
+/// Puts what a line claims into the merge of its day, which is opened where there is none.
 fn claim_day<K: Keeper>(
     alloc: Global,
     keeper: &mut K,
-    drafts: &mut BTreeMap<StreamDay, Draft>,
+    merges: &mut BTreeMap<StreamDay, DayMerge>,
     claimed: StatedDay,
 ) -> Result<(), Stop>
     ensures outside { K.honest keeper.new → K.honest keeper.old }
     ensures before { K.sound keeper.new → K.sound keeper.old }
 
-    // Whatever the drafts hold so far, they hold the line's facts too.
+    // Whatever the merges hold so far, they hold the line's facts too.
     ensures taken { K.honest keeper.new → (w : World) → (K.sound keeper.old → K.world keeper.old ≡ w)
-        → OnOk result ((facts : World) → AreDrafts ⟦<StreamDay as Ord>⟧.cmp w facts drafts.old
-        → AreDrafts ⟦<StreamDay as Ord>⟧.cmp w
-        (union facts (claim_world claimed.stream claimed.day claimed.claim)) drafts.new) }
+        → OnOk result ((facts : World) → AreMerges ⟦<StreamDay as Ord>⟧.cmp w facts merges.old
+        → AreMerges ⟦<StreamDay as Ord>⟧.cmp w
+        (union facts (claim_world claimed.stream claimed.day claimed.claim)) merges.new) }
 
     // Where all agreed so far, what is first broken in the day is first broken in the whole.
     ensures refused { K.honest keeper.new → (w : World) → (K.sound keeper.old → K.world keeper.old ≡ w)
         → IfErr result (λ stop. IfRefused stop (λ refusal.
         (refusal.line ≡ claimed.claim.line) × (refusal.field ≡ 0)
-        × ((facts : World) → AreDrafts ⟦<StreamDay as Ord>⟧.cmp w facts drafts.old → Agrees (union w facts)
+        × ((facts : World) → AreMerges ⟦<StreamDay as Ord>⟧.cmp w facts merges.old → Agrees (union w facts)
         → Breaks (union w (union facts (claim_world claimed.stream claimed.day claimed.claim)))
         refusal.code refusal.interval))) }
     ensures kept { K.honest keeper.new → (w : World) → (K.sound keeper.old → K.world keeper.old ≡ w)
@@ -75,15 +75,15 @@ fn claim_day<K: Keeper>(
 {
     let StatedDay { stream, day, claim } = claimed;
     let key = StreamDay { stream, day };
-    if let Some(draft) = drafts.get_mut(&key) {
-        return draft.take(claim);
+    if let Some(merge) = merges.get_mut(&key) {
+        return merge.take(claim);
     }
     let Ok(book) = keeper.day(key.stream, key.day) else {
         return Err(Stop::Memory);
     };
-    let mut draft = Draft::new(alloc, book);
-    draft.take(claim)?;
-    if drafts.insert(key, draft).is_err() {
+    let mut merge = DayMerge::new(alloc, book);
+    merge.take(claim)?;
+    if merges.insert(key, merge).is_err() {
         return Err(Stop::Memory);
     }
     Ok(())

@@ -45,8 +45,8 @@ pub(crate) fn import<K: Keeper>(
         details,
         events,
     } = stated;
-    let drafts = match gather(alloc, keeper, days) {
-        Ok(drafts) => drafts,
+    let merges = match gather(alloc, keeper, days) {
+        Ok(merges) => merges,
         Err(Stop::Refused(refusal)) => return Answer::Refused(refusal),
         Err(Stop::Memory) => return Answer::Unavailable,
     };
@@ -56,7 +56,7 @@ pub(crate) fn import<K: Keeper>(
     let Ok(events) = new_events(alloc, keeper, events) else {
         return Answer::Unavailable;
     };
-    let Ok((mut additions, known)) = settle(alloc, drafts) else {
+    let Ok((mut additions, known)) = settle(alloc, merges) else {
         return Answer::Unavailable;
     };
     let added = additions.versions.len() as u64;

@@ -10,8 +10,7 @@ ghost use Rattle.mds_statements.specs.Statements.Statement.{DayOf};
 ghost use Rattle.mds_world.specs.Stated.{stated};
 ghost use Rattle.mds_versions.specs.Merge.{upto};
 ghost use Rattle.mds_service.specs.Imports.{AreInOrder, day_statement, stated_world};
-ghost use Rattle.mds_service.specs.StatedSteps.{Gains, block_days, block_detail, block_events};
-ghost use Rattle.mds_service.specs.StatedSteps.{stated_day};
+ghost use Rattle.mds_service.specs.StatedSteps.{Gains, block_days, block_detail, block_events, stated_day};
 
 use crate::stated_day::StatedDay;
 use mds_quantity::Unit;

@@ -17,7 +17,7 @@ use Rattle.mds_world.specs.Sets.{◌∈◌}
 use Rattle.mds_world.specs.World.{IsOn, World}
 use Rattle.mds_versions.specs.declared.keeper.Unavailable.{Unavailable}
 use Rattle.mds_versions.specs.Books.{BookValue, IsDay, book_facts, book_world, head_facts, row_fact}
-use Rattle.mds_versions.specs.BookFacts.{from_book}
+use Rattle.mds_versions.proofs.BookFacts.{from_book}
 use Rattle.mds_tables.specs.RowFacts.{world_in}
 use Rattle.mds_tables.specs.Stores.{Holds, IsStore, world_of}
 use Rattle.mds_selects.specs.Found.{AreRowsOf, IsHeadOf}

@@ -1,19 +1,30 @@
--- What CREATE TABLE makes.
-use Rattle.std.proofs.Common.{◌≡◌, ℕ, List, [], ◌∷◌, ◌++◌, take, false, None, Ok, sym, ap, subst, ◌∙◌}
+-- What CREATE TABLE makes, and that it isn't refused.
+use Rattle.std.proofs.Common.{◌≡◌, inl, inr, ℕ, ◌+◌, ◌<◌, ◌≤◌, List, [], ◌∷◌, ◌++◌, length, slice_index_or, take, true, false, None, Some, Option, Ok, Err, Result, refl, sym, ap, subst, ◌∙◌, arith}
+use Rattle.std.proofs.lemmas.Bool.{both_ways}
 use Rattle.std.specs.List.{AllByRecursion}
-use Rattle.sqlite.specs.Change.{KeepsRows, created, next_tree}
+use Rattle.sqlite.specs.Change.{KeepsRows, created, is_used, next_tree}
 use Rattle.sqlite.specs.Command.TheVariants.{CreateTable}
 use Rattle.sqlite.specs.Compile.{table_defined_by}
-use Rattle.sqlite.specs.Does.{Tally, lacks_sequence}
+use Rattle.sqlite.specs.Does.{Does, MakesTable, Tally, lacks_sequence}
 use Rattle.sqlite.specs.Effect.{Database}
 use Rattle.sqlite.specs.Listing.{understood}
 use Rattle.sqlite.specs.Schema.{Schema}
-use Rattle.sqlite.specs.State.{Executes, ExecutesInside, HasCleanDisk, State, Writes}
+use Rattle.sqlite.specs.State.{Executes, ExecutesInside, HasCleanDisk, State, Writes, mode_of}
 use Rattle.sqlite.specs.Table.{Table}
 use Rattle.sqlite.specs.Tree.{Trees}
+use Rattle.sqlite.specs.declared.error.Error.{Error}
+use Rattle.sqlite.specs.declared.run.Mode.{Mode}
 use Rattle.sqlite.proofs.Callers.{IsPlain, command_of, runs_as, statement_of}
-use Rattle.mds_tables.specs.Making.{MakesThere, schema_of}
+use Rattle.sqlite_catalog.specs.Calls.{IsLongTable, RefusesTable}
+use Rattle.sqlite_catalog.specs.declared.error.Refusal.{Refusal}
+use Rattle.sqlite_catalog.specs.declared.error.Refusal.TheVariants.{Invalid, NameTaken, BadName, TooBig, BadKey, BadText, Violates}
+use Rattle.sqlite_rules.specs.Lists.{Has}
+use Rattle.sqlite_trees.specs.View.{doubt}
+use Rattle.mds_tables.specs.Causes.{StoreFails}
+use Rattle.mds_tables.specs.Making.{AreEmpty, MakesThere, schema_of}
 use Rattle.mds_tables.specs.Tables.{tables_1}
+use Rattle.mds_tables.proofs.CauseLemmas.{fails_until, stopped_as}
+use Rattle.mds_tables.proofs.CreateTexts.{IsMakeable, IsText}
 use Rattle.mds_tables.proofs.InsertLemmas.{same_value, went}
 
 -- there is a table without rows more, and the others have the rows that they had
@@ -22,40 +33,127 @@ pub record Makes (before after : Schema) (tree : ℕ) (old new : Database) : Typ
   pub empty : new.trees tree ≡ []
   pub others : KeepsRows before.tables old.trees new.trees
 
-abbrev AreEmpty : Trees → List Table → Type 0
-AreEmpty trees = AllByRecursion (λ (t : Table). trees t.tree ≡ [])
-
 -- tables without rows, which keep them, and one more
-one_more : (tables : List Table) (table : Table) (old new : Trees) → KeepsRows tables old new → AreEmpty old tables → new table.tree ≡ []
-    → AreEmpty new (tables ++ table ∷ [])
+one_more : (tables : List Table) (table : Table) (old new : Database) → KeepsRows tables old.trees new.trees → AreEmpty tables old
+    → new.trees table.tree ≡ [] → AreEmpty (tables ++ table ∷ []) new
 one_more [] table old new same none empty = (empty, tt)
 one_more (t ∷ tables) table old new same none empty = (same.0 ∙ none.0, one_more tables table old new same.1 none.1 empty)
 
-module _ (n after : ℕ) (text : List ℕ) (table : Table)
-    (is : (command_of (understood (schema_of n) text) ≡ CreateTable) × (statement_of text (understood (schema_of n) text) ≡ text) × (table_defined_by text ≡ Ok (record table { tree = 0 })))
-    (plain : IsPlain (understood (schema_of n) text)) (made_is : created (schema_of n) (record table { tree = 0 }) ≡ schema_of after)
-    (uncounted : lacks_sequence (schema_of after) ≡ false) (placed : next_tree (schema_of n) ≡ table.tree) (last : take n tables_1 ++ table ∷ [] ≡ take after tables_1) where
-  makes : (old new : State) (count : ℕ) → old.now.schema ≡ schema_of n → Executes text [] old new (Ok count) → Makes (schema_of n) (schema_of after) table.tree old.now new.now
+-- ---- no rule is against it
+
+all_of : {X : Type 0} (P : X → Type 0) (xs : List X) (x : X) → AllByRecursion P xs → Has xs x → P x
+all_of P [] x all has = absurd has
+all_of P (y ∷ ys) x all (inl is) = subst P (sym is) all.0
+all_of P (y ∷ ys) x all (inr has) = all_of P ys x all.1 has
+
+module _ (schema : Schema) (text : List ℕ) (table : Table) (it : IsMakeable schema text table) where
+  same_table : (made : Table) → table_defined_by text ≡ Ok made → made ≡ table
+  same_table made is = same_value (sym is ∙ it.defined)
+
+  not_refused : (why : Refusal) → ¬ RefusesTable schema text why
+  not_refused (Invalid e) h = absurd (let both = sym h ∙ it.defined in cc)
+  not_refused NameTaken h =
+      let is = same_table h.0 h.1 in
+      elim (h.2) [
+        | inl taken ↦ both_ways _ it.free (rw is at taken)
+        | inr automatic ↦
+            let there = rw is at automatic in
+            both_ways _ (all_of (λ i. is_used schema i.name ≡ false) _ there.0 it.apart there.1) there.2
+      ]
+  not_refused BadName h =
+      let is = same_table h.0 h.1 in
+      elim (h.2) [ inl odd ↦ rw is at odd it.named | inr own ↦ both_ways _ it.own (rw is at (own.0)) ]
+  not_refused TooBig h =
+      let is = same_table h.0 h.1 in
+      elim (h.2) [
+        | inl many ↦ omega (arith, it.few, rw is at many)
+        | inr (inl wide) ↦ omega (arith, it.reals, rw is at wide)
+        | inr (inr key) ↦
+            let there = rw is at key in
+            omega (arith, all_of _ _ there.0 it.keys there.1, there.2)
+      ]
+  not_refused BadKey h = both_ways _ (rw (same_table h.0 h.1) at (h.2)) it.formed
+  not_refused BadText h = both_ways _ (rw (same_table h.0 h.1) at (h.2)) it.fit
+  not_refused (Violates rule) h = h
+
+  not_long : ¬ IsLongTable text
+  not_long h = let is = same_table h.0 h.1 in omega (arith, it.short, rw is at (h.2))
+
+-- ---- the n-th text
+
+module _ (n : ℕ) (text : List ℕ) (table : Table) (it : IsText n text table) where
+  makes : (old new : State) (count : ℕ) → old.now.schema ≡ schema_of n → Executes text [] old new (Ok count)
+      → Makes (schema_of n) (schema_of (n + 1)) table.tree old.now new.now
   makes old new count has h =
-      let w = subst (λ t. Writes old new None CreateTable t [] count) is.1 (runs_as text [] old new (schema_of n) has CreateTable is.0 plain count h) in
+      let w = subst (λ t. Writes old new None CreateTable t [] count) it.statement (runs_as text [] old new (schema_of n) has CreateTable it.command it.plain count h) in
       let all = went w.changed in
       let first = went all.1 in
       let made = first.1 in
-      let both : Ok made.table ≡ Ok (record table { tree = 0 }) = sym made.defined ∙ is.2 in
+      let both : Ok made.table ≡ Ok (record table { tree = 0 }) = sym made.defined ∙ it.makeable.defined in
       let same : made.table ≡ record table { tree = 0 } = same_value both in
-      let schema : first.0.schema ≡ schema_of after = made.is ∙ ap (λ s. created s made.table) has ∙ ap (created (schema_of n)) same ∙ made_is in
-      let plainly : lacks_sequence first.0.schema ≡ false = ap lacks_sequence schema ∙ uncounted in
+      let schema : first.0.schema ≡ schema_of (n + 1) = made.is ∙ ap (λ s. created s made.table) has ∙ ap (created (schema_of n)) same ∙ it.makes in
+      let plainly : lacks_sequence first.0.schema ≡ false = ap lacks_sequence schema ∙ it.uncounted in
       let now : new.now ≡ first.0 = ap (λ (p : Tally × Database). p.1) (same_value all.2) ∙ same_value (rw plainly at first.2) in
-      let empty = subst (λ at. first.0.trees at ≡ []) (ap next_tree has ∙ placed) made.empty in
+      let empty = subst (λ at. first.0.trees at ≡ []) (ap next_tree has ∙ it.placed) made.empty in
       let others = subst (λ (s : Schema). KeepsRows s.tables old.now.trees first.0.trees) has made.others in
       rw now (record { schema = schema; empty = empty; others = others })
 
-  pub there : (old new : State) (count : ℕ) → (HasCleanDisk new → ExecutesInside 0 text [] old new (Ok count)) → MakesThere n after old new
+  pub there : (old new : State) (count : ℕ) → (HasCleanDisk new → ExecutesInside 0 text [] old new (Ok count)) → MakesThere n (n + 1) old new
   there old new count runs = record {
     was_open = λ clean _. (runs clean).1.was_open;
     is_open = λ clean _. (runs clean).1.is_open;
     schema = λ clean _ has. (makes old new count has (runs clean).0).schema;
+    inside = λ clean _. (runs clean).1.mode;
     empty = λ clean _ has none.
-        let it = makes old new count has (runs clean).0 in
-        subst (AreEmpty new.now.trees) last (one_more (take n tables_1) table old.now.trees new.now.trees it.others none it.empty);
+        let made = makes old new count has (runs clean).0 in
+        subst (λ tables. AreEmpty tables new.now) it.last (one_more (take n tables_1) table old.now new.now made.others none made.empty);
   }
+
+  -- the database doesn't refuse it
+  not_stopped : (db : Database) → db.schema ≡ schema_of n → (stop : Option Error) → ¬ MakesTable text db (Err stop)
+  not_stopped db has None h = not_long (schema_of n) text (record table { tree = 0 }) it.makeable h
+  not_stopped db has (Some e) (inl odd) = odd.0 it.makeable.utf8
+  not_stopped db has (Some e) (inr because) =
+      not_refused (schema_of n) text (record table { tree = 0 }) it.makeable because.0
+      (subst (λ s. RefusesTable s text because.0) has because.1)
+
+  never : (limit : Option ℕ) (mode : Mode) (db : Database) → db.schema ≡ schema_of n → (stop : Option Error)
+      → ¬ Does limit mode [] db text None CreateTable (Err stop)
+  never limit mode db has stop (inl (_, inl (why, refused, _), _)) = not_stopped db has why refused
+  never limit mode db has stop (inl (_, inr (mid, made, refused), _)) =
+      let same : made.table ≡ record table { tree = 0 } = same_value (sym made.defined ∙ it.makeable.defined) in
+      let schema : mid.schema ≡ schema_of (n + 1) = made.is ∙ ap (λ s. created s made.table) has ∙ ap (created (schema_of n)) same ∙ it.makes in
+      let plainly : lacks_sequence mid.schema ≡ false = ap lacks_sequence schema ∙ it.uncounted in
+      absurd (let no = rw plainly at refused in cc)
+  never limit mode db has stop (inr (mid, made, given)) = absurd cc
+
+  -- so it fails only with the store
+  pub fails : (old new : State) (e : Error) → old.now.schema ≡ schema_of n → ExecutesInside 0 text [] old new (Err e) → StoreFails old new ⊥ e
+  fails old new e has h =
+      let none = λ (stop : Option Error) (refused : Does old.step_limit (mode_of old) [] old.now (statement_of text (understood (schema_of n) text)) None CreateTable (Err stop)).
+      never old.step_limit (mode_of old) old.now has stop (subst (λ t. Does old.step_limit (mode_of old) [] old.now t None CreateTable (Err stop)) it.statement refused) in
+      elim (stopped_as text [] old new (schema_of n) has CreateTable it.command it.plain it.whole tt e h) [
+        | inl refused ↦ absurd (none (Some e) refused)
+        | inr failed ↦ fails_until old new new _ ⊥ (none None) (omega arith) e failed
+      ]
+
+-- the first tables, and one more
+pub there_then : (n : ℕ) (a b c : State) → doubt b.is_clean ≤ doubt c.is_clean → MakesThere 0 n a b → MakesThere n (n + 1) b c
+    → MakesThere 0 (n + 1) a c
+there_then n a b c later p q = record {
+  was_open = λ clean o. p.was_open (omega arith) (q.was_open clean o);
+  is_open = λ clean o. q.is_open clean (p.is_open (omega arith) o);
+  schema = λ clean o has. q.schema clean (p.is_open (omega arith) o) (p.schema (omega arith) o has);
+  inside = λ clean o. q.inside clean (p.inside (omega arith) o);
+  empty = λ clean o has none.
+      q.empty clean (p.is_open (omega arith) o) (p.schema (omega arith) o has) (p.empty (omega arith) o has none);
+}
+
+pub none_there : (s : State) → MakesThere 0 0 s s
+none_there s = record {
+  was_open = λ _ o. o;
+  is_open = λ _ o. o;
+  schema = λ _ _ has. has;
+  inside = λ _ o. o;
+  empty = λ _ _ _ none. none;
+}

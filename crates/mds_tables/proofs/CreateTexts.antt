@@ -1,146 +1,265 @@
 -- What the texts that make the tables mean.
-use Rattle.std.proofs.Common.{◌≡◌, List, ℕ, codes, refl, Ok}
-use Rattle.sqlite.specs.Change.{created}
+use Rattle.std.proofs.Common.{◌≡◌, ◌<◌, ◌+◌, ◌*◌, ◌^◌, ◌==◌, ◌++◌, ℕ, List, [], ◌∷◌, codes, false, true, length, take, refl, Ok, IsUtf8, arith}
+use Rattle.std.specs.List.{AllByRecursion}
+use Rattle.sqlite.specs.Change.{automatics, created, is_reserved, is_used, next_tree}
 use Rattle.sqlite.specs.Command.TheVariants.{CreateTable}
 use Rattle.sqlite.specs.Compile.{table_defined_by}
+use Rattle.sqlite.specs.Does.{lacks_sequence}
 use Rattle.sqlite.specs.Listing.{understood}
+use Rattle.sqlite.specs.Schema.{Schema}
+use Rattle.sqlite.specs.Table.{Table}
+use Rattle.sqlite.specs.declared.types.Value.TheVariants.{Text}
 use Rattle.sqlite.proofs.Callers.{IsPlain, command_of, statement_of}
+use Rattle.sqlite_catalog.specs.Listing.{is_fit, is_formed}
+use Rattle.sqlite_schema.specs.Rules.{index_reals, table_reals}
+use Rattle.sqlite_schema.specs.declared.schema.Index.{Index}
 use Rattle.sqlite_tied.specs.Compute.{everything}
+use Rattle.sqlite_trees.specs.Sound.{begins, fits_kind, is_free_name, same_name}
+use Rattle.sqlite_value.specs.Order.{value_cmp}
 use Rattle.mds_tables.specs.Making.{schema_of}
-use Rattle.mds_tables.specs.Tables.{schema_table, head_table, version_table, detail_table, event_table, period_table, holiday_table, job_table}
+use Rattle.mds_tables.specs.Texts.{create_schema, create_head, create_version, create_detail, create_event, create_period, create_holiday, create_job}
+use Rattle.mds_tables.specs.Tables.{schema_table, head_table, version_table, detail_table, event_table, period_table, holiday_table, job_table, tables_1}
+use Rattle.mds_tables.proofs.CauseLemmas.{IsWhole}
 
-abbrev pub create_schema : List ℕ
-create_schema = codes "CREATE TABLE mds_schema (version INTEGER NOT NULL, UNIQUE (version)) STRICT"
+-- no rule of the library is against a table with this text under this schema
+pub record IsMakeable (schema : Schema) (text : List ℕ) (table : Table) : Type 0 where
+  pub utf8 : IsUtf8 text
+  pub named : IsUtf8 table.name
+  pub defined : table_defined_by text ≡ Ok table
+  pub free : is_used schema table.name ≡ false
+  pub apart : AllByRecursion (λ (i : Index). is_used schema i.name ≡ false) (automatics table 0 0 table.uniques)
+  pub own : is_reserved table.name ≡ false
+  pub few : next_tree schema + length table.uniques < 65536
+  pub reals : table_reals table < 2 ^ 64
+  pub keys : AllByRecursion (λ key. index_reals (table_reals table) key < 2 ^ 64) table.uniques
+  pub formed : is_formed table ≡ true
+  pub fit : is_fit (Text (codes "table")) (Text table.name) (Text table.name) (Text text) ≡ true
+  pub short : 2 * length table.name + length text + 200 < 10 ^ 9
 
-pub create_schema_is : (command_of (understood (schema_of 0) create_schema) ≡ CreateTable)
-    × (statement_of create_schema (understood (schema_of 0) create_schema) ≡ create_schema)
-    × (table_defined_by create_schema ≡ Ok (record schema_table { tree = 0 }))
-unfolding understood everything
-create_schema_is = (refl, refl, refl)
+-- the text makes the n-th table, where the tables before it are made
+pub record IsText (n : ℕ) (text : List ℕ) (table : Table) : Type 0 where
+  pub command : command_of (understood (schema_of n) text) ≡ CreateTable
+  pub statement : statement_of text (understood (schema_of n) text) ≡ text
+  pub plain : IsPlain (understood (schema_of n) text)
+  pub whole : IsWhole text 0 (understood (schema_of n) text)
+  pub makeable : IsMakeable (schema_of n) text (record table { tree = 0 })
+  pub makes : created (schema_of n) (record table { tree = 0 }) ≡ schema_of (n + 1)
+  pub uncounted : lacks_sequence (schema_of (n + 1)) ≡ false
+  pub placed : next_tree (schema_of n) ≡ table.tree
+  pub last : take n tables_1 ++ table ∷ [] ≡ take (n + 1) tables_1
 
-pub create_schema_plain : IsPlain (understood (schema_of 0) create_schema)
-unfolding understood everything
-create_schema_plain = (refl, refl)
+pub schema_text : IsText 0 create_schema schema_table
+unfolding understood everything fits_kind is_free_name begins same_name value_cmp lib.Utf8.encode lib.Ieee.is_nan lib.Ieee.lt
+schema_text = record {
+  command = refl;
+  statement = refl;
+  plain = (refl, refl);
+  whole = (omega arith, refl, refl);
+  makeable = record {
+    utf8 = (create_schema, (refl, refl));
+    named = (schema_table.name, (refl, refl));
+    defined = refl;
+    free = refl;
+    apart = (refl, tt);
+    own = refl;
+    few = omega arith;
+    reals = omega arith;
+    keys = (omega arith, tt);
+    formed = refl;
+    fit = refl;
+    short = omega arith;
+  };
+  makes = refl;
+  uncounted = refl;
+  placed = refl;
+  last = refl;
+}
 
-pub created_schema : created (schema_of 0) (record schema_table { tree = 0 }) ≡ schema_of 1
-unfolding everything
-created_schema = refl
+pub head_text : IsText 1 create_head head_table
+unfolding understood everything fits_kind is_free_name begins same_name value_cmp lib.Utf8.encode lib.Ieee.is_nan lib.Ieee.lt
+head_text = record {
+  command = refl;
+  statement = refl;
+  plain = (refl, refl);
+  whole = (omega arith, refl, refl);
+  makeable = record {
+    utf8 = (create_head, (refl, refl));
+    named = (head_table.name, (refl, refl));
+    defined = refl;
+    free = refl;
+    apart = (refl, tt);
+    own = refl;
+    few = omega arith;
+    reals = omega arith;
+    keys = (omega arith, tt);
+    formed = refl;
+    fit = refl;
+    short = omega arith;
+  };
+  makes = refl;
+  uncounted = refl;
+  placed = refl;
+  last = refl;
+}
 
-abbrev pub create_head : List ℕ
-create_head = codes "CREATE TABLE mds_head (nmi TEXT NOT NULL, suffix TEXT NOT NULL, day INTEGER NOT NULL, length INTEGER NOT NULL, unit TEXT NOT NULL, PRIMARY KEY (nmi, suffix, day)) STRICT"
+pub version_text : IsText 2 create_version version_table
+unfolding understood everything fits_kind is_free_name begins same_name value_cmp lib.Utf8.encode lib.Ieee.is_nan lib.Ieee.lt
+version_text = record {
+  command = refl;
+  statement = refl;
+  plain = (refl, refl);
+  whole = (omega arith, refl, refl);
+  makeable = record {
+    utf8 = (create_version, (refl, refl));
+    named = (version_table.name, (refl, refl));
+    defined = refl;
+    free = refl;
+    apart = (refl, tt);
+    own = refl;
+    few = omega arith;
+    reals = omega arith;
+    keys = (omega arith, tt);
+    formed = refl;
+    fit = refl;
+    short = omega arith;
+  };
+  makes = refl;
+  uncounted = refl;
+  placed = refl;
+  last = refl;
+}
 
-pub create_head_is : (command_of (understood (schema_of 1) create_head) ≡ CreateTable)
-    × (statement_of create_head (understood (schema_of 1) create_head) ≡ create_head)
-    × (table_defined_by create_head ≡ Ok (record head_table { tree = 0 }))
-unfolding understood everything
-create_head_is = (refl, refl, refl)
+pub detail_text : IsText 3 create_detail detail_table
+unfolding understood everything fits_kind is_free_name begins same_name value_cmp lib.Utf8.encode lib.Ieee.is_nan lib.Ieee.lt
+detail_text = record {
+  command = refl;
+  statement = refl;
+  plain = (refl, refl);
+  whole = (omega arith, refl, refl);
+  makeable = record {
+    utf8 = (create_detail, (refl, refl));
+    named = (detail_table.name, (refl, refl));
+    defined = refl;
+    free = refl;
+    apart = (refl, tt);
+    own = refl;
+    few = omega arith;
+    reals = omega arith;
+    keys = (omega arith, tt);
+    formed = refl;
+    fit = refl;
+    short = omega arith;
+  };
+  makes = refl;
+  uncounted = refl;
+  placed = refl;
+  last = refl;
+}
 
-pub create_head_plain : IsPlain (understood (schema_of 1) create_head)
-unfolding understood everything
-create_head_plain = (refl, refl)
+pub event_text : IsText 4 create_event event_table
+unfolding understood everything fits_kind is_free_name begins same_name value_cmp lib.Utf8.encode lib.Ieee.is_nan lib.Ieee.lt
+event_text = record {
+  command = refl;
+  statement = refl;
+  plain = (refl, refl);
+  whole = (omega arith, refl, refl);
+  makeable = record {
+    utf8 = (create_event, (refl, refl));
+    named = (event_table.name, (refl, refl));
+    defined = refl;
+    free = refl;
+    apart = (refl, tt);
+    own = refl;
+    few = omega arith;
+    reals = omega arith;
+    keys = (omega arith, tt);
+    formed = refl;
+    fit = refl;
+    short = omega arith;
+  };
+  makes = refl;
+  uncounted = refl;
+  placed = refl;
+  last = refl;
+}
 
-pub created_head : created (schema_of 1) (record head_table { tree = 0 }) ≡ schema_of 2
-unfolding everything
-created_head = refl
+pub period_text : IsText 5 create_period period_table
+unfolding understood everything fits_kind is_free_name begins same_name value_cmp lib.Utf8.encode lib.Ieee.is_nan lib.Ieee.lt
+period_text = record {
+  command = refl;
+  statement = refl;
+  plain = (refl, refl);
+  whole = (omega arith, refl, refl);
+  makeable = record {
+    utf8 = (create_period, (refl, refl));
+    named = (period_table.name, (refl, refl));
+    defined = refl;
+    free = refl;
+    apart = (refl, tt);
+    own = refl;
+    few = omega arith;
+    reals = omega arith;
+    keys = (omega arith, tt);
+    formed = refl;
+    fit = refl;
+    short = omega arith;
+  };
+  makes = refl;
+  uncounted = refl;
+  placed = refl;
+  last = refl;
+}
 
-abbrev pub create_version : List ℕ
-create_version = codes "CREATE TABLE mds_version (nmi TEXT NOT NULL, suffix TEXT NOT NULL, day INTEGER NOT NULL, slot INTEGER NOT NULL, moment INTEGER NOT NULL, quality TEXT NOT NULL, code INTEGER NOT NULL, note TEXT NOT NULL, amount INTEGER NOT NULL, PRIMARY KEY (nmi, suffix, day, slot, moment), FOREIGN KEY (nmi, suffix, day) REFERENCES mds_head (nmi, suffix, day)) STRICT"
+pub holiday_text : IsText 6 create_holiday holiday_table
+unfolding understood everything fits_kind is_free_name begins same_name value_cmp lib.Utf8.encode lib.Ieee.is_nan lib.Ieee.lt
+holiday_text = record {
+  command = refl;
+  statement = refl;
+  plain = (refl, refl);
+  whole = (omega arith, refl, refl);
+  makeable = record {
+    utf8 = (create_holiday, (refl, refl));
+    named = (holiday_table.name, (refl, refl));
+    defined = refl;
+    free = refl;
+    apart = (refl, tt);
+    own = refl;
+    few = omega arith;
+    reals = omega arith;
+    keys = (omega arith, tt);
+    formed = refl;
+    fit = refl;
+    short = omega arith;
+  };
+  makes = refl;
+  uncounted = refl;
+  placed = refl;
+  last = refl;
+}
 
-pub create_version_is : (command_of (understood (schema_of 2) create_version) ≡ CreateTable)
-    × (statement_of create_version (understood (schema_of 2) create_version) ≡ create_version)
-    × (table_defined_by create_version ≡ Ok (record version_table { tree = 0 }))
-unfolding understood everything
-create_version_is = (refl, refl, refl)
-
-pub create_version_plain : IsPlain (understood (schema_of 2) create_version)
-unfolding understood everything
-create_version_plain = (refl, refl)
-
-pub created_version : created (schema_of 2) (record version_table { tree = 0 }) ≡ schema_of 3
-unfolding everything
-created_version = refl
-
-abbrev pub create_detail : List ℕ
-create_detail = codes "CREATE TABLE mds_detail (nmi TEXT NOT NULL, suffix TEXT NOT NULL, moment INTEGER NOT NULL, configuration TEXT NOT NULL, register TEXT NOT NULL, datastream TEXT NOT NULL, meter TEXT NOT NULL, next INTEGER NOT NULL, PRIMARY KEY (nmi, suffix, moment, configuration, register, datastream, meter, next)) STRICT"
-
-pub create_detail_is : (command_of (understood (schema_of 3) create_detail) ≡ CreateTable)
-    × (statement_of create_detail (understood (schema_of 3) create_detail) ≡ create_detail)
-    × (table_defined_by create_detail ≡ Ok (record detail_table { tree = 0 }))
-unfolding understood everything
-create_detail_is = (refl, refl, refl)
-
-pub create_detail_plain : IsPlain (understood (schema_of 3) create_detail)
-unfolding understood everything
-create_detail_plain = (refl, refl)
-
-pub created_detail : created (schema_of 3) (record detail_table { tree = 0 }) ≡ schema_of 4
-unfolding everything
-created_detail = refl
-
-abbrev pub create_event : List ℕ
-create_event = codes "CREATE TABLE mds_event (nmi TEXT NOT NULL, suffix TEXT NOT NULL, day INTEGER NOT NULL, trans TEXT NOT NULL, ticket TEXT NOT NULL, moment INTEGER NOT NULL, reading TEXT NOT NULL, PRIMARY KEY (nmi, suffix, day, trans, ticket, moment, reading)) STRICT"
-
-pub create_event_is : (command_of (understood (schema_of 4) create_event) ≡ CreateTable)
-    × (statement_of create_event (understood (schema_of 4) create_event) ≡ create_event)
-    × (table_defined_by create_event ≡ Ok (record event_table { tree = 0 }))
-unfolding understood everything
-create_event_is = (refl, refl, refl)
-
-pub create_event_plain : IsPlain (understood (schema_of 4) create_event)
-unfolding understood everything
-create_event_plain = (refl, refl)
-
-pub created_event : created (schema_of 4) (record event_table { tree = 0 }) ≡ schema_of 5
-unfolding everything
-created_event = refl
-
-abbrev pub create_period : List ℕ
-create_period = codes "CREATE TABLE mds_period (nmi TEXT NOT NULL, suffix TEXT NOT NULL, register TEXT NOT NULL, start INTEGER NOT NULL, finish INTEGER NOT NULL, moment INTEGER NOT NULL, body TEXT NOT NULL, PRIMARY KEY (nmi, suffix, register, start, finish, moment)) STRICT"
-
-pub create_period_is : (command_of (understood (schema_of 5) create_period) ≡ CreateTable)
-    × (statement_of create_period (understood (schema_of 5) create_period) ≡ create_period)
-    × (table_defined_by create_period ≡ Ok (record period_table { tree = 0 }))
-unfolding understood everything
-create_period_is = (refl, refl, refl)
-
-pub create_period_plain : IsPlain (understood (schema_of 5) create_period)
-unfolding understood everything
-create_period_plain = (refl, refl)
-
-pub created_period : created (schema_of 5) (record period_table { tree = 0 }) ≡ schema_of 6
-unfolding everything
-created_period = refl
-
-abbrev pub create_holiday : List ℕ
-create_holiday = codes "CREATE TABLE mds_holiday (day INTEGER NOT NULL, UNIQUE (day)) STRICT"
-
-pub create_holiday_is : (command_of (understood (schema_of 6) create_holiday) ≡ CreateTable)
-    × (statement_of create_holiday (understood (schema_of 6) create_holiday) ≡ create_holiday)
-    × (table_defined_by create_holiday ≡ Ok (record holiday_table { tree = 0 }))
-unfolding understood everything
-create_holiday_is = (refl, refl, refl)
-
-pub create_holiday_plain : IsPlain (understood (schema_of 6) create_holiday)
-unfolding understood everything
-create_holiday_plain = (refl, refl)
-
-pub created_holiday : created (schema_of 6) (record holiday_table { tree = 0 }) ≡ schema_of 7
-unfolding everything
-created_holiday = refl
-
-abbrev pub create_job : List ℕ
-create_job = codes "CREATE TABLE mds_job (id TEXT NOT NULL, body TEXT NOT NULL, total INTEGER NOT NULL, PRIMARY KEY (id)) STRICT"
-
-pub create_job_is : (command_of (understood (schema_of 7) create_job) ≡ CreateTable)
-    × (statement_of create_job (understood (schema_of 7) create_job) ≡ create_job)
-    × (table_defined_by create_job ≡ Ok (record job_table { tree = 0 }))
-unfolding understood everything
-create_job_is = (refl, refl, refl)
-
-pub create_job_plain : IsPlain (understood (schema_of 7) create_job)
-unfolding understood everything
-create_job_plain = (refl, refl)
-
-pub created_job : created (schema_of 7) (record job_table { tree = 0 }) ≡ schema_of 8
-unfolding everything
-created_job = refl
+pub job_text : IsText 7 create_job job_table
+unfolding understood everything fits_kind is_free_name begins same_name value_cmp lib.Utf8.encode lib.Ieee.is_nan lib.Ieee.lt
+job_text = record {
+  command = refl;
+  statement = refl;
+  plain = (refl, refl);
+  whole = (omega arith, refl, refl);
+  makeable = record {
+    utf8 = (create_job, (refl, refl));
+    named = (job_table.name, (refl, refl));
+    defined = refl;
+    free = refl;
+    apart = (refl, tt);
+    own = refl;
+    few = omega arith;
+    reals = omega arith;
+    keys = (omega arith, tt);
+    formed = refl;
+    fit = refl;
+    short = omega arith;
+  };
+  makes = refl;
+  uncounted = refl;
+  placed = refl;
+  last = refl;
+}

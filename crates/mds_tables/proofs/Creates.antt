@@ -1,35 +1,30 @@
--- What each of the texts that make the tables makes.
-use Rattle.std.proofs.Common.{List, ℕ, [], Ok, refl}
+-- The texts that make the tables, by their number.
+use Rattle.std.proofs.Common.{◌≡◌, ◌<◌, ◌+◌, inl, ℕ, zero, suc, List, [], Ok, Err, arith}
 use Rattle.sqlite.specs.State.{ExecutesInside, HasCleanDisk, State}
-use Rattle.mds_tables.specs.Making.{MakesThere}
-use Rattle.mds_tables.specs.Tables.{schema_table, head_table, version_table, detail_table, event_table, period_table, holiday_table, job_table}
-use Rattle.mds_tables.proofs.CreateLemmas.{there}
-use Rattle.mds_tables.proofs.CreateTexts.{create_schema, create_schema_is, create_schema_plain, created_schema, create_head, create_head_is, create_head_plain, created_head, create_version, create_version_is, create_version_plain, created_version, create_detail, create_detail_is, create_detail_plain, created_detail, create_event, create_event_is, create_event_plain, created_event, create_period, create_period_is, create_period_plain, created_period, create_holiday, create_holiday_is, create_holiday_plain, created_holiday, create_job, create_job_is, create_job_plain, created_job}
+use Rattle.sqlite.specs.Table.{Table}
+use Rattle.sqlite.specs.declared.error.Error.{Error}
+use Rattle.mds_tables.specs.Causes.{HasFailed}
+use Rattle.mds_tables.specs.Making.{MakesThere, schema_of}
+use Rattle.mds_tables.proofs.CreateLemmas.{fails, there}
+use Rattle.mds_tables.specs.Texts.{create}
+use Rattle.mds_tables.proofs.CreateTexts.{IsText, schema_text, head_text, version_text, detail_text, event_text, period_text, holiday_text, job_text}
 
--- a statement with this text makes these tables of so many
-abbrev Creates : List ℕ → ℕ → ℕ → Type 1
-Creates text before after = (old new : State) (count : ℕ) → (HasCleanDisk new → ExecutesInside 0 text [] old new (Ok count)) → MakesThere before after old new
+pub nth_text : (n : ℕ) → n < 8 → (table : Table) × IsText n (create n) table
+nth_text zero low = (_, schema_text)
+nth_text (suc zero) low = (_, head_text)
+nth_text (suc (suc zero)) low = (_, version_text)
+nth_text (suc (suc (suc zero))) low = (_, detail_text)
+nth_text (suc (suc (suc (suc zero)))) low = (_, event_text)
+nth_text (suc (suc (suc (suc (suc zero))))) low = (_, period_text)
+nth_text (suc (suc (suc (suc (suc (suc zero)))))) low = (_, holiday_text)
+nth_text (suc (suc (suc (suc (suc (suc (suc zero))))))) low = (_, job_text)
+nth_text (suc (suc (suc (suc (suc (suc (suc (suc n)))))))) low = absurd (omega arith)
 
-pub schema_there : Creates create_schema 0 1
-schema_there = there 0 1 create_schema schema_table create_schema_is create_schema_plain created_schema refl refl refl
+-- what the n-th makes, and that nothing refuses it
+pub nth_there : (n : ℕ) → n < 8 → (old new : State) (count : ℕ)
+    → (HasCleanDisk new → ExecutesInside 0 (create n) [] old new (Ok count)) → MakesThere n (n + 1) old new
+nth_there n low = let it = nth_text n low in there n (create n) it.0 it.1
 
-pub head_there : Creates create_head 1 2
-head_there = there 1 2 create_head head_table create_head_is create_head_plain created_head refl refl refl
-
-pub version_there : Creates create_version 2 3
-version_there = there 2 3 create_version version_table create_version_is create_version_plain created_version refl refl refl
-
-pub detail_there : Creates create_detail 3 4
-detail_there = there 3 4 create_detail detail_table create_detail_is create_detail_plain created_detail refl refl refl
-
-pub event_there : Creates create_event 4 5
-event_there = there 4 5 create_event event_table create_event_is create_event_plain created_event refl refl refl
-
-pub period_there : Creates create_period 5 6
-period_there = there 5 6 create_period period_table create_period_is create_period_plain created_period refl refl refl
-
-pub holiday_there : Creates create_holiday 6 7
-holiday_there = there 6 7 create_holiday holiday_table create_holiday_is create_holiday_plain created_holiday refl refl refl
-
-pub job_there : Creates create_job 7 8
-job_there = there 7 8 create_job job_table create_job_is create_job_plain created_job refl refl refl
+pub nth_fails : (n : ℕ) → n < 8 → (old new : State) (e : Error) → old.now.schema ≡ schema_of n
+    → ExecutesInside 0 (create n) [] old new (Err e) → HasFailed old new e
+nth_fails n low old new e has h = let it = nth_text n low in inl (fails n (create n) it.0 it.1 old new e has h)

@@ -63,7 +63,7 @@ abbrev pub simple : Table → Table
 simple t = record t { is_counted = false; stamps = record { places = []; terms = []; formats = [] } }
 
 module _ (limit : Option ℕ) (keys : Keys) (schema : Schema) (t : Table) (params : Row) (db : Trees) (values : Row) where
-  task : Task
+  abbrev pub task : Task
   task = record { limit = limit; keys = keys; schema = schema; table = simple t; params = params }
 
   applied : (news : List Row) (next : Trees) → news ≡ (Null ∷ values) ∷ [] → cast_all t.columns values ≡ values
@@ -77,8 +77,7 @@ module _ (limit : Option ℕ) (keys : Keys) (schema : Schema) (t : Table) (param
 
   module _ (terms : List Term) (width : ℕ) (one : value_rows (params ++ []) width (length terms / width) terms ≡ (Null ∷ values) ∷ []) (kept : cast_all t.columns values ≡ values)
       (quiet : (news : List Row) → works schema keys 0 t.tree [] news ≡ []) where
-    written : (w : Written) → Inserts task (Values terms width) db (Ok w) → Adds schema db w.trees t values
-    unfolding task
+    pub written : (w : Written) → Inserts task (Values terms width) db (Ok w) → Adds schema db w.trees t values
     written w h =
         let given = went h in
         let edited = went (went given.2).2 in
@@ -90,7 +89,6 @@ module _ (limit : Option ℕ) (keys : Keys) (schema : Schema) (t : Table) (param
     pub adds : (mode : Mode) (text : List ℕ) (at : ℕ) (tally : Tally) (after : Database) → mode.keys ≡ keys → slice_get schema.tables at ≡ Some (simple t)
         → Does limit mode params (record { schema = schema; trees = db }) text None (Insert at (Values terms width)) (Ok (tally, after))
         → (after.schema ≡ schema) × Adds schema db after.trees t values
-    unfolding task
     adds mode text at tally after by placed does =
         let done = went (rw (placed, by) at does) in
         let now = ap (λ (p : Tally × Database). p.1) (same_value (went (went done.2).2).2) in

@@ -1,4 +1,5 @@
 pub mod CallLemmas
+pub mod CauseLemmas
 pub mod CreateLemmas
 pub mod CreateTexts
 pub mod Creates
@@ -8,3 +9,4 @@ pub mod InsertTexts
 pub mod KnownLemmas
 pub mod MadeLemmas
 pub mod SayLemmas
+pub mod SayRefusals

@@ -1,13 +1,18 @@
 -- What a crash may leave of a making.
-use Rattle.std.proofs.Common.{◌≡◌, inl, true, IsTrue, refl, sym, ap, subst, ◌∙◌, arith}
+use Rattle.std.proofs.Common.{◌≡◌, inl, inr, true, IfErr, IsTrue, Ok, Err, Result, refl, sym, ap, subst, ◌∙◌, arith}
 use Rattle.sqlite.specs.Effect.{Database}
 use Rattle.sqlite.specs.State.{HasCleanDisk, State, Survives}
+use Rattle.sqlite.specs.Steps.{FailsToCommit}
+use Rattle.sqlite.specs.declared.error.Error.{Error}
+use Rattle.std.proofs.lemmas.Bool.{both_ways}
 use Rattle.sqlite.proofs.StateLemmas.{survives_then}
 use Rattle.sqlite_catalog.specs.Listing.{IsSound}
+use Rattle.mds_tables.specs.Causes.{HasFailed}
 use Rattle.mds_tables.specs.Making.{HasMade, KeepsNothing, LeavesMade, MakesThere, SaysVersion, schema_of}
 use Rattle.mds_tables.specs.Stores.{IsReady}
 use Rattle.mds_tables.specs.Tables.{no_schema, schema_1}
 use Rattle.mds_tables.proofs.CallLemmas.{survives_more}
+use Rattle.mds_tables.proofs.CauseLemmas.{failed_since, store_fails}
 
 -- the same of its trees, under the schema that it has
 keeps_trees : (db : Database) → KeepsNothing db → KeepsNothing (record { schema = schema_1; trees = db.trees })
@@ -25,46 +30,53 @@ begun s = record {
   crash = λ _ db may. inl may;
 }
 
-module _ (start begins first last said new : State) (is : begins ≡ record start { in_transaction = true })
-    (one : Survives begins first (λ _. ⊥)) (two : Survives first last (λ _. ⊥))
-    (three : Survives last said (λ _. ⊥)) (four : Survives said new (λ db. db ≡ said.now.trees))
-    (makes_first : MakesThere 0 4 begins first) (makes_last : MakesThere 4 8 first last)
-    (says : SaysVersion last said) where
+module _ (start begins last said new : State) (is : begins ≡ record start { in_transaction = true })
+    (one : Survives begins last (λ _. ⊥)) (two : Survives last said (λ _. ⊥))
+    (three : Survives said new (λ db. db ≡ said.now.trees))
+    (makes : MakesThere 0 8 begins last) (says : SaysVersion last said) where
   module _ (clean : HasCleanDisk new) (is_open : IsTrue start.is_open) (none : start.now.schema ≡ no_schema) where
     early : HasCleanDisk said
-    early = omega (arith, four.clean)
+    early = omega (arith, three.clean)
 
     earlier : HasCleanDisk last
-    earlier = omega (arith, four.clean, three.clean)
-
-    earliest : HasCleanDisk first
-    earliest = omega (arith, four.clean, three.clean, two.clean)
+    earlier = omega (arith, three.clean, two.clean)
 
     open_then : IsTrue begins.is_open
     open_then = rw is is_open
 
-    none_then : begins.now.schema ≡ schema_of 0
+    none_then : begins.now.schema ≡ no_schema
     none_then = ap (λ (s : State). s.now.schema) is ∙ none
 
-    first_open : IsTrue first.is_open
-    first_open = makes_first.is_open earliest open_then
-
     last_open : IsTrue last.is_open
-    last_open = makes_last.is_open earlier first_open
-
-    four_made : first.now.schema ≡ schema_of 4
-    four_made = makes_first.schema earliest open_then none_then
+    last_open = makes.is_open earlier open_then
 
     all_made : last.now.schema ≡ schema_1
-    all_made = makes_last.schema earlier first_open four_made
+    all_made = makes.schema earlier open_then none_then
 
     keeps : KeepsNothing said.now
-    keeps =
-        says.said early last_open all_made
-        (makes_last.empty earlier first_open four_made (makes_first.empty earliest open_then none_then tt))
+    keeps = says.said early last_open all_made (makes.empty earlier open_then none_then tt)
 
     sound : IsSound schema_1 said.now.trees
     sound = says.sound early last_open all_made
+
+    said_open : IsTrue said.is_open
+    said_open = says.is_open early last_open
+
+    still_inside : IsTrue said.in_transaction
+    still_inside = says.inside early (makes.inside earlier (ap (λ (s : State). s.in_transaction) is))
+
+    -- why the commit fails
+    failed : (e : Error) → FailsToCommit said new e → HasFailed start new e
+    failed e (inl fails) =
+        let first : begins.faults ≡ start.faults = ap (λ (s : State). s.faults) is in
+        failed_since start said new (omega (arith, first, one.counts, two.counts)) said_open
+        (two.limit ∙ one.limit ∙ ap (λ (s : State). s.step_limit) is) e (inl (store_fails said new ⊥ e fails))
+    failed e (inr over) = absurd (both_ways _ over.1 still_inside)
+
+  pub commit_fails : {X : Type 0} (r : Result X Error) → (HasCleanDisk new → IfErr r (FailsToCommit said new)) → HasCleanDisk new
+      → IsTrue start.is_open → start.now.schema ≡ no_schema → IfErr r (HasFailed start new)
+  commit_fails (Ok x) h clean is_open none = tt
+  commit_fails (Err e) h clean is_open none = failed clean is_open none e (h clean)
 
   -- what a crash may leave of the transaction
   pub has_made : Survives start new (HasMade start)
@@ -76,8 +88,8 @@ module _ (start begins first last said new : State) (is : begins ≡ record star
             (keeps_trees said.now (keeps clean is_open none));
         sound = λ is_open none. subst (IsSound schema_1) (sym same) (sound clean is_open none);
       })
-      (survives_more start last said (survives_more start first last (survives_more start begins first (subst (λ s. Survives start s (λ _. ⊥)) (sym is) (begun start)) one) two) three)
-      four
+      (survives_more start last said (survives_more start begins last (subst (λ s. Survives start s (λ _. ⊥)) (sym is) (begun start)) one) two)
+      three
 
 -- the transaction sees what was committed
 seen : (old mid : State) → IsReady old mid → old.committed.schema ≡ no_schema → mid.now.schema ≡ no_schema

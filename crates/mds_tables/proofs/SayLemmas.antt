@@ -34,7 +34,7 @@ names_none trees heads versions details events periods holidays jobs = λ i. set
     (map head_fact (heads i) ++ map version_fact (versions i) ++ map detail_fact (details i) ++ map event_fact (events i)
     ++ map period_fact (periods i) ++ map holiday_fact (holidays i) ++ map job_fact (jobs i))
 
-abbrev one : Row
+abbrev pub one : Row
 one = Int (pos 1) ∷ []
 
 -- the rows that it puts, and that the database is sound
@@ -49,7 +49,7 @@ added old new count has ran =
     (it.0, it.1, subst (λ s. IsSound s new.now.trees) it.0 w.sound)
 
 -- no other table has a row
-bare : (old new : Trees) → Adds schema_1 old new schema_table one → AllByRecursion (λ (t : Table). old t.tree ≡ []) tables_1
+pub bare : (old new : Trees) → Adds schema_1 old new schema_table one → AllByRecursion (λ (t : Table). old t.tree ≡ []) tables_1
     → AllByRecursion (λ (t : Table). new t.tree ≡ []) (drop 1 tables_1)
 bare old new a none = (
   a.others.1.0 (λ e. omega arith) ∙ none.1.0,
@@ -91,6 +91,7 @@ pub says_version : (old new : State) (count : ℕ) → (HasCleanDisk new → Exe
 says_version old new count runs = record {
   was_open = λ clean _. (runs clean).1.was_open;
   is_open = λ clean _. (runs clean).1.is_open;
+  inside = λ clean _. (runs clean).1.mode;
   said = λ clean _ has none.
       let it = added old new count has (runs clean).0 in
       says_one old.now.trees new.now it.0 it.1 none;

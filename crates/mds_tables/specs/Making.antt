@@ -1,5 +1,5 @@
 -- What making the tables leaves (profile).
-use Rattle.std.specs.Prelude.{◌≡◌, [], ℕ, drop, take, IsTrue}
+use Rattle.std.specs.Prelude.{◌≡◌, List, [], ℕ, drop, take, IsTrue}
 use Rattle.std.specs.FinSet as set
 use Rattle.std.specs.List.{AllByRecursion}
 use Rattle.sqlite.specs.Effect.{Database}
@@ -34,22 +34,25 @@ pub record LeavesMade (old : State) (left : Trees) : Type 0 where
 abbrev pub schema_of : ℕ → Schema
 schema_of n = record { tables = take n tables_1; indexes = take n indexes_1; views = [] }
 
+-- these tables have no row
+abbrev pub AreEmpty : List Table → Database → Type 0
+AreEmpty tables db = AllByRecursion (λ (t : Table). db.trees t.tree ≡ []) tables
+
 -- a step of the making, in a transaction, from so many tables, all without rows, to so many
 pub record MakesThere (before after : ℕ) (old new : State) : Type 0 where
   pub was_open : HasCleanDisk new → IsTrue new.is_open → IsTrue old.is_open
   pub is_open : HasCleanDisk new → IsTrue old.is_open → IsTrue new.is_open
   pub schema : HasCleanDisk new → IsTrue old.is_open → old.now.schema ≡ schema_of before → new.now.schema ≡ schema_of after
+  pub inside : HasCleanDisk new → IsTrue old.in_transaction → IsTrue new.in_transaction
   pub empty : HasCleanDisk new → IsTrue old.is_open → old.now.schema ≡ schema_of before
-      → AllByRecursion (λ (t : Table). old.now.trees t.tree ≡ []) (take before tables_1)
-      → AllByRecursion (λ (t : Table). new.now.trees t.tree ≡ []) (take after tables_1)
+      → AreEmpty (take before tables_1) old.now → AreEmpty (take after tables_1) new.now
 
 -- mds_schema, which had no row, has one that says 1, and no other table has one
 pub record SaysVersion (old new : State) : Type 0 where
   pub was_open : HasCleanDisk new → IsTrue new.is_open → IsTrue old.is_open
   pub is_open : HasCleanDisk new → IsTrue old.is_open → IsTrue new.is_open
-  pub said : HasCleanDisk new → IsTrue old.is_open → old.now.schema ≡ schema_1
-      → AllByRecursion (λ (t : Table). old.now.trees t.tree ≡ []) tables_1
-      → KeepsNothing new.now
+  pub inside : HasCleanDisk new → IsTrue old.in_transaction → IsTrue new.in_transaction
+  pub said : HasCleanDisk new → IsTrue old.is_open → old.now.schema ≡ schema_1 → AreEmpty tables_1 old.now → KeepsNothing new.now
   pub sound : HasCleanDisk new → IsTrue old.is_open → old.now.schema ≡ schema_1 → IsSound schema_1 new.now.trees
 
 -- the same, committed, from a database that the transaction saw without tables

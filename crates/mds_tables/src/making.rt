@@ -1,156 +1,78 @@
 //! Makes the tables.
 
-ghost use Rattle.std.specs.Prelude.{◌≡◌, false, OnErr, OnOk};
+ghost use Rattle.std.specs.Prelude.{◌≡◌, ◌+◌, ◌<◌, false, IfErr, IsTrue, OnErr, OnOk};
 ghost use Rattle.sqlite.specs.Held.{state};
 ghost use Rattle.sqlite.specs.State.{HasCleanDisk, KeepsCommit, Survives};
-ghost use Rattle.mds_tables.specs.Making.{CommitsMade, HasMade, IsMade, LeavesMade, MakesThere, SaysVersion};
+ghost use Rattle.mds_tables.specs.Causes.{HasFailed};
+ghost use Rattle.mds_tables.specs.Making.{AreEmpty, CommitsMade, HasMade, IsMade, LeavesMade, MakesThere, SaysVersion, schema_of};
+ghost use Rattle.mds_tables.specs.Texts.{create};
+ghost use Rattle.mds_tables.specs.Tables.{no_schema, schema_1, tables_1};
 
 use crate::readiness::ready;
 use sqlite::types::ValueRef;
 use sqlite::{Alter, Connection, Error, Transaction};
 
-/// Makes the table of the number of the schema.
-fn make_schema<S: Alter>(tx: &mut Transaction<'_, S>) -> Result<(), Error>
+/// The statement that makes a table: a table comes after those that it refers to.
+fn statement(n: usize) -> &'static str
+    ensures { result.now ≡ create n }
+{
+    match n {
+        0 => "CREATE TABLE mds_schema (version INTEGER NOT NULL, UNIQUE (version)) STRICT",
+        1 =>
+            "CREATE TABLE mds_head (nmi TEXT NOT NULL, suffix TEXT NOT NULL, day INTEGER NOT NULL, length INTEGER NOT NULL, unit TEXT NOT NULL, PRIMARY KEY (nmi, suffix, day)) STRICT",
+        2 =>
+            "CREATE TABLE mds_version (nmi TEXT NOT NULL, suffix TEXT NOT NULL, day INTEGER NOT NULL, slot INTEGER NOT NULL, moment INTEGER NOT NULL, quality TEXT NOT NULL, code INTEGER NOT NULL, note TEXT NOT NULL, amount INTEGER NOT NULL, PRIMARY KEY (nmi, suffix, day, slot, moment), FOREIGN KEY (nmi, suffix, day) REFERENCES mds_head (nmi, suffix, day)) STRICT",
+        3 =>
+            "CREATE TABLE mds_detail (nmi TEXT NOT NULL, suffix TEXT NOT NULL, moment INTEGER NOT NULL, configuration TEXT NOT NULL, register TEXT NOT NULL, datastream TEXT NOT NULL, meter TEXT NOT NULL, next INTEGER NOT NULL, PRIMARY KEY (nmi, suffix, moment, configuration, register, datastream, meter, next)) STRICT",
+        4 =>
+            "CREATE TABLE mds_event (nmi TEXT NOT NULL, suffix TEXT NOT NULL, day INTEGER NOT NULL, trans TEXT NOT NULL, ticket TEXT NOT NULL, moment INTEGER NOT NULL, reading TEXT NOT NULL, PRIMARY KEY (nmi, suffix, day, trans, ticket, moment, reading)) STRICT",
+        5 =>
+            "CREATE TABLE mds_period (nmi TEXT NOT NULL, suffix TEXT NOT NULL, register TEXT NOT NULL, start INTEGER NOT NULL, finish INTEGER NOT NULL, moment INTEGER NOT NULL, body TEXT NOT NULL, PRIMARY KEY (nmi, suffix, register, start, finish, moment)) STRICT",
+        6 => "CREATE TABLE mds_holiday (day INTEGER NOT NULL, UNIQUE (day)) STRICT",
+        _ =>
+            "CREATE TABLE mds_job (id TEXT NOT NULL, body TEXT NOT NULL, total INTEGER NOT NULL, PRIMARY KEY (id)) STRICT",
+    }
+}
+
+/// Makes one table, without a row, where those before it are made.
+fn make_table<S: Alter>(tx: &mut Transaction<'_, S>, n: usize) -> Result<(), Error>
+    requires { n < 8 }
     ensures same_reference { tx.new.conn.ghost_name ≡ tx.old.conn.ghost_name }
-    ensures ok { OnOk result (MakesThere 0 1 (state S.Store tx.old.conn.now) (state S.Store tx.new.conn.now)) }
+    ensures ok { OnOk result (MakesThere n (n + 1) (state S.Store tx.old.conn.now) (state S.Store tx.new.conn.now)) }
+    ensures cause { HasCleanDisk (state S.Store tx.new.conn.now) → IsTrue (state S.Store tx.old.conn.now).in_transaction
+        → (state S.Store tx.old.conn.now).now.schema ≡ schema_of n
+        → IfErr result (HasFailed (state S.Store tx.old.conn.now) (state S.Store tx.new.conn.now)) }
     ensures kept { HasCleanDisk (state S.Store tx.new.conn.now) → KeepsCommit (state S.Store tx.old.conn.now) (state S.Store tx.new.conn.now) }
     ensures survives { Survives (state S.Store tx.old.conn.now) (state S.Store tx.new.conn.now) (λ _. ⊥) }
 {
-    tx.execute(
-        "CREATE TABLE mds_schema (version INTEGER NOT NULL, UNIQUE (version)) STRICT",
-        &[],
-    )?;
+    tx.execute(statement(n), &[])?;
     Ok(())
 }
 
-/// Makes the table of the heads of days.
-fn make_head<S: Alter>(tx: &mut Transaction<'_, S>) -> Result<(), Error>
+/// Makes all of the tables, without a row.
+fn make_empty<S: Alter>(tx: &mut Transaction<'_, S>) -> Result<(), Error>
     ensures same_reference { tx.new.conn.ghost_name ≡ tx.old.conn.ghost_name }
-    ensures ok { OnOk result (MakesThere 1 2 (state S.Store tx.old.conn.now) (state S.Store tx.new.conn.now)) }
+    ensures ok { OnOk result (MakesThere 0 8 (state S.Store tx.old.conn.now) (state S.Store tx.new.conn.now)) }
+    ensures cause { HasCleanDisk (state S.Store tx.new.conn.now) → IsTrue (state S.Store tx.old.conn.now).is_open
+        → IsTrue (state S.Store tx.old.conn.now).in_transaction → (state S.Store tx.old.conn.now).now.schema ≡ no_schema
+        → IfErr result (HasFailed (state S.Store tx.old.conn.now) (state S.Store tx.new.conn.now)) }
     ensures kept { HasCleanDisk (state S.Store tx.new.conn.now) → KeepsCommit (state S.Store tx.old.conn.now) (state S.Store tx.new.conn.now) }
     ensures survives { Survives (state S.Store tx.old.conn.now) (state S.Store tx.new.conn.now) (λ _. ⊥) }
 {
-    tx.execute(
-        "CREATE TABLE mds_head (nmi TEXT NOT NULL, suffix TEXT NOT NULL, day INTEGER NOT NULL, length INTEGER NOT NULL, unit TEXT NOT NULL, PRIMARY KEY (nmi, suffix, day)) STRICT",
-        &[],
-    )?;
+    for n in 0..8 {
+        make_table(tx, n)?;
+    }
     Ok(())
-}
-
-/// Makes the table of the versions of readings.
-fn make_version<S: Alter>(tx: &mut Transaction<'_, S>) -> Result<(), Error>
-    ensures same_reference { tx.new.conn.ghost_name ≡ tx.old.conn.ghost_name }
-    ensures ok { OnOk result (MakesThere 2 3 (state S.Store tx.old.conn.now) (state S.Store tx.new.conn.now)) }
-    ensures kept { HasCleanDisk (state S.Store tx.new.conn.now) → KeepsCommit (state S.Store tx.old.conn.now) (state S.Store tx.new.conn.now) }
-    ensures survives { Survives (state S.Store tx.old.conn.now) (state S.Store tx.new.conn.now) (λ _. ⊥) }
-{
-    tx.execute(
-        "CREATE TABLE mds_version (nmi TEXT NOT NULL, suffix TEXT NOT NULL, day INTEGER NOT NULL, slot INTEGER NOT NULL, moment INTEGER NOT NULL, quality TEXT NOT NULL, code INTEGER NOT NULL, note TEXT NOT NULL, amount INTEGER NOT NULL, PRIMARY KEY (nmi, suffix, day, slot, moment), FOREIGN KEY (nmi, suffix, day) REFERENCES mds_head (nmi, suffix, day)) STRICT",
-        &[],
-    )?;
-    Ok(())
-}
-
-/// Makes the table of details.
-fn make_detail<S: Alter>(tx: &mut Transaction<'_, S>) -> Result<(), Error>
-    ensures same_reference { tx.new.conn.ghost_name ≡ tx.old.conn.ghost_name }
-    ensures ok { OnOk result (MakesThere 3 4 (state S.Store tx.old.conn.now) (state S.Store tx.new.conn.now)) }
-    ensures kept { HasCleanDisk (state S.Store tx.new.conn.now) → KeepsCommit (state S.Store tx.old.conn.now) (state S.Store tx.new.conn.now) }
-    ensures survives { Survives (state S.Store tx.old.conn.now) (state S.Store tx.new.conn.now) (λ _. ⊥) }
-{
-    tx.execute(
-        "CREATE TABLE mds_detail (nmi TEXT NOT NULL, suffix TEXT NOT NULL, moment INTEGER NOT NULL, configuration TEXT NOT NULL, register TEXT NOT NULL, datastream TEXT NOT NULL, meter TEXT NOT NULL, next INTEGER NOT NULL, PRIMARY KEY (nmi, suffix, moment, configuration, register, datastream, meter, next)) STRICT",
-        &[],
-    )?;
-    Ok(())
-}
-
-/// Makes the table of events.
-fn make_event<S: Alter>(tx: &mut Transaction<'_, S>) -> Result<(), Error>
-    ensures same_reference { tx.new.conn.ghost_name ≡ tx.old.conn.ghost_name }
-    ensures ok { OnOk result (MakesThere 4 5 (state S.Store tx.old.conn.now) (state S.Store tx.new.conn.now)) }
-    ensures kept { HasCleanDisk (state S.Store tx.new.conn.now) → KeepsCommit (state S.Store tx.old.conn.now) (state S.Store tx.new.conn.now) }
-    ensures survives { Survives (state S.Store tx.old.conn.now) (state S.Store tx.new.conn.now) (λ _. ⊥) }
-{
-    tx.execute(
-        "CREATE TABLE mds_event (nmi TEXT NOT NULL, suffix TEXT NOT NULL, day INTEGER NOT NULL, trans TEXT NOT NULL, ticket TEXT NOT NULL, moment INTEGER NOT NULL, reading TEXT NOT NULL, PRIMARY KEY (nmi, suffix, day, trans, ticket, moment, reading)) STRICT",
-        &[],
-    )?;
-    Ok(())
-}
-
-/// Makes the table of accumulations.
-fn make_period<S: Alter>(tx: &mut Transaction<'_, S>) -> Result<(), Error>
-    ensures same_reference { tx.new.conn.ghost_name ≡ tx.old.conn.ghost_name }
-    ensures ok { OnOk result (MakesThere 5 6 (state S.Store tx.old.conn.now) (state S.Store tx.new.conn.now)) }
-    ensures kept { HasCleanDisk (state S.Store tx.new.conn.now) → KeepsCommit (state S.Store tx.old.conn.now) (state S.Store tx.new.conn.now) }
-    ensures survives { Survives (state S.Store tx.old.conn.now) (state S.Store tx.new.conn.now) (λ _. ⊥) }
-{
-    tx.execute(
-        "CREATE TABLE mds_period (nmi TEXT NOT NULL, suffix TEXT NOT NULL, register TEXT NOT NULL, start INTEGER NOT NULL, finish INTEGER NOT NULL, moment INTEGER NOT NULL, body TEXT NOT NULL, PRIMARY KEY (nmi, suffix, register, start, finish, moment)) STRICT",
-        &[],
-    )?;
-    Ok(())
-}
-
-/// Makes the table of holidays.
-fn make_holiday<S: Alter>(tx: &mut Transaction<'_, S>) -> Result<(), Error>
-    ensures same_reference { tx.new.conn.ghost_name ≡ tx.old.conn.ghost_name }
-    ensures ok { OnOk result (MakesThere 6 7 (state S.Store tx.old.conn.now) (state S.Store tx.new.conn.now)) }
-    ensures kept { HasCleanDisk (state S.Store tx.new.conn.now) → KeepsCommit (state S.Store tx.old.conn.now) (state S.Store tx.new.conn.now) }
-    ensures survives { Survives (state S.Store tx.old.conn.now) (state S.Store tx.new.conn.now) (λ _. ⊥) }
-{
-    tx.execute(
-        "CREATE TABLE mds_holiday (day INTEGER NOT NULL, UNIQUE (day)) STRICT",
-        &[],
-    )?;
-    Ok(())
-}
-
-/// Makes the table of substitution jobs.
-fn make_job<S: Alter>(tx: &mut Transaction<'_, S>) -> Result<(), Error>
-    ensures same_reference { tx.new.conn.ghost_name ≡ tx.old.conn.ghost_name }
-    ensures ok { OnOk result (MakesThere 7 8 (state S.Store tx.old.conn.now) (state S.Store tx.new.conn.now)) }
-    ensures kept { HasCleanDisk (state S.Store tx.new.conn.now) → KeepsCommit (state S.Store tx.old.conn.now) (state S.Store tx.new.conn.now) }
-    ensures survives { Survives (state S.Store tx.old.conn.now) (state S.Store tx.new.conn.now) (λ _. ⊥) }
-{
-    tx.execute(
-        "CREATE TABLE mds_job (id TEXT NOT NULL, body TEXT NOT NULL, total INTEGER NOT NULL, PRIMARY KEY (id)) STRICT",
-        &[],
-    )?;
-    Ok(())
-}
-
-/// Makes the first four tables.
-fn make_first<S: Alter>(tx: &mut Transaction<'_, S>) -> Result<(), Error>
-    ensures same_reference { tx.new.conn.ghost_name ≡ tx.old.conn.ghost_name }
-    ensures ok { OnOk result (MakesThere 0 4 (state S.Store tx.old.conn.now) (state S.Store tx.new.conn.now)) }
-    ensures kept { HasCleanDisk (state S.Store tx.new.conn.now) → KeepsCommit (state S.Store tx.old.conn.now) (state S.Store tx.new.conn.now) }
-    ensures survives { Survives (state S.Store tx.old.conn.now) (state S.Store tx.new.conn.now) (λ _. ⊥) }
-{
-    make_schema(tx)?;
-    make_head(tx)?;
-    make_version(tx)?;
-    make_detail(tx)
-}
-
-/// Makes the other four tables.
-fn make_last<S: Alter>(tx: &mut Transaction<'_, S>) -> Result<(), Error>
-    ensures same_reference { tx.new.conn.ghost_name ≡ tx.old.conn.ghost_name }
-    ensures ok { OnOk result (MakesThere 4 8 (state S.Store tx.old.conn.now) (state S.Store tx.new.conn.now)) }
-    ensures kept { HasCleanDisk (state S.Store tx.new.conn.now) → KeepsCommit (state S.Store tx.old.conn.now) (state S.Store tx.new.conn.now) }
-    ensures survives { Survives (state S.Store tx.old.conn.now) (state S.Store tx.new.conn.now) (λ _. ⊥) }
-{
-    make_event(tx)?;
-    make_period(tx)?;
-    make_holiday(tx)?;
-    make_job(tx)
 }
 
 /// Says which schema it is.
 fn say_version<S: Alter>(tx: &mut Transaction<'_, S>) -> Result<(), Error>
     ensures same_reference { tx.new.conn.ghost_name ≡ tx.old.conn.ghost_name }
     ensures ok { OnOk result (SaysVersion (state S.Store tx.old.conn.now) (state S.Store tx.new.conn.now)) }
+    ensures cause { HasCleanDisk (state S.Store tx.new.conn.now) → IsTrue (state S.Store tx.old.conn.now).is_open
+        → IsTrue (state S.Store tx.old.conn.now).in_transaction → (state S.Store tx.old.conn.now).now.schema ≡ schema_1
+        → AreEmpty tables_1 (state S.Store tx.old.conn.now).now
+        → IfErr result (HasFailed (state S.Store tx.old.conn.now) (state S.Store tx.new.conn.now)) }
     ensures kept { HasCleanDisk (state S.Store tx.new.conn.now) → KeepsCommit (state S.Store tx.old.conn.now) (state S.Store tx.new.conn.now) }
     ensures survives { Survives (state S.Store tx.old.conn.now) (state S.Store tx.new.conn.now) (λ _. ⊥) }
 {
@@ -166,12 +88,14 @@ fn make_all<S: Alter>(conn: &mut Connection<S>) -> Result<(), Error>
     requires { conn.old.in_transaction ≡ false }
     ensures ok { HasCleanDisk (state S.Store conn.new) → OnOk result (CommitsMade (state S.Store conn.old) (state S.Store conn.new)) }
     ensures err { HasCleanDisk (state S.Store conn.new) → OnErr result (KeepsCommit (state S.Store conn.old) (state S.Store conn.new)) }
+    ensures cause { HasCleanDisk (state S.Store conn.new) → IsTrue (state S.Store conn.old).is_open
+        → (state S.Store conn.old).now.schema ≡ no_schema
+        → IfErr result (HasFailed (state S.Store conn.old) (state S.Store conn.new)) }
     ensures mode { conn.new.in_transaction ≡ false }
     ensures survives { Survives (state S.Store conn.old) (state S.Store conn.new) (HasMade (state S.Store conn.old)) }
 {
     let mut tx = conn.transaction();
-    make_first(&mut tx)?;
-    make_last(&mut tx)?;
+    make_empty(&mut tx)?;
     say_version(&mut tx)?;
     tx.commit()
 }
@@ -182,6 +106,9 @@ pub fn make_tables<S: Alter>(conn: &mut Connection<S>) -> Result<(), Error>
     requires { conn.old.in_transaction ≡ false }
     ensures ok { HasCleanDisk (state S.Store conn.new) → OnOk result (IsMade (state S.Store conn.old) (state S.Store conn.new)) }
     ensures err { HasCleanDisk (state S.Store conn.new) → OnErr result (KeepsCommit (state S.Store conn.old) (state S.Store conn.new)) }
+    // No rule of the database is against these tables, so it is the store that fails, or the limit of steps.
+    ensures cause { HasCleanDisk (state S.Store conn.new) → (state S.Store conn.old).committed.schema ≡ no_schema
+        → IfErr result (HasFailed (state S.Store conn.old) (state S.Store conn.new)) }
     ensures mode { conn.new.in_transaction ≡ false }
     ensures survives { Survives (state S.Store conn.old) (state S.Store conn.new) (LeavesMade (state S.Store conn.old)) }
 {

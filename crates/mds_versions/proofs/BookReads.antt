@@ -10,8 +10,9 @@ use Rattle.mds_world.specs.Lists.{Member, in_map, map_in}
 use Rattle.mds_world.specs.Sets.{◌∈◌}
 use Rattle.mds_world.specs.World.{IsCurrent}
 use Rattle.mds_versions.specs.Books.{BookValue, book_world}
-use Rattle.mds_versions.specs.BookFacts.{row_in_book, row_of_book}
-use Rattle.mds_versions.specs.BookPlaces.{EndsAt, StartsAt, before_end, by_interval, last_row, later_update, member_at, no_row, place_of}
+use Rattle.mds_versions.proofs.BookFacts.{row_in_book, row_of_book}
+use Rattle.mds_versions.proofs.BookPlaces.{before_end, by_interval, last_row, later_update, member_at, no_row, place_of}
+use Rattle.mds_versions.specs.BookPlaces.{EndsAt, StartsAt}
 use Rattle.mds_versions.specs.BookRows.{AreVersionsOf, IsBefore}
 use Rattle.mds_versions.specs.declared.day_book.Version.{Version}
 

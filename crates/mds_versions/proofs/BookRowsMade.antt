@@ -11,10 +11,9 @@ use Rattle.std.proofs.lemmas.List.Sorted.{Contains-permutation, IsPermutation-sy
 use Rattle.std.proofs.lemmas.Bool.{cases_lt}
 use Rattle.std.proofs.lemmas.Bool.Decides.{eqb_tells, leb_tells}
 use Rattle.mds_world.specs.Lists.{Member}
-use Rattle.mds_versions.specs.BookFacts.{OneEach}
+use Rattle.mds_versions.specs.BookRows.{IsBefore, OneEach}
 use Rattle.mds_versions.specs.BookOrder.{HasStep, IsInOrder, IsOutside, IsWithin, SameMembers, TwoReadings, comes_before, row_cmp}
-use Rattle.mds_versions.specs.BookPlaces.{by_interval, member_at, no_row, place_of}
-use Rattle.mds_versions.specs.BookRows.{IsBefore}
+use Rattle.mds_versions.proofs.BookPlaces.{by_interval, member_at, no_row, place_of}
 use Rattle.mds_versions.specs.declared.day_book.Version.{Version}
 
 lt_tells : (a b : ℕ) → ((ltb a b ≡ true) × (a < b)) ⊎ ((ltb a b ≡ false) × (b ≤ a))

@@ -9,9 +9,9 @@ use Rattle.mds_quantity.specs.declared.unit.Unit.{Unit as MeasureUnit}
 use Rattle.mds_names.specs.declared.stream.Stream.{Stream}
 use Rattle.mds_world.specs.World.{IsLawful, World}
 use Rattle.mds_versions.specs.Books.{BookValue, IsDay, book_world}
-use Rattle.mds_versions.specs.BookFacts.{Fits, Misfits, lawful_book, lawful_day, no_misfit, one_reading, same_rows}
+use Rattle.mds_versions.proofs.BookFacts.{lawful_book, lawful_day, no_misfit, one_reading, same_rows}
+use Rattle.mds_versions.specs.BookRows.{Fits, IsBefore, IsBook, Misfits}
 use Rattle.mds_versions.specs.BookOrder.{IsOutside, IsWithin, SameMembers, TwoReadings}
-use Rattle.mds_versions.specs.BookRows.{IsBefore, IsBook}
 use Rattle.mds_versions.specs.declared.day_book.Version.{Version}
 use Rattle.mds_versions.proofs.BookRowsMade.{one_each}
 

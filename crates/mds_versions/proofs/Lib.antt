@@ -1,3 +1,5 @@
+pub mod BookFacts
+pub mod BookPlaces
 pub mod BookReads
 pub mod BookRowsMade
 pub mod BooksMade

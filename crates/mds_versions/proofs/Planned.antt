@@ -19,12 +19,12 @@ use Rattle.mds_world.specs.Stated.{day_facts}
 use Rattle.mds_world.specs.World.{Agrees, IsLawful, World, union}
 use Rattle.mds_versions.specs.Books.{BookValue, book_world}
 use Rattle.mds_versions.specs.Content.{content, content_facts, version_fact}
-use Rattle.mds_versions.specs.Drafts.{AreAscending, DraftValue, IfRefused, IsPlan, Settles}
+use Rattle.mds_versions.specs.DayMerges.{AreAscending, DayMergeValue, IfRefused, IsPlan, Settles}
 use Rattle.mds_versions.specs.Merge.{Breaks, IsRefusal, claim_facts, claim_world, claims_upto, claims_world}
 use Rattle.mds_versions.specs.declared.additions.Additions.{Additions}
 use Rattle.mds_versions.specs.declared.claim.Claim.{Claim}
-use Rattle.mds_versions.specs.declared.draft.Stop.{Stop}
-use Rattle.mds_versions.specs.declared.draft.Stop.TheVariants.{Refused, Memory}
+use Rattle.mds_versions.specs.declared.day_merge.Stop.{Stop}
+use Rattle.mds_versions.specs.declared.day_merge.Stop.TheVariants.{Refused, Memory}
 use Rattle.mds_versions.specs.declared.refusal.Refusal.{Refusal}
 use Rattle.mds_versions.proofs.Rows.{member_get}
 
@@ -122,12 +122,12 @@ module _ (stream : Stream) (day : ℕ) where
   same_claim copy claim e = λ i. set.from_list {R = fact_cmp} (day_facts stream day (e.1 i) (e.2 i) (e.3 i) (e.4 i))
 
 -- a book, and the claims so far
-pub record IsPlanning (b : BookValue) (claims : List Claim) (i : ℕ) (d : DraftValue) : Type 0 where
+pub record IsPlanning (b : BookValue) (claims : List Claim) (i : ℕ) (d : DayMergeValue) : Type 0 where
   pub book : d.book ≡ b
   pub so_far : d.said ≡ claims_world b.stream b.day (take i claims)
   pub agrees : Agrees (union (book_world b) d.said)
 
-pub start_planning : (b : BookValue) (claims : List Claim) (d : DraftValue) (copy : BookValue) → d ≡ record { book = copy; said = set.empty } → copy ≡ b
+pub start_planning : (b : BookValue) (claims : List Claim) (d : DayMergeValue) (copy : BookValue) → d ≡ record { book = copy; said = set.empty } → copy ≡ b
     → IsLawful (book_world b) → IsPlanning b claims 0 d
 start_planning b claims d copy e same lawful = record {
   book = ap (λ x. x.book) e ∙ same;
@@ -135,7 +135,7 @@ start_planning b claims d copy e same lawful = record {
   agrees = subst Agrees (sym (ap (λ x. union (book_world b) x.said) e ∙ union_empty total exact (book_world b))) lawful.agrees;
 }
 
-module _ (b : BookValue) (claims : List Claim) (i : ℕ) (d : DraftValue) (is : IsPlanning b claims i d) (item copy : Claim)
+module _ (b : BookValue) (claims : List Claim) (i : ℕ) (d : DayMergeValue) (is : IsPlanning b claims i d) (item copy : Claim)
     (below : i < length claims) (at : item ≡ get_or claims i item)
     (same : (copy.line ≡ item.line) × (copy.length ≡ item.length) × (copy.unit ≡ item.unit)
     × (copy.update ≡ item.update) × (copy.readings.items ≡ item.readings.items)) where
@@ -148,7 +148,7 @@ module _ (b : BookValue) (claims : List Claim) (i : ℕ) (d : DraftValue) (is : 
       ∙ sym (claims_append b.stream b.day (take i claims) (item ∷ []))
       ∙ ap (claims_world b.stream b.day) (ap (λ c. take i claims ++ c ∷ []) at ∙ sym (take_one_more claims i item below))
 
-  pub planning_more : (next : DraftValue)
+  pub planning_more : (next : DayMergeValue)
       → (next.book ≡ d.book) × (next.said ≡ union d.said (claim_world d.book.stream d.book.day copy))
       × Agrees (union (book_world next.book) next.said) → IsPlanning b claims (i + 1) next
   planning_more next t =
@@ -204,7 +204,7 @@ nil_map : {X Y : Type 0} (f : X → Y) (xs : List X) → map f xs ≡ [] → xs 
 nil_map f [] e = refl
 nil_map f (x ∷ xs) e = cc
 
-added_facts : (d : DraftValue) (old new : Additions) (known : ℕ) (s : Settles d old new known) → content_facts old ≡ []
+added_facts : (d : DayMergeValue) (old new : Additions) (known : ℕ) (s : Settles d old new known) → content_facts old ≡ []
     → (content_facts new ≡ map HeadIs s.heads ++ map version_fact s.versions) × (new.versions.items ≡ s.versions)
 added_facts d old new known s e =
     let H = map HeadIs old.heads.items in
@@ -230,7 +230,7 @@ apart_tail : (xs ys : List Fact) → Apart (xs ++ ys) → Apart ys
 apart_tail [] ys a = a
 apart_tail (x ∷ xs) ys a = apart_tail xs ys a.1
 
-pub planned : (b : BookValue) (claims : List Claim) (i : ℕ) (d : DraftValue) → IsPlanning b claims i d → length claims ≤ i → i ≤ length claims
+pub planned : (b : BookValue) (claims : List Claim) (i : ℕ) (d : DayMergeValue) → IsPlanning b claims i d → length claims ≤ i → i ≤ length claims
     → (old new : Additions) (known : ℕ) → content_facts old ≡ [] → Settles d old new known
     → IsPlan (book_world b) (claims_world b.stream b.day claims) new
 planned b claims i d is low high old new known none s = record {

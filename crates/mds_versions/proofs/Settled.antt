@@ -1,4 +1,4 @@
--- What a draft adds to the book, and how much of it is there.
+-- What a merge adds to the book, and how much of it is there.
 use Rattle.std.proofs.Common.{◌≡◌, ◌≢◌, ℕ, zero, suc, ◌+◌, ◌≤◌, List, [], ◌∷◌, ◌++◌, length, map, Option, Some, None, refl, sym, ap, ◌∙◌, subst, inl, inr, arith, append_assoc}
 use Rattle.std.specs.Prelude.{Bool, true, false, cond, not, Result, Ok, Err, OnOk, IfOk}
 use Rattle.std.specs.BTreeMap.{BTreeMap}
@@ -23,8 +23,8 @@ use Rattle.mds_world.specs.Sets.{◌∈◌, difference_in, in_difference, in_int
 use Rattle.mds_versions.specs.Books.{BookValue, book_world}
 use Rattle.mds_versions.specs.Claims.{AreShort, fresh_all, fresh_heads, fresh_versions, held_all, held_count, is_held, key_of}
 use Rattle.mds_versions.specs.Content.{version_fact}
-use Rattle.mds_versions.specs.Drafts.{DraftValue, Settles}
-use Rattle.mds_versions.specs.DraftSteps.{IsDraft, all_claimed, draft_value}
+use Rattle.mds_versions.specs.DayMerges.{DayMergeValue, Settles}
+use Rattle.mds_versions.specs.DayMergeSteps.{IsDayMerge, all_claimed, merge_value}
 use Rattle.mds_versions.specs.declared.additions.Additions.{Additions}
 use Rattle.mds_versions.proofs.Rows.{same_some}
 use Rattle.mds_versions.proofs.Taken.{head_in_book, head_of, in_book, in_said, said_here}
@@ -324,7 +324,7 @@ pub readings_short : (b : BookValue) (es : List (ℕ × Vec ReadingValue Global)
 readings_short b es short old now known rest later update readings is step =
     short (update, readings) (is.within (update, readings) (subst (λ l. Member (update, readings) l) (sym step) (inl refl)))
 
-pub all_short : (b : BookValue) (form : Option (ℕ × MeasureUnit)) (claimed : BTreeMap ℕ (Vec ReadingValue Global)) → IsDraft b form claimed
+pub all_short : (b : BookValue) (form : Option (ℕ × MeasureUnit)) (claimed : BTreeMap ℕ (Vec ReadingValue Global)) → IsDayMerge b form claimed
     → AreShort claimed.entries
 all_short b form claimed d entry m = go form refl
   where
@@ -332,8 +332,8 @@ all_short b form claimed d entry m = go form refl
     go None e = absurd (subst (λ es. Member entry es) (d.none e) m)
     go (Some known) e = omega (arith, d.whole known e entry m, div-le_self 1440 known.0)
 
--- the head and the versions that a draft adds
-module _ (b : BookValue) (form : Option (ℕ × MeasureUnit)) (claimed : BTreeMap ℕ (Vec ReadingValue Global)) (d : IsDraft b form claimed) where
+-- the head and the versions that a merge adds
+module _ (b : BookValue) (form : Option (ℕ × MeasureUnit)) (claimed : BTreeMap ℕ (Vec ReadingValue Global)) (d : IsDayMerge b form claimed) where
   from_heads : (head form : Option (ℕ × MeasureUnit)) (h : Head) → Member h (fresh_heads b.stream b.day head form)
       → (head ≡ None) × (known : ℕ × MeasureUnit) × (form ≡ Some known) × (h ≡ head_of b known)
   from_heads (Some k) f h m = absurd m
@@ -440,7 +440,7 @@ module _ (b : BookValue) (form : Option (ℕ × MeasureUnit)) (claimed : BTreeMa
   counts = all_held b claimed.entries ∙ sym (length-map (picked_all has b claimed.entries) version_fact)
       ∙ sym (len_list (map version_fact (picked_all has b claimed.entries)) (all_apart has b claimed.entries d.once)) ∙ ap set.len held_facts
 
-  pub settles : (v : DraftValue) → draft_value b form claimed ≡ v → (old new : Additions) (known : ℕ)
+  pub settles : (v : DayMergeValue) → merge_value b form claimed ≡ v → (old new : Additions) (known : ℕ)
       → new.heads.items ≡ old.heads.items ++ fresh_heads b.stream b.day b.head form
       → (new.versions.items ≡ old.versions.items ++ fresh_all b claimed.entries) × (known ≡ held_all b claimed.entries)
       → new.details ≡ old.details → new.events ≡ old.events → Settles v old new known
@@ -456,7 +456,7 @@ module _ (b : BookValue) (form : Option (ℕ × MeasureUnit)) (claimed : BTreeMa
     known_count = vs.1 ∙ counts;
   })
 
-  pub settles_end : {E : Type 0} (v : DraftValue) → draft_value b form claimed ≡ v → (old new : Additions) (result : Result ℕ E)
+  pub settles_end : {E : Type 0} (v : DayMergeValue) → merge_value b form claimed ≡ v → (old new : Additions) (result : Result ℕ E)
       → new.heads.items ≡ old.heads.items ++ fresh_heads b.stream b.day b.head form
       → OnOk result (new.versions.items ≡ old.versions.items ++ fresh_all b claimed.entries)
       → IfOk result (λ known. known ≡ held_all b claimed.entries)

@@ -1,4 +1,4 @@
--- What a claim does to a draft.
+-- What a claim does to a merge.
 use Rattle.std.proofs.Common.{◌≡◌, ◌≢◌, ℕ, zero, suc, ◌+◌, ◌<◌, List, [], ◌∷◌, length, map, Option, Some, None, refl, sym, ap, ◌∙◌, subst, inl, inr, arith}
 use Rattle.std.specs.Prelude.{Bool, true, false, cond, ◌⊎◌}
 use Rattle.std.specs.BTreeMap.{BTreeMap, insert_entry}
@@ -28,13 +28,13 @@ use Rattle.mds_world.specs.Stated.{day_facts, versions_from}
 use Rattle.mds_world.specs.World.{Agrees, IsLawful, World, union}
 use Rattle.mds_versions.specs.Books.{BookValue, book_facts, book_world, head_facts, row_fact}
 use Rattle.mds_versions.specs.Claims.{BreaksForm, Contradicts, IsFirst, Suits, SuitsForm, key_of}
-use Rattle.mds_versions.specs.Drafts.{DraftValue}
-use Rattle.mds_versions.specs.DraftSteps.{IsDraft, all_claimed, claimed_facts, draft_value}
+use Rattle.mds_versions.specs.DayMerges.{DayMergeValue}
+use Rattle.mds_versions.specs.DayMergeSteps.{IsDayMerge, all_claimed, claimed_facts, merge_value}
 use Rattle.mds_versions.specs.Merge.{Breaks, HasTwoLengths, HasTwoUnits, claim_facts, claim_world}
 use Rattle.mds_versions.specs.declared.claim.Claim.{Claim}
 use Rattle.mds_versions.specs.declared.day_book.Version.{Version}
 use Rattle.mds_versions.specs.declared.refusal.RefusalCode.{RefusalCode}
-use Rattle.mds_versions.specs.declared.refusal.RefusalCode.TheVariants.{LengthConflict, UnitConflict, VersionConflict, UnknownDay}
+use Rattle.mds_versions.specs.declared.refusal.RefusalCode.TheVariants.{LengthConflict, UnitConflict, VersionConflict, JobReused, Protected, StaleUpdate, NoLikeDay, TooLong, NoAnchor, UnknownDay, BadJob}
 use Rattle.mds_versions.proofs.Rows.{same_some}
 
 nat_tied : (a b : ℕ) → is_eq (nat_cmp a b) ≡ true → a ≡ b
@@ -101,7 +101,7 @@ claim_of b form update readings f (inr n) =
     (ap (λ i. VersionIs (key_of b i update) n.1) z ∙ sym n.3)
     (to_versions b.stream b.day update 1 readings n.0 n.1 n.2))
 
--- a draft's World: of one day, with the head of the form where it has one
+-- a merge's World: of one day, with the head of the form where it has one
 pub record IsBase (b : BookValue) (form : Option (ℕ × MeasureUnit)) (w : World) : Type 0 where
   pub agrees : Agrees w
   pub heads : (h : Head) → HeadIs h ∈ w → (known : ℕ × MeasureUnit) × (form ≡ Some known) × (h ≡ head_of b known)
@@ -179,7 +179,14 @@ module _ (b : BookValue) (form : Option (ℕ × MeasureUnit)) (w : World) (c : C
     refl,
   )
   form_refused VersionConflict q = absurd q
+  form_refused JobReused q = absurd q
+  form_refused Protected q = absurd q
+  form_refused StaleUpdate q = absurd q
+  form_refused NoLikeDay q = absurd q
+  form_refused TooLong q = absurd q
+  form_refused NoAnchor q = absurd q
   form_refused UnknownDay q = absurd q
+  form_refused BadJob q = absurd q
 
   -- two versions with one key have one reading where the claim suits
   one_reading_at : (key : Key) (x y : ReadingValue) → VersionIs key x ∈ union w (claim_world b.stream b.day c)
@@ -297,7 +304,7 @@ pub head_in_book : (b : BookValue) (known : ℕ × MeasureUnit) → b.head ≡ S
 head_in_book b known e =
     list_in (book_facts b) _ (append_left _ (head_facts b.stream b.day b.head) (map (row_fact b.stream b.day) b.rows) (head_fact b b.head known e))
 
-module _ (b : BookValue) (form : Option (ℕ × MeasureUnit)) (claimed : BTreeMap ℕ (Vec ReadingValue Global)) (d : IsDraft b form claimed) where
+module _ (b : BookValue) (form : Option (ℕ × MeasureUnit)) (claimed : BTreeMap ℕ (Vec ReadingValue Global)) (d : IsDayMerge b form claimed) where
   -- what is said of the form that is known
   pub said_here : (known : ℕ × MeasureUnit) → form ≡ Some known → (entry : ℕ × Vec ReadingValue Global) → Member entry claimed.entries
       → (f : Fact) → IsOfClaim b known entry.0 entry.1.items f → f ∈ all_claimed b form claimed.entries
@@ -508,7 +515,7 @@ module _ (cmp : ℕ → ℕ → Ordering) (key : ℕ) (order : (other : ℕ) →
       )
 
 -- the update wasn't claimed before, and comes in
-module _ (b : BookValue) (form : Option (ℕ × MeasureUnit)) (claimed later : BTreeMap ℕ (Vec ReadingValue Global)) (d : IsDraft b form claimed)
+module _ (b : BookValue) (form : Option (ℕ × MeasureUnit)) (claimed later : BTreeMap ℕ (Vec ReadingValue Global)) (d : IsDayMerge b form claimed)
     (c : Claim) (suits : SuitsForm form c.length c.unit)
     (absent : (entry : ℕ × Vec ReadingValue Global) → Member entry claimed.entries → entry.0 ≢ c.update)
     (cmp : ℕ → ℕ → Ordering) (order : (other : ℕ) → cmp c.update other ≡ nat_cmp c.update other)
@@ -545,8 +552,8 @@ module _ (b : BookValue) (form : Option (ℕ × MeasureUnit)) (claimed later : B
         subst Agrees (union_assoc total exact (book_world b) _ _ ∙ ap (union (book_world b)) (sym said_more))
         (accepted b form _ c (base b form claimed d) suits (λ k. suits_all b form claimed d c suits absent k (free k)))
 
-    pub draft_more : length c.readings.items ≡ count_of c.length → IsDraft b (Some (c.length, c.unit)) later
-    draft_more many = record {
+    pub merge_more : length c.readings.items ≡ count_of c.length → IsDayMerge b (Some (c.length, c.unit)) later
+    merge_more many = record {
       agrees = agrees_more;
       whole = λ known e entry m. elim (in_later entry m) [
         | inl s ↦ ap (λ x. length x.1.items) s ∙ many ∙ ap (λ k. count_of k.0) (same_some _ known e)
@@ -559,9 +566,9 @@ module _ (b : BookValue) (form : Option (ℕ × MeasureUnit)) (claimed later : B
     }
 
 -- a want of memory
-pub draft_same : (b : BookValue) (form : Option (ℕ × MeasureUnit)) (claimed later : BTreeMap ℕ (Vec ReadingValue Global))
-    → later.entries ≡ claimed.entries → IsDraft b form claimed → IsDraft b form later
-draft_same b form claimed later e d = record {
+pub merge_same : (b : BookValue) (form : Option (ℕ × MeasureUnit)) (claimed later : BTreeMap ℕ (Vec ReadingValue Global))
+    → later.entries ≡ claimed.entries → IsDayMerge b form claimed → IsDayMerge b form later
+merge_same b form claimed later e d = record {
   agrees = subst (λ es. Agrees (union (book_world b) (all_claimed b form es))) (sym e) d.agrees;
   whole = λ known k entry m. d.whole known k entry (subst (λ es. Member entry es) e m);
   once = subst (λ es. Apart (map (λ entry. entry.0) es)) (sym e) d.once;
@@ -571,8 +578,8 @@ draft_same b form claimed later e d = record {
 }
 
 -- what `take` says, at each of its ends: v is the value before
-module _ (b : BookValue) (form : Option (ℕ × MeasureUnit)) (claimed : BTreeMap ℕ (Vec ReadingValue Global)) (v : DraftValue)
-    (is : draft_value b form claimed ≡ v) (d : IsDraft b form claimed) (c : Claim) where
+module _ (b : BookValue) (form : Option (ℕ × MeasureUnit)) (claimed : BTreeMap ℕ (Vec ReadingValue Global)) (v : DayMergeValue)
+    (is : merge_value b form claimed ≡ v) (d : IsDayMerge b form claimed) (c : Claim) where
   refuse : (code : RefusalCode) (interval : ℕ)
       → Breaks (union (union (book_world b) (all_claimed b form claimed.entries)) (claim_world b.stream b.day c)) code interval
       → Breaks (union (book_world v.book) (union v.said (claim_world v.book.stream v.book.day c))) code interval
@@ -624,7 +631,7 @@ module _ (b : BookValue) (form : Option (ℕ × MeasureUnit)) (claimed : BTreeMa
         agrees_more b form claimed later d c suits absent cmp order put free,
       )
 
--- a draft of which nothing was claimed
+-- a merge of which nothing was claimed
 none_said : (b : BookValue) (form : Option (ℕ × MeasureUnit)) → all_claimed b form [] ≡ set.empty
 none_said b None = refl
 none_said b (Some known) = refl
@@ -633,9 +640,9 @@ pub new_said : (b : BookValue) (form : Option (ℕ × MeasureUnit)) (es : List (
     → all_claimed b form es ≡ set.empty
 new_said b form es e = ap (λ l. all_claimed b form l) e ∙ none_said b form
 
-pub new_draft : (b : BookValue) (form : Option (ℕ × MeasureUnit)) (claimed : BTreeMap ℕ (Vec ReadingValue Global))
-    → form ≡ b.head → claimed.entries ≡ [] → IsLawful (book_world b) → IsDraft b form claimed
-new_draft b form claimed f e h = record {
+pub new_merge : (b : BookValue) (form : Option (ℕ × MeasureUnit)) (claimed : BTreeMap ℕ (Vec ReadingValue Global))
+    → form ≡ b.head → claimed.entries ≡ [] → IsLawful (book_world b) → IsDayMerge b form claimed
+new_merge b form claimed f e h = record {
   agrees = subst Agrees (sym (ap (union (book_world b)) (new_said b form claimed.entries e) ∙ union_empty total exact (book_world b))) h.agrees;
   whole = λ known k entry m. absurd (subst (λ es. Member entry es) e m);
   once = subst (λ es. Apart (map (λ entry. entry.0) es)) (sym e) tt;

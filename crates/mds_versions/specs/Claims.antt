@@ -15,7 +15,7 @@ use Rattle.mds_world.specs.Sets.{◌∈◌}
 use Rattle.mds_world.specs.World.{World}
 use Rattle.mds_versions.specs.Books.{BookValue, book_world}
 use Rattle.mds_versions.specs.declared.refusal.RefusalCode.{RefusalCode}
-use Rattle.mds_versions.specs.declared.refusal.RefusalCode.TheVariants.{LengthConflict, UnitConflict, VersionConflict, UnknownDay}
+use Rattle.mds_versions.specs.declared.refusal.RefusalCode.TheVariants.{LengthConflict, UnitConflict}
 
 -- where a version of a book's day stands
 abbrev pub key_of : BookValue → ℕ → ℕ → Key
@@ -43,8 +43,7 @@ abbrev pub BreaksForm : Option (ℕ × MeasureUnit) → ℕ → MeasureUnit → 
 BreaksForm form length unit LengthConflict = (known : ℕ × MeasureUnit) × (form ≡ Some known) × (known.0 ≢ length)
 BreaksForm form length unit UnitConflict =
     (known : ℕ × MeasureUnit) × (form ≡ Some known) × (known.0 ≡ length) × (known.1 ≢ unit)
-BreaksForm form length unit VersionConflict = ⊥
-BreaksForm form length unit UnknownDay = ⊥
+BreaksForm form length unit code = ⊥
 
 abbrev pub SuitsForm : Option (ℕ × MeasureUnit) → ℕ → MeasureUnit → Type 0
 SuitsForm form length unit = (known : ℕ × MeasureUnit) → form ≡ Some known → known ≡ (length, unit)

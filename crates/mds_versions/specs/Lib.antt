@@ -1,11 +1,11 @@
-pub mod BookFacts
 pub mod BookOrder
 pub mod BookPlaces
 pub mod BookRows
 pub mod Books
 pub mod Claims
 pub mod Content
-pub mod DraftSteps
-pub mod Drafts
+pub mod DayMergeSteps
+pub mod DayMerges
 pub mod Merge
 pub mod Queries
+pub mod Refusals

@@ -17,7 +17,7 @@ use Rattle.mds_world.specs.World.{Agrees, World, union}
 use Rattle.mds_versions.specs.declared.claim.Claim.{Claim}
 use Rattle.mds_versions.specs.declared.refusal.Refusal.{Refusal}
 use Rattle.mds_versions.specs.declared.refusal.RefusalCode.{RefusalCode}
-use Rattle.mds_versions.specs.declared.refusal.RefusalCode.TheVariants.{LengthConflict, UnitConflict, VersionConflict, UnknownDay}
+use Rattle.mds_versions.specs.declared.refusal.RefusalCode.TheVariants.{LengthConflict, UnitConflict, VersionConflict}
 
 -- a day has two lengths
 abbrev pub HasTwoLengths : World → Type 0
@@ -45,7 +45,7 @@ Breaks w LengthConflict interval = HasTwoLengths w × (interval ≡ 0)
 Breaks w UnitConflict interval = (HasTwoLengths w → ⊥) × HasTwoUnits w × (interval ≡ 0)
 Breaks w VersionConflict interval =
     (HasTwoLengths w → ⊥) × (HasTwoUnits w → ⊥) × HasTwoReadings w interval × ((i : ℕ) → i < interval → HasTwoReadings w i → ⊥)
-Breaks w UnknownDay interval = ⊥
+Breaks w code interval = ⊥
 
 -- a statement of a day or a period on one of the lines up to this one; details and events break no rule
 abbrev pub is_upto : ℕ → Statement → Bool

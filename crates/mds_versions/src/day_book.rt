@@ -6,10 +6,9 @@ ghost use Rattle.std.specs.List.{AllPairs, reduce};
 ghost use Rattle.mds_world.specs.Current.{HasNoVersion, IsLatest};
 ghost use Rattle.mds_world.specs.World.{World, IsCurrent, IsLawful};
 ghost use Rattle.mds_versions.specs.Books.{BookValue, IsDay, book_world};
-ghost use Rattle.mds_versions.specs.BookFacts.{Fits, Misfits};
+ghost use Rattle.mds_versions.specs.BookRows.{AreVersionsOf, Fits, IsBefore, Misfits};
 ghost use Rattle.mds_versions.specs.BookOrder.{HasStep, IsInOrder, IsOutside, IsWithin, SameMembers, TwoReadings, row_cmp};
 ghost use Rattle.mds_versions.specs.BookPlaces.{EndsAt, StartsAt};
-ghost use Rattle.mds_versions.specs.BookRows.{AreVersionsOf, IsBefore};
 
 use mds_marks::Reading;
 use mds_quantity::Unit;

@@ -5,7 +5,7 @@
 mod additions;
 mod claim;
 mod day_book;
-mod draft;
+mod day_merge;
 mod keeper;
 mod refusal;
 #[cfg(test)]
@@ -14,7 +14,7 @@ mod tests;
 pub use additions::Additions;
 pub use claim::Claim;
 pub use day_book::{DayBook, Version};
-pub use draft::{Draft, Stop};
+pub use day_merge::{DayMerge, Stop};
 pub use keeper::{Keeper, Unavailable};
 pub use mds_world::{Detail, Head, Key, StreamDay};
 pub use refusal::{Refusal, RefusalCode};

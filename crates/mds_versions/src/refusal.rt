@@ -1,6 +1,11 @@
 //! Why the machine refuses what a request says.
 
-/// The rule that is broken, or what isn't there.
+ghost use Rattle.std.specs.Prelude.{◌≡◌, Some};
+ghost use Rattle.mds_versions.specs.Refusals.{code_text, refusal_text};
+
+use std::fmt;
+
+/// The rule that is broken, or what isn't there. Each is printed as its code.
 #[derive(Clone, Copy, Debug, PartialEq, Eq)]
 pub enum RefusalCode {
     /// M1: a day has another length of intervals.
@@ -9,8 +14,51 @@ pub enum RefusalCode {
     UnitConflict,
     /// M3: an interval has another reading under the same update.
     VersionConflict,
+    /// M4: another substitution job has the id.
+    JobReused,
+    /// M5: an interval that is to be filled has an actual or a final reading.
+    Protected,
+    /// M6: an interval that is to be filled has a version that isn't older.
+    StaleUpdate,
+    /// M7: no like day has the values that are needed.
+    NoLikeDay,
+    /// M8: more than two hours are to be filled by interpolation.
+    TooLong,
+    /// M9: a value beside the gap isn't there to interpolate from.
+    NoAnchor,
     /// M10: the day isn't known, or it has no such interval.
     UnknownDay,
+    /// M11: a substitution job can't be done on any store.
+    BadJob,
+}
+
+impl RefusalCode {
+    /// Its code, as `M3`.
+    pub fn text(self) -> &'static str
+        ensures { result.now ≡ code_text self }
+    {
+        match self {
+            RefusalCode::LengthConflict => "M1",
+            RefusalCode::UnitConflict => "M2",
+            RefusalCode::VersionConflict => "M3",
+            RefusalCode::JobReused => "M4",
+            RefusalCode::Protected => "M5",
+            RefusalCode::StaleUpdate => "M6",
+            RefusalCode::NoLikeDay => "M7",
+            RefusalCode::TooLong => "M8",
+            RefusalCode::NoAnchor => "M9",
+            RefusalCode::UnknownDay => "M10",
+            RefusalCode::BadJob => "M11",
+        }
+    }
+}
+
+impl fmt::Display for RefusalCode {
+    ghost output = { λ code. Some (code_text code) };
+
+    fn fmt<W: fmt::Write>(&self, f: &mut fmt::Formatter<W>) -> fmt::Result {
+        f.write_str(self.text())
+    }
 }
 
 /// A refusal, with where it stands. A number that doesn't apply is 0.
@@ -23,4 +71,22 @@ pub struct Refusal {
     pub field: u64,
     /// The interval, from 1.
     pub interval: u16,
+}
+
+impl fmt::Display for Refusal {
+    ghost output = { λ refusal. Some (refusal_text refusal) };
+
+    fn fmt<W: fmt::Write>(&self, f: &mut fmt::Formatter<W>) -> fmt::Result {
+        f.write_str(self.code.text())?;
+        if self.line != 0 {
+            write!(f, " line {}", self.line)?;
+        }
+        if self.field != 0 {
+            write!(f, " field {}", self.field)?;
+        }
+        if self.interval != 0 {
+            write!(f, " interval {}", self.interval)?;
+        }
+        Ok(())
+    }
 }

@@ -3,6 +3,7 @@
 use Rattle.std.specs.Prelude.{◌≡◌, ◌⊎◌, ◌≤◌, ℕ, [], None, true}
 use Rattle.std.specs.Ordering.{is_le, nat_cmp, ordering_then}
 use Rattle.mds_names.specs.declared.stream.Stream.{Stream}
+use Rattle.mds_marks.specs.Quality.{null}
 use Rattle.mds_marks.specs.Reading.{ReadingValue}
 use Rattle.mds_terms.specs.Details.{DetailsValue, details_cmp}
 use Rattle.mds_world.specs.Facts.Fact.{DetailIs, VersionIs}
@@ -18,7 +19,7 @@ HasNoVersion w stream day interval =
 -- bare N: quality N without a method, no code, no text and no value
 abbrev pub no_reading : ReadingValue
 no_reading = record {
-  mark = record { quality = record { flag = 78; method = 0 }; reason = record { code = None; text = [] } };
+  mark = record { quality = record { flag = null; method = 0 }; reason = record { code = None; text = [] } };
   value = None;
 }
 

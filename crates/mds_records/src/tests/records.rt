@@ -2,7 +2,7 @@
 
 use crate::FieldFault::{Bad, Count, WrongFile};
 use crate::{
-    FaultCode, FieldFault, FileFault, FileKind, IntervalValues, Kind, Line, Record, read_record,
+    FaultCode, FieldFault, FileFault, FileKind, IntervalValues, Line, Record, read_record,
 };
 use mds_quantity::{Quantity, Unit};
 use mds_terms::{Day, Length, Moment, Stream, TransCode};
@@ -11,7 +11,7 @@ use std::process::Abort;
 use std::test::Fail;
 
 /// Reads the record of a line, of intervals of so many minutes.
-fn read<'a>(
+pub(crate) fn read<'a>(
     rt: &impl Abort,
     line: &'a str,
     minutes: i64,
@@ -19,14 +19,12 @@ fn read<'a>(
 ) -> Result<Record<'a>, FieldFault> {
     let line = Line::new(1, line.as_bytes());
     let kind = line.kind().expect(rt, "a known kind");
-    let is_of_nem13 = matches!(kind, Kind::AccumulationData | Kind::AccumulationB2bDetails);
-    assert!(rt; !is_of_nem13);
     let length = Length::from_minutes(minutes).expect(rt, "a length");
     read_record(&line, kind, FileKind::Nem12, Some(length), values)
 }
 
 /// Compares a line's fault, or that it has none.
-fn expect_fault(
+pub(crate) fn expect_fault(
     rt: &impl Abort,
     line: &str,
     minutes: i64,

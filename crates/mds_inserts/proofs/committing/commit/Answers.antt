@@ -1,7 +1,9 @@
 use Rattle.std.proofs.Common.{arith}
 use Rattle.sqlite.specs.Held.{state}
 use Rattle.sqlite.specs.State.{HasCleanDisk}
-use Rattle.mds_inserts.proofs.CommitLemmas.{commits, leaves}
+use Rattle.mds_inserts.proofs.CommitLemmas.{commits, committed_fails, leaves, not_ready}
+use Rattle.mds_inserts.specs.Parts.{rows_in}
+use Rattle.std.proofs.lemmas.Result.{err_from_is_err_and}
 use Rattle.mds_inserts.proofs.PutLemmas.{if_ok}
 use Rattle.mds_inserts.proofs.committing.commit.Goals as goal
 
@@ -16,3 +18,17 @@ pub returns-clause-survives : goal.returns-clause-survives
 returns-clause-survives g c holds =
     leaves (state g.S.Store c.args.conn.now) (state g.S.Store c.ready.new.conn) (state g.S.Store c.write.new.conn)
     c.args.additions.now c.in_ok-ready.ensures.ok c.ready.ensures.survives holds c.write.ensures.survives
+
+pub returns-in_err-ready-clause-cause : goal.returns-in_err-ready-clause-cause
+returns-in_err-ready-clause-cause g c clean holds =
+    let old = state g.S.Store c.args.conn.now in
+    let new = state g.S.Store c.ready.new.conn in
+    let p = err_from_is_err_and c.from_residual.result c.from_residual.ensures.1 in
+    rw (p.1, p.2)
+    (not_ready old new (rows_in c.args.additions.now) _ (c.in_err-ready.ensures.cause clean))
+
+pub returns-clause-cause : goal.returns-clause-cause
+returns-clause-cause g c clean holds =
+    committed_fails (state g.S.Store c.args.conn.now) (state g.S.Store c.ready.new.conn) (state g.S.Store c.write.new.conn)
+    c.args.additions.now c.in_ok-ready.ensures.ok c.ready.ensures.survives holds
+    (omega (arith, c.write.ensures.survives.clean)) c.write.result (c.write.ensures.cause clean)

@@ -1,15 +1,56 @@
 use Rattle.std.proofs.Common.{arith}
 use Rattle.sqlite.specs.Held.{state}
 use Rattle.mds_inserts.proofs.PutLemmas.{all_there}
+use Rattle.mds_inserts.proofs.FailLemmas.{details_fail, events_fail, heads_fail, versions_fail}
+use Rattle.std.proofs.lemmas.Result.{err_from_is_err_and}
 use Rattle.mds_inserts.proofs.committing.put_all.Goals as goal
 
 pub returns-clause-ok : goal.returns-clause-ok
 returns-clause-ok g c =
-    all_there (state g.S.Store c.args.tx.now.conn.now) (state g.S.Store c.put_heads.new.tx.conn.now)
-    (state g.S.Store c.put_versions.new.tx.conn.now) (state g.S.Store c.put_details.new.tx.conn.now)
-    (state g.S.Store c.put_events.new.tx.conn.now) c.args.additions.now c.put_events.result
-    (omega (arith, c.put_versions.ensures.survives.clean)) (omega (arith, c.put_details.ensures.survives.clean))
-    (omega (arith, c.put_events.ensures.survives.clean)) (rw (c.deref.ensures.value) at c.in_ok-put_heads.ensures.ok)
-    (rw (c.deref-2.ensures.value) at c.in_ok-put_versions.ensures.ok)
-    (rw (c.deref-3.ensures.value) at c.in_ok-put_details.ensures.ok)
-    (rw (c.deref-4.ensures.value) at c.put_events.ensures.ok)
+    all_there (state g.S.Store c.args.tx.now.conn.now) (state g.S.Store c.put_each.new.tx.conn.now)
+    (state g.S.Store c.put_each-2.new.tx.conn.now) (state g.S.Store c.put_each-3.new.tx.conn.now)
+    (state g.S.Store c.put_each-4.new.tx.conn.now) c.args.additions.now c.put_each-4.result
+    (omega (arith, c.put_each-2.ensures.survives.clean)) (omega (arith, c.put_each-3.ensures.survives.clean))
+    (omega (arith, c.put_each-4.ensures.survives.clean)) (rw (c.deref.ensures.value) at c.in_ok-put_each.ensures.ok)
+    (rw (c.deref-2.ensures.value) at c.in_ok-put_each-2.ensures.ok)
+    (rw (c.deref-3.ensures.value) at c.in_ok-put_each-3.ensures.ok)
+    (rw (c.deref-4.ensures.value) at c.put_each-4.ensures.ok)
+
+pub returns-in_err-put_each-clause-cause : goal.returns-in_err-put_each-clause-cause
+returns-in_err-put_each-clause-cause g c clean is_open inside has sound =
+    let p = err_from_is_err_and c.from_residual.result c.from_residual.ensures.1 in
+    rw (p.1, p.2)
+    (heads_fail (state g.S.Store c.args.tx.now.conn.now) (state g.S.Store c.put_each.new.tx.conn.now) c.args.additions.now _
+    (rw (c.deref.ensures.value) at (c.in_err-put_each.ensures.cause clean is_open inside has sound)))
+
+pub returns-in_err-put_each-2-clause-cause : goal.returns-in_err-put_each-2-clause-cause
+returns-in_err-put_each-2-clause-cause g c clean is_open inside has sound =
+    let p = err_from_is_err_and c.from_residual-in_err-put_each-2.result c.from_residual-in_err-put_each-2.ensures.1 in
+    rw (p.1, p.2)
+    (versions_fail (state g.S.Store c.args.tx.now.conn.now) (state g.S.Store c.put_each.new.tx.conn.now)
+    (state g.S.Store c.put_each-2.new.tx.conn.now) c.args.additions.now c.put_each.ensures.survives
+    (omega (arith, c.put_each-2.ensures.survives.clean)) is_open inside has sound
+    (rw (c.deref.ensures.value) at c.in_ok-put_each.ensures.ok) _
+    (rw (c.deref-2.ensures.value) at (c.in_err-put_each-2.ensures.cause clean)))
+
+pub returns-in_err-put_each-3-clause-cause : goal.returns-in_err-put_each-3-clause-cause
+returns-in_err-put_each-3-clause-cause g c clean is_open inside has sound =
+    let p = err_from_is_err_and c.from_residual-in_err-put_each-3.result c.from_residual-in_err-put_each-3.ensures.1 in
+    rw (p.1, p.2)
+    (details_fail (state g.S.Store c.args.tx.now.conn.now) (state g.S.Store c.put_each.new.tx.conn.now)
+    (state g.S.Store c.put_each-2.new.tx.conn.now) (state g.S.Store c.put_each-3.new.tx.conn.now) c.args.additions.now
+    c.put_each.ensures.survives c.put_each-2.ensures.survives
+    (omega (arith, c.put_each-3.ensures.survives.clean)) is_open inside has sound
+    (rw (c.deref.ensures.value) at c.in_ok-put_each.ensures.ok) (rw (c.deref-2.ensures.value) at c.in_ok-put_each-2.ensures.ok) _
+    (rw (c.deref-3.ensures.value) at (c.in_err-put_each-3.ensures.cause clean)))
+
+pub returns-clause-cause : goal.returns-clause-cause
+returns-clause-cause g c clean is_open inside has sound =
+    events_fail (state g.S.Store c.args.tx.now.conn.now) (state g.S.Store c.put_each.new.tx.conn.now)
+    (state g.S.Store c.put_each-2.new.tx.conn.now) (state g.S.Store c.put_each-3.new.tx.conn.now)
+    (state g.S.Store c.put_each-4.new.tx.conn.now) c.args.additions.now
+    c.put_each.ensures.survives c.put_each-2.ensures.survives c.put_each-3.ensures.survives
+    (omega (arith, c.put_each-4.ensures.survives.clean)) is_open inside has sound
+    (rw (c.deref.ensures.value) at c.in_ok-put_each.ensures.ok) (rw (c.deref-2.ensures.value) at c.in_ok-put_each-2.ensures.ok)
+    (rw (c.deref-3.ensures.value) at c.in_ok-put_each-3.ensures.ok) c.put_each-4.result
+    (rw (c.deref-4.ensures.value) at (c.put_each-4.ensures.cause clean))

@@ -1,6 +1,6 @@
 use Rattle.std.proofs.Common.{◌∙◌, refl}
 use Rattle.mds_lines.specs.Lines.{fields_of}
-use Rattle.mds_records.proofs.Outcomes.{b2b_whole}
+use Rattle.mds_records.proofs.Outcomes.{whole_to}
 use Rattle.mds_records.proofs.Rests.{taken_at, left_at}
 use Rattle.mds_records.proofs.b2b_details.split_b2b_details.Goals as goal
 
@@ -17,5 +17,5 @@ returns c =
       ticket = c.next_field-3.ensures.taken ∙ taken_at fs _ 2 at2;
       moment = c.next_field-4.ensures.taken ∙ taken_at fs _ 3 at3;
       reading = c.next_field-5.ensures.taken ∙ taken_at fs _ 4 at4;
-      whole = b2b_whole c.args.text.now _ _ at5 c.is_blank_from.ensures;
+      whole = whole_to 5 c.args.text.now _ _ at5 c.is_blank_from.ensures;
     }

@@ -15,3 +15,10 @@ returns-in-Ok-read_interval_event-clause-spells c = rw (c.in-IntervalEvent.is, �
 
 pub returns-in-Ok-read_b2b_details-clause-spells : goal.returns-in-Ok-read_b2b_details-clause-spells
 returns-in-Ok-read_b2b_details-clause-spells c = rw (c.in-B2bDetails.is, ← c.text-text.ensures) (c.in-Ok-read_b2b_details.ensures _ _)
+
+pub returns-in-Ok-read_accumulation_data-clause-spells : goal.returns-in-Ok-read_accumulation_data-clause-spells
+returns-in-Ok-read_accumulation_data-clause-spells c = rw (c.in-AccumulationData.is, ← c.text-text.ensures) (c.in-Ok-read_accumulation_data.ensures _ _)
+
+pub returns-in-Ok-read_accumulation_b2b_details-clause-spells : goal.returns-in-Ok-read_accumulation_b2b_details-clause-spells
+returns-in-Ok-read_accumulation_b2b_details-clause-spells c =
+    rw (c.in-AccumulationB2bDetails.is, ← c.text-text.ensures) (c.in-Ok-read_accumulation_b2b_details.ensures _ _)

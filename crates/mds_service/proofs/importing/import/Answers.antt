@@ -100,7 +100,7 @@ commit-requires-clause-new g c = λ sound.
     let one = c.gather.ensures.kept early w shows in
     let two = c.new_details.ensures.kept later w one in
     let x = comes w c.in-Ok-stated_by.stated c.in-Ok-settle.additions c.in-Ok-settle.known _ _
-    (c.in-Ok-settle.ensures w _ (c.in-Ok-gather.ensures.drafts early w shows)) c.in-Ok-new_details.ensures.apart
+    (c.in-Ok-settle.ensures w _ (c.in-Ok-gather.ensures.merges early w shows)) c.in-Ok-new_details.ensures.apart
     (c.in-Ok-new_details.ensures.just later w one) c.in-Ok-new_events.ensures.apart
     (c.in-Ok-new_events.ensures.just honest w two) in
     let a : Additions = record {
@@ -122,7 +122,7 @@ commit-requires-clause-lawful g c = λ sound lawful.
     let two = c.new_details.ensures.kept later w one in
     let now = c.new_events.ensures.kept honest w two sound in
     let x = comes w c.in-Ok-stated_by.stated c.in-Ok-settle.additions c.in-Ok-settle.known _ _
-    (c.in-Ok-settle.ensures w _ (c.in-Ok-gather.ensures.drafts early w shows)) c.in-Ok-new_details.ensures.apart
+    (c.in-Ok-settle.ensures w _ (c.in-Ok-gather.ensures.merges early w shows)) c.in-Ok-new_details.ensures.apart
     (c.in-Ok-new_details.ensures.just later w one) c.in-Ok-new_events.ensures.apart
     (c.in-Ok-new_events.ensures.just honest w two) in
     let a : Additions = record {
@@ -142,7 +142,7 @@ returns-in-Ok-commit-clause-step g c = λ honest w lawful shows.
     let one = c.gather.ensures.kept early w shows in
     let two = c.new_details.ensures.kept later w one in
     let x = comes w c.in-Ok-stated_by.stated c.in-Ok-settle.additions c.in-Ok-settle.known _ _
-    (c.in-Ok-settle.ensures w _ (c.in-Ok-gather.ensures.drafts early w shows)) c.in-Ok-new_details.ensures.apart
+    (c.in-Ok-settle.ensures w _ (c.in-Ok-gather.ensures.merges early w shows)) c.in-Ok-new_details.ensures.apart
     (c.in-Ok-new_details.ensures.just later w one) c.in-Ok-new_events.ensures.apart
     (c.in-Ok-new_events.ensures.just last w two) in
     let a : Additions = record {
@@ -173,7 +173,7 @@ returns-in-Err-clause-step g c = λ honest w lawful shows.
     let two = c.new_details.ensures.kept later w one in
     let three = c.new_events.ensures.kept last w two in
     let x = comes w c.in-Ok-stated_by.stated c.in-Ok-settle.additions c.in-Ok-settle.known _ _
-    (c.in-Ok-settle.ensures w _ (c.in-Ok-gather.ensures.drafts early w shows)) c.in-Ok-new_details.ensures.apart
+    (c.in-Ok-settle.ensures w _ (c.in-Ok-gather.ensures.merges early w shows)) c.in-Ok-new_details.ensures.apart
     (c.in-Ok-new_details.ensures.just later w one) c.in-Ok-new_events.ensures.apart
     (c.in-Ok-new_events.ensures.just last w two) in
     let a : Additions = record {

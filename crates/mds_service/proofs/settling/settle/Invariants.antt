@@ -1,5 +1,5 @@
 use Rattle.mds_service.proofs.Adding.{IsPart}
 use Rattle.mds_service.proofs.settling.settle.Given as goal
 
-abbrev pub invariant-loop-draft : goal.invariant-loop-draft
-invariant-loop-draft l = IsPart l.fn.drafts.entries l.draft-iterator l.additions l.known
+abbrev pub invariant-loop-merge : goal.invariant-loop-merge
+invariant-loop-merge l = IsPart l.fn.merges.entries l.merge-iterator l.additions l.known

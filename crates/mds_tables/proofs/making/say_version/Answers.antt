@@ -1,7 +1,16 @@
+use Rattle.std.proofs.lemmas.Result.{err_from_is_err_and}
 use Rattle.sqlite.specs.Held.{state}
 use Rattle.mds_tables.proofs.CallLemmas.{still}
 use Rattle.mds_tables.proofs.SayLemmas.{says_version}
+use Rattle.mds_tables.proofs.SayRefusals.{says_fails}
 use Rattle.mds_tables.proofs.making.say_version.Goals as goal
+
+pub returns-in_err-execute-clause-cause : goal.returns-in_err-execute-clause-cause
+returns-in_err-execute-clause-cause g c clean is_open inside has none =
+    let p = err_from_is_err_and c.from_residual.result c.from_residual.ensures.1 in
+    rw (p.1, p.2)
+    (says_fails (state g.S.Store c.args.tx.now.conn.now) (state g.S.Store c.execute.new.self.conn.now) _ has none
+    (c.in_err-execute.ensures.runs clean inside))
 
 pub returns-clause-ok : goal.returns-clause-ok
 returns-clause-ok g c =

@@ -1,6 +1,6 @@
 use Rattle.std.proofs.Common.{subst, sym}
 use Rattle.std.specs.Bool.{MatchBool}
-use Rattle.mds_versions.specs.BookFacts.{Fits, Misfits}
+use Rattle.mds_versions.specs.BookRows.{Fits, Misfits}
 use Rattle.mds_versions.specs.BookOrder.{IsOutside, IsWithin}
 use Rattle.mds_versions.proofs.BooksMade.{fit_none, fit_some}
 use Rattle.mds_versions.proofs.day_book.fit.Goals as goal

@@ -1,7 +1,7 @@
 use Rattle.std.proofs.Common.{rules, arith, ltb}
 use Rattle.std.proofs.lemmas.List.Sorted.{IsPartitionPoint-from_clause, IsPartitionedBy-ltb}
 use Rattle.std.proofs.lemmas.Bool.{ltb-true, ltb-false}
-use Rattle.mds_versions.specs.BookPlaces.{by_interval}
+use Rattle.mds_versions.proofs.BookPlaces.{by_interval}
 use Rattle.mds_versions.proofs.day_book.start_of.Goals as goal
 
 pub returns : goal.returns

@@ -3,9 +3,12 @@ use Rattle.mds_records.specs.Records.{quantity_in, value_count, values_of}
 use Rattle.mds_nem12.specs.Faults.{at_field, at_line}
 use Rattle.mds_nem12.specs.Governing.{governors}
 use Rattle.mds_nem12.specs.Said.{count_in}
-use Rattle.mds_nem12.proofs.Judged.{answered_as, fields_none, fields_same, fields_some, refused_with, spells_same}
+use Rattle.mds_nem12.proofs.Judged.{answered_as, can_follow, fields_none, fields_same, fields_some, refused_with, spells_same}
 use Rattle.mds_nem12.proofs.Kept.{ready_count, ready_with}
 use Rattle.mds_nem12.proofs.file_reader.FileReader.take_fields.Goals as goal
+
+pub keep-requires-clause-follows : goal.keep-requires-clause-follows
+keep-requires-clause-follows g c = can_follow c.args.kind _ _ c.in-Ok.record c.args.self.now.last c.in-Ok.ensures.spells.1 c.requires.place
 
 pub returns-in-Ok : goal.returns-in-Ok
 returns-in-Ok g c = λ before ready number.

@@ -1,5 +1,5 @@
 use Rattle.std.proofs.Common.{refl, subst}
-use Rattle.mds_versions.specs.BookFacts.{Fits, Misfits}
+use Rattle.mds_versions.specs.BookRows.{Fits, Misfits}
 use Rattle.mds_versions.proofs.BooksMade.{is_book, misfit_refused, same_world, two_refused}
 use Rattle.mds_versions.proofs.day_book.DayBook.new.Goals as goal
 

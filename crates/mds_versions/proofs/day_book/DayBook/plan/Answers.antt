@@ -2,7 +2,7 @@ use Rattle.mds_versions.proofs.Planned.{planned, planning_more, planning_stop, s
 use Rattle.mds_versions.proofs.day_book.DayBook.plan.Goals as goal
 
 pub loop-claim-init : goal.loop-claim-init
-loop-claim-init c = start_planning _ _ _ _ c.new-draft.ensures c.in-Ok.ensures c.is_lawful.ensures
+loop-claim-init c = start_planning _ _ _ _ c.new-merge.ensures c.in-Ok.ensures c.is_lawful.ensures
 
 pub returns-in-Err-clause-refused : goal.returns-in-Err-clause-refused
 returns-in-Err-clause-refused c =

@@ -1,0 +1,2 @@
+pub mod Holidays
+pub mod HolidaysSteps

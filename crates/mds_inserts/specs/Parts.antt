@@ -1,0 +1,52 @@
+-- How what is added becomes rows (profile).
+use Rattle.std.specs.Prelude.{ℕ, List, ◌++◌, map}
+use Rattle.sqlite_value.specs.Order.{Row}
+use Rattle.mds_marks.specs.Reading.{ReadingValue}
+use Rattle.mds_terms.specs.Event.{EventValue}
+use Rattle.mds_world.specs.Facts.{Fact}
+use Rattle.mds_world.specs.Facts.Fact.{DetailIs, EventIs, HeadIs}
+use Rattle.mds_world.specs.declared.facts.Detail.{Detail}
+use Rattle.mds_world.specs.declared.facts.Head.{Head}
+use Rattle.mds_world.specs.declared.facts.Key.{Key}
+use Rattle.mds_versions.specs.Content as content
+use Rattle.mds_versions.specs.declared.additions.Additions.{Additions}
+use Rattle.mds_tables.specs.Cells.{detail_cells, event_cells, head_cells, version_cells}
+use Rattle.mds_tables.specs.RowFacts.{detail_fact, event_fact, head_fact, version_fact}
+
+-- How things of one kind are kept: the place of their table in the schema and its tree, the row of each without a rowid,
+-- its fact, and the fact that a row of the table says.
+pub record Part (A : Type 0) : Type 0 where
+  pub place : ℕ
+  pub tree : ℕ
+  pub cells : A → Row
+  pub fact : A → Fact
+  pub read : Row → Fact
+
+abbrev pub head_part : Part Head
+head_part = record { place = 1; tree = 2; cells = head_cells; fact = HeadIs; read = head_fact }
+
+abbrev pub version_part : Part (Key × ReadingValue)
+version_part = record {
+  place = 2;
+  tree = 4;
+  cells = λ version. version_cells version.0 version.1;
+  fact = content.version_fact;
+  read = version_fact;
+}
+
+abbrev pub detail_part : Part Detail
+detail_part = record { place = 3; tree = 6; cells = detail_cells; fact = DetailIs; read = detail_fact }
+
+abbrev pub event_part : Part EventValue
+event_part = record { place = 4; tree = 8; cells = event_cells; fact = EventIs; read = event_fact }
+
+-- their rows, each with the place of its table
+abbrev pub rows_of : {A : Type 0} → Part A → List A → List (ℕ × Row)
+rows_of part items = map (λ item. (part.place, part.cells item)) items
+
+-- all rows of additions, in the order in which they are put
+abbrev pub rows_in : Additions → List (ℕ × Row)
+rows_in additions =
+    rows_of head_part additions.heads.items
+    ++ (rows_of version_part additions.versions.items
+    ++ (rows_of detail_part additions.details.items ++ rows_of event_part additions.events.items))

@@ -1,0 +1,44 @@
+-- Substitution jobs (profile). The methods are those of the MDFF Specification, appendix of method flags.
+use Rattle.std.specs.Prelude.{◌≡◌, ◌⊎◌, ◌<◌, ℕ, List, [], ◌∷◌, codes}
+use Rattle.mds_calendar.specs.Length.{count_of}
+use Rattle.mds_world.specs.Facts.{JobContent}
+use Rattle.mds_world.specs.Lists.{Member}
+use Rattle.mds_jobs.specs.declared.job.Job.{Job}
+
+-- what a World knows of a job beside its id
+abbrev pub content_of : Job → JobContent
+content_of job = record {
+  stream = job.stream;
+  day = job.day;
+  first = job.first;
+  last = job.last;
+  length = job.length;
+  unit = job.unit;
+  method = job.method;
+  flag = job.flag;
+  code = job.reason.code;
+  text = job.reason.text;
+  update = job.update;
+}
+
+-- like day, mean of like days, interpolation, zeros
+abbrev pub methods : List ℕ
+methods = 14 ∷ 15 ∷ 17 ∷ 19 ∷ []
+
+-- the flags that a method follows
+abbrev pub flags : List ℕ
+flags = codes "EFS"
+
+-- No store can do it: its intervals aren't such of the day, or the method or the flag isn't one that it may have.
+abbrev pub IsBad : JobContent → Type 0
+IsBad job =
+    (job.first ≡ 0) ⊎ ((job.last < job.first) ⊎ ((count_of job.length < job.last)
+    ⊎ ((Member job.method methods → ⊥) ⊎ (Member job.flag flags → ⊥))))
+
+-- both have one id, and fill the same intervals
+pub record HasPlaceOf (a b : Job) : Type 0 where
+  pub id : a.id ≡ b.id
+  pub stream : a.stream ≡ b.stream
+  pub day : a.day ≡ b.day
+  pub first : a.first ≡ b.first
+  pub last : a.last ≡ b.last

@@ -1,0 +1,11 @@
+//! Substitution jobs: what the holder of a store is told to fill in, on which day of which stream,
+//! and by which method.
+#![tactic(auto)]
+
+mod job;
+mod job_id;
+#[cfg(test)]
+mod tests;
+
+pub use job::Job;
+pub use job_id::JobId;

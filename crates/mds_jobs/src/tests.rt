@@ -1,0 +1,63 @@
+//! Ids, and jobs that can't be done.
+
+use crate::{Job, JobId};
+use mds_quantity::Unit;
+use mds_terms::{Day, Length, Moment, Reason, Stream};
+use std::alloc::Global;
+
+#[test]
+fn ids(rt: HostRuntime) {
+    for text in [
+        "J",
+        "JOB-1",
+        "job-1",
+        "0123456789abcdefghijABCDEFGHIJ-----9",
+    ] {
+        let id = JobId::read(text.as_bytes()).expect(&rt, "an id");
+        assert_eq!(rt; id.text(), text);
+    }
+    for text in [
+        "",
+        "a b",
+        "a_b",
+        "0123456789abcdefghijABCDEFGHIJ-----90",
+        "é",
+    ] {
+        assert!(rt; JobId::read(text.as_bytes()).is_none());
+    }
+}
+
+/// A job of a day of 30 minutes.
+fn job_of(alloc: Global, first: u16, last: u16, method: u8, flag: u8) -> Option<Job> {
+    Some(Job {
+        id: JobId::read(b"J1")?,
+        stream: Stream::read(b"NEM1201009", b"E1")?,
+        day: Day::read(b"20240122")?,
+        first,
+        last,
+        length: Length::from_minutes(30)?,
+        unit: Unit::KWh,
+        method,
+        flag,
+        reason: Reason::new(None, String::new(alloc))?,
+        update: Moment::read(b"20240123000000")?,
+    })
+}
+
+#[test]
+fn bad_jobs(rt: HostRuntime) {
+    for (first, last, method, flag, is_bad) in [
+        (5, 8, 15, b'F', false),
+        (1, 48, 19, b'S', false),
+        (48, 48, 17, b'E', false),
+        (0, 8, 15, b'F', true),
+        (9, 8, 19, b'S', true),
+        (48, 49, 14, b'S', true),
+        (5, 8, 16, b'F', true),
+        (5, 8, 15, b'A', true),
+    ] {
+        let job = job_of(rt.alloc(), first, last, method, flag).expect(&rt, "a job");
+        assert_eq!(rt; job.is_bad(), is_bad);
+        assert!(rt; job.is_same(&job));
+    }
+}

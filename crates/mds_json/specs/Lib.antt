@@ -1,0 +1,3 @@
+pub mod JobFields
+pub mod JobObjects
+pub mod JobSteps

@@ -1,0 +1,70 @@
+-- What a merge holds, as a value.
+use Rattle.std.specs.Prelude.{◌≡◌, ◌⊎◌, ℕ, List, [], map, Option, Some, None, length, refl}
+use Rattle.std.specs.BTreeMap.{BTreeMap}
+use Rattle.std.specs.Coded.{Coded, code_by, coded×, coded_ℕ, coded_list, coded_option}
+use Rattle.std.specs.FinSet as set
+use Rattle.std.specs.FinSet.{code}
+use Rattle.std.specs.List.{flat_map}
+use Rattle.std.specs.declared.alloc.Global.{Global}
+use Rattle.std.specs.declared.vec.Vec.{Vec}
+use Rattle.mds_calendar.specs.Length.{count_of}
+use Rattle.mds_quantity.specs.declared.unit.Unit.{Unit as MeasureUnit}
+use Rattle.mds_marks.specs.Reading.{ReadingValue}
+use Rattle.mds_world.specs.Facts.{Fact}
+use Rattle.mds_world.specs.FactCodes.{coded_fact, coded_measure, coded_reading, coded_stream}
+use Rattle.mds_world.specs.Lists.{Apart, Member}
+use Rattle.mds_world.specs.Stated.{day_facts}
+use Rattle.mds_world.specs.World.{Agrees, World, union}
+use Rattle.mds_versions.specs.Books.{BookValue, book_world}
+use Rattle.mds_versions.specs.DayMerges.{DayMergeValue}
+use Rattle.mds_versions.specs.declared.day_book.Version.{Version}
+
+-- what was claimed under an update; on which lines isn't kept
+abbrev pub claimed_facts : BookValue → ℕ × MeasureUnit → ℕ × Vec ReadingValue Global → List Fact
+claimed_facts book form entry = day_facts book.stream book.day form.0 form.1 entry.0 entry.1.items
+
+-- what was claimed, update by update
+abbrev pub all_claimed : BookValue → Option (ℕ × MeasureUnit) → List (ℕ × Vec ReadingValue Global) → World
+all_claimed book None claimed = set.empty
+all_claimed book (Some form) claimed = set.from_list (flat_map (claimed_facts book form) claimed)
+
+abbrev pub merge_value : BookValue → Option (ℕ × MeasureUnit) → BTreeMap ℕ (Vec ReadingValue Global) → DayMergeValue
+merge_value book form claimed = record {
+  book = book;
+  said = all_claimed book form claimed.entries;
+}
+
+-- All agrees, each claim has a reading for each interval, no update comes twice, and the length and unit are those that
+-- the book's head or a claim says.
+pub record IsDayMerge (book : BookValue) (form : Option (ℕ × MeasureUnit)) (claimed : BTreeMap ℕ (Vec ReadingValue Global)) : Type 0 where
+  pub agrees : Agrees (union (book_world book) (merge_value book form claimed).said)
+  pub whole : (known : ℕ × MeasureUnit) → form ≡ Some known → (entry : ℕ × Vec ReadingValue Global)
+      → Member entry claimed.entries → length entry.1.items ≡ count_of known.0
+  pub once : Apart (map (λ entry. entry.0) claimed.entries)
+  pub none : form ≡ None → claimed.entries ≡ []
+  pub known : (head : ℕ × MeasureUnit) → book.head ≡ Some head → form ≡ Some head
+  pub told : (known : ℕ × MeasureUnit) → form ≡ Some known
+      → (book.head ≡ Some known) ⊎ ((entry : ℕ × Vec ReadingValue Global) × Member entry claimed.entries)
+
+coded_version : Coded Version
+coded_version =
+    code_by _ (coded× coded_ℕ coded_reading)
+    (λ v. (v.update, v.reading))
+    (λ p. record { update = p.0; reading = p.1 })
+    (λ _. refl)
+
+coded_book : Coded BookValue
+coded_book =
+    code_by _
+    (coded× coded_stream
+    (coded× coded_ℕ (coded× (coded_option (coded× coded_ℕ coded_measure)) (coded_list (coded× coded_ℕ coded_version)))))
+    (λ b. (b.stream, (b.day, (b.head, b.rows))))
+    (λ p. record { stream = p.0; day = p.1.0; head = p.1.1.0; rows = p.1.1.1 })
+    (λ _. refl)
+
+pub coded_merge : Coded DayMergeValue
+coded_merge =
+    code_by (BookValue × World) (coded× coded_book (code coded_fact))
+    (λ d. (d.book, d.said))
+    (λ p. record { book = p.0; said = p.1 })
+    (λ _. refl)

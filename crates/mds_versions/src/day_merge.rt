@@ -1,0 +1,334 @@
+//! A day of the store with what the lines so far claim of it.
+
+ghost use Rattle.std.specs.Prelude.{◌≡◌, ◌≢◌, ◌≤◌, ℕ, ◌++◌, length, IfOk, IfErr, IfSome, IfNone, MatchBool, OnOk};
+ghost use Rattle.std.specs.List.{slice_get};
+ghost use Rattle.std.specs.FinSet as set;
+ghost use Rattle.mds_marks.specs.Reading.{ReadingValue};
+ghost use Rattle.mds_world.specs.Facts.Fact.{VersionIs};
+ghost use Rattle.mds_world.specs.Sets.{◌∈◌};
+ghost use Rattle.mds_world.specs.World.{Agrees, union};
+ghost use Rattle.mds_versions.specs.Books.{book_world};
+ghost use Rattle.mds_versions.specs.declared.day_merge.Stop.TheVariants.{Refused};
+ghost use Rattle.mds_versions.specs.DayMerges.{DayMergeValue, AreAscending, IfRefused, IsPlan, Settles};
+ghost use Rattle.mds_versions.specs.Claims.{Contradicts, IsFirst, Suits, BreaksForm, SuitsForm, AreShort, fresh_all, fresh_heads, fresh_versions, held_all, held_count, is_held, key_of};
+ghost use Rattle.mds_versions.specs.Merge.{Breaks, IsRefusal, claim_world, claims_upto, claims_world};
+
+use crate::additions::Additions;
+use crate::claim::Claim;
+use crate::day_book::DayBook;
+use crate::refusal::{Refusal, RefusalCode};
+use mds_marks::Reading;
+use mds_quantity::Unit;
+use mds_terms::{Length, Moment};
+use mds_world::{Head, Key};
+use std::alloc::{AllocError, Global};
+use std::collections::BTreeMap;
+use std::marker::Model;
+
+/// Why a claim isn't taken.
+#[derive(Clone, Copy, Debug, PartialEq, Eq)]
+pub enum Stop {
+    /// It breaks a rule.
+    Refused(Refusal),
+    /// There was no memory.
+    Memory,
+}
+
+/// A day's book, and what lines claim of the day beside it.
+#[derive(Drop)]
+pub struct DayMerge {
+    book: DayBook,
+    /// The length and unit of the book, or of the first claim.
+    form: Option<(Length, Unit)>,
+    /// The readings of each update that was claimed, one for each interval.
+    claimed: BTreeMap<Moment, Vec<Reading>>,
+}
+
+impl Model for DayMerge {
+    ghost use Rattle.mds_versions.specs.DayMerges.{DayMergeValue};
+    ghost use Rattle.mds_versions.specs.DayMergeSteps.{IsDayMerge, coded_merge, merge_value};
+
+    ghost Value = { DayMergeValue };
+
+    ghost coded = { coded_merge };
+
+    ghost view = { λ d. merge_value d.book d.form d.claimed };
+
+    ghost invariant = { λ d. IsDayMerge d.book d.form d.claimed };
+}
+
+/// A refusal of a line, at an interval or at none.
+fn refused(code: RefusalCode, line: u64, interval: u16) -> Stop
+    ensures { result ≡ Refused (record { code = code; line = line; field = 0; interval = interval }) }
+{
+    Stop::Refused(Refusal {
+        code,
+        line,
+        field: 0,
+        interval,
+    })
+}
+
+/// Which rule a claim's length and unit break where the day has others.
+fn head_conflict(form: Option<(Length, Unit)>, length: Length, unit: Unit) -> Option<RefusalCode>
+    ensures some { IfSome result (BreaksForm form length unit) }
+    ensures none { IfNone result (SuitsForm form length unit) }
+{
+    let (known_length, known_unit) = form?;
+    if known_length.minutes() != length.minutes() {
+        return Some(RefusalCode::LengthConflict);
+    }
+    if known_unit != unit {
+        return Some(RefusalCode::UnitConflict);
+    }
+    None
+}
+
+/// The reading that a book has of an interval under an update.
+fn reading_in(book: &DayBook, interval: u16, update: Moment) -> Option<&Reading>
+    ensures some { IfSome result
+        (λ reading. VersionIs (key_of book.now interval update) reading.now ∈ book_world book.now) }
+    ensures none { IfNone result ((reading : ReadingValue)
+        → VersionIs (key_of book.now interval update) reading ∈ book_world book.now → ⊥) }
+{
+    for row in book.versions(interval) {
+        if row.1.update.seconds() == update.seconds() {
+            return Some(&row.1.reading);
+        }
+    }
+    None
+}
+
+/// Whether a book has this reading of an interval under an update.
+fn has_reading(book: &DayBook, interval: u16, update: Moment, reading: &Reading) -> bool
+    ensures { result ≡ is_held book.now update interval reading.now }
+{
+    book.is_lawful();
+    match reading_in(book, interval, update) {
+        Some(held) => held.is_same(reading),
+        None => false,
+    }
+}
+
+/// The first interval of which two claims under one update have other readings.
+fn first_difference(claimed: &[Reading], readings: &[Reading]) -> Option<u16>
+    requires as_many { length claimed.now ≡ length readings.now }
+    requires few { length readings.now ≤ 1440 }
+    ensures some { IfSome result (IsFirst (λ k. slice_get claimed.now k ≢ slice_get readings.now k)
+        (λ k. slice_get claimed.now k ≡ slice_get readings.now k)) }
+    ensures none { IfNone result ((k : ℕ) → slice_get claimed.now k ≡ slice_get readings.now k) }
+{
+    for i in 0..readings.len() {
+        if !claimed[i].is_same(&readings[i]) {
+            return Some((i + 1) as u16);
+        }
+    }
+    None
+}
+
+/// Whether a book has another reading of an interval under an update.
+fn contradicts(book: &DayBook, interval: u16, update: Moment, reading: &Reading) -> bool
+    ensures { MatchBool result
+        ((other : ReadingValue) × (VersionIs (key_of book.now interval update) other ∈ book_world book.now)
+        × (other ≢ reading.now))
+        ((other : ReadingValue) → VersionIs (key_of book.now interval update) other ∈ book_world book.now
+        → other ≡ reading.now) }
+{
+    book.is_lawful();
+    match reading_in(book, interval, update) {
+        Some(held) => !held.is_same(reading),
+        None => false,
+    }
+}
+
+/// The first interval of which a book has another reading under the update.
+fn first_conflict(book: &DayBook, update: Moment, readings: &[Reading]) -> Option<u16>
+    requires { length readings.now ≤ 1440 }
+    ensures some { IfSome result (IsFirst (Contradicts (book_world book.now) book.now update readings.now)
+        (Suits (book_world book.now) book.now update readings.now)) }
+    ensures none { IfNone result
+        ((k : ℕ) → Suits (book_world book.now) book.now update readings.now k) }
+{
+    for i in 0..readings.len() {
+        let interval = (i + 1) as u16;
+        if contradicts(book, interval, update, &readings[i]) {
+            return Some(interval);
+        }
+    }
+    None
+}
+
+/// Puts the head that was claimed behind the heads to be added, where a book has none.
+fn settle_head(
+    book: &DayBook,
+    form: Option<(Length, Unit)>,
+    heads: &mut Vec<Head>,
+) -> Result<(), AllocError>
+    ensures { OnOk result (heads.new.items
+        ≡ heads.old.items ++ fresh_heads book.now.stream book.now.day book.now.head form) }
+{
+    if let (None, Some((length, unit))) = (book.head(), form) {
+        heads.push(Head {
+            stream: book.stream(),
+            day: book.day(),
+            length,
+            unit,
+        })?;
+    }
+    Ok(())
+}
+
+/// Moves the readings of an update that a book doesn't have behind the versions to be added, and
+/// answers how many of them the book has.
+fn settle_update(
+    book: &DayBook,
+    update: Moment,
+    readings: Vec<Reading>,
+    versions: &mut Vec<(Key, Reading)>,
+) -> Result<u64, AllocError>
+    requires { length readings.items ≤ 1440 }
+    ensures versions { OnOk result (versions.new.items
+        ≡ versions.old.items ++ fresh_versions book.now update 1 readings.items) }
+    ensures known { IfOk result (λ known. known ≡ held_count book.now update 1 readings.items) }
+{
+    let mut interval: u16 = 0;
+    let mut known: u64 = 0;
+    for reading in readings {
+        interval += 1;
+        if has_reading(book, interval, update, &reading) {
+            known += 1;
+        } else {
+            let key = Key {
+                stream: book.stream(),
+                day: book.day(),
+                interval,
+                update,
+            };
+            versions.push((key, reading))?;
+        }
+    }
+    Ok(known)
+}
+
+/// The same for all updates that were claimed.
+fn settle_claimed(
+    book: &DayBook,
+    claimed: BTreeMap<Moment, Vec<Reading>>,
+    versions: &mut Vec<(Key, Reading)>,
+) -> Result<u64, AllocError>
+    requires { AreShort claimed.entries }
+    ensures versions { OnOk result (versions.new.items
+        ≡ versions.old.items ++ fresh_all book.now claimed.entries) }
+    ensures known { IfOk result (λ known. known ≡ held_all book.now claimed.entries) }
+{
+    let mut known: u64 = 0;
+    for (update, readings) in claimed {
+        let held = settle_update(book, update, readings, versions)?;
+        // Each of them is a row of the book, so that the sum can't be too large.
+        let Some(sum) = known.checked_add(held) else {
+            return Err(AllocError);
+        };
+        known = sum;
+    }
+    Ok(known)
+}
+
+impl DayMerge {
+    /// A day of the store, of which nothing was claimed yet.
+    pub fn new(alloc: Global, book: DayBook) -> DayMerge
+        ensures { result ≡ record { book = book; said = set.empty } }
+    {
+        book.is_lawful();
+        let form = book.head();
+        DayMerge {
+            book,
+            form,
+            claimed: BTreeMap::new(alloc),
+        }
+    }
+
+    /// Takes what a line claims of the day beside what the lines before it did, or says which rule
+    /// that breaks first.
+    pub fn take(&mut self, claim: Claim) -> Result<(), Stop>
+        ensures ok { OnOk result ((self.new.book ≡ self.old.book)
+            × (self.new.said ≡ union self.old.said (claim_world self.old.book.stream self.old.book.day claim))
+            × Agrees (union (book_world self.new.book) self.new.said)) }
+        ensures refused { IfErr result (λ stop. IfRefused stop (λ refusal.
+            (refusal.line ≡ claim.line) × (refusal.field ≡ 0)
+            × Breaks (union (book_world self.old.book) (union self.old.said
+            (claim_world self.old.book.stream self.old.book.day claim))) refusal.code refusal.interval)) }
+        ensures kept { IfErr result (λ stop. self.new ≡ self.old) }
+    {
+        let Claim {
+            line,
+            length,
+            unit,
+            update,
+            readings,
+        } = claim;
+        if let Some(code) = head_conflict(self.form, length, unit) {
+            return Err(refused(code, line, 0));
+        }
+        // The laws of the order of updates, by which the map finds this one.
+        update.seconds();
+        if let Some(claimed) = self.claimed.get(&update) {
+            if let Some(interval) = first_difference(claimed, &readings) {
+                return Err(refused(RefusalCode::VersionConflict, line, interval));
+            }
+            return Ok(());
+        }
+        if let Some(interval) = first_conflict(&self.book, update, &readings) {
+            return Err(refused(RefusalCode::VersionConflict, line, interval));
+        }
+        if self.claimed.insert(update, readings).is_err() {
+            return Err(Stop::Memory);
+        }
+        self.form = Some((length, unit));
+        Ok(())
+    }
+
+    /// Puts what is claimed and isn't in the book behind what is to be added, and answers how many
+    /// of the versions claimed are in the book.
+    pub fn settle(self, additions: &mut Additions) -> Result<u64, AllocError>
+        ensures { IfOk result (λ known. Settles self additions.old additions.new known) }
+    {
+        let DayMerge {
+            book,
+            form,
+            claimed,
+        } = self;
+        settle_head(&book, form, &mut additions.heads)?;
+        settle_claimed(&book, claimed, &mut additions.versions)
+    }
+}
+
+impl DayBook {
+    /// What claims of this day add to it, each once, or the first rule that one of them breaks. The
+    /// claims come in the order of their lines.
+    pub fn plan(&self, alloc: Global, claims: &[Claim]) -> Result<Additions, Stop>
+        requires lines { AreAscending claims.now }
+        ensures ok { IfOk result
+            (λ additions. IsPlan (book_world self.now) (claims_world self.now.stream self.now.day claims.now) additions) }
+        ensures refused { IfErr result (λ stop. IfRefused stop
+            (IsRefusal (book_world self.now) (claims_upto self.now.stream self.now.day claims.now))) }
+    {
+        self.is_lawful();
+        let Ok(book) = self.try_clone(alloc) else {
+            return Err(Stop::Memory);
+        };
+        let mut merge = DayMerge::new(alloc, book);
+        for claim in claims {
+            let Ok(copy) = claim.try_clone(alloc) else {
+                return Err(Stop::Memory);
+            };
+            if let Err(stop) = merge.take(copy) {
+                return Err(stop);
+            }
+        }
+        let mut additions = Additions::new(alloc);
+        let Ok(_) = merge.settle(&mut additions) else {
+            return Err(Stop::Memory);
+        };
+        Ok(additions)
+    }
+}
