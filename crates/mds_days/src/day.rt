@@ -1,6 +1,6 @@
 //! A day in progress: a 300 record, and the runs of the 400 records that have followed it.
 
-ghost use Rattle.std.specs.Prelude.{◌≡◌, ◌++◌, ◌∷◌, [], ℕ, length, None, OnOk, OnErr, IfOk, IsTrue, unsigned_abs, ◌<◌, ◌≤◌, ◌*◌, ◌+◌, ◌^◌, ◌==◌, ◌+ℤ◌, false, fold, option_to_list, is_some, count_by};
+ghost use Rattle.std.specs.Prelude.{◌≡◌, ◌++◌, ◌∷◌, [], ℕ, length, None, OnOk, OnErr, IfOk, IsTrue, unsigned_abs, ◌<◌, ◌≤◌, ◌*◌, ◌+◌, ◌^◌, ◌==◌, ◌+ℤ◌, false, fold, option_to_list, is_some, count_by, get_or};
 ghost use Rattle.std.specs.List.{flat_map};
 ghost use Rattle.mds_marks.specs.BorrowedMarks.{mark_value};
 ghost use Rattle.mds_marks.specs.Quality.{variable};
@@ -207,8 +207,11 @@ impl DayData {
             ≡ readings_of (length self.now.values) self.now.mark self.now.runs self.now.values) }
         ensures memory { OnErr result (0 < length self.now.values) }
     {
-        let mut readings = Vec::with_capacity(self.alloc, self.count())?;
         let mut runs = self.cover.runs();
+        if runs.is_empty() {
+            return own_readings(self.alloc, &self.mark, self.values.as_slice());
+        }
+        let mut readings = Vec::with_capacity(self.alloc, self.count())?;
         for (k, value) in self.values.as_slice().iter().enumerate() {
             let (mark, rest) = mark_from(runs, &self.mark, k as u16 + 1);
             runs = rest;
@@ -257,6 +260,24 @@ impl Tally {
             self.total += i128::from(value.millionths());
         }
     }
+}
+
+/// The readings of a day without runs: each has the day's own mark.
+fn own_readings(
+    alloc: Global,
+    own: &Mark,
+    values: &[Option<Quantity>],
+) -> Result<Vec<Reading>, AllocError>
+    requires { (k : ℕ) → k < length values.now
+        → IsTrue (is_reading own.now.quality.flag (reading_by own.now (get_or values.now k None)).value) }
+    ensures value { IfOk result (λ readings. readings.items ≡ readings_of (length values.now) own.now [] values.now) }
+    ensures memory { OnErr result (0 < length values.now) }
+{
+    let mut readings = Vec::with_capacity(alloc, values.len())?;
+    for value in values {
+        readings.push(reading(own, *value)?)?;
+    }
+    Ok(readings)
 }
 
 /// The tally of a day without runs, from its own mark, its values and their sum. It looks at no

@@ -1,1 +1,6 @@
+mod BookValues
+mod FillLemmas
 mod LikeDays
+mod SourceLemmas
+mod TallyLemmas
+mod TargetLemmas

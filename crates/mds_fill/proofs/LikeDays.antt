@@ -1,5 +1,5 @@
 -- The Sundays before a day, and days in a list.
-use Rattle.std.proofs.Common.{◌≡◌, ◌+◌, ◌-◌, ◌*◌, ◌%◌, ◌<◌, ◌≤◌, ℕ, zero, suc, slice_get, pos, ◌+ℤ◌, Bool, true, false, ◌||◌, ◌==◌, nat_eq, List, [], ◌∷◌, Option, Some, None, SomeIff, IfSome, IfNone, refl, sym, ap, subst, ◌∙◌, inl, inr, arith}
+use Rattle.std.proofs.Common.{◌≡◌, ◌+◌, ◌-◌, ◌*◌, ◌<◌, ◌≤◌, ℕ, zero, suc, slice_get, pos, Bool, true, false, ◌||◌, ◌==◌, List, [], ◌∷◌, Option, Some, None, SomeIff, IfSome, IfNone, refl, sym, ap, subst, inl, inr, arith}
 use Rattle.std.proofs.lemmas.Bool.Decides.{nat_tests}
 use Rattle.std.specs.Bool.{MatchBool}
 use Rattle.std.specs.List.{list_any}
@@ -7,7 +7,7 @@ use Rattle.jiff_core.proofs.CalendarLemmas.{weekday_number-add, weekday_number_b
 use Rattle.mds_calendar.specs.Calendar.{weekday_of}
 use Rattle.mds_world.specs.Lists.{Member}
 use Rattle.mds_world.specs.Sets.{split_or}
-use Rattle.mds_fill.specs.Candidates.{IsCandidate, IsSunday}
+use Rattle.mds_fill.specs.Candidates.{IsSunday}
 
 -- what a value has that is there under a condition, and what an absent one says
 pub some_if : {T : Type 0} (Q : T → Type 0) (r : Option T) (x : T) {P : Type 0} → SomeIff r P x → (P → Q x) → IfSome r Q
@@ -63,8 +63,8 @@ is_member true day days e = found day days (sym e)
 is_member false day days e = missed day days (sym e)
 
 -- what holds of four slots, each at its place, holds of each slot
-pub each_slot : (P : ℕ → Option ℕ → Type 0) (a b c d : Option ℕ) → P 0 a → P 1 b → P 2 c → P 3 d
-    → (place : ℕ) (slot : Option ℕ) → slice_get (a ∷ b ∷ c ∷ d ∷ []) place ≡ Some slot → P place slot
+pub each_slot : {T : Type 0} (P : ℕ → Option T → Type 0) (a b c d : Option T) → P 0 a → P 1 b → P 2 c → P 3 d
+    → (place : ℕ) (slot : Option T) → slice_get (a ∷ b ∷ c ∷ d ∷ []) place ≡ Some slot → P place slot
 each_slot P a b c d pa pb pc pd zero slot e = let same : a ≡ slot = cc in subst (P 0) same pa
 each_slot P a b c d pa pb pc pd (suc zero) slot e = let same : b ≡ slot = cc in subst (P 1) same pb
 each_slot P a b c d pa pb pc pd (suc (suc zero)) slot e = let same : c ≡ slot = cc in subst (P 2) same pc

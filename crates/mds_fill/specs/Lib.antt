@@ -1,1 +1,3 @@
 pub mod Candidates
+pub mod FillSteps
+pub mod Fills

@@ -82,7 +82,8 @@ pub(crate) fn changed_days(
             stream: head.stream,
             day: head.day,
         };
-        let mut hand = opened(alloc, days, &mut closed, in_hand, &place)?;
+        let room = head.length.count();
+        let mut hand = opened(alloc, days, &mut closed, in_hand, &place, room)?;
         hand.rows.head = Some((head.length, head.unit));
         in_hand = Some(hand);
     }
@@ -91,7 +92,7 @@ pub(crate) fn changed_days(
             stream: key.stream,
             day: key.day,
         };
-        let mut hand = opened(alloc, days, &mut closed, in_hand, &place)?;
+        let mut hand = opened(alloc, days, &mut closed, in_hand, &place, 0)?;
         let version = Version {
             update: key.update,
             reading,
@@ -107,13 +108,16 @@ pub(crate) fn changed_days(
 }
 
 /// Goes on to the day of this place: takes it out of those that were changed before, or copies what
-/// is kept of it. The day in hand before joins those, where it is another.
+/// is kept of it; one of which nothing is kept gets room for so many versions. The day in hand before
+/// joins those, where it is another.
+#[inline(always)]
 fn opened(
     alloc: Global,
     days: &BTreeMap<StreamDay, DayBook>,
     closed: &mut BTreeMap<StreamDay, Rows>,
     in_hand: Option<InHand>,
     place: &StreamDay,
+    room: usize,
 ) -> Result<InHand, AllocError>
     requires { AreOfTheirDays days.now }
     ensures place { IfOk result (λ hand. hand.place ≡ place.now) }
@@ -127,10 +131,11 @@ fn opened(
         }
         close(closed, hand)?;
     }
-    taken(alloc, days, closed, place)
+    taken(alloc, days, closed, place, room)
 }
 
 /// Puts the day in hand to the others.
+#[inline(never)]
 fn close(closed: &mut BTreeMap<StreamDay, Rows>, hand: InHand) -> Result<(), AllocError>
     ensures { OnOk result ((w : World) (more : List Fact)
         → AreChanged w more closed.old (Some hand) → AreChanged w more closed.new None) }
@@ -140,11 +145,13 @@ fn close(closed: &mut BTreeMap<StreamDay, Rows>, hand: InHand) -> Result<(), All
 }
 
 /// Takes a day in hand.
+#[inline(never)]
 fn taken(
     alloc: Global,
     days: &BTreeMap<StreamDay, DayBook>,
     closed: &mut BTreeMap<StreamDay, Rows>,
     place: &StreamDay,
+    room: usize,
 ) -> Result<InHand, AllocError>
     requires { AreOfTheirDays days.now }
     ensures place { IfOk result (λ hand. hand.place ≡ place.now) }
@@ -154,7 +161,7 @@ fn taken(
 {
     let rows = match closed.remove(place) {
         Some(rows) => rows,
-        None => kept_rows(alloc, days, place)?,
+        None => kept_rows(alloc, days, place, room)?,
     };
     Ok(InHand {
         place: *place,
@@ -162,11 +169,12 @@ fn taken(
     })
 }
 
-/// What is kept of a day, copied.
+/// What is kept of a day, copied. Where nothing is, there is room for so many versions.
 fn kept_rows(
     alloc: Global,
     days: &BTreeMap<StreamDay, DayBook>,
     place: &StreamDay,
+    room: usize,
 ) -> Result<Rows, AllocError>
     requires { AreOfTheirDays days.now }
     ensures { IfOk result (Holds (days_world days.now) [] place.now) }
@@ -174,7 +182,7 @@ fn kept_rows(
     let Some(book) = days.get(place) else {
         return Ok(Rows {
             head: None,
-            versions: Vec::new(alloc),
+            versions: Vec::with_capacity(alloc, room)?,
         });
     };
     Ok(Rows {

@@ -15,7 +15,7 @@ use Rattle.mds_records.specs.declared.fault.FieldFault.{FieldFault}
 use Rattle.mds_records.specs.declared.fault.FieldFault.TheVariants.{Count}
 use Rattle.mds_records.specs.declared.file.FaultCode.{FaultCode}
 use Rattle.mds_records.specs.declared.file.FileFault.{FileFault}
-use Rattle.mds_records.specs.declared.file.FileKind.TheVariants.{Nem12}
+use Rattle.mds_records.specs.declared.header_name.HeaderName.TheVariants.{Nem12}
 use Rattle.mds_records.specs.declared.header.HeaderRecord.{HeaderRecord}
 use Rattle.mds_records.specs.declared.interval_event.IntervalEventRecord.{IntervalEventRecord}
 use Rattle.mds_records.specs.declared.nmi_data_details.NmiDataDetailsRecord.{NmiDataDetailsRecord}
@@ -32,8 +32,8 @@ use Rattle.mds_nem12.specs.Statements.{stream_statement}
 use Rattle.mds_nem12.specs.Told.{event_said, header_said, stream_said}
 use Rattle.mds_nem12.specs.declared.file_reader.LastRecord.{LastRecord}
 use Rattle.mds_nem12.specs.declared.file_reader.LastRecord.TheVariants as state
-use Rattle.mds_nem12.specs.declared.file_reader.Nem12Fault.{Nem12Fault}
-use Rattle.mds_nem12.specs.declared.file_reader.Nem12Fault.TheVariants.{File, Memory}
+use Rattle.mds_reading.specs.declared.fault.TakeFault.{TakeFault}
+use Rattle.mds_reading.specs.declared.fault.TakeFault.TheVariants.{File, Memory}
 use Rattle.mds_nem12.specs.declared.sink.Governing.{Governing}
 
 -- a field that was read
@@ -259,20 +259,20 @@ no_event g line kind other = ap (λ b. cond b (run_fault (count_in g.details) g.
 
 -- How a record is answered.
 
-pub refused_with : (o : Option FileFault) (lack : Type 0) (fault : FileFault) (answer : Nem12Fault) → answer ≡ File fault → o ≡ Some fault
+pub refused_with : (o : Option FileFault) (lack : Type 0) (fault : FileFault) (answer : TakeFault) → answer ≡ File fault → o ≡ Some fault
     → IsStop o lack answer
-refused_with o lack fault answer is some = subst (λ (t : Nem12Fault). IsStop o lack t) (sym is) some
+refused_with o lack fault answer is some = subst (λ (t : TakeFault). IsStop o lack t) (sym is) some
 
-refused_any : (L M : Type 0) (o : Option FileFault) (answer : Nem12Fault) → (L → M) → IsStop None L answer → IsStop o M answer
+refused_any : (L M : Type 0) (o : Option FileFault) (answer : TakeFault) → (L → M) → IsStop None L answer → IsStop o M answer
 refused_any L M o (File fault) more h = absurd (cc)
 refused_any L M o Memory more h = more h
 
-pub answered : {T : Type 0} (r : Result T Nem12Fault) (P Q L M : Type 0) (o : Option FileFault) → Q → (L → M)
+pub answered : {T : Type 0} (r : Result T TakeFault) (P Q L M : Type 0) (o : Option FileFault) → Q → (L → M)
     → MatchResult r (λ _. P) (IsStop None L) → MatchResult r (λ _. Q × P) (IsStop o M)
 answered (Ok x) P Q L M o q more h = (q, h)
 answered (Err answer) P Q L M o q more h = refused_any L M o answer more h
 
-pub answered_as : {T : Type 0} (r : Result T Nem12Fault) (P L : Type 0) (o : Option FaultCode) (f : FaultCode → FileFault) (all : Option FileFault)
+pub answered_as : {T : Type 0} (r : Result T TakeFault) (P L : Type 0) (o : Option FaultCode) (f : FaultCode → FileFault) (all : Option FileFault)
     → all ≡ option_map f o → MatchResult r (λ _. (o ≡ None) × P) (IsStop (option_map f o) ((o ≡ None) × L))
     → MatchResult r (λ _. (all ≡ None) × P) (IsStop all ((all ≡ None) × L))
 answered_as (Ok x) P L o f all e h = (e ∙ ap (option_map f) h.0, h.1)
@@ -280,7 +280,7 @@ answered_as (Err (File fault)) P L o f all e h = e ∙ h
 answered_as (Err Memory) P L o f all e h = (e ∙ ap (option_map f) h.0, h.1)
 
 -- a 400 takes memory for its run
-run_answered : {T : Type 0} (r : Result T Nem12Fault) (P : Type 0) (g : Governors) (line : List ℕ) (o : Option FileFault)
+run_answered : {T : Type 0} (r : Result T TakeFault) (P : Type 0) (g : Governors) (line : List ℕ) (o : Option FileFault)
     → MatchResult r (λ _. (fault_of_run g line a.IntervalEvent ≡ None) × P) (IsStop o (fault_of_run g line a.IntervalEvent ≡ None))
     → MatchResult r (λ _. (fault_of_run g line a.IntervalEvent ≡ None) × P)
     (IsStop o ((fault_of_run g line a.IntervalEvent ≡ None) × (takes_memory g line (Some a.IntervalEvent) ≡ true)))
@@ -288,7 +288,7 @@ run_answered (Ok x) P g line o h = h
 run_answered (Err (File fault)) P g line o h = h
 run_answered (Err Memory) P g line o h = (h, refl)
 
-pub answered_run : {T : Type 0} (r : Result T Nem12Fault) (P : Type 0) (g : Governors) (number : ℕ) (line : List ℕ) (kind : Kind)
+pub answered_run : {T : Type 0} (r : Result T TakeFault) (P : Type 0) (g : Governors) (number : ℕ) (line : List ℕ) (kind : Kind)
     → kind ≡ a.IntervalEvent
     → MatchResult r (λ _. (fault_of_run g line a.IntervalEvent ≡ None) × P)
     (IsStop (option_map (at_line number) (fault_of_run g line a.IntervalEvent)) (fault_of_run g line a.IntervalEvent ≡ None))

@@ -11,7 +11,7 @@ use Rattle.mds_days.specs.Days.{DayValue, run_value}
 use Rattle.mds_records.specs.FieldFaults.{field_fault}
 use Rattle.mds_records.specs.Records.{IsB2bDetails, IsHeader, IsIntervalData, IsIntervalEvent, IsNmiDataDetails, quantity_in, value_count, values_of}
 use Rattle.mds_records.specs.declared.b2b_details.B2bDetailsRecord.{B2bDetailsRecord}
-use Rattle.mds_records.specs.declared.file.FileKind.TheVariants.{Nem12}
+use Rattle.mds_records.specs.declared.header_name.HeaderName.TheVariants.{Nem12}
 use Rattle.mds_records.specs.declared.header.HeaderRecord.{HeaderRecord}
 use Rattle.mds_records.specs.declared.interval_data.IntervalDataRecord.{IntervalDataRecord}
 use Rattle.mds_records.specs.declared.interval_event.IntervalEventRecord.{IntervalEventRecord}

@@ -1,14 +1,10 @@
 pub mod Along
 pub mod Deliveries
-pub mod Faultless
 pub mod Governs
 pub mod Judged
 pub mod Kept
 pub mod Lacking
 pub mod Lasts
-pub mod LinesRead
-pub mod Longer
-pub mod Numbered
 pub mod Orderly
 pub mod States
 pub mod Taken

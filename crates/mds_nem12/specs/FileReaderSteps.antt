@@ -6,7 +6,7 @@ use Rattle.mds_lines.specs.declared.line.Kind.TheVariants as kind
 use Rattle.mds_records.specs.FieldFaults.{field_fault}
 use Rattle.mds_records.specs.declared.file.FaultCode.TheVariants as code
 use Rattle.mds_records.specs.declared.file.FileFault.{FileFault}
-use Rattle.mds_records.specs.declared.file.FileKind.TheVariants.{Nem12}
+use Rattle.mds_records.specs.declared.header_name.HeaderName.TheVariants.{Nem12}
 use Rattle.mds_records.specs.declared.record.Record.{Record}
 use Rattle.mds_records.specs.declared.record.Record.TheVariants as of
 use Rattle.mds_days.specs.Days.{DayValue}
@@ -18,13 +18,13 @@ use Rattle.mds_nem12.specs.Place.{is_kind}
 use Rattle.mds_nem12.specs.Said.{header_in, stream_in, length_in, count_in, unit_in, date_in, values_in, mark_in, update_in}
 use Rattle.mds_statements.specs.Statements.{Statement}
 use Rattle.mds_statements.specs.Statements.Statement.{DayOf}
+use Rattle.mds_nem12.specs.Statements.{statements}
 use Rattle.mds_nem12.specs.Told.{day_said, ends_in_day, header_moment, is_headed, IsUnder}
 use Rattle.mds_nem12.specs.declared.sink.Governing.{Governing}
 use Rattle.mds_nem12.specs.declared.file_reader.FileReader.{FileReader}
 use Rattle.mds_nem12.specs.declared.file_reader.LastRecord.{LastRecord}
 use Rattle.mds_nem12.specs.declared.file_reader.LastRecord.TheVariants as state
-use Rattle.mds_nem12.specs.declared.file_reader.Nem12Fault.{Nem12Fault}
-use Rattle.mds_nem12.specs.declared.file_reader.Nem12Fault.TheVariants.{File, Memory}
+pub use Rattle.mds_reading.specs.Answers.{IsRefusal, IsStop}
 
 -- the kind of the last record
 abbrev pub last_kind : LastRecord → Option Kind
@@ -131,6 +131,10 @@ pub record Knows (before : List (List ℕ)) (last : LastRecord) (day : DayValue)
   pub stated : KnowsStated last day before done
   pub event : has_day last ≡ true → has_open_day last ≡ false → ends_in_day done ≡ true
 
+-- These lines are all told: what they state, the header first.
+abbrev pub HasTold : {T : Type 0} → (T → List Statement → Type 0) → T → List (List ℕ) → Type 0
+HasTold told sink lines = told sink (statements lines) × (is_headed (statements lines) ≡ true)
+
 -- A reader has taken these lines, and met no fault.
 pub record HasTaken {T : Type 0} (told : T → List Statement → Type 0) (before : List (List ℕ)) (reader : FileReader T)
     : Type 0 where
@@ -171,15 +175,6 @@ fields_fault g number line found = first_of (
     option_map (at_field number) (field_fault Nem12 found (count_in g.details) line)
     ∷ option_map (at_line number) (fault_of_run g line found)
     ∷ [])
-
--- a line is refused for the fault that it has, or for want of memory, and then this holds
-abbrev pub IsStop : Option FileFault → Type 0 → Nem12Fault → Type 0
-IsStop found lack (File fault) = found ≡ Some fault
-IsStop found lack Memory = lack
-
--- the same, whatever may hold
-abbrev pub IsRefusal : Option FileFault → Nem12Fault → Type 0
-IsRefusal found answer = IsStop found (Unit {0}) answer
 
 -- a record can be kept; one of accumulation data stands in no NEM12 file
 abbrev pub CanFollow : Record → LastRecord → Type 0

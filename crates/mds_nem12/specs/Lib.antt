@@ -5,7 +5,6 @@ pub mod FileReaderSteps
 pub mod Governing
 pub mod OpenDays
 pub mod Place
-pub mod ReadingSteps
 pub mod Said
 pub mod Statements
 pub mod Told

@@ -1,10 +1,10 @@
--- What the fields of a record say, as terms. MDFF Specification, the tables of the 100, 200, 300, 400 and 500 records.
+-- What the fields of a record say, as terms. MDFF Specification, the tables of the 200, 300, 400 and 500 records.
 -- In a well formed text each field is what its layout says, so that what stands here for one that isn't is never met.
 use Rattle.std.specs.Prelude.{ℕ, ◌+◌, List, [], map, ℤ, Option, None, unwrap_or}
 use Rattle.mds_quantity.specs.Unit.{unit_of}
 use Rattle.mds_quantity.specs.declared.unit.Unit.{Unit as MeasureUnit}
 use Rattle.mds_quantity.specs.declared.unit.Unit.TheVariants.{KWh}
-use Rattle.mds_calendar.specs.Calendar.{day_of, moment_of, date_time_of}
+use Rattle.mds_calendar.specs.Calendar.{day_of, moment_of}
 use Rattle.mds_calendar.specs.Length.{length_of}
 use Rattle.mds_names.specs.declared.stream.Stream.{Stream}
 use Rattle.mds_marks.specs.Mark.{mark_of}
@@ -17,24 +17,13 @@ use Rattle.mds_lines.specs.Lines.{field}
 use Rattle.mds_records.specs.Layouts.{interval_number_of}
 use Rattle.mds_records.specs.Records.{quantity_in, value_count, values_of}
 use Rattle.mds_runs.specs.declared.cover.Run.{Run}
-use Rattle.mds_statements.specs.Statements.{HeaderValue}
+pub use Rattle.mds_reading.specs.Said.{header_in, stream_in}
 
 -- the mark of no data: quality N, without a reason
 abbrev pub bare_null : Mark
 bare_null = record { quality = record { flag = null; method = 0 }; reason = record { code = None; text = [] } }
 
--- 100: when the file was made, by whom and for whom
-abbrev pub header_in : List ℕ → HeaderValue
-header_in line = record {
-  moment = unwrap_or (date_time_of (field line 3)) 0;
-  sender = field line 4;
-  receiver = field line 5;
-}
-
--- 200: the stream, the length of its intervals in minutes and how many a day has, the unit, and the meter's details
-abbrev pub stream_in : List ℕ → Stream
-stream_in line = record { nmi = field line 2; suffix = field line 5 }
-
+-- 200: the length of its intervals in minutes and how many a day has, the unit, and the meter's details
 abbrev pub length_in : List ℕ → ℕ
 length_in line = unwrap_or (length_of (field line 9)) 0
 

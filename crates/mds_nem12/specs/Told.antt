@@ -1,21 +1,17 @@
 -- What a sink is told of a file: its statements, in terms.
-use Rattle.std.specs.Prelude.{◌≡◌, ℕ, Bool, true, false, List, [], ◌∷◌, length, Option, None, Some, is_some, unwrap_or}
+use Rattle.std.specs.Prelude.{◌≡◌, ℕ, Bool, true, false, List, [], ◌∷◌, length, Option, None, Some, unwrap_or}
 use Rattle.std.specs.List.{flat_map, last_or}
 use Rattle.std.specs.Option.{option_map_or}
 use Rattle.mds_terms.specs.BorrowedTexts.{text_of, details_in}
 use Rattle.mds_terms.specs.Event.{EventValue}
 use Rattle.mds_records.specs.declared.b2b_details.B2bDetailsRecord.{B2bDetailsRecord}
-use Rattle.mds_records.specs.declared.header.HeaderRecord.{HeaderRecord}
+pub use Rattle.mds_reading.specs.Said.{header_moment, header_said, is_headed}
 use Rattle.mds_records.specs.declared.nmi_data_details.NmiDataDetailsRecord.{NmiDataDetailsRecord}
 use Rattle.mds_days.specs.Days.{DayValue}
 use Rattle.mds_days.specs.Readings.{readings_of}
-use Rattle.mds_statements.specs.Statements.{HeaderValue, Statement, StreamStatement, DayStatement}
+use Rattle.mds_statements.specs.Statements.{Statement, StreamStatement, DayStatement}
 use Rattle.mds_statements.specs.Statements.Statement.{HeaderOf, DetailsOf, DayOf, EventOf}
 use Rattle.mds_nem12.specs.declared.sink.Governing.{Governing}
-
--- what a 100 says
-abbrev pub header_said : HeaderRecord → HeaderValue
-header_said r = record { moment = r.moment; sender = text_of r.sender; receiver = text_of r.receiver }
 
 -- what a 200 says on a line, under a header of a moment
 abbrev pub stream_said : ℕ → ℕ → NmiDataDetailsRecord → StreamStatement
@@ -51,14 +47,6 @@ event_said governing date r = record {
   moment = r.moment;
   reading = text_of r.reading;
 }
-
--- the moment of the header, where it comes first
-abbrev pub header_moment : List Statement → Option ℕ
-header_moment (HeaderOf header ∷ more) = Some header.moment
-header_moment statements = None
-
-abbrev pub is_headed : List Statement → Bool
-is_headed statements = is_some (header_moment statements)
 
 -- the last 200 of statements
 abbrev pub streams_in : Statement → List StreamStatement

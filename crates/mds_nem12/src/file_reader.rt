@@ -7,7 +7,8 @@ ghost use Rattle.mds_lines.specs.Numbered.{number_of, text_of};
 ghost use Rattle.mds_lines.specs.declared.line.Kind.{Kind as AKind};
 ghost use Rattle.mds_days.specs.Days.{IsWhole, run_value};
 ghost use Rattle.mds_days.specs.RunFaults.{run_fault};
-ghost use Rattle.mds_nem12.specs.Faults.{at_line as fault_at, at_field as field_fault_at, end_fault, fault_of_run, kind_fault, record_fault, text_fault};
+ghost use Rattle.mds_reading.specs.Faults.{kind_fault};
+ghost use Rattle.mds_nem12.specs.Faults.{at_line as fault_at, end_fault, fault_of_run, nem12, record_fault, text_fault};
 ghost use Rattle.mds_nem12.specs.Answers.{MayLack, MayLackMemory, takes_memory};
 ghost use Rattle.mds_nem12.specs.FileReaderSteps.{HasTaken, IsRefusal, IsStop};
 ghost use Rattle.mds_nem12.specs.Governing.{ends_day, governors, has_gap, record_kind};
@@ -17,31 +18,13 @@ ghost use Rattle.mds_nem12.specs.Told.{is_headed};
 use crate::sink::{Governing, StatementSink};
 use mds_days::DayData;
 use mds_lines::{Kind, KindFault, Line};
+use mds_reading::{LineSink, TakeFault, at_end, at_field, at_line};
 use mds_records::{
-    B2bDetailsRecord, FaultCode, FieldFault, FileFault, FileKind, HeaderRecord, IntervalDataRecord,
-    IntervalEventRecord, IntervalValues, NmiDataDetailsRecord, Record, read_record,
+    B2bDetailsRecord, FaultCode, FileKind, HeaderRecord, IntervalDataRecord, IntervalEventRecord,
+    IntervalValues, NmiDataDetailsRecord, Record, read_record,
 };
 use mds_terms::{Length, Moment};
 use std::alloc::{AllocError, Global};
-
-/// Why a file, or its next line, isn't taken.
-#[derive(Clone, Copy, Debug, PartialEq, Eq)]
-pub enum Nem12Fault {
-    /// The file isn't well formed.
-    File(FileFault),
-    /// There was no memory.
-    Memory,
-}
-
-impl Nem12Fault {
-    ghost use Rattle.std.specs.Prelude.{◌↔◌, IsTrue};
-    ghost use Rattle.mds_nem12.specs.declared.file_reader.Nem12Fault.{Nem12Fault as AFault};
-
-    /// A law: faults are equal where they are the same.
-    pub fn one_equality()
-        ensures { (a b : AFault) → IsTrue (⟦<Nem12Fault as PartialEq>⟧.eq a b) ↔ (a ≡ b) }
-    {}
-}
 
 /// The last record, with what governs the next one.
 #[derive(Clone, Copy)]
@@ -72,7 +55,7 @@ pub struct FileReader<T> {
     day: DayData,
     /// What the values of the next 300 record are read into.
     values: IntervalValues,
-    fault: Option<Nem12Fault>,
+    fault: Option<TakeFault>,
 }
 
 impl LastRecord {
@@ -170,13 +153,14 @@ impl LastRecord {
 
 impl<T: StatementSink + Drop> FileReader<T> {
     ghost use Rattle.mds_records.specs.FieldFaults.{field_fault};
+    ghost use Rattle.mds_records.specs.declared.header_name.HeaderName.TheVariants.{Nem12};
     ghost use Rattle.mds_records.specs.Records.{GoesWith, IsB2bDetails, IsHeader, IsIntervalData, IsIntervalEvent, IsNmiDataDetails, Spells, quantity_in, values_of};
     ghost use Rattle.mds_records.specs.declared.file.FileFault.{FileFault as AFileFault};
     ghost use Rattle.mds_nem12.specs.Answers.{fault_answered};
     ghost use Rattle.mds_nem12.specs.FileReaderSteps.{CanFollow, HasClosed, IsReady, fields_fault, gap_fault, has_day, has_open_day, last_governing, last_kind, last_moment};
     ghost use Rattle.mds_nem12.specs.Place.{is_in_place};
     ghost use Rattle.mds_nem12.specs.Said.{count_in};
-    ghost use Rattle.mds_nem12.specs.declared.file_reader.Nem12Fault.{Nem12Fault as AFault};
+    ghost use Rattle.mds_reading.specs.declared.fault.TakeFault.{TakeFault as AFault};
 
     /// Before the first line of a file, all of which the sink is to be told. It takes the memory
     /// for a day's values.
@@ -195,7 +179,7 @@ impl<T: StatementSink + Drop> FileReader<T> {
 
     /// Takes the next line, or answers the fault that it has after the lines before it. After a
     /// fault, or want of memory, it answers the same.
-    pub fn take(&mut self, line: &Line<'_>) -> Result<(), Nem12Fault>
+    pub fn take(&mut self, line: &Line<'_>) -> Result<(), TakeFault>
         ensures taken { (before : List (List ℕ)) → HasTaken T.told before self.old
             → number_of line.now ≡ length before + 1
             → MatchResult result
@@ -216,7 +200,7 @@ impl<T: StatementSink + Drop> FileReader<T> {
     }
 
     /// Takes the next line where no fault was answered yet, and keeps the fault.
-    fn take_next(&mut self, line: &Line<'_>) -> Result<(), Nem12Fault>
+    fn take_next(&mut self, line: &Line<'_>) -> Result<(), TakeFault>
         ensures taken { (before : List (List ℕ)) → HasTaken T.told before self.old
             → number_of line.now ≡ length before + 1
             → MatchResult result
@@ -238,7 +222,7 @@ impl<T: StatementSink + Drop> FileReader<T> {
     }
 
     /// Takes the next line, but for keeping the fault.
-    fn take_line(&mut self, line: &Line<'_>) -> Result<(), Nem12Fault>
+    fn take_line(&mut self, line: &Line<'_>) -> Result<(), TakeFault>
         ensures { (before : List (List ℕ)) → HasTaken T.told before self.old
             → number_of line.now ≡ length before + 1
             → MatchResult result
@@ -253,16 +237,15 @@ impl<T: StatementSink + Drop> FileReader<T> {
     }
 
     /// Takes the next line, which isn't empty.
-    fn take_full(&mut self, line: &Line<'_>) -> Result<(), Nem12Fault>
+    fn take_full(&mut self, line: &Line<'_>) -> Result<(), TakeFault>
         ensures { (before : List (List ℕ)) → HasTaken T.told before self.old
             → number_of line.now ≡ length before + 1
             → MatchResult result
-            (λ _. (kind_fault (governors before) (length before + 1) (text_of line.now)
-            (kind_of (text_of line.now)) ≡ None)
+            (λ _. (kind_fault nem12 before (text_of line.now) (kind_of (text_of line.now)) ≡ None)
             × HasTaken T.told (before ++ text_of line.now ∷ []) self.new)
-            (IsStop (kind_fault (governors before) (length before + 1) (text_of line.now) (kind_of (text_of line.now)))
+            (IsStop (kind_fault nem12 before (text_of line.now) (kind_of (text_of line.now)))
             (MayLack (governors before) (text_of line.now) (record_kind (text_of line.now))
-            (kind_fault (governors before) (length before + 1) (text_of line.now) (kind_of (text_of line.now))))) }
+            (kind_fault nem12 before (text_of line.now) (kind_of (text_of line.now))))) }
     {
         match line.kind() {
             Ok(kind) => self.take_record(line, kind),
@@ -272,7 +255,7 @@ impl<T: StatementSink + Drop> FileReader<T> {
     }
 
     /// Takes the next line, a record of a kind.
-    fn take_record(&mut self, line: &Line<'_>, kind: Kind) -> Result<(), Nem12Fault>
+    fn take_record(&mut self, line: &Line<'_>, kind: Kind) -> Result<(), TakeFault>
         requires known { kind_of (text_of line.now) ≡ Ok kind }
         ensures { (before : List (List ℕ)) → HasTaken T.told before self.old
             → number_of line.now ≡ length before + 1
@@ -295,7 +278,7 @@ impl<T: StatementSink + Drop> FileReader<T> {
     /// Ends the day in progress before a record of a kind, unless that is a further run of it: the
     /// day is whole, and the sink is told, or the record has the fault that an interval is left
     /// out.
-    fn close_before(&mut self, line: &Line<'_>, kind: Kind) -> Result<(), Nem12Fault>
+    fn close_before(&mut self, line: &Line<'_>, kind: Kind) -> Result<(), TakeFault>
         ensures closed { (before : List (List ℕ)) → HasTaken T.told before self.old
             → number_of line.now ≡ length before + 1
             → MatchResult result
@@ -325,7 +308,7 @@ impl<T: StatementSink + Drop> FileReader<T> {
     }
 
     /// Tells the sink the day in progress, if there is one.
-    fn close_day(&mut self) -> Result<(), Nem12Fault>
+    fn close_day(&mut self) -> Result<(), TakeFault>
         requires whole { has_open_day self.old.last ≡ true → IsWhole self.old.day }
         ensures closed { (before : List (List ℕ)) → HasTaken T.told before self.old
             → has_gap (governors before) ≡ false
@@ -337,13 +320,13 @@ impl<T: StatementSink + Drop> FileReader<T> {
             None => Ok(()),
             Some(governing) => match self.sink.day(&governing, &self.day) {
                 Ok(()) => Ok(()),
-                Err(_) => Err(Nem12Fault::Memory),
+                Err(_) => Err(TakeFault::Memory),
             },
         }
     }
 
     /// Takes the fields of a record of a kind, which is in place.
-    fn take_fields(&mut self, line: &Line<'_>, kind: Kind) -> Result<(), Nem12Fault>
+    fn take_fields(&mut self, line: &Line<'_>, kind: Kind) -> Result<(), TakeFault>
         requires known { kind_of (text_of line.now) ≡ Ok kind }
         requires place { is_in_place (last_kind self.old.last) kind ≡ true }
         ensures { (before : List (List ℕ)) → IsReady T.told before kind self.old
@@ -364,13 +347,13 @@ impl<T: StatementSink + Drop> FileReader<T> {
 
     /// Keeps a record that is in place: tells the sink what it says, and keeps what it governs. A
     /// 400 is refused if its run doesn't go with the day.
-    fn keep(&mut self, line: &Line<'_>, record: &Record<'_>) -> Result<(), Nem12Fault>
+    fn keep(&mut self, line: &Line<'_>, record: &Record<'_>) -> Result<(), TakeFault>
         requires follows { CanFollow «record».now self.old.last }
         requires goes { GoesWith self.old.values «record».now }
         ensures { (before : List (List ℕ)) → (kind : AKind) → kind_of (text_of line.now) ≡ Ok kind
             → IsReady T.told before kind self.old → number_of line.now ≡ length before + 1
             → is_in_place (last_kind self.old.last) kind ≡ true
-            → field_fault FileKind.Nem12 kind (count_in (governors before).details) (text_of line.now) ≡ None
+            → field_fault Nem12 kind (count_in (governors before).details) (text_of line.now) ≡ None
             → Spells kind (count_in (governors before).details) (text_of line.now) «record».now
             → (kind ≡ Kind.IntervalData
             → self.old.values
@@ -397,7 +380,7 @@ impl<T: StatementSink + Drop> FileReader<T> {
     }
 
     /// Keeps a 100 record.
-    fn keep_header(&mut self, header: &HeaderRecord<'_>) -> Result<(), Nem12Fault>
+    fn keep_header(&mut self, header: &HeaderRecord<'_>) -> Result<(), TakeFault>
         ensures { (before : List (List ℕ)) → (text : List ℕ) → kind_of text ≡ Ok Kind.Header
             → HasClosed T.told before self.old → is_in_place (last_kind self.old.last) Kind.Header ≡ true
             → IsHeader text header.now
@@ -408,7 +391,7 @@ impl<T: StatementSink + Drop> FileReader<T> {
                 self.last = LastRecord::Header(header.moment);
                 Ok(())
             }
-            Err(_) => Err(Nem12Fault::Memory),
+            Err(_) => Err(TakeFault::Memory),
         }
     }
 
@@ -417,7 +400,7 @@ impl<T: StatementSink + Drop> FileReader<T> {
         &mut self,
         number: u64,
         details: &NmiDataDetailsRecord<'_>,
-    ) -> Result<(), Nem12Fault>
+    ) -> Result<(), TakeFault>
         requires { IsSome (last_moment self.old.last) }
         ensures { (before : List (List ℕ)) → (text : List ℕ) → kind_of text ≡ Ok Kind.NmiDataDetails
             → HasClosed T.told before self.old → number ≡ length before + 1 → IsNmiDataDetails text details.now
@@ -434,17 +417,17 @@ impl<T: StatementSink + Drop> FileReader<T> {
                 });
                 Ok(())
             }
-            Err(_) => Err(Nem12Fault::Memory),
+            Err(_) => Err(TakeFault::Memory),
         }
     }
 
     /// Keeps the 300 record of a line, whose values have been read.
-    fn keep_day(&mut self, number: u64, day: &IntervalDataRecord<'_>) -> Result<(), Nem12Fault>
+    fn keep_day(&mut self, number: u64, day: &IntervalDataRecord<'_>) -> Result<(), TakeFault>
         requires governed { IsSome (last_governing self.old.last) }
         requires goes { GoesWith self.old.values (Record.IntervalData day.now) }
         ensures { (before : List (List ℕ)) → (text : List ℕ) → kind_of text ≡ Ok Kind.IntervalData
             → HasClosed T.told before self.old → number ≡ length before + 1
-            → field_fault FileKind.Nem12 Kind.IntervalData (count_in (governors before).details) text ≡ None
+            → field_fault Nem12 Kind.IntervalData (count_in (governors before).details) text ≡ None
             → IsIntervalData (count_in (governors before).details) text day.now
             → self.old.values ≡ map quantity_in (values_of (count_in (governors before).details) text)
             → MatchResult result (λ _. HasTaken T.told (before ++ text ∷ []) self.new)
@@ -456,7 +439,7 @@ impl<T: StatementSink + Drop> FileReader<T> {
                 self.last = LastRecord::Day(governing);
                 Ok(())
             }
-            Err(_) => Err(Nem12Fault::Memory),
+            Err(_) => Err(TakeFault::Memory),
         }
     }
 
@@ -465,7 +448,7 @@ impl<T: StatementSink + Drop> FileReader<T> {
         &mut self,
         line: &Line<'_>,
         event: &IntervalEventRecord<'_>,
-    ) -> Result<(), Nem12Fault>
+    ) -> Result<(), TakeFault>
         requires open { has_open_day self.old.last ≡ true }
         requires goes { GoesWith self.old.values (Record.IntervalEvent event.now) }
         ensures { (before : List (List ℕ)) → kind_of (text_of line.now) ≡ Ok Kind.IntervalEvent
@@ -486,7 +469,7 @@ impl<T: StatementSink + Drop> FileReader<T> {
     }
 
     /// Keeps a 400 record whose run has no fault in the day.
-    fn push_run(&mut self, event: &IntervalEventRecord<'_>) -> Result<(), Nem12Fault>
+    fn push_run(&mut self, event: &IntervalEventRecord<'_>) -> Result<(), TakeFault>
         requires open { has_open_day self.old.last ≡ true }
         requires goes { GoesWith self.old.values (Record.IntervalEvent event.now) }
         requires faultless { run_fault (length self.old.day.values) self.old.day.runs self.old.day.values
@@ -501,12 +484,12 @@ impl<T: StatementSink + Drop> FileReader<T> {
                 self.last = LastRecord::Run(governing);
                 Ok(())
             }
-            Err(_) => Err(Nem12Fault::Memory),
+            Err(_) => Err(TakeFault::Memory),
         }
     }
 
     /// Keeps a 500 record.
-    fn keep_event(&mut self, event: &B2bDetailsRecord<'_>) -> Result<(), Nem12Fault>
+    fn keep_event(&mut self, event: &B2bDetailsRecord<'_>) -> Result<(), TakeFault>
         requires { has_day self.old.last ≡ true }
         ensures { (before : List (List ℕ)) → (text : List ℕ) → kind_of text ≡ Ok Kind.B2bDetails
             → HasClosed T.told before self.old → IsB2bDetails text event.now
@@ -519,13 +502,13 @@ impl<T: StatementSink + Drop> FileReader<T> {
                 self.last = LastRecord::Event(governing);
                 Ok(())
             }
-            Err(_) => Err(Nem12Fault::Memory),
+            Err(_) => Err(TakeFault::Memory),
         }
     }
 
     /// Ends the file after so many lines, and gives the sink, which was told all that the file
     /// states; or answers the fault of the line after the last. After a fault it answers the same.
-    pub fn finish(self, lines: u64) -> Result<T, Nem12Fault>
+    pub fn finish(self, lines: u64) -> Result<T, TakeFault>
         requires { lines < 2 ^ 64 - 1 }
         ensures ended { (before : List (List ℕ)) → HasTaken T.told before self → lines ≡ length before
             → MatchResult result
@@ -547,40 +530,22 @@ impl<T: StatementSink + Drop> FileReader<T> {
     }
 }
 
-/// A fault of a whole line.
-fn at_line(code: FaultCode, line: &Line<'_>) -> Nem12Fault
-    ensures { result ≡ Nem12Fault.File (fault_at (number_of line.now) code) }
-{
-    Nem12Fault::File(FileFault {
-        code,
-        line: line.number(),
-        field: 0,
-    })
-}
+impl<T: StatementSink + Drop> LineSink for FileReader<T> {
+    ghost use Rattle.mds_nem12.specs.FileReaderSteps.{HasTold};
 
-/// A fault of the line after so many.
-fn at_end(code: FaultCode, lines: u64) -> Nem12Fault
-    requires { lines < 2 ^ 64 - 1 }
-    ensures { result ≡ Nem12Fault.File (fault_at (lines + 1) code) }
-{
-    Nem12Fault::File(FileFault {
-        code,
-        line: lines + 1,
-        field: 0,
-    })
-}
+    type Output = T;
 
-/// A fault of a line's fields.
-fn at_field(fault: FieldFault, line: &Line<'_>) -> Nem12Fault
-    ensures { result ≡ Nem12Fault.File (field_fault_at (number_of line.now) fault) }
-{
-    match fault {
-        FieldFault::WrongFile => at_line(FaultCode::WrongFile, line),
-        FieldFault::Count => at_line(FaultCode::FieldCount, line),
-        FieldFault::Bad(field) => Nem12Fault::File(FileFault {
-            code: FaultCode::BadField,
-            line: line.number(),
-            field,
-        }),
+    ghost judge = { nem12 };
+
+    ghost taken = { λ reader before. HasTaken T.told before reader };
+
+    ghost made = { HasTold T.told };
+
+    fn take(&mut self, line: &Line<'_>) -> Result<(), TakeFault> {
+        FileReader::take(self, line)
+    }
+
+    fn finish(self, lines: u64) -> Result<T, TakeFault> {
+        FileReader::finish(self, lines)
     }
 }

@@ -10,9 +10,10 @@ mod sink;
 #[cfg(test)]
 mod tests;
 
-pub use file_reader::{FileReader, Nem12Fault};
+pub use file_reader::FileReader;
 pub use laws::{days_are_orderly, fault_is_of_every_longer_text, one_run_of_a_day};
 pub use mds_days::{DayData, Tally};
+pub use mds_reading::{ReadFault, TakeFault as Nem12Fault};
 pub use mds_statements::{Block, DeliveredDay, Delivery, Header};
-pub use reading::{ReadFault, read_lines, read_nem12};
+pub use reading::{read_lines, read_nem12};
 pub use sink::{Governing, StatementSink};

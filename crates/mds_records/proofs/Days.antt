@@ -8,7 +8,7 @@ use Rattle.mds_calendar.specs.Calendar.{day_of, moment_of}
 use Rattle.mds_marks.specs.Quality.{quality_of}
 use Rattle.mds_marks.specs.Reason.{code_of, is_reason_text}
 use Rattle.mds_terms.specs.Parts.{optional}
-use Rattle.mds_records.specs.declared.file.FileKind.{FileKind}
+use Rattle.mds_records.specs.declared.header_name.HeaderName.{HeaderName}
 use Rattle.mds_lines.specs.declared.line.Kind.TheVariants.{IntervalData}
 use Rattle.mds_records.specs.declared.interval_values.ValueFaults.{ValueFaults}
 use Rattle.mds_records.specs.declared.fault.FieldFault.TheVariants.{Count, Bad}
@@ -27,7 +27,7 @@ abbrev value_rule : Bool → Rule
 value_rule there = record { may_be_empty = not there; form = Value }
 
 -- the tests of fields by their rules, one after the other
-abbrev tests_of : FileKind → List Rule → List (List ℕ) → List Bool
+abbrev tests_of : HeaderName → List Rule → List (List ℕ) → List Bool
 tests_of file [] fields = []
 tests_of file (rule ∷ rules) fields = not (is_bad file rule (first_of fields)) ∷ tests_of file rules (drop 1 fields)
 
@@ -48,7 +48,7 @@ rule_after rule rules a k above = let e : k - a ≡ suc (k - (a + 1)) = omega ar
 one_after : (all : List (List ℕ)) (a : ℕ) → 0 < a → drop (a + 1 - 1) all ≡ drop 1 (drop (a - 1) all)
 one_after all a low = ap (λ n. drop n all) (omega arith) ∙ sym (drop-drop 1 (a - 1) all)
 
-tests_from : (file : FileKind) (rules : List Rule) (all : List (List ℕ)) (a : ℕ) → 0 < a → map (λ k. not (is_bad file (get_or rules (k - a) (may Nothing)) (get_or all (k - 1) []))) (range_with_len a (length rules)) ≡ tests_of file rules (drop (a - 1) all)
+tests_from : (file : HeaderName) (rules : List Rule) (all : List (List ℕ)) (a : ℕ) → 0 < a → map (λ k. not (is_bad file (get_or rules (k - a) (may Nothing)) (get_or all (k - 1) []))) (range_with_len a (length rules)) ≡ tests_of file rules (drop (a - 1) all)
 tests_from file [] all a low = refl
 tests_from file (rule ∷ rules) all a low =
     same_parts (rw (sub_self a) (ap (λ t. not (is_bad file rule t)) (first_at all (a - 1))))
@@ -58,7 +58,7 @@ tests_from file (rule ∷ rules) all a low =
     ∙ tests_from file rules all (a + 1) (omega arith) ∙ ap (tests_of file rules) (one_after all a low))
 
 -- the tests of a line's fields
-pub good_tests-is : (file : FileKind) (rules : List Rule) (line : List ℕ) → good_tests file rules line ≡ tests_of file rules (drop 1 (fields_of line))
+pub good_tests-is : (file : HeaderName) (rules : List Rule) (line : List ℕ) → good_tests file rules line ≡ tests_of file rules (drop 1 (fields_of line))
 good_tests-is file rules line = tests_from file rules (fields_of line) 2 (lit< tt)
 
 cong_drop : (fields : List (List ℕ)) (m n : ℕ) → m ≡ n → drop m fields ≡ drop n fields
@@ -67,13 +67,13 @@ cong_drop fields m n e = ap (λ k. drop k fields) e
 drop_one : (fields : List (List ℕ)) (n : ℕ) → drop n (drop 1 fields) ≡ drop (suc n) fields
 drop_one fields n = let e : 1 + n ≡ suc n = omega arith in drop-drop n 1 fields ∙ cong_drop fields (1 + n) (suc n) e
 
-tests_of-append : (file : FileKind) (some more : List Rule) (fields : List (List ℕ)) → tests_of file (some ++ more) fields ≡ tests_of file some fields ++ tests_of file more (drop (length some) fields)
+tests_of-append : (file : HeaderName) (some more : List Rule) (fields : List (List ℕ)) → tests_of file (some ++ more) fields ≡ tests_of file some fields ++ tests_of file more (drop (length some) fields)
 tests_of-append file [] more fields = refl
 tests_of-append file (rule ∷ some) more fields =
     let e : drop (length some) (drop 1 fields) ≡ drop (suc (length some)) fields = drop_one fields (length some) in
     same_parts refl (tests_of-append file some more (drop 1 fields) ∙ ap (λ left. tests_of file some (drop 1 fields) ++ tests_of file more left) e)
 
-tests_of-replicate : (file : FileKind) (rule : Rule) (n : ℕ) (fields : List (List ℕ)) → n ≤ length fields → tests_of file (replicate n rule) fields ≡ map (λ t. not (is_bad file rule t)) (take n fields)
+tests_of-replicate : (file : HeaderName) (rule : Rule) (n : ℕ) (fields : List (List ℕ)) → n ≤ length fields → tests_of file (replicate n rule) fields ≡ map (λ t. not (is_bad file rule t)) (take n fields)
 tests_of-replicate file rule zero fields h = refl
 tests_of-replicate file rule (suc n) [] h = absurd (omega arith)
 tests_of-replicate file rule (suc n) (f ∷ fields) h = ap (λ ts. not (is_bad file rule f) ∷ ts) (tests_of-replicate file rule n fields (omega arith))
@@ -118,20 +118,20 @@ all_true n [] = refl
 all_true n (x ∷ xs) = all_true (n + 1) xs
 
 -- the test of a value, which may be empty unless values have to be there
-value_test : (file : FileKind) (there : Bool) (t : List ℕ) → not (is_bad file (value_rule there) t) ≡ (is_empty_or_quantity t && (not there || is_there t))
+value_test : (file : HeaderName) (there : Bool) (t : List ℕ) → not (is_bad file (value_rule there) t) ≡ (is_empty_or_quantity t && (not there || is_there t))
 value_test file true [] = refl
 value_test file false [] = refl
 value_test file true (x ∷ xs) = rw (suc_is_not (length xs)) (both_true (is_ok (denoted (x ∷ xs))))
 value_test file false (x ∷ xs) = rw (suc_is_not (length xs)) (both_true (is_ok (denoted (x ∷ xs))))
 
 -- the first bad value
-values_fault : (file : FileKind) (there : Bool) (values : List (List ℕ)) → first_false 3 (map (λ t. not (is_bad file (value_rule there) t)) values)
+values_fault : (file : HeaderName) (there : Bool) (values : List (List ℕ)) → first_false 3 (map (λ t. not (is_bad file (value_rule there) t)) values)
     ≡ lesser (first_false 3 (map is_empty_or_quantity values)) (if there then first_false 3 (map is_there values) else None)
 values_fault file true values = ap (first_false 3) (map_same values _ _ (value_test file true)) ∙ both_tests 3 is_empty_or_quantity (λ t. false || is_there t) values
 values_fault file false values = ap (first_false 3) (map_same values _ _ (value_test file false)) ∙ both_tests 3 is_empty_or_quantity (λ t. true || is_there t) values ∙ ap (lesser (first_false 3 (map is_empty_or_quantity values))) (all_true 3 values)
 
 -- the fault of a line that ends before its quality
-pub too_few : (file : FileKind) (n : ℕ) (line : List ℕ) → length (fields_of line) ≤ n + 2 → field_fault file IntervalData n line ≡ Some Count
+pub too_few : (file : HeaderName) (n : ℕ) (line : List ℕ) → length (fields_of line) ≤ n + 2 → field_fault file IntervalData n line ≡ Some Count
 unfolding field_fault
 too_few file n line h = rw (lt-ltb (length (fields_of line)) (n + 3) (omega arith)) refl
 
@@ -146,7 +146,7 @@ layout_length n there = ap (λ m. suc m + 1) (length-append (replicate n (value_
 abbrev last_rules : List Rule
 last_rules = must QualityMethod ∷ may ReasonNumber ∷ may ReasonWords ∷ may MomentTime ∷ may MomentTime ∷ []
 
-last_tests : (file : FileKind) (n : ℕ) (line : List ℕ) (left : List (List ℕ)) (a b c e g : Bool) → left ≡ drop (n + 2) (fields_of line)
+last_tests : (file : HeaderName) (n : ℕ) (line : List ℕ) (left : List (List ℕ)) (a b c e g : Bool) → left ≡ drop (n + 2) (fields_of line)
     → a ≡ not (is_bad file (must QualityMethod) (field line (n + 3)))
     → b ≡ not (is_bad file (may ReasonNumber) (field line (n + 4))) → c ≡ not (is_bad file (may ReasonWords) (field line (n + 5)))
     → e ≡ not (is_bad file (may MomentTime) (field line (n + 6))) → g ≡ not (is_bad file (may MomentTime) (field line (n + 7)))
@@ -163,7 +163,7 @@ last_tests file n line left a b c e g at0 ea eb ec ee eg =
     (same_parts (ap (λ t. not (is_bad file (may MomentTime) t)) (field_by line (drop 1 (drop 1 (drop 1 left))) (n + 2 + 1 + 1 + 1) (n + 6) at3 (omega arith)) ∙ sym ee)
     (same_parts (ap (λ t. not (is_bad file (may MomentTime) t)) (field_by line (drop 1 (drop 1 (drop 1 (drop 1 left)))) (n + 2 + 1 + 1 + 1 + 1) (n + 7) at4 (omega arith)) ∙ sym eg) refl))))
 
-interval_tests : (file : FileKind) (n : ℕ) (line : List ℕ) (d a b c e g : Bool) → n + 3 ≤ length (fields_of line)
+interval_tests : (file : HeaderName) (n : ℕ) (line : List ℕ) (d a b c e g : Bool) → n + 3 ≤ length (fields_of line)
     → d ≡ not (is_bad file (must DayDate) (field line 2)) → a ≡ not (is_bad file (must QualityMethod) (field line (n + 3)))
     → b ≡ not (is_bad file (may ReasonNumber) (field line (n + 4))) → c ≡ not (is_bad file (may ReasonWords) (field line (n + 5)))
     → e ≡ not (is_bad file (may MomentTime) (field line (n + 6))) → g ≡ not (is_bad file (may MomentTime) (field line (n + 7)))
@@ -191,7 +191,7 @@ day_outcome true n values more l = first_false-append 3 values more ∙ ap (λ m
 day_outcome false n values more l = refl
 
 -- the first fault of a 300 record, from its fields and the tests of them
-pub interval_is : (file : FileKind) (n : ℕ) (line : List ℕ) (day : DayFields) (faults : ValueFaults) (d m a b c e g : Bool) (least : Option ℕ) → HasDayFields n line day faults
+pub interval_is : (file : HeaderName) (n : ℕ) (line : List ℕ) (day : DayFields) (faults : ValueFaults) (d m a b c e g : Bool) (least : Option ℕ) → HasDayFields n line day faults
     → d ≡ is_some (day_of day.date.now) → m ≡ means_values day.quality.now → a ≡ is_some (quality_of day.quality.now)
     → b ≡ is_some (code_of day.reason_code.now) → c ≡ is_reason_text day.reason_text.now
     → e ≡ is_some (optional moment_of day.update.now) → g ≡ is_some (optional moment_of day.load.now)
@@ -223,7 +223,7 @@ interval_is file n line day faults d m a b c e g least f ed em ea eb ec ee eg is
     ∙ sym is)
 
 -- the fault of a line with something after its last field
-pub wrong_end : (file : FileKind) (n : ℕ) (line : List ℕ) (left : List (List ℕ)) → n + 3 ≤ length (fields_of line) → left ≡ drop (n + 7) (fields_of line) → false ≡ are_blank left → field_fault file IntervalData n line ≡ Some Count
+pub wrong_end : (file : HeaderName) (n : ℕ) (line : List ℕ) (left : List (List ℕ)) → n + 3 ≤ length (fields_of line) → left ≡ drop (n + 7) (fields_of line) → false ≡ are_blank left → field_fault file IntervalData n line ≡ Some Count
 wrong_end file n line left long l w =
     let fs = fields_of line in
     let last : length (layout_of IntervalData n line) + 1 ≡ n + 7 = layout_length n (means_values (field line (n + 3))) in
@@ -233,7 +233,7 @@ wrong_end file n line left long l w =
     refl
 
 -- the fault of a line with a wrong count of fields
-pub wrong_count : (file : FileKind) (n : ℕ) (line : List ℕ) → HasWrongCount n line → field_fault file IntervalData n line ≡ Some Count
+pub wrong_count : (file : HeaderName) (n : ℕ) (line : List ℕ) → HasWrongCount n line → field_fault file IntervalData n line ≡ Some Count
 wrong_count file n line (inl few) = too_few file n line (omega arith)
 wrong_count file n line (inr more) =
     elim (cases_lt (length (fields_of line)) (n + 3)) [

@@ -15,7 +15,7 @@ use Rattle.mds_terms.specs.Printable.{is_printable}
 use Rattle.mds_lines.specs.declared.line.Kind.TheVariants.{Header, NmiDataDetails, AccumulationData, IntervalEvent, B2bDetails, AccumulationB2bDetails, EndOfData}
 use Rattle.mds_lines.specs.Lines.{field, fields_of, is_comma}
 use Rattle.mds_lines.specs.Rest.{are_blank}
-use Rattle.mds_records.specs.declared.file.FileKind.{FileKind}
+use Rattle.mds_records.specs.declared.header_name.HeaderName.{HeaderName}
 use Rattle.mds_records.specs.declared.b2b_details.B2bFields.{B2bFields}
 use Rattle.mds_records.specs.declared.accumulation_data.AccumulationFields.{AccumulationFields}
 use Rattle.mds_records.specs.declared.accumulation_b2b_details.AccumulationB2bFields.{AccumulationB2bFields}
@@ -29,7 +29,7 @@ use Rattle.mds_records.proofs.Rests.{right_count}
 use Rattle.mds_records.proofs.Rules.{field_fault-is, good_must, good_may, good_even_empty, named, passed_in, same_parts}
 use Rattle.mds_records.proofs.Terms.{no_date_time, no_moment, no_quantity, no_unit, no_number, no_single_quality, empty_printable, empty_code, empty_text, optional_good}
 
-pub header_is : (file : FileKind) (n : ℕ) (line : List ℕ) (f : HeaderFields) (is_other a b c d : Bool) → HasHeaderFields line f
+pub header_is : (file : HeaderName) (n : ℕ) (line : List ℕ) (f : HeaderFields) (is_other a b c d : Bool) → HasHeaderFields line f
     → is_other ≡ bytes_eq f.name.now (other_file_name file) → a ≡ bytes_eq f.name.now (file_name file)
     → b ≡ is_some (date_time_of f.date_time.now) → c ≡ is_printable f.sender.now → d ≡ is_printable f.receiver.now
     → field_fault file Header n line ≡ outcome is_other f.is_whole (first_false 2 (a ∷ b ∷ c ∷ d ∷ []))
@@ -42,7 +42,7 @@ header_is file n line f is_other a b c d h o ea eb ec ed =
     (same_parts (ec ∙ ap is_printable h.sender ∙ good_even_empty file Printable (field line 4) empty_printable)
     (same_parts (ed ∙ ap is_printable h.receiver ∙ good_even_empty file Printable (field line 5) empty_printable) refl))))
 
-pub details_is : (file : FileKind) (n : ℕ) (line : List ℕ) (f : DetailsFields) (a b c d e g h i j : Bool) → HasDetailsFields line f
+pub details_is : (file : HeaderName) (n : ℕ) (line : List ℕ) (f : DetailsFields) (a b c d e g h i j : Bool) → HasDetailsFields line f
     → a ≡ is_some (nmi_of f.nmi.now) → b ≡ is_printable f.configuration.now → c ≡ is_printable f.register.now
     → d ≡ is_some (suffix_of f.suffix.now) → e ≡ is_printable f.datastream.now → g ≡ is_printable f.meter.now
     → h ≡ is_some (unit_of f.unit.now) → i ≡ is_some (length_of f.length.now) → j ≡ is_some (optional day_of f.next.now)
@@ -61,7 +61,7 @@ details_is file n line f a b c d e g h i j has ea eb ec ed ee eg eh ei ej =
     (same_parts (ei ∙ ap (λ t. is_some (length_of t)) has.length ∙ good_must file LengthInMinutes (field line 9) refl)
     (same_parts (ej ∙ ap (λ t. is_some (optional day_of t)) has.next ∙ optional_good day_of (field line 10) ∙ good_may file DayDate (field line 10)) refl)))))))))
 
-pub run_is : (file : FileKind) (n : ℕ) (line : List ℕ) (f : RunFields) (a b c d e : Bool) → HasRunFields line f
+pub run_is : (file : HeaderName) (n : ℕ) (line : List ℕ) (f : RunFields) (a b c d e : Bool) → HasRunFields line f
     → a ≡ is_some (interval_number_of f.first.now) → b ≡ is_some (interval_number_of f.last.now)
     → c ≡ is_single_quality f.quality.now → d ≡ is_some (code_of f.reason_code.now) → e ≡ is_reason_text f.reason_text.now
     → field_fault file IntervalEvent n line ≡ outcome false f.is_whole (first_false 2 (a ∷ b ∷ c ∷ d ∷ e ∷ []))
@@ -83,7 +83,7 @@ pub whole_to : (last : ℕ) (line : List ℕ) (left : List (List ℕ)) (is_whole
     → is_whole ≡ not (ltb (length (fields_of line)) 1 || list_any (λ text. ltb 0 (length text)) (drop last (fields_of line)))
 whole_to last line left is_whole l w = w ∙ right_count true left (fields_of line) 1 last (sym (some_field line)) l
 
-pub b2b_is : (file : FileKind) (n : ℕ) (line : List ℕ) (f : B2bFields) (a b c d : Bool) → HasB2bFields line f
+pub b2b_is : (file : HeaderName) (n : ℕ) (line : List ℕ) (f : B2bFields) (a b c d : Bool) → HasB2bFields line f
     → a ≡ is_some (optional letter_of f.trans.now) → b ≡ is_printable f.ticket.now
     → c ≡ is_some (optional moment_of f.moment.now) → d ≡ is_printable f.reading.now
     → field_fault file B2bDetails n line ≡ outcome false f.is_whole (first_false 2 (a ∷ b ∷ c ∷ d ∷ []))
@@ -96,7 +96,7 @@ b2b_is file n line f a b c d h ea eb ec ed =
     (same_parts (ec ∙ ap (λ t. is_some (optional moment_of t)) h.moment ∙ optional_good moment_of (field line 4) ∙ good_may file MomentTime (field line 4))
     (same_parts (ed ∙ ap is_printable h.reading ∙ good_even_empty file Printable (field line 5) empty_printable) refl))))
 
-pub accumulation_b2b_is : (file : FileKind) (n : ℕ) (line : List ℕ) (f : AccumulationB2bFields) (a b c d : Bool) → HasAccumulationB2bFields line f
+pub accumulation_b2b_is : (file : HeaderName) (n : ℕ) (line : List ℕ) (f : AccumulationB2bFields) (a b c d : Bool) → HasAccumulationB2bFields line f
     → a ≡ is_some (optional letter_of f.previous_trans.now) → b ≡ is_printable f.previous_ticket.now
     → c ≡ is_some (optional letter_of f.current_trans.now) → d ≡ is_printable f.current_ticket.now
     → field_fault file AccumulationB2bDetails n line ≡ outcome false f.is_whole (first_false 2 (a ∷ b ∷ c ∷ d ∷ []))
@@ -109,7 +109,7 @@ accumulation_b2b_is file n line f a b c d h ea eb ec ed =
     (same_parts (ec ∙ ap (λ t. is_some (optional letter_of t)) h.current_trans ∙ optional_good letter_of (field line 4) ∙ good_may file TransLetter (field line 4))
     (same_parts (ed ∙ ap is_printable h.current_ticket ∙ good_even_empty file Printable (field line 5) empty_printable) refl))))
 
-pub accumulation_is : (file : FileKind) (n : ℕ) (line : List ℕ) (f : AccumulationFields) → HasAccumulationFields line f
+pub accumulation_is : (file : HeaderName) (n : ℕ) (line : List ℕ) (f : AccumulationFields) → HasAccumulationFields line f
     → field_fault file AccumulationData n line ≡ outcome false f.is_whole (first_false 2 (accumulation_tests f))
 accumulation_is file n line f h =
     field_fault-is file AccumulationData n line false f.is_whole (accumulation_tests f)
@@ -152,7 +152,7 @@ pub after_current : (f : AccumulationFields) → first_false 2 (meter_tests f.me
     → first_false 14 (read_tests false f.current) ≡ None → first_false 2 (accumulation_tests f) ≡ first_false 19 (amount_tests f)
 after_current f h p q = after_previous f h p ∙ passed_in 14 19 (read_tests false f.current) (amount_tests f) refl q
 
-pub end_is : (file : FileKind) (n : ℕ) (line : List ℕ) (left : List (List ℕ)) (is_whole : Bool) → left ≡ drop 1 (fields_of line) → is_whole ≡ are_blank left
+pub end_is : (file : HeaderName) (n : ℕ) (line : List ℕ) (left : List (List ℕ)) (is_whole : Bool) → left ≡ drop 1 (fields_of line) → is_whole ≡ are_blank left
     → field_fault file EndOfData n line ≡ outcome false is_whole (first_false 2 [])
 end_is file n line left is_whole l w =
     field_fault-is file EndOfData n line false is_whole [] refl (whole_to 1 line left is_whole l w) refl

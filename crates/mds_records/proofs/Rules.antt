@@ -2,8 +2,8 @@
 use Rattle.std.proofs.Common.{◌≡◌, ℕ, zero, suc, ◌+◌, ◌-◌, ◌<◌, Bool, true, false, not, ◌||◌, eqb, List, [], ◌∷◌, ◌++◌, length, map, get_or, Option, Some, None, option_map, refl, ap, arith, rules, tests, find, if◌then◌else◌, bytes_eq}
 use Rattle.std.specs.List.{range_with_len}
 use Rattle.std.proofs.lemmas.Bool.Decides.{nat_tests}
-use Rattle.mds_records.specs.declared.file.FileKind.{FileKind}
-use Rattle.mds_records.specs.declared.file.FileKind.TheVariants.{Nem12}
+use Rattle.mds_records.specs.declared.header_name.HeaderName.{HeaderName}
+use Rattle.mds_records.specs.declared.header_name.HeaderName.TheVariants.{Nem12, Nem13}
 use Rattle.mds_lines.specs.declared.line.Kind.{Kind}
 use Rattle.mds_records.specs.declared.fault.FieldFault.{FieldFault}
 use Rattle.mds_records.specs.declared.fault.FieldFault.TheVariants.{WrongFile, Count, Bad}
@@ -22,7 +22,7 @@ find_first_false p a zero = refl
 find_first_false p a (suc n) = first_of_tests p a n (p a) refl (find_first_false p (a + 1) n)
 
 -- Whether each field is good, from field 2 on.
-abbrev pub good_tests : FileKind → List Rule → List ℕ → List Bool
+abbrev pub good_tests : HeaderName → List Rule → List ℕ → List Bool
 good_tests file rules line = map (λ k. not (is_bad file (get_or rules (k - 2) (may Nothing)) (field line k))) (range_with_len 2 (length rules))
 
 outcome_is : (other wrong right : Bool) (bad : Option ℕ) → right ≡ not wrong → (if other then Some WrongFile else (if wrong then Some Count else option_map Bad bad)) ≡ outcome other right bad
@@ -30,7 +30,7 @@ outcome_is true wrong right bad e = refl
 outcome_is false true right bad e = rw e refl
 outcome_is false false right bad e = rw e refl
 
-pub field_fault-is : (file : FileKind) (kind : Kind) (n : ℕ) (line : List ℕ) (other right : Bool) (tests : List Bool) → other ≡ is_of_other_file file kind line → right ≡ not (has_wrong_count kind n line) → tests ≡ good_tests file (layout_of kind n line) line → field_fault file kind n line ≡ outcome other right (first_false 2 tests)
+pub field_fault-is : (file : HeaderName) (kind : Kind) (n : ℕ) (line : List ℕ) (other right : Bool) (tests : List Bool) → other ≡ is_of_other_file file kind line → right ≡ not (has_wrong_count kind n line) → tests ≡ good_tests file (layout_of kind n line) line → field_fault file kind n line ≡ outcome other right (first_false 2 tests)
 unfolding field_fault
 field_fault-is file kind n line other right tests o r t = rw (o, t, ← find_first_false (λ k. is_bad file (get_or (layout_of kind n line) (k - 2) (may Nothing)) (field line k)) 2 (length (layout_of kind n line))) (outcome_is (is_of_other_file file kind line) (has_wrong_count kind n line) right (least_bad file (layout_of kind n line) line) r)
 
@@ -42,21 +42,22 @@ twice true = refl
 twice false = refl
 
 -- a kind of file has a name
-pub named : (file : FileKind) → bytes_eq [] (file_name file) ≡ false
+pub named : (file : HeaderName) → bytes_eq [] (file_name file) ≡ false
 named Nem12 = refl
+named Nem13 = refl
 
 -- a field that must be there is good if it is of its form, which the empty text isn't
-pub good_must : (file : FileKind) (form : Form) (text : List ℕ) → fits file form [] ≡ false → fits file form text ≡ not (is_bad file (must form) text)
+pub good_must : (file : HeaderName) (form : Form) (text : List ℕ) → fits file form [] ≡ false → fits file form text ≡ not (is_bad file (must form) text)
 good_must file form [] h = h
 good_must file form (x ∷ xs) h = rw (suc_is_not (length xs)) (twice (fits file form (x ∷ xs)))
 
 -- a field that may be left empty is good if it is empty or of its form
-pub good_may : (file : FileKind) (form : Form) (text : List ℕ) → (eqb (length text) 0 || fits file form text) ≡ not (is_bad file (may form) text)
+pub good_may : (file : HeaderName) (form : Form) (text : List ℕ) → (eqb (length text) 0 || fits file form text) ≡ not (is_bad file (may form) text)
 good_may file form [] = refl
 good_may file form (x ∷ xs) = rw (suc_is_not (length xs)) (twice (fits file form (x ∷ xs)))
 
 -- and so if it is of its form, where the empty text is of that form too
-pub good_even_empty : (file : FileKind) (form : Form) (text : List ℕ) → fits file form [] ≡ true → fits file form text ≡ not (is_bad file (may form) text)
+pub good_even_empty : (file : HeaderName) (form : Form) (text : List ℕ) → fits file form [] ≡ true → fits file form text ≡ not (is_bad file (may form) text)
 good_even_empty file form [] h = h
 good_even_empty file form (x ∷ xs) h = rw (suc_is_not (length xs)) (twice (fits file form (x ∷ xs)))
 

@@ -5,13 +5,13 @@ use Rattle.std.specs.List.{list_any, range_with_len}
 use Rattle.mds_lines.specs.declared.line.Kind.{Kind}
 use Rattle.mds_lines.specs.declared.line.Kind.TheVariants.{Header, NmiDataDetails, AccumulationData, IntervalData, IntervalEvent, B2bDetails, AccumulationB2bDetails, EndOfData}
 use Rattle.mds_lines.specs.Lines.{fields_of, field}
-use Rattle.mds_records.specs.declared.file.FileKind.{FileKind}
+use Rattle.mds_records.specs.declared.header_name.HeaderName.{HeaderName}
 use Rattle.mds_records.specs.declared.fault.FieldFault.{FieldFault}
 use Rattle.mds_records.specs.declared.fault.FieldFault.TheVariants.{WrongFile, Count, Bad}
 use Rattle.mds_records.specs.Layouts.{Rule, Nothing, may, fits, layout, least_count, means_values, other_file_name}
 
 -- a header that names the other kind of file
-abbrev pub is_of_other_file : FileKind → Kind → List ℕ → Bool
+abbrev pub is_of_other_file : HeaderName → Kind → List ℕ → Bool
 is_of_other_file file Header line = bytes_eq (field line 2) (other_file_name file)
 is_of_other_file file NmiDataDetails line = false
 is_of_other_file file AccumulationData line = false
@@ -33,17 +33,17 @@ has_wrong_count kind n line =
     || list_any (λ text. nat_lt 0 (length text)) (drop last (fields_of line))
 
 -- a field isn't what its rule says
-abbrev pub is_bad : FileKind → Rule → List ℕ → Bool
+abbrev pub is_bad : HeaderName → Rule → List ℕ → Bool
 is_bad file rule text = if length text == 0 then not rule.may_be_empty else not (fits file rule.form text)
 
 -- the least number, from 2, of a bad field; a field that was left off is empty
-abbrev pub least_bad : FileKind → List Rule → List ℕ → Option ℕ
+abbrev pub least_bad : HeaderName → List Rule → List ℕ → Option ℕ
 least_bad file rules line =
     find (λ number. is_bad file (slice_index_or rules (number - 2) (may Nothing)) (field line number))
     (range_with_len 2 (length rules))
 
 -- the first fault that stands
-unfoldable pub field_fault : FileKind → Kind → ℕ → List ℕ → Option FieldFault
+unfoldable pub field_fault : HeaderName → Kind → ℕ → List ℕ → Option FieldFault
 field_fault file kind n line =
     if is_of_other_file file kind line then Some WrongFile
     else (if has_wrong_count kind n line then Some Count

@@ -19,7 +19,9 @@ use Rattle.mds_lines.specs.declared.line.Kind.TheVariants.{Header, NmiDataDetail
 use Rattle.mds_records.specs.declared.direction.Direction.{Direction}
 use Rattle.mds_records.specs.declared.direction.Direction.TheVariants.{Import, Export}
 use Rattle.mds_records.specs.declared.file.FileKind.{FileKind}
-use Rattle.mds_records.specs.declared.file.FileKind.TheVariants.{Nem12}
+use Rattle.mds_records.specs.declared.file.FileKind.TheVariants as kind
+use Rattle.mds_records.specs.declared.header_name.HeaderName.{HeaderName}
+use Rattle.mds_records.specs.declared.header_name.HeaderName.TheVariants.{Nem12, Nem13}
 
 -- what a field that isn't empty has to be
 pub data Form : Type 0 where
@@ -42,13 +44,19 @@ pub data Form : Type 0 where
   DirectionLetter : Form
   Nothing : Form
 
+-- the name in the headers of a kind of file
+abbrev pub header_name : FileKind → HeaderName
+header_name kind.Nem12 = Nem12
+
 -- the name of a kind of file, in field 2 of its header
-abbrev pub file_name : FileKind → List ℕ
+abbrev pub file_name : HeaderName → List ℕ
 file_name Nem12 = codes "NEM12"
+file_name Nem13 = codes "NEM13"
 
 -- the name of the other kind
-abbrev pub other_file_name : FileKind → List ℕ
+abbrev pub other_file_name : HeaderName → List ℕ
 other_file_name Nem12 = codes "NEM13"
+other_file_name Nem13 = codes "NEM12"
 
 -- the number of an interval that a text of one to four digits is (the digits are the profile's)
 unfoldable pub interval_number_of : List ℕ → Option ℕ
@@ -82,7 +90,7 @@ abbrev pub is_single_quality : List ℕ → Bool
 is_single_quality quality = has_flag (codes "AEFNS") (quality_of quality)
 
 -- a field that isn't empty is of its form
-abbrev pub fits : FileKind → Form → List ℕ → Bool
+abbrev pub fits : HeaderName → Form → List ℕ → Bool
 fits file FileName text = bytes_eq text (file_name file)
 fits file DateTime text = is_some (date_time_of text)
 fits file Printable text = is_printable text

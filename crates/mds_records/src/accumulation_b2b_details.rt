@@ -2,7 +2,7 @@
 
 ghost use Rattle.std.specs.Prelude.{◌≡◌, ℕ, Some, None, MatchResult};
 ghost use Rattle.mds_lines.specs.declared.line.Kind.{Kind};
-ghost use Rattle.mds_records.specs.declared.file.FileKind.{FileKind};
+ghost use Rattle.mds_records.specs.declared.header_name.HeaderName.{HeaderName};
 ghost use Rattle.mds_records.specs.FieldFaults.{field_fault};
 ghost use Rattle.mds_records.specs.RecordSteps.{HasAccumulationB2bFields};
 ghost use Rattle.mds_records.specs.Records.{IsAccumulationB2bDetails};
@@ -37,11 +37,11 @@ struct AccumulationB2bFields<'a> {
     is_whole: bool,
 }
 
-/// Reads a 550 record.
-pub(crate) fn read_accumulation_b2b_details(
+/// Reads the text of a 550 record.
+pub fn read_accumulation_b2b_details(
     text: &[u8],
 ) -> Result<AccumulationB2bDetailsRecord<'_>, FieldFault>
-    ensures { (file : FileKind) (n : ℕ) → MatchResult result
+    ensures { (file : HeaderName) (n : ℕ) → MatchResult result
         (λ r. (field_fault file Kind.AccumulationB2bDetails n text.now ≡ None) × IsAccumulationB2bDetails text.now r)
         (λ fault. field_fault file Kind.AccumulationB2bDetails n text.now ≡ Some fault) }
 {

@@ -4,7 +4,7 @@ ghost use Rattle.std.specs.Prelude.{◌≡◌, ℕ, List, drop, Some, None, Matc
 ghost use Rattle.mds_lines.specs.Rest.{fields_left};
 ghost use Rattle.mds_lines.specs.declared.line.Kind.{Kind};
 ghost use Rattle.mds_records.specs.declared.fault.FieldFault.TheVariants.{Bad};
-ghost use Rattle.mds_records.specs.declared.file.FileKind.{FileKind};
+ghost use Rattle.mds_records.specs.declared.header_name.HeaderName.{HeaderName};
 ghost use Rattle.mds_records.specs.FieldFaults.{field_fault};
 ghost use Rattle.mds_records.specs.RecordSteps.{AreAmounts, AreMeter, HasAccumulationFields, HasMeterFields, accumulation_tests, amount_tests, first_false, meter_tests};
 ghost use Rattle.mds_records.specs.Records.{IsAccumulationData};
@@ -83,9 +83,9 @@ struct AmountTerms {
     update: Option<Moment>,
 }
 
-/// Reads a 250 record.
-pub(crate) fn read_accumulation_data(text: &[u8]) -> Result<AccumulationDataRecord<'_>, FieldFault>
-    ensures { (file : FileKind) (n : ℕ) → MatchResult result
+/// Reads the text of a 250 record.
+pub fn read_accumulation_data(text: &[u8]) -> Result<AccumulationDataRecord<'_>, FieldFault>
+    ensures { (file : HeaderName) (n : ℕ) → MatchResult result
         (λ r. (field_fault file Kind.AccumulationData n text.now ≡ None) × IsAccumulationData text.now r)
         (λ fault. field_fault file Kind.AccumulationData n text.now ≡ Some fault) }
 {

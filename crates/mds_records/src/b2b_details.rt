@@ -2,7 +2,7 @@
 
 ghost use Rattle.std.specs.Prelude.{◌≡◌, ℕ, Some, None, MatchResult};
 ghost use Rattle.mds_lines.specs.declared.line.Kind.{Kind};
-ghost use Rattle.mds_records.specs.declared.file.FileKind.{FileKind};
+ghost use Rattle.mds_records.specs.declared.header_name.HeaderName.{HeaderName};
 ghost use Rattle.mds_records.specs.FieldFaults.{field_fault};
 ghost use Rattle.mds_records.specs.RecordSteps.{HasB2bFields};
 ghost use Rattle.mds_records.specs.Records.{IsB2bDetails};
@@ -39,7 +39,7 @@ struct B2bFields<'a> {
 
 /// Reads a 500 record.
 pub(crate) fn read_b2b_details(text: &[u8]) -> Result<B2bDetailsRecord<'_>, FieldFault>
-    ensures { (file : FileKind) (n : ℕ) → MatchResult result
+    ensures { (file : HeaderName) (n : ℕ) → MatchResult result
         (λ r. (field_fault file Kind.B2bDetails n text.now ≡ None) × IsB2bDetails text.now r)
         (λ fault. field_fault file Kind.B2bDetails n text.now ≡ Some fault) }
 {

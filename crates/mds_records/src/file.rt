@@ -3,6 +3,7 @@
 ghost use Rattle.std.specs.Prelude.{◌≡◌, ◌↔◌, IsTrue, Some};
 ghost use Rattle.mds_records.specs.Printed.{code_text, fault_text};
 
+use crate::header_name::HeaderName;
 use std::fmt;
 
 /// The kinds of MDFF files.
@@ -13,12 +14,22 @@ pub enum FileKind {
 }
 
 impl FileKind {
+    ghost use Rattle.mds_records.specs.Layouts.{header_name};
     ghost use Rattle.mds_records.specs.declared.file.FileKind.{FileKind as AFileKind};
 
     /// A law: kinds of files are equal where they are the same.
     pub fn one_equality()
         ensures { (a b : AFileKind) → IsTrue (⟦<FileKind as PartialEq>⟧.eq a b) ↔ (a ≡ b) }
     {}
+
+    /// The name in the headers of its files.
+    pub fn header_name(self) -> HeaderName
+        ensures { result ≡ header_name self }
+    {
+        match self {
+            FileKind::Nem12 => HeaderName::Nem12,
+        }
+    }
 }
 
 /// What is wrong with a line of a file. Each is printed as its code.

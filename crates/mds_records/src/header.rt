@@ -8,7 +8,7 @@ ghost use Rattle.mds_records.specs.RecordSteps.{HasHeaderFields};
 ghost use Rattle.mds_records.specs.Records.{IsHeader};
 
 use crate::fault::{FieldFault, first_fault, has_right_count};
-use crate::file::FileKind;
+use crate::header_name::HeaderName;
 use mds_lines::next_field;
 use mds_terms::{Moment, PrintableText};
 
@@ -31,8 +31,8 @@ struct HeaderFields<'a> {
     is_whole: bool,
 }
 
-/// Reads a 100 record.
-pub(crate) fn read_header(text: &[u8], file: FileKind) -> Result<HeaderRecord<'_>, FieldFault>
+/// Reads the text of a 100 record, the header of a file of this name.
+pub fn read_header(text: &[u8], file: HeaderName) -> Result<HeaderRecord<'_>, FieldFault>
     ensures { (n : ℕ) → MatchResult result
         (λ r. (field_fault file Kind.Header n text.now ≡ None) × IsHeader text.now r)
         (λ fault. field_fault file Kind.Header n text.now ≡ Some fault) }
@@ -75,19 +75,21 @@ fn split_header(text: &[u8]) -> HeaderFields<'_>
 }
 
 /// Whether a header's field names this kind of file.
-fn is_name(file: FileKind, name: &[u8]) -> bool
+fn is_name(file: HeaderName, name: &[u8]) -> bool
     ensures { result ≡ bytes_eq name.now (file_name file) }
 {
     match file {
-        FileKind::Nem12 => matches!(name, b"NEM12"),
+        HeaderName::Nem12 => matches!(name, b"NEM12"),
+        HeaderName::Nem13 => matches!(name, b"NEM13"),
     }
 }
 
 /// Whether a header's field names the other kind of file.
-fn is_other_name(file: FileKind, name: &[u8]) -> bool
+fn is_other_name(file: HeaderName, name: &[u8]) -> bool
     ensures { result ≡ bytes_eq name.now (other_file_name file) }
 {
     match file {
-        FileKind::Nem12 => matches!(name, b"NEM13"),
+        HeaderName::Nem12 => matches!(name, b"NEM13"),
+        HeaderName::Nem13 => matches!(name, b"NEM12"),
     }
 }

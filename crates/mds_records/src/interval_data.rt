@@ -2,7 +2,7 @@
 
 ghost use Rattle.std.specs.Prelude.{◌≡◌, ◌<◌, ◌≤◌, map, if◌then◌else◌, Some, None, IfOk, IfSome, IfNone, OnOk, OnSome, MatchResult, codes};
 ghost use Rattle.mds_lines.specs.declared.line.Kind.{Kind};
-ghost use Rattle.mds_records.specs.declared.file.FileKind.{FileKind};
+ghost use Rattle.mds_records.specs.declared.header_name.HeaderName.{HeaderName};
 ghost use Rattle.mds_records.specs.declared.record.Record.{Record};
 ghost use Rattle.mds_records.specs.FieldFaults.{field_fault};
 ghost use Rattle.mds_records.specs.Layouts.{has_flag};
@@ -46,7 +46,7 @@ pub(crate) fn read_interval_data<'a>(
     values: &mut IntervalValues,
 ) -> Result<IntervalDataRecord<'a>, FieldFault>
     requires { (0 < count) × (count ≤ 288) }
-    ensures read { (file : FileKind) → MatchResult result
+    ensures read { (file : HeaderName) → MatchResult result
         (λ r. (field_fault file Kind.IntervalData count text.now ≡ None) × IsIntervalData count text.now r)
         (λ fault. field_fault file Kind.IntervalData count text.now ≡ Some fault) }
     ensures held { OnOk result (values.new ≡ map quantity_in (values_of count text.now)) }

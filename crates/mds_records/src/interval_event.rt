@@ -3,7 +3,7 @@
 ghost use Rattle.std.specs.Prelude.{◌≡◌, ◌==◌, ℕ, false, Some, None, IfOk, MatchResult};
 ghost use Rattle.mds_lines.specs.declared.line.Kind.{Kind};
 ghost use Rattle.mds_marks.specs.Quality.{variable};
-ghost use Rattle.mds_records.specs.declared.file.FileKind.{FileKind};
+ghost use Rattle.mds_records.specs.declared.header_name.HeaderName.{HeaderName};
 ghost use Rattle.mds_records.specs.FieldFaults.{field_fault};
 ghost use Rattle.mds_records.specs.RecordSteps.{HasRunFields};
 ghost use Rattle.mds_records.specs.Records.{IsIntervalEvent};
@@ -35,7 +35,7 @@ struct RunFields<'a> {
 
 /// Reads a 400 record.
 pub(crate) fn read_interval_event(text: &[u8]) -> Result<IntervalEventRecord<'_>, FieldFault>
-    ensures read { (file : FileKind) (n : ℕ) → MatchResult result
+    ensures read { (file : HeaderName) (n : ℕ) → MatchResult result
         (λ r. (field_fault file Kind.IntervalEvent n text.now ≡ None) × IsIntervalEvent text.now r)
         (λ fault. field_fault file Kind.IntervalEvent n text.now ≡ Some fault) }
     ensures marked { IfOk result (λ r. (r.mark.quality.flag == variable) ≡ false) }

@@ -9,6 +9,7 @@ mod direction;
 mod fault;
 mod file;
 mod header;
+mod header_name;
 mod interval_data;
 mod interval_event;
 mod interval_values;
@@ -17,13 +18,14 @@ mod record;
 mod register_read;
 mod term;
 
-pub use accumulation_b2b_details::AccumulationB2bDetailsRecord;
-pub use accumulation_data::AccumulationDataRecord;
+pub use accumulation_b2b_details::{AccumulationB2bDetailsRecord, read_accumulation_b2b_details};
+pub use accumulation_data::{AccumulationDataRecord, read_accumulation_data};
 pub use b2b_details::B2bDetailsRecord;
 pub use direction::Direction;
 pub use fault::FieldFault;
 pub use file::{FaultCode, FileFault, FileKind};
-pub use header::HeaderRecord;
+pub use header::{HeaderRecord, read_header};
+pub use header_name::HeaderName;
 pub use interval_data::IntervalDataRecord;
 pub use interval_event::IntervalEventRecord;
 pub use interval_values::IntervalValues;
@@ -31,7 +33,7 @@ pub use mds_lines::{
     Counted, Fields, Kind, KindFault, Line, LineBuffer, LineFault, LineReader, Sink, Source,
 };
 pub use nmi_data_details::NmiDataDetailsRecord;
-pub use record::{Record, read_record};
+pub use record::{Record, read_end, read_record};
 pub use register_read::RegisterRead;
 
 #[cfg(test)]

@@ -2,7 +2,7 @@
 
 ghost use Rattle.std.specs.Prelude.{◌≡◌, ℕ, Some, None, MatchResult};
 ghost use Rattle.mds_lines.specs.declared.line.Kind.{Kind};
-ghost use Rattle.mds_records.specs.declared.file.FileKind.{FileKind};
+ghost use Rattle.mds_records.specs.declared.header_name.HeaderName.{HeaderName};
 ghost use Rattle.mds_records.specs.FieldFaults.{field_fault};
 ghost use Rattle.mds_records.specs.RecordSteps.{HasDetailsFields};
 ghost use Rattle.mds_records.specs.Records.{IsNmiDataDetails};
@@ -40,7 +40,7 @@ struct DetailsFields<'a> {
 
 /// Reads a 200 record.
 pub(crate) fn read_nmi_data_details(text: &[u8]) -> Result<NmiDataDetailsRecord<'_>, FieldFault>
-    ensures { (file : FileKind) (n : ℕ) → MatchResult result
+    ensures { (file : HeaderName) (n : ℕ) → MatchResult result
         (λ r. (field_fault file Kind.NmiDataDetails n text.now ≡ None) × IsNmiDataDetails text.now r)
         (λ fault. field_fault file Kind.NmiDataDetails n text.now ≡ Some fault) }
 {

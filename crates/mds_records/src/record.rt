@@ -3,8 +3,9 @@
 ghost use Rattle.std.specs.Prelude.{◌≡◌, ◌≢◌, ℕ, Ok, Some, None, IsSome, IfOk, OnOk, MatchResult, map};
 ghost use Rattle.mds_lines.specs.Kinds.{kind_of};
 ghost use Rattle.mds_lines.specs.Numbered.{text_of};
-ghost use Rattle.mds_records.specs.declared.file.FileKind.{FileKind as AFileKind};
+ghost use Rattle.mds_records.specs.declared.header_name.HeaderName.{HeaderName as AHeaderName};
 ghost use Rattle.mds_records.specs.FieldFaults.{field_fault};
+ghost use Rattle.mds_records.specs.Layouts.{header_name};
 ghost use Rattle.mds_records.specs.Records.{GoesWith, Spells, quantity_in, value_count, values_of};
 
 use crate::accumulation_b2b_details::{
@@ -48,9 +49,9 @@ pub fn read_record<'a>(
     requires known { kind_of (text_of line.now) ≡ Ok kind }
     requires length { kind ≡ Kind.IntervalData → IsSome length }
     ensures spells { MatchResult result
-        (λ r. (field_fault file kind (value_count length) (text_of line.now) ≡ None)
+        (λ r. (field_fault (header_name file) kind (value_count length) (text_of line.now) ≡ None)
         × Spells kind (value_count length) (text_of line.now) r)
-        (λ fault. field_fault file kind (value_count length) (text_of line.now) ≡ Some fault) }
+        (λ fault. field_fault (header_name file) kind (value_count length) (text_of line.now) ≡ Some fault) }
     ensures held { kind ≡ Kind.IntervalData
         → OnOk result (values.new ≡ map quantity_in (values_of (value_count length) (text_of line.now))) }
     ensures kept { kind ≢ Kind.IntervalData → values.new ≡ values.old }
@@ -58,7 +59,7 @@ pub fn read_record<'a>(
 {
     let text = line.text();
     match kind {
-        Kind::Header => match read_header(text, file) {
+        Kind::Header => match read_header(text, file.header_name()) {
             Ok(header) => Ok(Record::Header(header)),
             Err(fault) => Err(fault),
         },
@@ -96,9 +97,9 @@ pub fn read_record<'a>(
     }
 }
 
-/// Reads a 900 record, which says nothing.
-fn read_end(text: &[u8]) -> Result<(), FieldFault>
-    ensures { (file : AFileKind) (n : ℕ) → MatchResult result
+/// Reads the text of a 900 record, which says nothing.
+pub fn read_end(text: &[u8]) -> Result<(), FieldFault>
+    ensures { (file : AHeaderName) (n : ℕ) → MatchResult result
         (λ _. field_fault file Kind.EndOfData n text.now ≡ None)
         (λ fault. field_fault file Kind.EndOfData n text.now ≡ Some fault) }
 {

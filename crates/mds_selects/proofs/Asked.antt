@@ -3,12 +3,15 @@ use Rattle.std.specs.Prelude.{◌≡◌, ◌≢◌, ◌↔◌, IfOk, Result, Ok,
 use Rattle.std.proofs.Common.{sym, ap, subst, ◌∙◌, arith}
 use Rattle.sqlite.specs.Effect.{Database, IsDatabase}
 use Rattle.sqlite.specs.State.{HasCleanDisk, State, Survives}
+use Rattle.sqlite.specs.declared.error.Error.{Error}
 use Rattle.sqlite.proofs.Callers.{unchanged_then}
 use Rattle.sqlite.proofs.StateLemmas.{survives_weaker}
 use Rattle.sqlite_catalog.specs.Listing.{IsSound}
 use Rattle.sqlite_trees.specs.Tree.{Trees}
+use Rattle.mds_tables.specs.Causes.{HasFailed}
 use Rattle.mds_tables.specs.Stores.{Finds, Holds, HoldsTables, IsReady}
 use Rattle.mds_tables.specs.Tables.{schema_1}
+use Rattle.mds_tables.proofs.CauseLemmas.{failed_since}
 use Rattle.mds_tables.proofs.CallLemmas.{survives_more}
 
 pub tables_held : (s : State) → Holds s → HoldsTables s
@@ -48,6 +51,11 @@ module _ {old mid new : State} (ready : HasCleanDisk mid → IsReady old mid) (b
       settled = (ready early).settled;
       sound = (ready early).sound;
     }
+
+    -- why the query fails is why the call does
+    pub why_failed : (e : Error) → (mid.now.schema ≡ schema_1 → HasFailed mid new e) → HasFailed old new e
+    why_failed e h =
+        failed_since old mid new (begun.counts) ((ready early).same.0.is_open) (begun.limit) e (h has_schema)
 
   -- a crash after the query leaves what one before it left
   pub quiet : Survives old new (λ _. ⊥)

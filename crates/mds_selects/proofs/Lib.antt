@@ -7,6 +7,7 @@ pub mod Listed
 pub mod MemberLemmas
 pub mod Named
 pub mod OneNumber
+pub mod QueryCauses
 pub mod QueryLemmas
 pub mod SelectLemmas
 pub mod SelectTexts

@@ -52,7 +52,7 @@ module _ (sql : List ℕ) (params : Row) (old new : State) (schema : Schema) (ha
       inl (subst (FailsToShow old new sql h.0 (timed params h.0.formats h.1.now) e) none h.2).3
 
 -- the text is one query of a table
-abbrev AsksFor : List ℕ → ℕ → List Term → List Term → List (Term × Key) → List (List ℕ) → Type 0
+abbrev pub AsksFor : List ℕ → ℕ → List Term → List Term → List (Term × Key) → List (List ℕ) → Type 0
 AsksFor sql tree test project order names =
     command_of (understood schema_1 sql)
     ≡ Select (record { lets = []; body = from_one tree test project order }) names

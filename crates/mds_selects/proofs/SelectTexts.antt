@@ -1,17 +1,27 @@
 -- What the texts of the queries mean.
-use Rattle.std.proofs.Common.{◌≡◌, List, ℕ, [], ◌∷◌, None, true, false, codes, refl, map, pos, negsuc}
+use Rattle.std.proofs.Common.{arith, inl, inr, Option, ◌≡◌, List, ℕ, [], ◌∷◌, None, true, false, codes, refl, map, pos, negsuc}
+use Rattle.std.specs.Prelude.{Any, IsSome}
 use Rattle.sqlite.specs.Collation.TheVariants.{Binary}
 use Rattle.sqlite.specs.Command.TheVariants.{Select}
+use Rattle.sqlite.specs.Effect.{RefusesQuery}
 use Rattle.sqlite.specs.Listing.{reads_listing, understood}
 use Rattle.sqlite.specs.Query.{Query, end, inner}
 use Rattle.sqlite.specs.Term.{Term, col, lit, op2}
+use Rattle.sqlite.specs.declared.error.Error.{Error}
+use Rattle.sqlite.specs.declared.error.Error.TheVariants.{SqliteFailure}
+use Rattle.sqlite.specs.declared.error.ErrorCode.TheVariants.{OperationInterrupted}
 use Rattle.sqlite.specs.declared.types.Value.TheVariants.{Int}
 use Rattle.sqlite.proofs.Callers.{IsPlain, command_of}
 use Rattle.sqlite_sql.specs.declared.ops.BinaryOp.TheVariants.{Compare}
 use Rattle.sqlite_sql.specs.declared.ops.CompareOp.TheVariants.{Eq}
 use Rattle.sqlite_tied.specs.Compute.{everything}
+use Rattle.sqlite_trees.specs.Tree.{Trees}
 use Rattle.sqlite_value.specs.declared.keys.Key.{Key}
 use Rattle.mds_tables.specs.Tables.{schema_1}
+use Rattle.mds_tables.proofs.CauseLemmas.{IsWhole}
+
+none_of : {X : Type 0} (xs : List X) → ¬ Any (λ x. ⊥) xs
+none_of xs any = any.4
 
 -- the rows of one table that pass the filter, in an order, each shown by these terms
 abbrev pub from_one : ℕ → List Term → List Term → List (Term × Key) → Query
@@ -53,6 +63,19 @@ pub select_version_plain :
     IsPlain (understood schema_1 select_version) × (reads_listing schema_1 select_version ≡ false)
 unfolding understood everything
 select_version_plain = ((refl, refl), refl)
+
+pub select_version_whole : IsWhole select_version 0 (understood schema_1 select_version)
+unfolding understood everything
+select_version_whole = (omega arith, refl, refl)
+
+-- it sums nothing, so only the limit of steps refuses it
+pub select_version_cut : (limit : Option ℕ) (trees : Trees) (e : Error)
+    → RefusesQuery limit (record { schema = schema_1; trees = trees }) (record { lets = []; body = version_query }) [] e
+    → (e ≡ SqliteFailure OperationInterrupted) × IsSome limit
+select_version_cut limit trees e (inl mistyped) = absurd (let no : true ≡ false = mistyped.1 in cc)
+select_version_cut limit trees e (inr (inl (_, inl none))) = absurd none
+select_version_cut limit trees e (inr (inl (_, inr any))) = absurd (none_of (trees 0) any)
+select_version_cut limit trees e (inr (inr cut)) = cut
 
 abbrev pub select_head : List ℕ
 select_head = codes "SELECT nmi, suffix, day, length, unit FROM mds_head WHERE nmi = ?1 AND suffix = ?2 AND day = ?3"

@@ -14,6 +14,7 @@ ghost use Rattle.mds_world.specs.Facts.Fact.{DetailIs, EventIs};
 ghost use Rattle.mds_world.specs.Lists.{Apart, Member};
 ghost use Rattle.mds_world.specs.Sets.{◌∈◌};
 ghost use Rattle.mds_versions.specs.Queries.{AreEventsOf, AreKnownStreams, stream_cmp};
+ghost use Rattle.mds_tables.specs.Causes.{FailsForCause};
 ghost use Rattle.mds_tables.specs.RowFacts.{int_at};
 ghost use Rattle.mds_tables.specs.Stores.{AreOpen, Holds, HoldsTables, world_of};
 ghost use Rattle.mds_selects.specs.Found.{AreRowsOf, IsHeadOf};
@@ -41,7 +42,8 @@ use sqlite::{Alter, Connection, Row};
 use std::alloc::Global;
 use std::collections::BTreeSet;
 
-/// Whether mds_schema says 1 and nothing else, in a database that has the tables of schema 1.
+/// Whether mds_schema says 1 and nothing else, in a database that has the tables of schema 1. It is unavailable only
+/// where the store failed, or the limit of steps was reached.
 pub fn is_version_1<S: Alter>(conn: &mut Connection<S>) -> Result<bool, Unavailable>
     requires { conn.old.in_transaction ≡ false }
     ensures found { HasCleanDisk (state S.Store conn.new) → HoldsTables (state S.Store conn.old)
@@ -52,6 +54,8 @@ pub fn is_version_1<S: Alter>(conn: &mut Connection<S>) -> Result<bool, Unavaila
         → OnOk result (AreOpen (state S.Store conn.old) (state S.Store conn.new)) }
     ensures kept { HasCleanDisk (state S.Store conn.new) → HoldsTables (state S.Store conn.old)
         → KeepsCommit (state S.Store conn.old) (state S.Store conn.new) }
+    ensures cause { HasCleanDisk (state S.Store conn.new) → HoldsTables (state S.Store conn.old)
+        → OnErr result (FailsForCause (state S.Store conn.old) (state S.Store conn.new)) }
     ensures mode { conn.new.in_transaction ≡ false }
     ensures survives { HoldsTables (state S.Store conn.old) → Survives (state S.Store conn.old) (state S.Store conn.new) (λ _. ⊥) }
 {

@@ -1,8 +1,9 @@
 //! The queries, and the rows that they answer.
 
-ghost use Rattle.std.specs.Prelude.{◌≡◌, ◌≢◌, false, [], ◌∷◌, All, IfOk, OnErr};
+ghost use Rattle.std.specs.Prelude.{◌≡◌, ◌≢◌, false, [], ◌∷◌, All, IfErr, IfOk, OnErr};
 ghost use Rattle.sqlite.specs.Held.{state};
 ghost use Rattle.sqlite.specs.State.{HasCleanDisk, Survives};
+ghost use Rattle.mds_tables.specs.Causes.{HasFailed};
 ghost use Rattle.mds_tables.specs.Cells as row;
 ghost use Rattle.mds_tables.specs.Stores.{ChangesNothing, Finds, SelectsAll, Selects};
 ghost use Rattle.mds_tables.specs.Tables.{schema_1};
@@ -17,6 +18,7 @@ use sqlite::{Alter, Connection, Error, Row};
 pub(crate) fn version_numbers<S: Alter>(conn: &mut Connection<S>) -> Result<Vec<Row>, Error>
     ensures ok { HasCleanDisk (state S.Store conn.new) → IfOk result (λ rows. Finds (state S.Store conn.old) (state S.Store conn.new) (λ trees. SelectsAll 0 (1 ∷ []) trees rows.items)) }
     ensures err { HasCleanDisk (state S.Store conn.new) → (state S.Store conn.old).now.schema ≡ schema_1 → OnErr result (ChangesNothing (state S.Store conn.old) (state S.Store conn.new)) }
+    ensures cause { HasCleanDisk (state S.Store conn.new) → (state S.Store conn.old).now.schema ≡ schema_1 → IfErr result (HasFailed (state S.Store conn.old) (state S.Store conn.new)) }
     ensures mode { conn.old.in_transaction ≡ false → conn.new.in_transaction ≡ false }
     ensures survives { Survives (state S.Store conn.old) (state S.Store conn.new) (λ _. (state S.Store conn.old).now.schema ≢ schema_1) }
 {

@@ -28,7 +28,7 @@ use Rattle.mds_versions.specs.Content.{content_facts, version_fact}
 use Rattle.mds_versions.specs.DayMerges.{DayMergeValue, Settles}
 use Rattle.mds_versions.specs.Queries.{stream_cmp}
 use Rattle.mds_versions.specs.declared.additions.Additions.{Additions}
-use Rattle.mds_service.specs.DayFacts.{on_book, on_one_day}
+use Rattle.mds_service.proofs.StatedDays.{on_book, on_one_day}
 use Rattle.mds_service.specs.Imports.{AreMerges, IsMergeOf, IsOfDays, IsSettled, MatchMerge}
 
 -- heads and versions as facts

@@ -2,8 +2,9 @@
 use Rattle.std.specs.Prelude.{◌≡◌, ◌↔◌, ℕ, List, ◌++◌, map, length, None}
 use Rattle.std.proofs.Common.{sym, ap, ◌∙◌, subst, inl, inr}
 use Rattle.std.specs.FinSet as set
+use Rattle.std.specs.List.{All}
 use Rattle.mds_records.specs.declared.file.FileKind.{FileKind}
-use Rattle.mds_statements.specs.Statements.{Statement}
+use Rattle.mds_statements.specs.Statements.{DayStatement, Statement}
 use Rattle.mds_terms.specs.Event.{EventValue}
 use Rattle.mds_world.specs.declared.facts.Detail.{Detail}
 use Rattle.mds_world.specs.Counts.{added_by, countable, known_by}
@@ -17,28 +18,30 @@ use Rattle.mds_world.specs.Stated.{stated}
 use Rattle.mds_world.specs.World.{Agrees, IsLawful, World, union}
 use Rattle.mds_versions.specs.Content.{AreNew, content, content_facts, version_fact}
 use Rattle.mds_versions.specs.DayMerges.{IfRefused}
-use Rattle.mds_versions.specs.Merge.{IsRefusal, Breaks, upto}
+use Rattle.mds_versions.specs.Merge.{IsRefusal, upto}
 use Rattle.mds_versions.specs.declared.additions.Additions.{Additions}
 use Rattle.mds_versions.specs.declared.day_merge.Stop.{Stop}
 use Rattle.mds_versions.specs.declared.day_merge.Stop.TheVariants.{Refused}
 use Rattle.mds_versions.specs.declared.refusal.Refusal.{Refusal}
 use Rattle.mds_service.proofs.TakenIn.{IsAdded, IsOther, added_absent, added_apart, added_whole, agrees_whole, countable_whole, kind, lawful_union}
-use Rattle.mds_service.specs.DayFacts.{of_days}
-use Rattle.mds_service.specs.Imports.{IsOfDays, IsSettled, day_statement, stated_world}
+use Rattle.mds_service.proofs.StatedDays.{of_days}
+use Rattle.mds_service.specs.Gathering.{others_world}
+use Rattle.mds_service.specs.Imports.{IsOfDays, IsSettled, IsWholeDay, days_world}
 use Rattle.mds_service.specs.Machine.{ImportStep, fault_in, stated_in}
 use Rattle.mds_service.specs.declared.request.Answer.TheVariants as told
-use Rattle.mds_service.specs.declared.stated.Stated.{Stated}
+use Rattle.mds_service.specs.declared.gathering.Gathered.{Gathered}
 
 -- what is known before a commit
-pub record Comes (old : World) (s : Stated) (base : Additions) (known : ℕ) (details : List Detail)
+pub record Comes (old : World) (days : List DayStatement) (g : Gathered) (base : Additions) (known : ℕ) (details : List Detail)
     (events : List EventValue) : Type 0 where
-  pub settled : IsSettled old (stated (map day_statement s.days.items)) base known
+  pub whole : All IsWholeDay days
+  pub settled : IsSettled old (days_world days) base known
   pub apart_details : Apart (map DetailIs details)
   pub just_details : (f : Fact) → Member f (map DetailIs details)
-      ↔ (Member f (map DetailIs s.details.items) × (f ∈ old → ⊥))
+      ↔ (Member f (map DetailIs g.details.items) × (f ∈ old → ⊥))
   pub apart_events : Apart (map EventIs events)
   pub just_events : (f : Fact) → Member f (map EventIs events)
-      ↔ (Member f (map EventIs s.events.items) × (f ∈ old → ⊥))
+      ↔ (Member f (map EventIs g.events.items) × (f ∈ old → ⊥))
 
 details_kind : (details : List Detail) (f : Fact) → Member f (map DetailIs details) → kind f ≡ 1
 details_kind details f m = let r = in_map DetailIs details f m in ap kind r.2
@@ -46,45 +49,47 @@ details_kind details f m = let r = in_map DetailIs details f m in ap kind r.2
 events_kind : (events : List EventValue) (f : Fact) → Member f (map EventIs events) → kind f ≡ 2
 events_kind events f m = let r = in_map EventIs events f m in ap kind r.2
 
-others : (s : Stated) (f : Fact)
-    → f ∈ set.from_list {R = fact_cmp} (map DetailIs s.details.items ++ map EventIs s.events.items) → IsOther f
-others s f h =
-    elim (member_append f (map DetailIs s.details.items) (map EventIs s.events.items) (in_list _ f h)) [
-      | inl a ↦ inl (details_kind s.details.items f a)
-      | inr a ↦ inr (events_kind s.events.items f a)
+others : (g : Gathered) (f : Fact)
+    → f ∈ set.from_list {R = fact_cmp} (map DetailIs g.details.items ++ map EventIs g.events.items) → IsOther f
+others g f h =
+    elim (member_append f (map DetailIs g.details.items) (map EventIs g.events.items) (in_list _ f h)) [
+      | inl a ↦ inl (details_kind g.details.items f a)
+      | inr a ↦ inr (events_kind g.events.items f a)
     ]
 
-pub comes : (old : World) (s : Stated) (base : Additions) (known : ℕ) (details : List Detail) (events : List EventValue)
-    → (IsOfDays (stated (map day_statement s.days.items))
-    → IsSettled old (stated (map day_statement s.days.items)) base known)
+pub comes : (old : World) (days : List DayStatement) (g : Gathered) (base : Additions) (known : ℕ) (details : List Detail) (events : List EventValue)
+    → All IsWholeDay days
+    → (IsOfDays (days_world days)
+    → IsSettled old (days_world days) base known)
     → Apart (map DetailIs details)
-    → ((f : Fact) → Member f (map DetailIs details) ↔ (Member f (map DetailIs s.details.items) × (f ∈ old → ⊥)))
+    → ((f : Fact) → Member f (map DetailIs details) ↔ (Member f (map DetailIs g.details.items) × (f ∈ old → ⊥)))
     → Apart (map EventIs events)
-    → ((f : Fact) → Member f (map EventIs events) ↔ (Member f (map EventIs s.events.items) × (f ∈ old → ⊥)))
-    → Comes old s base known details events
-comes old s base known details events settles ad jd ae je = record {
-  settled = settles (of_days s.days.items);
+    → ((f : Fact) → Member f (map EventIs events) ↔ (Member f (map EventIs g.events.items) × (f ∈ old → ⊥)))
+    → Comes old days g base known details events
+comes old days g base known details events all settles ad jd ae je = record {
+  settled = settles (of_days days);
+  whole = all;
   apart_details = ad;
   just_details = jd;
   apart_events = ae;
   just_events = je;
 }
 
-module _ (old : World) (s : Stated) (base : Additions) (known : ℕ) (details : List Detail) (events : List EventValue)
-    (x : Comes old s base known details events) where
-  is_added : IsAdded old (stated (map day_statement s.days.items)) (map HeadIs base.heads.items)
+module _ (old : World) (days : List DayStatement) (g : Gathered) (base : Additions) (known : ℕ) (details : List Detail) (events : List EventValue)
+    (x : Comes old days g base known details events) where
+  is_added : IsAdded old (days_world days) (map HeadIs base.heads.items)
       (map version_fact base.versions.items) (map DetailIs details) (map EventIs events)
-      (map DetailIs s.details.items) (map EventIs s.events.items)
+      (map DetailIs g.details.items) (map EventIs g.events.items)
   is_added = record {
     apart = x.settled.apart;
     just = x.settled.just;
-    of_days = of_days s.days.items;
+    of_days = of_days days;
     apart_details = x.apart_details;
     just_details = x.just_details;
-    details_are = details_kind s.details.items;
+    details_are = details_kind g.details.items;
     apart_events = x.apart_events;
     just_events = x.just_events;
-    events_are = events_kind s.events.items;
+    events_are = events_kind g.events.items;
   }
 
   -- over the World as it is then
@@ -101,64 +106,57 @@ module _ (old : World) (s : Stated) (base : Additions) (known : ℕ) (details : 
 
   whole : (now : World) (a : Additions) → now ≡ old → a.heads ≡ base.heads → a.versions ≡ base.versions
       → a.details.items ≡ details → a.events.items ≡ events
-      → union now (content a) ≡ union old (stated_world s)
+      → union now (content a) ≡ union old (union (days_world days) (others_world g))
   whole now a e h v d t =
       (λ i. union (e i) (set.from_list
       (map HeadIs (h i).items ++ map version_fact (v i).items ++ map DetailIs (d i) ++ map EventIs (t i))))
       ∙ added_whole _ _ _ _ _ _ _ _ is_added
 
-  lawful_whole : IsLawful old → Agrees (union old (stated (map day_statement s.days.items)))
-      → IsLawful (union old (stated_world s))
+  lawful_whole : IsLawful old → Agrees (union old (days_world days))
+      → IsLawful (union old (union (days_world days) (others_world g)))
   lawful_whole lawful agrees =
-      lawful_union old s.days.items _ (others s) (of_days s.days.items) lawful agrees
+      lawful_union old days _ (others g) (of_days days) x.whole lawful agrees
 
   pub lawful_commit : (now : World) (a : Additions) → now ≡ old → a.heads ≡ base.heads
       → a.versions ≡ base.versions → a.details.items ≡ details → a.events.items ≡ events → IsLawful old
-      → Agrees (union old (stated (map day_statement s.days.items)))
+      → Agrees (union old (days_world days))
       → IsLawful (union now (content a))
   lawful_commit now a e h v d t lawful agrees =
       subst IsLawful (sym (whole now a e h v d t)) (lawful_whole lawful agrees)
 
-  added_count : length base.versions.items ≡ added_by old (stated_world s)
+  added_count : length base.versions.items ≡ added_by old (union (days_world days) (others_world g))
   added_count =
-      x.settled.added ∙ ap (λ c. set.len (set.difference c (countable old))) (sym (countable_whole _ _ (others s)))
+      x.settled.added ∙ ap (λ c. set.len (set.difference c (countable old))) (sym (countable_whole _ _ (others g)))
 
-  known_is : known ≡ known_by old (stated_world s)
+  known_is : known ≡ known_by old (union (days_world days) (others_world g))
   known_is =
       x.settled.known_count
-      ∙ ap (λ c. set.len (set.intersection c (countable old))) (sym (countable_whole _ _ (others s)))
+      ∙ ap (λ c. set.len (set.intersection c (countable old))) (sym (countable_whole _ _ (others g)))
 
   -- The whole union, as a commit of these additions makes it, or a crash leaves it: it is lawful, and the file is taken
   -- in.
   pub taken_in : (file : FileKind) (text : List ℕ) (now new : World) (a : Additions) (added : ℕ)
-      → fault_in file text ≡ None → stated (stated_in file text) ≡ stated_world s
+      → fault_in file text ≡ None → stated (stated_in file text) ≡ union (days_world days) (others_world g)
       → now ≡ old → new ≡ union now (content a) → a.heads ≡ base.heads → a.versions ≡ base.versions
       → a.details.items ≡ details → a.events.items ≡ events → IsLawful old
-      → Agrees (union old (stated (map day_statement s.days.items))) → added ≡ length base.versions.items
+      → Agrees (union old (days_world days)) → added ≡ length base.versions.items
       → IsLawful new × ImportStep old file text (told.Imported added known) new
   taken_in file text now new a added well same e is h v d t lawful agrees n =
-      let all : new ≡ union old (stated_world s) = is ∙ whole now a e h v d t in (
+      let all : new ≡ union old (union (days_world days) (others_world g)) = is ∙ whole now a e h v d t in (
         subst IsLawful (sym all) (lawful_whole lawful agrees),
         (
           well,
-          subst (λ u. Agrees (union old u)) (sym same) (agrees_whole old _ _ (others s) agrees),
+          subst (λ u. Agrees (union old u)) (sym same) (agrees_whole old _ _ (others g) agrees),
           all ∙ ap (union old) (sym same),
           n ∙ added_count ∙ ap (added_by old) (sym same),
           known_is ∙ ap (known_by old) (sym same),
         ),
       )
 
--- the same lines refuse
-pub refusal_as : (w : World) (xs ys zs : List Statement) (stop : Stop) (refusal other : Refusal)
-    → xs ≡ ys → ((line : ℕ) → upto line xs ≡ upto line zs) → IfRefused stop (IsRefusal w (λ line. upto line zs))
-    → stop ≡ Refused refusal → other ≡ refusal → IsRefusal w (λ line. upto line ys) other
-refusal_as w xs ys zs stop refusal other e same r is which =
-    let said : IsRefusal w (λ line. upto line zs) refusal =
-    subst (λ s. IfRefused s (IsRefusal w (λ line. upto line zs))) is r in
-    let each : (line : ℕ) → upto line zs ≡ upto line ys = λ line. sym (same line) ∙ ap (upto line) e in
-    let all : IsRefusal w (λ line. upto line ys) refusal = record {
-      breaks = subst (λ u. Breaks (union w u) refusal.code refusal.interval) (each refusal.line) said.breaks;
-      before = λ line l. subst (λ u. Agrees (union w u)) (each line) (said.before line l);
-      no_field = said.no_field;
-    } in
-    subst (IsRefusal w (λ line. upto line ys)) (sym which) all
+-- the same statements refuse
+pub refusal_as : (w : World) (xs ys : List Statement) (stop : Stop) (refusal other : Refusal) → xs ≡ ys
+    → IfRefused stop (IsRefusal w (λ line. upto line xs)) → stop ≡ Refused refusal → other ≡ refusal
+    → IsRefusal w (λ line. upto line ys) other
+refusal_as w xs ys stop refusal other e r is which =
+    subst (IsRefusal w (λ line. upto line ys)) (sym which)
+    (subst (λ l. IsRefusal w (λ line. upto line l) refusal) e (subst (λ s. IfRefused s (IsRefusal w (λ line. upto line xs))) is r))

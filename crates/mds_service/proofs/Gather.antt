@@ -1,5 +1,5 @@
 -- The merges of a file's days, and the World with what the lines so far state.
-use Rattle.std.specs.Prelude.{◌≡◌, ◌↔◌, ◌⊎◌, ℕ, ◌<◌, List, [], ◌∷◌, ◌++◌, Bool, true, false, cond, length, get_or, take, map, Option, Some, None, Result, Ok, Err, OnOk, IfErr, is_err, is_some, refl}
+use Rattle.std.specs.Prelude.{◌≡◌, ◌↔◌, ◌⊎◌, ℕ, List, [], Bool, true, false, cond, Option, Some, None, Result, Ok, Err, OnOk, IfErr, is_err, is_some, refl}
 use Rattle.std.proofs.Common.{sym, ap, ◌∙◌, subst, inl, inr}
 use Rattle.std.specs.BTreeMap.{BTreeMap, WritesThrough, get, is_at}
 use Rattle.std.specs.Map.{lookup}
@@ -16,21 +16,20 @@ use Rattle.mds_world.specs.Facts.{Fact, PeriodContent, PeriodKey}
 use Rattle.mds_world.specs.Facts.Fact.{HeadIs, PeriodIs, VersionIs}
 use Rattle.mds_world.specs.Members.{in_union, union_left, union_right}
 use Rattle.mds_world.specs.Sets.{◌∈◌, decided, not_in_empty, same_bool}
-use Rattle.mds_world.specs.Stated.{stated}
 use Rattle.mds_world.specs.World.{Agrees, IsLawful, IsOn, World, union}
 use Rattle.mds_versions.specs.Books.{BookValue, IsDay, book_world}
 use Rattle.mds_versions.specs.DayMerges.{DayMergeValue, IfRefused}
 use Rattle.mds_versions.specs.declared.day_merge.Stop.{Stop}
 use Rattle.mds_versions.specs.declared.day_merge.Stop.TheVariants.{Refused, Memory}
 use Rattle.mds_versions.specs.declared.refusal.Refusal.{Refusal}
-use Rattle.mds_versions.specs.Merge.{Breaks, HasTwoLengths, HasTwoReadings, HasTwoUnits, IsRefusal, claim_world, upto}
+use Rattle.mds_versions.specs.Merge.{Breaks, HasTwoLengths, HasTwoReadings, HasTwoUnits, claim_world}
 use Rattle.mds_versions.specs.declared.refusal.RefusalCode.{RefusalCode}
 use Rattle.mds_versions.specs.declared.refusal.RefusalCode.TheVariants.{LengthConflict, UnitConflict, VersionConflict, JobReused, Protected, StaleUpdate, NoLikeDay, TooLong, NoAnchor, UnknownDay, BadJob}
-use Rattle.mds_service.specs.DayFacts.{day_merge_in, line_on, of_days, on_one_day}
-use Rattle.mds_service.specs.DayOrder.{IsExact, day_cmp, day_exact}
-use Rattle.mds_service.specs.Imports.{AreMerges, AreInOrder, IsMergeOf, IsOfDays, MatchMerge, day_statement}
-use Rattle.mds_service.proofs.Lines.{claim_of, refusal_at, stated_more}
-use Rattle.mds_service.specs.declared.stated_day.StatedDay.{StatedDay}
+use Rattle.mds_service.proofs.StatedDays.{day_merge_in, line_on, of_days, on_one_day}
+use Rattle.mds_service.proofs.DayOrder.{IsExact, day_cmp, day_exact}
+use Rattle.mds_versions.specs.declared.claim.Claim.{Claim}
+use Rattle.mds_statements.specs.Statements.{DayStatement}
+use Rattle.mds_service.specs.Imports.{AreMerges, IsMergeOf, IsOfDays, MatchMerge, days_world}
 
 -- what a day's merge was told before a claim: its book is the day's, and of the facts it has just those of the day
 pub record IsOpen (w facts : World) (s : Stream) (d : ℕ) (book : BookValue) (said : World) : Type 0 where
@@ -231,34 +230,31 @@ put cmp law w facts one key old new merge on x u is = λ stream day.
     ])
 
 -- what a claim states of its merge's day is what its line states
-same_line : (x : StatedDay) (s : Stream) (d : ℕ) → s ≡ x.stream → d ≡ x.day
-    → claim_world s d x.claim ≡ claim_world x.stream x.day x.claim
-same_line x s d e f = λ i. claim_world (e i) (f i) x.claim
+same_line : (claim : Claim) (s t : Stream) (d e : ℕ) → s ≡ t → d ≡ e → claim_world s d claim ≡ claim_world t e claim
+same_line claim s t d e f g = λ i. claim_world (f i) (g i) claim
 
 -- A line's claim is taken into its day's merge.
-pub step_taken : (cmp : StreamDay → StreamDay → Ordering) → IsExact cmp → (w facts : World) (x : StatedDay)
+pub step_taken : (cmp : StreamDay → StreamDay → Ordering) → IsExact cmp → (w facts : World) (key : StreamDay) (claim : Claim)
     (old new : BTreeMap StreamDay DayMergeValue) (book : BookValue) (said : World) (merge : DayMergeValue)
-    → AreMerges cmp w facts old → IsOpen w facts x.stream x.day book said
-    → (merge.book ≡ book) × (merge.said ≡ union said (claim_world book.stream book.day x.claim))
+    → AreMerges cmp w facts old → IsOpen w facts key.stream key.day book said
+    → (merge.book ≡ book) × (merge.said ≡ union said (claim_world book.stream book.day claim))
     × Agrees (union (book_world merge.book) merge.said)
-    → ((q : StreamDay) → get cmp new q
-    ≡ cond (is_eq (cmp (record { stream = x.stream; day = x.day }) q)) (Some merge) (get cmp old q))
-    → AreMerges cmp w (union facts (claim_world x.stream x.day x.claim)) new
-step_taken cmp law w facts x old new book said merge merges opened t u =
-    put cmp law w facts (claim_world x.stream x.day x.claim) (record { stream = x.stream; day = x.day }) old new merge
-    (line_on x) merges u
-    (taken w facts (claim_world x.stream x.day x.claim) x.stream x.day (line_on x) book said opened merge t.0
-    (t.1 ∙ ap (union said) (same_line x book.stream book.day opened.stream opened.day)) t.2)
+    → ((q : StreamDay) → get cmp new q ≡ cond (is_eq (cmp key q)) (Some merge) (get cmp old q))
+    → AreMerges cmp w (union facts (claim_world key.stream key.day claim)) new
+step_taken cmp law w facts key claim old new book said merge merges opened t u =
+    put cmp law w facts (claim_world key.stream key.day claim) key old new merge (line_on key.stream key.day claim) merges u
+    (taken w facts (claim_world key.stream key.day claim) key.stream key.day (line_on key.stream key.day claim) book said opened merge t.0
+    (t.1 ∙ ap (union said) (same_line claim book.stream key.stream book.day key.day opened.stream opened.day)) t.2)
 
 -- A line's claim that its day's merge refuses.
-pub step_refused : (w facts : World) (x : StatedDay) (book : BookValue) (said : World)
-    → IsOpen w facts x.stream x.day book said → Agrees (union w facts) → (code : RefusalCode) (i : ℕ)
-    → Breaks (union (book_world book) (union said (claim_world book.stream book.day x.claim))) code i
-    → Breaks (union w (union facts (claim_world x.stream x.day x.claim))) code i
-step_refused w facts x book said opened agrees code i b =
-    breaks_up w facts (claim_world x.stream x.day x.claim) x.stream x.day (line_on x) book said opened agrees code i
+pub step_refused : (w facts : World) (key : StreamDay) (claim : Claim) (book : BookValue) (said : World)
+    → IsOpen w facts key.stream key.day book said → Agrees (union w facts) → (code : RefusalCode) (i : ℕ)
+    → Breaks (union (book_world book) (union said (claim_world book.stream book.day claim))) code i
+    → Breaks (union w (union facts (claim_world key.stream key.day claim))) code i
+step_refused w facts key claim book said opened agrees code i b =
+    breaks_up w facts (claim_world key.stream key.day claim) key.stream key.day (line_on key.stream key.day claim) book said opened agrees code i
     (subst (λ u. Breaks (union (book_world book) (union said u)) code i)
-    (same_line x book.stream book.day opened.stream opened.day) b)
+    (same_line claim book.stream key.stream book.day key.day opened.stream opened.day) b)
 
 -- Where each day agrees, all agree.
 module _ (cmp : StreamDay → StreamDay → Ordering) (w facts : World) (merges : BTreeMap StreamDay DayMergeValue)
@@ -322,78 +318,48 @@ pub written : (key : StreamDay) (old new : BTreeMap StreamDay DayMergeValue) (fo
 written key old new found merge e h = (h.3 (ap is_some (sym e))).0
 
 -- A line's claim goes to the merge that `get_mut` found.
-pub found_taken : (w : World) (x : StatedDay) (old new : BTreeMap StreamDay DayMergeValue) (found merge : DayMergeValue)
-    (result : Result (Unit {0}) Stop) → Some found ≡ get day_cmp old (record { stream = x.stream; day = x.day })
-    → WritesThrough day_cmp (day_cmp (record { stream = x.stream; day = x.day })) old merge new
+pub found_taken : (w : World) (key : StreamDay) (claim : Claim) (old new : BTreeMap StreamDay DayMergeValue)
+    (found merge : DayMergeValue) (result : Result (Unit {0}) Stop) → Some found ≡ get day_cmp old key
+    → WritesThrough day_cmp (day_cmp key) old merge new
     → OnOk result ((merge.book ≡ found.book)
-    × (merge.said ≡ union found.said (claim_world found.book.stream found.book.day x.claim))
+    × (merge.said ≡ union found.said (claim_world found.book.stream found.book.day claim))
     × Agrees (union (book_world merge.book) merge.said))
     → OnOk result ((facts : World) → AreMerges day_cmp w facts old
-    → AreMerges day_cmp w (union facts (claim_world x.stream x.day x.claim)) new)
-found_taken w x old new found merge (Ok u) e h t = λ facts merges.
-    step_taken day_cmp day_exact w facts x old new found.book found.said merge merges
-    (open_merge w facts x.stream x.day found (subst (MatchMerge w facts x.stream x.day) (sym e) (merges x.stream x.day)))
-    t (written (record { stream = x.stream; day = x.day }) old new found merge e h)
-found_taken w x old new found merge (Err stop) e h t = tt
+    → AreMerges day_cmp w (union facts (claim_world key.stream key.day claim)) new)
+found_taken w key claim old new found merge (Ok u) e h t = λ facts merges.
+    step_taken day_cmp day_exact w facts key claim old new found.book found.said merge merges
+    (open_merge w facts key.stream key.day found (subst (MatchMerge w facts key.stream key.day) (sym e) (merges key.stream key.day)))
+    t (written key old new found merge e h)
+found_taken w key claim old new found merge (Err stop) e h t = tt
 
 -- The merge that `get_mut` found refuses a line's claim.
-pub found_refused : (w : World) (x : StatedDay) (old : BTreeMap StreamDay DayMergeValue) (found : DayMergeValue)
-    (result : Result (Unit {0}) Stop) → Some found ≡ get day_cmp old (record { stream = x.stream; day = x.day })
-    → IfErr result (λ stop. IfRefused stop (λ refusal. (refusal.line ≡ x.claim.line) × (refusal.field ≡ 0)
+pub found_refused : (w : World) (key : StreamDay) (claim : Claim) (old : BTreeMap StreamDay DayMergeValue) (found : DayMergeValue)
+    (result : Result (Unit {0}) Stop) → Some found ≡ get day_cmp old key
+    → IfErr result (λ stop. IfRefused stop (λ refusal. (refusal.line ≡ claim.line) × (refusal.field ≡ 0)
     × Breaks (union (book_world found.book) (union found.said
-    (claim_world found.book.stream found.book.day x.claim))) refusal.code refusal.interval))
-    → IfErr result (λ stop. IfRefused stop (λ refusal. (refusal.line ≡ x.claim.line) × (refusal.field ≡ 0)
+    (claim_world found.book.stream found.book.day claim))) refusal.code refusal.interval))
+    → IfErr result (λ stop. IfRefused stop (λ refusal. (refusal.line ≡ claim.line) × (refusal.field ≡ 0)
     × ((facts : World) → AreMerges day_cmp w facts old → Agrees (union w facts)
-    → Breaks (union w (union facts (claim_world x.stream x.day x.claim))) refusal.code refusal.interval)))
-found_refused w x old found (Ok u) e h = tt
-found_refused w x old found (Err Memory) e h = tt
-found_refused w x old found (Err (Refused refusal)) e h = (
+    → Breaks (union w (union facts (claim_world key.stream key.day claim))) refusal.code refusal.interval)))
+found_refused w key claim old found (Ok u) e h = tt
+found_refused w key claim old found (Err Memory) e h = tt
+found_refused w key claim old found (Err (Refused refusal)) e h = (
   h.0,
   h.1,
   λ facts merges agrees.
-      step_refused w facts x found.book found.said
-      (open_merge w facts x.stream x.day found (subst (MatchMerge w facts x.stream x.day) (sym e) (merges x.stream x.day)))
+      step_refused w facts key claim found.book found.said
+      (open_merge w facts key.stream key.day found (subst (MatchMerge w facts key.stream key.day) (sym e) (merges key.stream key.day)))
       agrees refusal.code refusal.interval h.2,
 )
 
--- One more line is in the merges.
-pub merges_more : (w : World) (days : List StatedDay) (x : StatedDay) (old new : BTreeMap StreamDay DayMergeValue)
-    → AreMerges day_cmp w (stated (map day_statement days)) old
-    → ((facts : World) → AreMerges day_cmp w facts old
-    → AreMerges day_cmp w (union facts (claim_world x.stream x.day x.claim)) new)
-    → AreMerges day_cmp w (stated (map day_statement (days ++ x ∷ []))) new
-merges_more w days x old new h f =
-    subst (λ u. AreMerges day_cmp w u new) (sym (stated_more days x)) (f (stated (map day_statement days)) h)
-
-pub days_agree : (w : World) (days : List StatedDay) (merges : BTreeMap StreamDay DayMergeValue)
-    → AreMerges day_cmp w (stated (map day_statement days)) merges → IsLawful w
-    → Agrees (union w (stated (map day_statement days)))
-days_agree w days merges x lawful =
-    merges_agree day_cmp w (stated (map day_statement days)) merges x (of_days days) lawful.agrees
+-- what days state agrees with the World, where they are in merges
+pub days_agree : (w : World) (days : List DayStatement) (merges : BTreeMap StreamDay DayMergeValue)
+    → AreMerges day_cmp w (days_world days) merges → IsLawful w → Agrees (union w (days_world days))
+days_agree w days merges x lawful = merges_agree day_cmp w (days_world days) merges x (of_days days) lawful.agrees
 
 -- no merge is there at the start
 pub no_merges : (w : World) (merges : BTreeMap StreamDay DayMergeValue) → merges.entries ≡ []
-    → AreMerges day_cmp w (stated (map day_statement [])) merges
+    → AreMerges day_cmp w (days_world []) merges
 no_merges w merges e = λ stream day.
-    subst (λ es. MatchMerge w (stated []) stream day (lookup (is_at (day_cmp (record { stream = stream; day = day }))) es))
+    subst (λ es. MatchMerge w (days_world []) stream day (lookup (is_at (day_cmp (record { stream = stream; day = day }))) es))
     (sym e) (λ f h on. absurd (not_in_empty total exact f h))
-
--- A file's first line whose merge refuses it.
-pub refused_here : (w : World) (days before : List StatedDay) (x : StatedDay) (merges : BTreeMap StreamDay DayMergeValue)
-    (refusal : Refusal) → AreInOrder days → before ≡ take (length before) days
-    → (length before < length days) × (x ≡ get_or days (length before) x)
-    → AreMerges day_cmp w (stated (map day_statement before)) merges → IsLawful w
-    → (refusal.line ≡ x.claim.line) × (refusal.field ≡ 0)
-    × ((facts : World) → AreMerges day_cmp w facts merges → Agrees (union w facts)
-    → Breaks (union w (union facts (claim_world x.stream x.day x.claim))) refusal.code refusal.interval)
-    → IsRefusal w (λ line. upto line (map day_statement days)) refusal
-refused_here w days before x merges refusal lines front here h lawful t =
-    let agrees = days_agree w before merges h lawful in
-    let breaks = t.2 (stated (map day_statement before)) h agrees in
-    refusal_at w days (length before) x refusal lines here.0
-    (subst (λ ds. Agrees (union w (stated (map day_statement ds)))) front agrees)
-    (t.0 ∙ ap (λ d. d.claim.line) here.1) t.1
-    (subst (λ ds. Breaks (union w (union (stated (map day_statement ds))
-    (claim_of (get_or days (length before) x)))) refusal.code refusal.interval) front
-    (subst (λ d. Breaks (union w (union (stated (map day_statement before)) (claim_of d))) refusal.code refusal.interval)
-    here.1 breaks))

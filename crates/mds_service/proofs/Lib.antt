@@ -3,8 +3,11 @@ mod Committed
 mod Sifting
 mod TakenIn
 pub mod DayFacts
+pub mod DayOrder
 pub mod Gather
-pub mod LaidOut
+pub mod Gathers
 pub mod Lines
 pub mod Runs
+pub mod StatedDays
 pub mod Steps
+pub mod Told

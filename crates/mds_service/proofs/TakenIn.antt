@@ -1,8 +1,10 @@
 -- What a text adds to a World that is lawful.
-use Rattle.std.specs.Prelude.{◌≡◌, ◌↔◌, ◌⊎◌, ℕ, ◌+◌, ◌<◌, ◌≤◌, List, [], ◌∷◌, ◌++◌, map, length, IsTrue, true, refl}
+use Rattle.std.specs.Prelude.{◌≡◌, ◌↔◌, ◌⊎◌, ℕ, ◌+◌, ◌<◌, ◌≤◌, List, [], ◌∷◌, ◌++◌, length, IsTrue, true, refl}
 use Rattle.std.proofs.Common.{sym, ap, ◌∙◌, subst, inl, inr, arith, append_assoc}
 use Rattle.std.proofs.lemmas.Bool.Decides.{nat_tests}
 use Rattle.std.specs.FinSet as set
+use Rattle.std.specs.List.{All}
+use Rattle.std.proofs.lemmas.List.Elements.{All-head, All-tail}
 use Rattle.mds_calendar.specs.Length.{count_of, is_length}
 use Rattle.mds_names.specs.declared.stream.Stream.{Stream}
 use Rattle.mds_marks.specs.Reading.{ReadingValue}
@@ -15,11 +17,11 @@ use Rattle.mds_world.specs.Facts.Fact.{HeadIs, VersionIs, DetailIs, EventIs, Per
 use Rattle.mds_world.specs.Lists.{Apart, Member, append_left, append_right, apart_append, member_append}
 use Rattle.mds_world.specs.Members.{in_list, in_union, list_in, same_by, union_left, union_right}
 use Rattle.mds_world.specs.Sets.{◌∈◌, decided, difference_in, in_difference, in_retain, retain_in}
-use Rattle.mds_world.specs.Stated.{stated, versions_from}
+use Rattle.mds_world.specs.Stated.{versions_from}
 use Rattle.mds_world.specs.World.{Agrees, HasHead, HasVersion, IsLawful, IsOn, World, union}
-use Rattle.mds_service.specs.DayFacts.{days_in, in_days}
-use Rattle.mds_service.specs.Imports.{IsOfDays, day_statement}
-use Rattle.mds_service.specs.declared.stated_day.StatedDay.{StatedDay}
+use Rattle.mds_statements.specs.Statements.{DayStatement}
+use Rattle.mds_service.specs.Imports.{IsOfDays, IsWholeDay, days_world}
+use Rattle.mds_service.proofs.StatedDays.{days_in, in_days}
 
 -- heads and versions, details, events, and all others
 abbrev pub kind : Fact → ℕ
@@ -118,26 +120,32 @@ first_version stream day update (reading ∷ rest) l = (_, reading, inl refl, re
 has_intervals : (minutes : ℕ) → IsTrue (is_length minutes) → 0 < count_of minutes
 has_intervals minutes h = grind (arith, nat_tests)
 
-head_of : StatedDay → Head
-head_of day = record { stream = day.stream; day = day.day; length = day.claim.length; unit = day.claim.unit }
+head_of : DayStatement → Head
+head_of day = record { stream = day.stream; day = day.date; length = day.length; unit = day.unit }
+
+-- what holds of all holds of a member
+all_member : {A : Type 0} (P : A → Type 0) (xs : List A) (x : A) → All P xs → Member x xs → P x
+all_member P [] x all m = absurd m
+all_member P (y ∷ ys) x all (inl e) = subst P (sym e) (All-head P y ys all)
+all_member P (y ∷ ys) x all (inr m) = all_member P ys x (All-tail P y ys all) m
 
 -- a version of the days has its head among them
-headed : (days : List StatedDay) (key : Key) (reading : ReadingValue)
-    → VersionIs key reading ∈ stated (map day_statement days) → HasHead (stated (map day_statement days)) key
+headed : (days : List DayStatement) → All IsWholeDay days → (key : Key) (reading : ReadingValue)
+    → VersionIs key reading ∈ days_world days → HasHead (days_world days) key
 unfolding head_of
-headed days key reading h =
+headed days all key reading h =
     let a = in_days days (VersionIs key reading) h in
     let day = a.0 in
     elim a.2 [
       | inl e ↦ cc
       | inr m ↦
-          let r = numbered day.stream day.day day.claim.update 1 day.claim.readings.items (VersionIs key reading) m in
-          let same : key ≡ record { stream = day.stream; day = day.day; interval = r.0; update = day.claim.update } = cc in
+          let r = numbered day.stream day.date day.update 1 day.readings (VersionIs key reading) m in
+          let same : key ≡ record { stream = day.stream; day = day.date; interval = r.0; update = day.update } = cc in
           let at : key.interval ≡ r.0 = ap (λ k. k.interval) same in
-          let last : r.0 < 1 + length day.claim.readings.items = r.3 in
+          let last : r.0 < 1 + length day.readings = r.3 in
           let first : 1 ≤ r.0 = r.2 in
-          let count : length day.claim.readings.items ≡ count_of day.claim.length = day.claim.whole in
-          let below : key.interval ≤ length day.claim.readings.items = omega arith in (
+          let count : length day.readings ≡ count_of day.length = (all_member IsWholeDay days day all a.1).whole in
+          let below : key.interval ≤ length day.readings = omega arith in (
             head_of day,
             days_in days (HeadIs (head_of day)) day a.1 (inl refl),
             sym (ap (λ k. k.stream) same),
@@ -148,25 +156,25 @@ headed days key reading h =
     ]
 
 -- a head of the days has a version among them
-versioned : (days : List StatedDay) (head : Head)
-    → HeadIs head ∈ stated (map day_statement days) → HasVersion (stated (map day_statement days)) head
+versioned : (days : List DayStatement) → All IsWholeDay days → (head : Head)
+    → HeadIs head ∈ days_world days → HasVersion (days_world days) head
 unfolding head_of
-versioned days head h =
+versioned days all head h =
     let a = in_days days (HeadIs head) h in
     let day = a.0 in
     elim a.2 [
       | inl e ↦
           let same : head ≡ head_of day = cc in
-          let some : 0 < length day.claim.readings.items =
-          subst (λ n. 0 < n) (sym day.claim.whole) (has_intervals day.claim.length day.sized) in
-          let v = first_version day.stream day.day day.claim.update day.claim.readings.items some in (
+          let is = all_member IsWholeDay days day all a.1 in
+          let some : 0 < length day.readings = subst (λ n. 0 < n) (sym is.whole) (has_intervals day.length is.sized) in
+          let v = first_version day.stream day.date day.update day.readings some in (
             v.0,
             v.1,
             days_in days (VersionIs v.0 v.1) day a.1 (inr v.2),
             v.3 ∙ sym (ap (λ k. k.stream) same),
             v.4 ∙ sym (ap (λ k. k.day) same),
           )
-      | inr m ↦ let r = numbered day.stream day.day day.claim.update 1 day.claim.readings.items (HeadIs head) m in let e = r.4 in cc
+      | inr m ↦ let r = numbered day.stream day.date day.update 1 day.readings (HeadIs head) m in let e = r.4 in cc
     ]
 
 wider_head : (w v : World) → ((f : Fact) → f ∈ w → f ∈ v) → (key : Key) → HasHead w key → HasHead v key
@@ -183,12 +191,11 @@ job_kind w facts rest days other f k h = elim (in_union w facts f (of_rules w fa
 ]
 
 -- A lawful World with what a text states is lawful where all agrees.
-pub lawful_union : (w : World) (days : List StatedDay) (rest : World)
-    → ((f : Fact) → f ∈ rest → IsOther f) → IsOfDays (stated (map day_statement days)) → IsLawful w
-    → Agrees (union w (stated (map day_statement days)))
-    → IsLawful (union w (union (stated (map day_statement days)) rest))
-lawful_union w days rest other of lawful agrees =
-    let facts = stated (map day_statement days) in
+pub lawful_union : (w : World) (days : List DayStatement) (rest : World)
+    → ((f : Fact) → f ∈ rest → IsOther f) → IsOfDays (days_world days) → All IsWholeDay days → IsLawful w
+    → Agrees (union w (days_world days)) → IsLawful (union w (union (days_world days) rest))
+lawful_union w days rest other of all lawful agrees =
+    let facts = days_world days in
     let whole = union w (union facts rest) in
     let old : (f : Fact) → f ∈ w → f ∈ whole = union_left w (union facts rest) in
     let more : (f : Fact) → f ∈ facts → f ∈ whole = λ f h.
@@ -199,11 +206,11 @@ lawful_union w days rest other of lawful agrees =
       one_job = λ id a b m n h k. lawful.one_job id a b m n (jobs (JobIs id a m) refl h) (jobs (JobIs id b n) refl k);
       headed = λ key reading h. elim (in_union w facts _ (rules (VersionIs key reading) (inl refl) h)) [
         | inl a ↦ wider_head w whole old key (lawful.headed key reading a)
-        | inr a ↦ wider_head facts whole more key (headed days key reading a)
+        | inr a ↦ wider_head facts whole more key (headed days all key reading a)
       ];
       versioned = λ head h. elim (in_union w facts _ (rules (HeadIs head) (inl refl) h)) [
         | inl a ↦ wider_version w whole old head (lawful.versioned head a)
-        | inr a ↦ wider_version facts whole more head (versioned days head a)
+        | inr a ↦ wider_version facts whole more head (versioned days all head a)
       ];
     }
 

@@ -1,16 +1,16 @@
--- What a file states, laid out flat, and the merges of its days.
-use Rattle.std.specs.Prelude.{◌≡◌, ◌↔◌, ℕ, ◌<◌, List, [], ◌++◌, map, length, Option, Some, None}
+-- The days that a file states, and their merges.
+use Rattle.std.specs.Prelude.{◌≡◌, ◌↔◌, ℕ, IsTrue, List, [], ◌++◌, map, length, Option, Some, None}
 use Rattle.std.specs.BTreeMap.{BTreeMap, get}
-use Rattle.std.specs.List.{AllPairs}
 use Rattle.std.specs.FinSet as set
 use Rattle.std.specs.declared.cmp.Ordering.{Ordering}
+use Rattle.mds_calendar.specs.Length.{count_of, is_length}
 use Rattle.mds_names.specs.declared.stream.Stream.{Stream}
-use Rattle.mds_statements.specs.Statements.{Statement}
+use Rattle.mds_statements.specs.Statements.{DayStatement}
 use Rattle.mds_statements.specs.Statements.Statement.{DayOf}
 use Rattle.mds_world.specs.declared.facts.StreamDay.{StreamDay}
 use Rattle.mds_world.specs.Counts.{added_by, known_by}
 use Rattle.mds_world.specs.Facts.{Fact}
-use Rattle.mds_world.specs.Facts.Fact.{HeadIs, DetailIs, EventIs}
+use Rattle.mds_world.specs.Facts.Fact.{HeadIs}
 use Rattle.mds_world.specs.Lists.{Apart}
 use Rattle.mds_world.specs.Sets.{◌∈◌}
 use Rattle.mds_world.specs.Stated.{stated}
@@ -19,30 +19,15 @@ use Rattle.mds_versions.specs.Books.{IsDay, book_world}
 use Rattle.mds_versions.specs.Content.{version_fact}
 use Rattle.mds_versions.specs.DayMerges.{DayMergeValue}
 use Rattle.mds_versions.specs.declared.additions.Additions.{Additions}
-use Rattle.mds_service.specs.declared.stated.Stated.{Stated}
-use Rattle.mds_service.specs.declared.stated_day.StatedDay.{StatedDay}
 
--- what a day laid out states
-abbrev pub day_statement : StatedDay → Statement
-day_statement day = DayOf (record {
-  line = day.claim.line;
-  stream = day.stream;
-  date = day.day;
-  length = day.claim.length;
-  unit = day.claim.unit;
-  update = day.claim.update;
-  readings = day.claim.readings.items;
-})
+-- what days state: their heads and versions
+abbrev pub days_world : List DayStatement → World
+days_world days = stated (map DayOf days)
 
--- all that is stated
-abbrev pub stated_world : Stated → World
-stated_world s =
-    union (stated (map day_statement s.days.items))
-    (set.from_list (map DetailIs s.details.items ++ map EventIs s.events.items))
-
--- each of the days stands on a line after those before it
-abbrev pub AreInOrder : List StatedDay → Type 0
-AreInOrder days = AllPairs (λ a b. a.claim.line < b.claim.line) days
+-- it has a reading for each interval of its length
+pub record IsWholeDay (day : DayStatement) : Type 0 where
+  pub sized : IsTrue (is_length day.length)
+  pub whole : length day.readings ≡ count_of day.length
 
 -- the merge has the day's book, and of the facts just those of its day
 pub record IsMergeOf (w facts : World) (s : Stream) (d : ℕ) (merge : DayMergeValue) : Type 0 where

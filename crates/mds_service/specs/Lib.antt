@@ -1,7 +1,5 @@
 pub mod Crashes
-pub mod DayFacts
-pub mod DayOrder
+pub mod Gathering
 pub mod Imports
 pub mod Machine
 pub mod Readings
-pub mod StatedSteps

@@ -6,11 +6,10 @@ ghost use Rattle.mds_statements.specs.Delivered.{delivery_statements};
 ghost use Rattle.mds_service.specs.Crashes.{ImportGoes};
 ghost use Rattle.mds_service.specs.Machine.{fault_in, stated_in};
 
-use crate::gathering::gather;
+use crate::gathering::{Gathered, gather};
 use crate::news::{new_details, new_events};
 use crate::request::Answer;
 use crate::settling::settle;
-use crate::stated::{Stated, stated_by};
 use mds_nem12::{Nem12Fault, read_nem12};
 use mds_records::FileKind;
 use mds_statements::Delivery;
@@ -37,19 +36,16 @@ pub(crate) fn import<K: Keeper>(
         Err(Nem12Fault::File(fault)) => return Answer::File(fault),
         Err(Nem12Fault::Memory) => return Answer::Unavailable,
     };
-    let Ok(stated) = stated_by(alloc, delivery) else {
-        return Answer::Unavailable;
-    };
-    let Stated {
-        days,
-        details,
-        events,
-    } = stated;
-    let merges = match gather(alloc, keeper, days) {
-        Ok(merges) => merges,
+    let gathered = match gather(alloc, keeper, delivery) {
+        Ok(gathered) => gathered,
         Err(Stop::Refused(refusal)) => return Answer::Refused(refusal),
         Err(Stop::Memory) => return Answer::Unavailable,
     };
+    let Gathered {
+        merges,
+        details,
+        events,
+    } = gathered;
     let Ok(details) = new_details(alloc, keeper, details) else {
         return Answer::Unavailable;
     };

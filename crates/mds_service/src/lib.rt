@@ -8,8 +8,6 @@ mod queries;
 mod request;
 mod service;
 mod settling;
-mod stated;
-mod stated_day;
 
 pub use request::{Answer, DayAnswer, Request, StreamAnswer, VersionsAnswer};
 pub use service::{apply, run};

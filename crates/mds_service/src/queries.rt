@@ -1,6 +1,6 @@
 //! Queries. None changes what is kept.
 
-ghost use Rattle.std.specs.Prelude.{◌≡◌, ◌↔◌, ◌≤◌, IfOk, IsTrue, map};
+ghost use Rattle.std.specs.Prelude.{◌≡◌, ◌↔◌, ◌<◌, ◌≤◌, IfOk, IsTrue, OnErr, length as size, map};
 ghost use Rattle.mds_calendar.specs.Length.{count_of};
 ghost use Rattle.mds_world.specs.Current.{IsReading, no_reading as bare_n};
 ghost use Rattle.mds_versions.specs.Books.{book_world};
@@ -159,7 +159,8 @@ fn no_reading(alloc: Global) -> Reading
 
 /// Copies of versions, without the number of their interval.
 fn copies(alloc: Global, rows: &[(u16, Version)]) -> Result<Vec<Version>, AllocError>
-    ensures { IfOk result (λ versions. versions.items ≡ map (λ row. row.1) rows.now) }
+    ensures value { IfOk result (λ versions. versions.items ≡ map (λ row. row.1) rows.now) }
+    ensures memory { OnErr result (0 < size rows.now) }
 {
     let mut versions = Vec::with_capacity(alloc, rows.len())?;
     for row in rows {

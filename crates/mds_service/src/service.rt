@@ -1,6 +1,6 @@
 //! One request, and a list of requests.
 
-ghost use Rattle.std.specs.Prelude.{◌≡◌, IfOk, OnErr, length};
+ghost use Rattle.std.specs.Prelude.{◌≡◌, ◌<◌, IfOk, OnErr, length};
 ghost use Rattle.mds_world.specs.World.{IsLawful, World};
 ghost use Rattle.mds_service.specs.Crashes.{Goes, MayLeave};
 ghost use Rattle.mds_service.specs.Machine.{Run};
@@ -57,8 +57,9 @@ pub fn run<K: Keeper>(
         × (K.sound keeper.new → K.world keeper.new ≡ w)
         × ((left : World) → K.may_leave keeper.new left → MayLeave w requests.now answers.items left)) }
 
-    // Nothing is changed where the list of answers has no room.
+    // Nothing is changed where the list of answers has no room, and an empty list needs none.
     ensures err { OnErr result (keeper.new ≡ keeper.old) }
+    ensures memory { OnErr result (0 < length requests.now) }
 {
     let mut answers = Vec::with_capacity(alloc, requests.len())?;
     for request in requests {

@@ -1,1 +1,2 @@
-mod Days
+pub mod Causes
+pub mod Days

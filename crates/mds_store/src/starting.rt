@@ -1,9 +1,10 @@
 //! How a store is made in a database, and known in one.
 
-ghost use Rattle.std.specs.Prelude.{◌≡◌, ◌≢◌, true, IfErr, IfOk, MatchResult};
+ghost use Rattle.std.specs.Prelude.{◌≡◌, ◌≢◌, ◌⊎◌, true, IfErr, IfOk, MatchResult};
 ghost use Rattle.std.specs.Bool.{MatchBool};
 ghost use Rattle.sqlite.specs.Held.{state};
 ghost use Rattle.sqlite.specs.State.{HasCleanDisk, Survives};
+ghost use Rattle.mds_tables.specs.Causes.{FailsForCause};
 ghost use Rattle.mds_tables.specs.Making.{LeavesMade};
 ghost use Rattle.mds_tables.specs.Stores.{IsStore};
 ghost use Rattle.mds_tables.specs.Tables.{no_schema};
@@ -27,7 +28,8 @@ pub enum StoreFault {
 }
 
 /// Makes a store, which keeps nothing, in a database that is empty. On a refusal the connection comes back, and nothing
-/// was changed: one that is in a transaction comes back as it was, and one that isn't is in none. A crash leaves what
+/// was changed: one that is in a transaction comes back as it was, and one that isn't is in none. It is unavailable only
+/// in a transaction, or where the store failed or the limit of steps was reached; the limit stays. A crash leaves what
 /// was there, or the store that keeps nothing.
 pub fn create<S: Alter>(
     alloc: Global,
@@ -39,6 +41,9 @@ pub fn create<S: Alter>(
         → IsRefused ((state S.Store conn).now.schema ≡ no_schema) (state S.Store conn) (state S.Store e.1) e.0) }
     ensures busy { conn.in_transaction ≡ true
         → MatchResult result (λ keeper. ⊥) (λ e. (e.0 ≡ StoreFault.Unavailable) × (e.1 ≡ conn)) }
+    ensures cause { IfErr result (λ e. HasCleanDisk (state S.Store e.1) → e.0 ≡ StoreFault.Unavailable
+        → (conn.in_transaction ≡ true) ⊎ FailsForCause (state S.Store conn) (state S.Store e.1)) }
+    ensures limit { MatchResult result (λ keeper. keeper.conn.step_limit ≡ conn.step_limit) (λ e. e.1.step_limit ≡ conn.step_limit) }
     ensures mode { IfErr result (λ e. e.1.in_transaction ≡ conn.in_transaction) }
     ensures survives { MatchResult result
         (λ keeper. Survives (state S.Store conn) (state S.Store keeper.conn) (LeavesMade (state S.Store conn)))
@@ -66,7 +71,8 @@ fn is_empty(schema: &Schema) -> bool
 
 /// Takes a database that is a store of schema 1: it keeps the World that its rows name, whoever wrote them. On a refusal
 /// the connection comes back, and nothing was changed: one that is in a transaction comes back as it was, and one that
-/// isn't is in none. A crash leaves what was there.
+/// isn't is in none. It is unavailable only in a transaction, or where the store failed or the limit of steps was reached;
+/// the limit stays. A crash leaves what was there.
 pub fn adopt<S: Alter>(
     alloc: Global,
     conn: Connection<S>,
@@ -77,6 +83,9 @@ pub fn adopt<S: Alter>(
         → IsRefused (IsStore (state S.Store conn).now) (state S.Store conn) (state S.Store e.1) e.0) }
     ensures busy { conn.in_transaction ≡ true
         → MatchResult result (λ keeper. ⊥) (λ e. (e.0 ≡ StoreFault.Unavailable) × (e.1 ≡ conn)) }
+    ensures cause { IfErr result (λ e. HasCleanDisk (state S.Store e.1) → e.0 ≡ StoreFault.Unavailable
+        → (conn.in_transaction ≡ true) ⊎ FailsForCause (state S.Store conn) (state S.Store e.1)) }
+    ensures limit { MatchResult result (λ keeper. keeper.conn.step_limit ≡ conn.step_limit) (λ e. e.1.step_limit ≡ conn.step_limit) }
     ensures mode { IfErr result (λ e. e.1.in_transaction ≡ conn.in_transaction) }
     ensures survives { MatchResult result
         (λ keeper. Survives (state S.Store conn) (state S.Store keeper.conn) (λ _. ⊥))

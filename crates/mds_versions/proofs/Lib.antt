@@ -7,3 +7,4 @@ pub mod Planned
 pub mod Rows
 pub mod Settled
 pub mod Taken
+pub mod Walks

@@ -1,6 +1,6 @@
 -- What a merge adds to the book, and how much of it is there.
 use Rattle.std.proofs.Common.{◌≡◌, ◌≢◌, ℕ, zero, suc, ◌+◌, ◌≤◌, List, [], ◌∷◌, ◌++◌, length, map, Option, Some, None, refl, sym, ap, ◌∙◌, subst, inl, inr, arith, append_assoc}
-use Rattle.std.specs.Prelude.{Bool, true, false, cond, not, Result, Ok, Err, OnOk, IfOk}
+use Rattle.std.specs.Prelude.{Bool, true, false, cond, not}
 use Rattle.std.specs.BTreeMap.{BTreeMap}
 use Rattle.std.specs.List.{slice_get}
 use Rattle.std.proofs.lemmas.List.{append-nil, length-append, length-map, map-append}
@@ -24,34 +24,22 @@ use Rattle.mds_versions.specs.Books.{BookValue, book_world}
 use Rattle.mds_versions.specs.Claims.{AreShort, fresh_all, fresh_heads, fresh_versions, held_all, held_count, is_held, key_of}
 use Rattle.mds_versions.specs.Content.{version_fact}
 use Rattle.mds_versions.specs.DayMerges.{DayMergeValue, Settles}
-use Rattle.mds_versions.specs.DayMergeSteps.{IsDayMerge, all_claimed, merge_value}
+use Rattle.mds_versions.specs.DayMergeSteps.{AreCounts, IsDayMerge, all_claimed, merge_value}
 use Rattle.mds_versions.specs.declared.additions.Additions.{Additions}
 use Rattle.mds_versions.proofs.Rows.{same_some}
 use Rattle.mds_versions.proofs.Taken.{head_in_book, head_of, in_book, in_said, said_here}
 
 -- of one update: what is done and what is left are all
 pub record IsUpdateSettled (b : BookValue) (update : ℕ) (readings : List ReadingValue) (old now : List (Key × ReadingValue))
-    (known interval : ℕ) (rest : List ReadingValue) : Type 0 where
+    (interval : ℕ) (rest : List ReadingValue) : Type 0 where
   pub versions : now ++ fresh_versions b update (interval + 1) rest ≡ old ++ fresh_versions b update 1 readings
-  pub counted : known + held_count b update (interval + 1) rest ≡ held_count b update 1 readings
   pub place : interval + length rest ≡ length readings
 
-pub held_few : (b : BookValue) (update interval : ℕ) (rs : List ReadingValue) → held_count b update interval rs ≤ length rs
-held_few b update interval [] = omega arith
-held_few b update interval (r ∷ rs) = go (is_held b update interval r) (held_few b update (interval + 1) rs)
-  where
-    go : (t : Bool) → held_count b update (interval + 1) rs ≤ length rs → cond t 1 0 + held_count b update (interval + 1) rs ≤ suc (length rs)
-    go true h = omega arith
-    go false h = omega arith
-
-module _ (b : BookValue) (update : ℕ) (readings : List ReadingValue) (old now : List (Key × ReadingValue)) (known interval : ℕ)
-    (rest : List ReadingValue) (is : IsUpdateSettled b update readings old now known interval rest) where
+module _ (b : BookValue) (update : ℕ) (readings : List ReadingValue) (old now : List (Key × ReadingValue)) (interval : ℕ)
+    (rest : List ReadingValue) (is : IsUpdateSettled b update readings old now interval rest) where
   module _ (r : ReadingValue) (later : List ReadingValue) (step : rest ≡ r ∷ later) where
     pub interval_fits : interval + 1 ≤ length readings
     interval_fits = omega (arith, is.place, ap length step)
-
-    counted : known + (cond (is_held b update (interval + 1) r) 1 0 + held_count b update (interval + 1 + 1) later) ≡ held_count b update 1 readings
-    counted = ap (λ l. known + held_count b update (interval + 1) l) (sym step) ∙ is.counted
 
     versions : now ++ cond (is_held b update (interval + 1) r) (fresh_versions b update (interval + 1 + 1) later)
         ((key_of b (interval + 1) update, r) ∷ fresh_versions b update (interval + 1 + 1) later) ≡ old ++ fresh_versions b update 1 readings
@@ -60,55 +48,53 @@ module _ (b : BookValue) (update : ℕ) (readings : List ReadingValue) (old now 
     place : interval + 1 + length later ≡ length readings
     place = omega (arith, is.place, ap length step)
 
-    pub known_fits : true ≡ is_held b update (interval + 1) r → known + 1 ≤ length readings
-    known_fits e =
-        let c : known + (1 + held_count b update (interval + 1 + 1) later) ≡ held_count b update 1 readings =
-        ap (λ t. known + (cond t 1 0 + held_count b update (interval + 1 + 1) later)) e ∙ counted in
-        let f = held_few b update 1 readings in
-        omega arith
-
-    pub update_held : true ≡ is_held b update (interval + 1) r → IsUpdateSettled b update readings old now (known + 1) (interval + 1) later
+    pub update_held : true ≡ is_held b update (interval + 1) r → IsUpdateSettled b update readings old now (interval + 1) later
     update_held e = record {
       versions = ap (λ t. now ++ cond t (fresh_versions b update (interval + 1 + 1) later)
           ((key_of b (interval + 1) update, r) ∷ fresh_versions b update (interval + 1 + 1) later)) e ∙ versions;
-      counted =
-          let c : known + (1 + held_count b update (interval + 1 + 1) later) ≡ held_count b update 1 readings =
-          ap (λ t. known + (cond t 1 0 + held_count b update (interval + 1 + 1) later)) e ∙ counted in
-          omega arith;
       place = place;
     }
 
     pub update_fresh : (next : List (Key × ReadingValue)) → false ≡ is_held b update (interval + 1) r
-        → next ≡ now ++ (key_of b (interval + 1) update, r) ∷ [] → IsUpdateSettled b update readings old next known (interval + 1) later
+        → next ≡ now ++ (key_of b (interval + 1) update, r) ∷ [] → IsUpdateSettled b update readings old next (interval + 1) later
     update_fresh next e push = record {
       versions = ap (λ l. l ++ fresh_versions b update (interval + 1 + 1) later) push
           ∙ append_assoc now ((key_of b (interval + 1) update, r) ∷ []) (fresh_versions b update (interval + 1 + 1) later)
           ∙ ap (λ t. now ++ cond t (fresh_versions b update (interval + 1 + 1) later)
           ((key_of b (interval + 1) update, r) ∷ fresh_versions b update (interval + 1 + 1) later)) e ∙ versions;
-      counted =
-          let c : known + (0 + held_count b update (interval + 1 + 1) later) ≡ held_count b update 1 readings =
-          ap (λ t. known + (cond t 1 0 + held_count b update (interval + 1 + 1) later)) e ∙ counted in
-          omega arith;
       place = place;
     }
 
   pub update_versions : rest ≡ [] → now ≡ old ++ fresh_versions b update 1 readings
   update_versions e = sym (append-nil now) ∙ ap (λ l. now ++ fresh_versions b update (interval + 1) l) (sym e) ∙ is.versions
 
-  pub update_known : rest ≡ [] → known ≡ held_count b update 1 readings
-  update_known e =
-      let c : known + 0 ≡ held_count b update 1 readings = ap (λ l. known + held_count b update (interval + 1) l) (sym e) ∙ is.counted in
-      omega arith
+-- where the book has none of the readings, it has neither the first nor one of the rest
+none_or_more : (t : Bool) (n : ℕ) → cond t 1 0 + n ≡ 0 → (t ≡ false) × (n ≡ 0)
+none_or_more true n e = absurd (omega arith)
+none_or_more false n e = (refl, omega arith)
+
+pub new_first : (b : BookValue) (update interval : ℕ) (readings : List ReadingValue) (r : ReadingValue) (later : List ReadingValue)
+    → readings ≡ r ∷ later → held_count b update interval readings ≡ 0
+    → (is_held b update interval r ≡ false) × (held_count b update (interval + 1) later ≡ 0)
+new_first b update interval readings r later step e =
+    none_or_more (is_held b update interval r) (held_count b update (interval + 1) later)
+    (ap (held_count b update interval) (sym step) ∙ e)
+
+pub new_update : (b : BookValue) (es : List (ℕ × Vec ReadingValue Global)) (update : ℕ) (readings : Vec ReadingValue Global)
+    (later : List (ℕ × Vec ReadingValue Global)) → es ≡ (update, readings) ∷ later → held_all b es ≡ 0
+    → (held_count b update 1 readings.items ≡ 0) × (held_all b later ≡ 0)
+new_update b es update readings later step e =
+    let sum : held_count b update 1 readings.items + held_all b later ≡ 0 = ap (held_all b) (sym step) ∙ e in
+    (omega arith, omega arith)
 
 pub length_none : {X : Type 0} (xs : List X) → length xs ≡ 0 → xs ≡ []
 length_none [] e = refl
 length_none (x ∷ xs) e = absurd (omega arith)
 
 pub start_update : (b : BookValue) (update : ℕ) (readings : List ReadingValue) (old : List (Key × ReadingValue)) (rest : List ReadingValue)
-    → rest ≡ readings → IsUpdateSettled b update readings old old 0 0 rest
+    → rest ≡ readings → IsUpdateSettled b update readings old old 0 rest
 start_update b update readings old rest e = record {
   versions = ap (λ l. old ++ fresh_versions b update 1 l) e;
-  counted = let h : held_count b update 1 rest ≡ held_count b update 1 readings = ap (held_count b update 1) e in omega arith;
   place = omega (arith, ap length e);
 }
 
@@ -283,46 +269,42 @@ all_apart want b (e ∷ es) a =
     a.0 (subst (λ u. Member u (map (λ entry. entry.0) es)) (sym key) (map_in (λ (entry : ℕ × Vec ReadingValue Global). entry.0) es of.0 of.1))))
 
 -- the loop over the updates
-pub record IsSettled (b : BookValue) (es : List (ℕ × Vec ReadingValue Global)) (old now : List (Key × ReadingValue)) (known : ℕ)
+pub record IsSettled (b : BookValue) (es : List (ℕ × Vec ReadingValue Global)) (old now : List (Key × ReadingValue))
     (rest : List (ℕ × Vec ReadingValue Global)) : Type 0 where
   pub versions : now ++ fresh_all b rest ≡ old ++ fresh_all b es
-  pub counted : known + held_all b rest ≡ held_all b es
   pub within : (entry : ℕ × Vec ReadingValue Global) → Member entry rest → Member entry es
 
 pub start_settled : (b : BookValue) (es rest : List (ℕ × Vec ReadingValue Global)) (old : List (Key × ReadingValue)) → rest ≡ es
-    → IsSettled b es old old 0 rest
+    → IsSettled b es old old rest
 start_settled b es rest old e = record {
   versions = ap (λ l. old ++ fresh_all b l) e;
-  counted = let h : held_all b rest ≡ held_all b es = ap (held_all b) e in omega arith;
   within = λ entry m. subst (λ l. Member entry l) e m;
 }
 
-pub one_settled : (b : BookValue) (es : List (ℕ × Vec ReadingValue Global)) (old now next : List (Key × ReadingValue)) (known held sum : ℕ)
-    (rest later : List (ℕ × Vec ReadingValue Global)) (update : ℕ) (readings : Vec ReadingValue Global) → IsSettled b es old now known rest
-    → rest ≡ (update, readings) ∷ later → next ≡ now ++ fresh_versions b update 1 readings.items → held ≡ held_count b update 1 readings.items
-    → sum ≡ known + held → IsSettled b es old next sum later
-one_settled b es old now next known held sum rest later update readings is step push count more = record {
+pub one_settled : (b : BookValue) (es : List (ℕ × Vec ReadingValue Global)) (old now next : List (Key × ReadingValue))
+    (rest later : List (ℕ × Vec ReadingValue Global)) (update : ℕ) (readings : Vec ReadingValue Global) → IsSettled b es old now rest
+    → rest ≡ (update, readings) ∷ later → next ≡ now ++ fresh_versions b update 1 readings.items → IsSettled b es old next later
+one_settled b es old now next rest later update readings is step push = record {
   versions = ap (λ l. l ++ fresh_all b later) push ∙ append_assoc now (fresh_versions b update 1 readings.items) (fresh_all b later)
       ∙ ap (λ l. now ++ fresh_all b l) (sym step) ∙ is.versions;
-  counted =
-      let h : known + (held_count b update 1 readings.items + held_all b later) ≡ held_all b es = ap (λ l. known + held_all b l) (sym step) ∙ is.counted in
-      omega arith;
   within = λ entry m. is.within entry (subst (λ l. Member entry l) (sym step) (inr m));
 }
 
-pub all_settled : (b : BookValue) (es : List (ℕ × Vec ReadingValue Global)) (old now : List (Key × ReadingValue)) (known : ℕ)
-    (rest : List (ℕ × Vec ReadingValue Global)) → IsSettled b es old now known rest → rest ≡ []
-    → (now ≡ old ++ fresh_all b es) × (known ≡ held_all b es)
-all_settled b es old now known rest is e = (
-  sym (append-nil now) ∙ ap (λ l. now ++ fresh_all b l) (sym e) ∙ is.versions,
-  (let h : known + 0 ≡ held_all b es = ap (λ l. known + held_all b l) (sym e) ∙ is.counted in omega arith),
-)
+pub all_settled : (b : BookValue) (es : List (ℕ × Vec ReadingValue Global)) (old now : List (Key × ReadingValue))
+    (rest : List (ℕ × Vec ReadingValue Global)) → IsSettled b es old now rest → rest ≡ [] → now ≡ old ++ fresh_all b es
+all_settled b es old now rest is e = sym (append-nil now) ∙ ap (λ l. now ++ fresh_all b l) (sym e) ∙ is.versions
 
 pub readings_short : (b : BookValue) (es : List (ℕ × Vec ReadingValue Global)) → AreShort es
-    → (old now : List (Key × ReadingValue)) (known : ℕ) (rest later : List (ℕ × Vec ReadingValue Global)) (update : ℕ) (readings : Vec ReadingValue Global)
-    → IsSettled b es old now known rest → rest ≡ (update, readings) ∷ later → length readings.items ≤ 1440
-readings_short b es short old now known rest later update readings is step =
+    → (old now : List (Key × ReadingValue)) (rest later : List (ℕ × Vec ReadingValue Global)) (update : ℕ) (readings : Vec ReadingValue Global)
+    → IsSettled b es old now rest → rest ≡ (update, readings) ∷ later → length readings.items ≤ 1440
+readings_short b es short old now rest later update readings is step =
     short (update, readings) (is.within (update, readings) (subst (λ l. Member (update, readings) l) (sym step) (inl refl)))
+
+-- where none is fresh
+pub none_fresh : (b : BookValue) (es : List (ℕ × Vec ReadingValue Global)) (held fresh : ℕ) (old : List (Key × ReadingValue))
+    → AreCounts b es held fresh → fresh ≡ 0 → old ≡ old ++ fresh_all b es
+none_fresh b es held fresh old c e =
+    sym (append-nil old) ∙ ap (λ l. old ++ l) (sym (length_none (fresh_all b es) (sym c.fresh_are ∙ e)))
 
 pub all_short : (b : BookValue) (form : Option (ℕ × MeasureUnit)) (claimed : BTreeMap ℕ (Vec ReadingValue Global)) → IsDayMerge b form claimed
     → AreShort claimed.entries
@@ -456,10 +438,9 @@ module _ (b : BookValue) (form : Option (ℕ × MeasureUnit)) (claimed : BTreeMa
     known_count = vs.1 ∙ counts;
   })
 
-  pub settles_end : {E : Type 0} (v : DayMergeValue) → merge_value b form claimed ≡ v → (old new : Additions) (result : Result ℕ E)
+  pub settles_end : (v : DayMergeValue) → merge_value b form claimed ≡ v → (old new : Additions) (held fresh : ℕ)
+      → AreCounts b claimed.entries held fresh
       → new.heads.items ≡ old.heads.items ++ fresh_heads b.stream b.day b.head form
-      → OnOk result (new.versions.items ≡ old.versions.items ++ fresh_all b claimed.entries)
-      → IfOk result (λ known. known ≡ held_all b claimed.entries)
-      → new.details ≡ old.details → new.events ≡ old.events → IfOk result (λ known. Settles v old new known)
-  settles_end v is old new (Ok known) hs vs ks ds es = settles v is old new known hs (vs, ks) ds es
-  settles_end v is old new (Err error) hs vs ks ds es = tt
+      → new.versions.items ≡ old.versions.items ++ fresh_all b claimed.entries
+      → new.details ≡ old.details → new.events ≡ old.events → Settles v old new held
+  settles_end v is old new held fresh c hs vs ds es = settles v is old new held hs (vs, c.held_are) ds es

@@ -447,7 +447,7 @@ absent_entry row key order (x ∷ es) e entry m =
 
 -- a key that isn't there goes in between
 module _ (cmp : ℕ → ℕ → Ordering) (key : ℕ) (order : (other : ℕ) → cmp key other ≡ nat_cmp key other) (v : Vec ReadingValue Global) where
-  not_equal : (other : ℕ) → other ≢ key → cmp key other ≢ Equal
+  pub not_equal : (other : ℕ) → other ≢ key → cmp key other ≢ Equal
   not_equal other apart e = apart (sym (nat_tied key other (ap is_eq (sym (order other) ∙ e))))
 
   pub in_inserted : (es : List (ℕ × Vec ReadingValue Global)) → ((e : ℕ × Vec ReadingValue Global) → Member e es → e.0 ≢ key)
@@ -615,6 +615,21 @@ module _ (b : BookValue) (form : Option (ℕ × MeasureUnit)) (claimed : BTreeMa
       book_end interval q =
           refuse VersionConflict interval
           (reading_refused b form _ c (base b form claimed d) suits interval (first_of_book b form claimed d c suits absent interval q))
+
+      pub lacking_end : ((k : ℕ) → Suits (book_world b) b c.update c.readings.items k)
+          → Agrees (union (book_world v.book) (union v.said (claim_world v.book.stream v.book.day c)))
+      lacking_end free =
+          subst (λ x. Agrees (union (book_world x.book) (union x.said (claim_world x.book.stream x.book.day c)))) is
+          (subst Agrees (union_assoc total exact (book_world b) _ _)
+          (accepted b form _ c (base b form claimed d) suits (λ k. suits_all b form claimed d c suits absent k (free k))))
+
+      pub unsaid_end : (interval : ℕ) (r : ReadingValue) → VersionIs (key_of v.book interval c.update) r ∈ v.said → ⊥
+      unsaid_end interval r =
+          subst (λ x. VersionIs (key_of x.book interval c.update) r ∈ x.said → ⊥) is (λ i.
+          let n = in_said b form claimed.entries _ i in elim n.4 [
+            | inl e ↦ cc
+            | inr q ↦ absent n.2 n.3 (sym (ap (λ k. k.update) (same_key _ _ r q.1 q.3).0))
+          ])
 
       pub taken_end : (later : BTreeMap ℕ (Vec ReadingValue Global)) (cmp : ℕ → ℕ → Ordering)
           → ((other : ℕ) → cmp c.update other ≡ nat_cmp c.update other)

@@ -1,10 +1,10 @@
 -- What a merge holds, as a value.
-use Rattle.std.specs.Prelude.{◌≡◌, ◌⊎◌, ℕ, List, [], map, Option, Some, None, length, refl}
+use Rattle.std.specs.Prelude.{◌≡◌, ◌⊎◌, ◌≤◌, ℕ, List, [], map, Option, Some, None, length, refl}
 use Rattle.std.specs.BTreeMap.{BTreeMap}
 use Rattle.std.specs.Coded.{Coded, code_by, coded×, coded_ℕ, coded_list, coded_option}
 use Rattle.std.specs.FinSet as set
 use Rattle.std.specs.FinSet.{code}
-use Rattle.std.specs.List.{flat_map}
+use Rattle.std.specs.List.{AllPairs, flat_map}
 use Rattle.std.specs.declared.alloc.Global.{Global}
 use Rattle.std.specs.declared.vec.Vec.{Vec}
 use Rattle.mds_calendar.specs.Length.{count_of}
@@ -16,6 +16,8 @@ use Rattle.mds_world.specs.Lists.{Apart, Member}
 use Rattle.mds_world.specs.Stated.{day_facts}
 use Rattle.mds_world.specs.World.{Agrees, World, union}
 use Rattle.mds_versions.specs.Books.{BookValue, book_world}
+use Rattle.mds_versions.specs.BookRows.{IsBefore}
+use Rattle.mds_versions.specs.Claims.{fresh_all, held_all}
 use Rattle.mds_versions.specs.DayMerges.{DayMergeValue}
 use Rattle.mds_versions.specs.declared.day_book.Version.{Version}
 
@@ -45,6 +47,22 @@ pub record IsDayMerge (book : BookValue) (form : Option (ℕ × MeasureUnit)) (c
   pub known : (head : ℕ × MeasureUnit) → book.head ≡ Some head → form ≡ Some head
   pub told : (known : ℕ × MeasureUnit) → form ≡ Some known
       → (book.head ≡ Some known) ⊎ ((entry : ℕ × Vec ReadingValue Global) × Member entry claimed.entries)
+
+-- how many of the readings claimed the book has, and how many it doesn't
+pub record AreCounts (book : BookValue) (claimed : List (ℕ × Vec ReadingValue Global)) (held fresh : ℕ) : Type 0 where
+  pub held_are : held ≡ held_all book claimed
+  pub fresh_are : fresh ≡ length (fresh_all book claimed)
+
+-- the row of a reading
+abbrev pub row_of : ℕ → ℕ → ReadingValue → ℕ × Version
+row_of interval update reading = (interval, record { update = update; reading = reading })
+
+-- ascending rows that are those of the rows from an interval on
+pub record IsFrom (rows : List (ℕ × Version)) (interval : ℕ) (left : List (ℕ × Version)) : Type 0 where
+  pub ascending : AllPairs IsBefore left
+  pub from : (row : ℕ × Version) → Member row left → interval ≤ row.0
+  pub whole : (row : ℕ × Version) → Member row rows → interval ≤ row.0 → Member row left
+  pub only : (row : ℕ × Version) → Member row left → Member row rows
 
 coded_version : Coded Version
 coded_version =

@@ -1,6 +1,6 @@
 //! What a line claims of a day.
 
-ghost use Rattle.std.specs.Prelude.{◌≡◌, IfOk, length as size};
+ghost use Rattle.std.specs.Prelude.{◌≡◌, ◌<◌, IfOk, OnErr, length as size};
 ghost use Rattle.mds_calendar.specs.Length.{count_of};
 
 use mds_marks::Reading;
@@ -23,11 +23,12 @@ pub struct Claim {
 }
 
 impl Claim {
-    /// The same claim once more.
+    /// The same claim once more. It takes memory only where there is a reading.
     pub fn try_clone(&self, alloc: Global) -> Result<Claim, AllocError>
-        ensures { IfOk result (λ claim. (claim.line ≡ self.now.line) × (claim.length ≡ self.now.length)
+        ensures value { IfOk result (λ claim. (claim.line ≡ self.now.line) × (claim.length ≡ self.now.length)
             × (claim.unit ≡ self.now.unit) × (claim.update ≡ self.now.update)
             × (claim.readings.items ≡ self.now.readings.items)) }
+        ensures memory { OnErr result (0 < size self.now.readings.items) }
     {
         let mut readings = Vec::with_capacity(alloc, self.readings.len())?;
         for reading in &self.readings {

@@ -1,6 +1,6 @@
 //! A day of a stream, with all its versions.
 
-ghost use Rattle.std.specs.Prelude.{◌≡◌, ◌≢◌, ℕ, max, map, IfSome, IfNone, IfOk};
+ghost use Rattle.std.specs.Prelude.{◌≡◌, ◌≢◌, ◌<◌, ℕ, length, max, map, IfSome, IfNone, IfOk, OnErr};
 ghost use Rattle.std.specs.Bool.{MatchBool};
 ghost use Rattle.std.specs.List.{AllPairs, reduce};
 ghost use Rattle.mds_world.specs.Current.{HasNoVersion, IsLatest};
@@ -149,9 +149,18 @@ impl DayBook {
         &self.rows
     }
 
-    /// A copy.
+    /// The same, which ascend.
+    pub(crate) fn ascending_rows(&self) -> &[(u16, Version)]
+        ensures value { result.now ≡ self.now.rows }
+        ensures ascending { AllPairs IsBefore result.now }
+    {
+        &self.rows
+    }
+
+    /// A copy. It takes memory only where there is a row.
     pub fn try_clone(&self, alloc: Global) -> Result<DayBook, AllocError>
-        ensures { IfOk result (λ book. book ≡ self.now) }
+        ensures value { IfOk result (λ book. book ≡ self.now) }
+        ensures memory { OnErr result (0 < length self.now.rows) }
     {
         let mut rows = Vec::with_capacity(alloc, self.rows.len())?;
         for row in &self.rows {

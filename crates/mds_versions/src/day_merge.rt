@@ -1,21 +1,24 @@
 //! A day of the store with what the lines so far claim of it.
 
-ghost use Rattle.std.specs.Prelude.{◌≡◌, ◌≢◌, ◌≤◌, ℕ, ◌++◌, length, IfOk, IfErr, IfSome, IfNone, MatchBool, OnOk};
-ghost use Rattle.std.specs.List.{slice_get};
+ghost use Rattle.std.specs.Prelude.{◌≡◌, ◌≢◌, ◌≤◌, ℕ, ◌++◌, cond, false, length, Err, IsTrue, IfOk, IfErr, IfSome, IfNone, OnOk};
+ghost use Rattle.std.specs.List.{AllPairs, slice_get};
 ghost use Rattle.std.specs.FinSet as set;
 ghost use Rattle.mds_marks.specs.Reading.{ReadingValue};
 ghost use Rattle.mds_world.specs.Facts.Fact.{VersionIs};
+ghost use Rattle.mds_world.specs.Lists.{Member};
 ghost use Rattle.mds_world.specs.Sets.{◌∈◌};
 ghost use Rattle.mds_world.specs.World.{Agrees, union};
 ghost use Rattle.mds_versions.specs.Books.{book_world};
+ghost use Rattle.mds_versions.specs.BookRows.{IsBefore};
 ghost use Rattle.mds_versions.specs.declared.day_merge.Stop.TheVariants.{Refused};
 ghost use Rattle.mds_versions.specs.DayMerges.{DayMergeValue, AreAscending, IfRefused, IsPlan, Settles};
 ghost use Rattle.mds_versions.specs.Claims.{Contradicts, IsFirst, Suits, BreaksForm, SuitsForm, AreShort, fresh_all, fresh_heads, fresh_versions, held_all, held_count, is_held, key_of};
+ghost use Rattle.mds_versions.specs.DayMergeSteps.{AreCounts, IsFrom, row_of};
 ghost use Rattle.mds_versions.specs.Merge.{Breaks, IsRefusal, claim_world, claims_upto, claims_world};
 
 use crate::additions::Additions;
 use crate::claim::Claim;
-use crate::day_book::DayBook;
+use crate::day_book::{DayBook, Version};
 use crate::refusal::{Refusal, RefusalCode};
 use mds_marks::Reading;
 use mds_quantity::Unit;
@@ -42,11 +45,15 @@ pub struct DayMerge {
     form: Option<(Length, Unit)>,
     /// The readings of each update that was claimed, one for each interval.
     claimed: BTreeMap<Moment, Vec<Reading>>,
+    /// How many of them the book has.
+    held: u64,
+    /// How many of them it doesn't have.
+    fresh: u64,
 }
 
 impl Model for DayMerge {
     ghost use Rattle.mds_versions.specs.DayMerges.{DayMergeValue};
-    ghost use Rattle.mds_versions.specs.DayMergeSteps.{IsDayMerge, coded_merge, merge_value};
+    ghost use Rattle.mds_versions.specs.DayMergeSteps.{AreCounts, IsDayMerge, coded_merge, merge_value};
 
     ghost Value = { DayMergeValue };
 
@@ -54,7 +61,7 @@ impl Model for DayMerge {
 
     ghost view = { λ d. merge_value d.book d.form d.claimed };
 
-    ghost invariant = { λ d. IsDayMerge d.book d.form d.claimed };
+    ghost invariant = { λ d. IsDayMerge d.book d.form d.claimed × AreCounts d.book d.claimed.entries d.held d.fresh };
 }
 
 /// A refusal of a line, at an interval or at none.
@@ -126,36 +133,84 @@ fn first_difference(claimed: &[Reading], readings: &[Reading]) -> Option<u16>
     None
 }
 
-/// Whether a book has another reading of an interval under an update.
-fn contradicts(book: &DayBook, interval: u16, update: Moment, reading: &Reading) -> bool
-    ensures { MatchBool result
-        ((other : ReadingValue) × (VersionIs (key_of book.now interval update) other ∈ book_world book.now)
-        × (other ≢ reading.now))
-        ((other : ReadingValue) → VersionIs (key_of book.now interval update) other ∈ book_world book.now
-        → other ≡ reading.now) }
+/// The rows without those at their start that are of intervals before this one.
+fn rows_from(rows: &[(u16, Version)], interval: u16) -> &[(u16, Version)]
+    requires { AllPairs IsBefore rows.now }
+    ensures { IsFrom rows.now interval result.now }
 {
-    book.is_lawful();
-    match reading_in(book, interval, update) {
-        Some(held) => !held.is_same(reading),
-        None => false,
+    let mut left = rows;
+    while let [row, rest @ ..] = left {
+        if interval <= row.0 {
+            return left;
+        }
+        left = rest;
     }
+    left
 }
 
-/// The first interval of which a book has another reading under the update.
-fn first_conflict(book: &DayBook, update: Moment, readings: &[Reading]) -> Option<u16>
-    requires { length readings.now ≤ 1440 }
-    ensures some { IfSome result (IsFirst (Contradicts (book_world book.now) book.now update readings.now)
-        (Suits (book_world book.now) book.now update readings.now)) }
-    ensures none { IfNone result
-        ((k : ℕ) → Suits (book_world book.now) book.now update readings.now k) }
+/// The reading under an update that rows from an interval on have of this interval.
+fn reading_at(rows: &[(u16, Version)], interval: u16, update: Moment) -> Option<&Reading>
+    requires { IsFrom rows.now interval rows.now }
+    ensures some { IfSome result (λ reading. Member (row_of interval update reading.now) rows.now) }
+    ensures none { IfNone result ((reading : ReadingValue) → Member (row_of interval update reading) rows.now → ⊥) }
 {
-    for i in 0..readings.len() {
-        let interval = (i + 1) as u16;
-        if contradicts(book, interval, update, &readings[i]) {
-            return Some(interval);
+    let mut left = rows;
+    while let [row, rest @ ..] = left {
+        if row.0 != interval {
+            return None;
         }
+        if row.1.update == update {
+            return Some(&row.1.reading);
+        }
+        left = rest;
     }
     None
+}
+
+/// 1 where a book has this reading of an interval under an update and 0 where it has none, by its
+/// rows from the interval on. `None` where it has another.
+fn count_at(
+    book: &DayBook,
+    rows: &[(u16, Version)],
+    interval: u16,
+    update: Moment,
+    reading: &Reading,
+) -> Option<u64>
+    requires { IsFrom book.now.rows interval rows.now }
+    ensures some { IfSome result (λ count. (count ≡ cond (is_held book.now update interval reading.now) 1 0)
+        × ((other : ReadingValue) → VersionIs (key_of book.now interval update) other ∈ book_world book.now
+        → other ≡ reading.now)) }
+    ensures none { IfNone result ((other : ReadingValue)
+        × (VersionIs (key_of book.now interval update) other ∈ book_world book.now) × (other ≢ reading.now)) }
+{
+    book.is_lawful();
+    let Some(kept) = reading_at(rows, interval, update) else {
+        return Some(0);
+    };
+    if kept.is_same(reading) { Some(1) } else { None }
+}
+
+/// How many of the readings a book has under the update, or the first interval of which it has
+/// another. It goes down the rows of the book and the readings side by side.
+fn count_held(book: &DayBook, update: Moment, readings: &[Reading]) -> Result<u64, u16>
+    requires { length readings.now ≤ 1440 }
+    ensures held { IfOk result (λ held. held ≡ held_count book.now update 1 readings.now) }
+    ensures few { IfOk result (λ held. held ≤ length readings.now) }
+    ensures suits { OnOk result ((k : ℕ) → Suits (book_world book.now) book.now update readings.now k) }
+    ensures conflict { IfErr result (IsFirst (Contradicts (book_world book.now) book.now update readings.now)
+        (Suits (book_world book.now) book.now update readings.now)) }
+{
+    let mut left = book.ascending_rows();
+    let mut held: u64 = 0;
+    for i in 0..readings.len() {
+        let interval = (i + 1) as u16;
+        left = rows_from(left, interval);
+        let Some(count) = count_at(book, left, interval, update, &readings[i]) else {
+            return Err(interval);
+        };
+        held += count;
+    }
+    Ok(held)
 }
 
 /// Puts the head that was claimed behind the heads to be added, where a book has none.
@@ -178,59 +233,90 @@ fn settle_head(
     Ok(())
 }
 
-/// Moves the readings of an update that a book doesn't have behind the versions to be added, and
-/// answers how many of them the book has.
+/// Whether a book has this reading of an interval under an update. It isn't looked up where all that
+/// was claimed is new.
+fn is_kept(
+    book: &DayBook,
+    are_new: bool,
+    interval: u16,
+    update: Moment,
+    reading: &Reading,
+) -> bool
+    requires { IsTrue are_new → is_held book.now update interval reading.now ≡ false }
+    ensures { result ≡ is_held book.now update interval reading.now }
+{
+    if are_new {
+        return false;
+    }
+    has_reading(book, interval, update, reading)
+}
+
+/// Moves the readings of an update that a book doesn't have behind the versions to be added.
 fn settle_update(
     book: &DayBook,
+    are_new: bool,
     update: Moment,
     readings: Vec<Reading>,
     versions: &mut Vec<(Key, Reading)>,
-) -> Result<u64, AllocError>
-    requires { length readings.items ≤ 1440 }
-    ensures versions { OnOk result (versions.new.items
+) -> Result<(), AllocError>
+    requires few { length readings.items ≤ 1440 }
+    requires new { IsTrue are_new → held_count book.now update 1 readings.items ≡ 0 }
+    ensures { OnOk result (versions.new.items
         ≡ versions.old.items ++ fresh_versions book.now update 1 readings.items) }
-    ensures known { IfOk result (λ known. known ≡ held_count book.now update 1 readings.items) }
 {
     let mut interval: u16 = 0;
-    let mut known: u64 = 0;
     for reading in readings {
         interval += 1;
-        if has_reading(book, interval, update, &reading) {
-            known += 1;
-        } else {
-            let key = Key {
-                stream: book.stream(),
-                day: book.day(),
-                interval,
-                update,
-            };
-            versions.push((key, reading))?;
+        if is_kept(book, are_new, interval, update, &reading) {
+            continue;
         }
+        let key = Key {
+            stream: book.stream(),
+            day: book.day(),
+            interval,
+            update,
+        };
+        versions.push((key, reading))?;
     }
-    Ok(known)
+    Ok(())
 }
 
 /// The same for all updates that were claimed.
 fn settle_claimed(
     book: &DayBook,
+    are_new: bool,
     claimed: BTreeMap<Moment, Vec<Reading>>,
     versions: &mut Vec<(Key, Reading)>,
-) -> Result<u64, AllocError>
-    requires { AreShort claimed.entries }
-    ensures versions { OnOk result (versions.new.items
+) -> Result<(), AllocError>
+    requires short { AreShort claimed.entries }
+    requires new { IsTrue are_new → held_all book.now claimed.entries ≡ 0 }
+    ensures { OnOk result (versions.new.items
         ≡ versions.old.items ++ fresh_all book.now claimed.entries) }
-    ensures known { IfOk result (λ known. known ≡ held_all book.now claimed.entries) }
 {
-    let mut known: u64 = 0;
     for (update, readings) in claimed {
-        let held = settle_update(book, update, readings, versions)?;
-        // Each of them is a row of the book, so that the sum can't be too large.
-        let Some(sum) = known.checked_add(held) else {
-            return Err(AllocError);
-        };
-        known = sum;
+        settle_update(book, are_new, update, readings, versions)?;
     }
-    Ok(known)
+    Ok(())
+}
+
+/// The same, where so many of the readings claimed are in the book and so many aren't: nothing is
+/// looked at where all are.
+fn settle_fresh(
+    book: &DayBook,
+    claimed: BTreeMap<Moment, Vec<Reading>>,
+    held: u64,
+    fresh: u64,
+    versions: &mut Vec<(Key, Reading)>,
+) -> Result<(), AllocError>
+    requires short { AreShort claimed.entries }
+    requires counts { AreCounts book.now claimed.entries held fresh }
+    ensures { OnOk result (versions.new.items
+        ≡ versions.old.items ++ fresh_all book.now claimed.entries) }
+{
+    if fresh == 0 {
+        return Ok(());
+    }
+    settle_claimed(book, held == 0, claimed, versions)
 }
 
 impl DayMerge {
@@ -244,6 +330,8 @@ impl DayMerge {
             book,
             form,
             claimed: BTreeMap::new(alloc),
+            held: 0,
+            fresh: 0,
         }
     }
 
@@ -258,6 +346,12 @@ impl DayMerge {
             × Breaks (union (book_world self.old.book) (union self.old.said
             (claim_world self.old.book.stream self.old.book.day claim))) refusal.code refusal.interval)) }
         ensures kept { IfErr result (λ stop. self.new ≡ self.old) }
+
+        // Memory is wanting only for a claim that breaks no rule, and of whose update nothing was said.
+        ensures agrees { result ≡ Err Stop.Memory → Agrees (union (book_world self.old.book) (union self.old.said
+            (claim_world self.old.book.stream self.old.book.day claim))) }
+        ensures unsaid { result ≡ Err Stop.Memory → (interval : ℕ) (reading : ReadingValue)
+            → VersionIs (key_of self.old.book interval claim.update) reading ∈ self.old.said → ⊥ }
     {
         let Claim {
             line,
@@ -277,13 +371,24 @@ impl DayMerge {
             }
             return Ok(());
         }
-        if let Some(interval) = first_conflict(&self.book, update, &readings) {
-            return Err(refused(RefusalCode::VersionConflict, line, interval));
-        }
+        let held = match count_held(&self.book, update, &readings) {
+            Ok(held) => held,
+            Err(interval) => return Err(refused(RefusalCode::VersionConflict, line, interval)),
+        };
+        let fresh = readings.len() as u64 - held;
+        // There are fewer readings than 2^64 in a file.
+        let Some(all_held) = self.held.checked_add(held) else {
+            return Err(Stop::Memory);
+        };
+        let Some(all_fresh) = self.fresh.checked_add(fresh) else {
+            return Err(Stop::Memory);
+        };
         if self.claimed.insert(update, readings).is_err() {
             return Err(Stop::Memory);
         }
         self.form = Some((length, unit));
+        self.held = all_held;
+        self.fresh = all_fresh;
         Ok(())
     }
 
@@ -296,9 +401,12 @@ impl DayMerge {
             book,
             form,
             claimed,
+            held,
+            fresh,
         } = self;
         settle_head(&book, form, &mut additions.heads)?;
-        settle_claimed(&book, claimed, &mut additions.versions)
+        settle_fresh(&book, claimed, held, fresh, &mut additions.versions)?;
+        Ok(held)
     }
 }
 

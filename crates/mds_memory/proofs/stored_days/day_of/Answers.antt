@@ -10,9 +10,9 @@ returns-in-None-clause-book c =
 
 pub returns-in-Some-clause-of_day : goal.returns-in-Some-clause-of_day
 returns-in-Some-clause-of_day c = if_ok_at c.try_clone.result c.in-Some.book.now (λ book. (book.stream ≡ c.args.stream) × (book.day ≡ c.args.day))
-    c.try_clone.ensures
+    c.try_clone.ensures.value
     (day_there c.args.days.now (record { stream = c.args.stream; day = c.args.day }) _ c.requires (sym c.in-Some.ensures.value))
 
 pub returns-in-Some-clause-book : goal.returns-in-Some-clause-book
-returns-in-Some-clause-book c = if_ok_at c.try_clone.result c.in-Some.book.now _ c.try_clone.ensures
+returns-in-Some-clause-book c = if_ok_at c.try_clone.result c.in-Some.book.now _ c.try_clone.ensures.value
     (day_found c.args.days.now (record { stream = c.args.stream; day = c.args.day }) _ c.requires (sym c.in-Some.ensures.value))

@@ -1,7 +1,7 @@
 use Rattle.mds_records.proofs.record.read_record.Goals as goal
 
 pub returns-in-Ok-clause-spells : goal.returns-in-Ok-clause-spells
-returns-in-Ok-clause-spells c = rw (c.in-Header.is, ← c.text-text.ensures) (c.in-Ok.ensures _)
+returns-in-Ok-clause-spells c = rw (c.in-Header.is, ← c.text-text.ensures, ← c.header_name.ensures) (c.in-Ok.ensures _)
 
 pub returns-in-Ok-read_nmi_data_details-clause-spells : goal.returns-in-Ok-read_nmi_data_details-clause-spells
 returns-in-Ok-read_nmi_data_details-clause-spells c = rw (c.in-NmiDataDetails.is, ← c.text-text.ensures) (c.in-Ok-read_nmi_data_details.ensures _ _)

@@ -1,8 +1,7 @@
-use Rattle.std.proofs.Common.{◌≡◌, map, Some, Err, inl, inr, refl, sym, ap, ◌∙◌, subst}
+use Rattle.std.proofs.Common.{◌≡◌, Some, Err, inl, inr, refl, sym, ap, ◌∙◌, subst}
 use Rattle.mds_world.specs.Stated.{stated}
 use Rattle.mds_world.specs.World.{IsLawful, World}
 use Rattle.mds_versions.specs.declared.additions.Additions.{Additions}
-use Rattle.mds_service.specs.Imports.{day_statement}
 use Rattle.mds_service.specs.declared.request.Answer.TheVariants as told
 use Rattle.mds_service.proofs.Committed.{are_new, comes, lawful_commit, refusal_as, taken_in}
 use Rattle.mds_service.proofs.importing.import.Goals as goal
@@ -23,17 +22,13 @@ returns-in-Err-File-clause-step g c = λ honest w lawful shows. (
 pub returns-in-Err-Memory-clause-step : goal.returns-in-Err-Memory-clause-step
 returns-in-Err-Memory-clause-step g c = λ honest w lawful shows. (w, lawful, refl, shows, λ left may. inr (inl (refl, may)))
 
-pub returns-in_default-clause-step : goal.returns-in_default-clause-step
-returns-in_default-clause-step g c = λ honest w lawful shows. (w, lawful, refl, shows, λ left may. inr (inl (refl, may)))
-
 pub returns-in-Err-Refused-clause-step : goal.returns-in-Err-Refused-clause-step
 returns-in-Err-Refused-clause-step g c = λ honest w lawful shows. (
   w,
   lawful,
   (
     c.in-Ok.ensures.done.0,
-    refusal_as _ _ _ (map day_statement c.in-Ok-stated_by.stated.days.items) c.in-Err-Refused.field-0 c.in-Err-Refused.refusal _ c.in-Ok.ensures.done.1
-        c.in-Ok-stated_by.ensures.days (c.in-Err-Refused.ensures.refused honest w shows lawful) c.in-Err-Refused.field-0-is
+    refusal_as _ _ _ c.in-Err-Refused.field-0 c.in-Err-Refused.refusal _ c.in-Ok.ensures.done.1 (c.in-Err-Refused.ensures.refused honest w shows lawful) c.in-Err-Refused.field-0-is
         c.in-Err-Refused.refusal-is,
     refl,
   ),
@@ -50,8 +45,8 @@ returns-in-Err-Memory-gather-clause-step g c = λ honest w lawful shows. (
   λ left may. inr (inl (refl, c.gather.ensures.crash honest left may)),
 )
 
-pub returns-in_default-new_details-clause-step : goal.returns-in_default-new_details-clause-step
-returns-in_default-new_details-clause-step g c = λ honest w lawful shows.
+pub returns-in_default-clause-step : goal.returns-in_default-clause-step
+returns-in_default-clause-step g c = λ honest w lawful shows.
     let early = c.new_details.ensures.outside honest in (
       w,
       lawful,
@@ -99,8 +94,8 @@ commit-requires-clause-new g c = λ sound.
     let early = c.new_details.ensures.outside later in
     let one = c.gather.ensures.kept early w shows in
     let two = c.new_details.ensures.kept later w one in
-    let x = comes w c.in-Ok-stated_by.stated c.in-Ok-settle.additions c.in-Ok-settle.known _ _
-    (c.in-Ok-settle.ensures w _ (c.in-Ok-gather.ensures.merges early w shows)) c.in-Ok-new_details.ensures.apart
+    let x = comes w _ c.in-Ok-gather.gathered c.in-Ok-settle.additions c.in-Ok-settle.known _ _ (c.in-Ok-gather.ensures.gathered early w shows).whole
+    (c.in-Ok-settle.ensures w _ (c.in-Ok-gather.ensures.gathered early w shows).merges) c.in-Ok-new_details.ensures.apart
     (c.in-Ok-new_details.ensures.just later w one) c.in-Ok-new_events.ensures.apart
     (c.in-Ok-new_events.ensures.just honest w two) in
     let a : Additions = record {
@@ -109,7 +104,7 @@ commit-requires-clause-new g c = λ sound.
       details = c.in-Ok-new_details.details;
       events = c.in-Ok-new_events.events;
     } in
-    are_new _ _ _ _ _ _ x _ a (c.new_events.ensures.kept honest w two sound) refl refl refl refl
+    are_new _ _ _ _ _ _ _ x _ a (c.new_events.ensures.kept honest w two sound) refl refl refl refl
 
 pub commit-requires-clause-lawful : goal.commit-requires-clause-lawful
 commit-requires-clause-lawful g c = λ sound lawful.
@@ -121,8 +116,8 @@ commit-requires-clause-lawful g c = λ sound lawful.
     let one = c.gather.ensures.kept early w shows in
     let two = c.new_details.ensures.kept later w one in
     let now = c.new_events.ensures.kept honest w two sound in
-    let x = comes w c.in-Ok-stated_by.stated c.in-Ok-settle.additions c.in-Ok-settle.known _ _
-    (c.in-Ok-settle.ensures w _ (c.in-Ok-gather.ensures.merges early w shows)) c.in-Ok-new_details.ensures.apart
+    let x = comes w _ c.in-Ok-gather.gathered c.in-Ok-settle.additions c.in-Ok-settle.known _ _ (c.in-Ok-gather.ensures.gathered early w shows).whole
+    (c.in-Ok-settle.ensures w _ (c.in-Ok-gather.ensures.gathered early w shows).merges) c.in-Ok-new_details.ensures.apart
     (c.in-Ok-new_details.ensures.just later w one) c.in-Ok-new_events.ensures.apart
     (c.in-Ok-new_events.ensures.just honest w two) in
     let a : Additions = record {
@@ -132,7 +127,7 @@ commit-requires-clause-lawful g c = λ sound lawful.
       events = c.in-Ok-new_events.events;
     } in
     let was : IsLawful w = subst IsLawful now lawful in
-    lawful_commit _ _ _ _ _ _ x _ a now refl refl refl refl was (c.in-Ok-gather.ensures.agrees early w shows was)
+    lawful_commit _ _ _ _ _ _ _ x _ a now refl refl refl refl was (c.in-Ok-gather.ensures.agrees early w shows was)
 
 pub returns-in-Ok-commit-clause-step : goal.returns-in-Ok-commit-clause-step
 returns-in-Ok-commit-clause-step g c = λ honest w lawful shows.
@@ -141,8 +136,8 @@ returns-in-Ok-commit-clause-step g c = λ honest w lawful shows.
     let early = c.new_details.ensures.outside later in
     let one = c.gather.ensures.kept early w shows in
     let two = c.new_details.ensures.kept later w one in
-    let x = comes w c.in-Ok-stated_by.stated c.in-Ok-settle.additions c.in-Ok-settle.known _ _
-    (c.in-Ok-settle.ensures w _ (c.in-Ok-gather.ensures.merges early w shows)) c.in-Ok-new_details.ensures.apart
+    let x = comes w _ c.in-Ok-gather.gathered c.in-Ok-settle.additions c.in-Ok-settle.known _ _ (c.in-Ok-gather.ensures.gathered early w shows).whole
+    (c.in-Ok-settle.ensures w _ (c.in-Ok-gather.ensures.gathered early w shows).merges) c.in-Ok-new_details.ensures.apart
     (c.in-Ok-new_details.ensures.just later w one) c.in-Ok-new_events.ensures.apart
     (c.in-Ok-new_events.ensures.just last w two) in
     let a : Additions = record {
@@ -153,8 +148,8 @@ returns-in-Ok-commit-clause-step g c = λ honest w lawful shows.
     } in
     let sound = c.in-Ok-commit.ensures.open honest in
     let now = c.new_events.ensures.kept last w two (c.commit.ensures.before sound) in
-    let t = taken_in _ _ _ _ _ _ x c.args.kind c.args.text.now _ _ a c.len-added.result c.in-Ok.ensures.done.0
-    (ap stated (sym c.in-Ok.ensures.done.1) ∙ c.in-Ok-stated_by.ensures.facts) now (c.in-Ok-commit.ensures.ok sound)
+    let t = taken_in _ _ _ _ _ _ _ x c.args.kind c.args.text.now _ _ a c.len-added.result c.in-Ok.ensures.done.0
+    (ap stated (sym c.in-Ok.ensures.done.1) ∙ (c.in-Ok-gather.ensures.gathered early w shows).all) now (c.in-Ok-commit.ensures.ok sound)
     refl refl refl refl lawful (c.in-Ok-gather.ensures.agrees early w shows lawful)
     (c.len-added.ensures ∙ c.in-Ok-settle.additions.versions.ok.0) in (
       g.K.Keeper.world c.commit.new.self,
@@ -172,8 +167,8 @@ returns-in-Err-clause-step g c = λ honest w lawful shows.
     let one = c.gather.ensures.kept early w shows in
     let two = c.new_details.ensures.kept later w one in
     let three = c.new_events.ensures.kept last w two in
-    let x = comes w c.in-Ok-stated_by.stated c.in-Ok-settle.additions c.in-Ok-settle.known _ _
-    (c.in-Ok-settle.ensures w _ (c.in-Ok-gather.ensures.merges early w shows)) c.in-Ok-new_details.ensures.apart
+    let x = comes w _ c.in-Ok-gather.gathered c.in-Ok-settle.additions c.in-Ok-settle.known _ _ (c.in-Ok-gather.ensures.gathered early w shows).whole
+    (c.in-Ok-settle.ensures w _ (c.in-Ok-gather.ensures.gathered early w shows).merges) c.in-Ok-new_details.ensures.apart
     (c.in-Ok-new_details.ensures.just later w one) c.in-Ok-new_events.ensures.apart
     (c.in-Ok-new_events.ensures.just last w two) in
     let a : Additions = record {
@@ -193,8 +188,8 @@ returns-in-Err-clause-step g c = λ honest w lawful shows.
               (c.new_events.ensures.crash last left was)),
         ))
         | inr it ↦
-            let t = taken_in _ _ _ _ _ _ x c.args.kind c.args.text.now _ left a c.len-added.result
-            c.in-Ok.ensures.done.0 (ap stated (sym c.in-Ok.ensures.done.1) ∙ c.in-Ok-stated_by.ensures.facts)
+            let t = taken_in _ _ _ _ _ _ _ x c.args.kind c.args.text.now _ left a c.len-added.result
+            c.in-Ok.ensures.done.0 (ap stated (sym c.in-Ok.ensures.done.1) ∙ (c.in-Ok-gather.ensures.gathered early w shows).all)
             (three it.0) it.1 refl refl refl refl lawful (c.in-Ok-gather.ensures.agrees early w shows lawful)
             (c.len-added.ensures ∙ c.in-Ok-settle.additions.versions.ok.0) in
             inr (inr (refl, told.Imported c.len-added.result c.in-Ok-settle.known, (λ e. cc), t.1))

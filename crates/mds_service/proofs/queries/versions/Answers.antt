@@ -55,7 +55,7 @@ returns-clause-step g c honest =
     shown _ _ _ _ _ _ (asked.Versions c.args.stream c.args.day c.args.interval) _ (d.before sound) (
       versions_answer _ c.in-Ok.book _ _ _ c.in-Some.head _ _ (d.of_day.0 ∙ c.copy_of.ensures) d.of_day.1
           (d.book sound) (sym c.head.ensures ∙ c.in-Some.is) has.0 has.1 c.versions.ensures
-          c.in-Ok-copies.ensures refl refl refl,
+          c.in-Ok-copies.ensures.value refl refl refl,
       refl,
     )
     d.before d.same (d.crash honest)

@@ -1,19 +1,27 @@
-use Rattle.mds_versions.proofs.Settled.{all_settled, one_settled, readings_short, start_settled}
+use Rattle.std.proofs.Common.{ap, ◌∙◌}
+use Rattle.mds_versions.specs.Claims.{held_all}
+use Rattle.mds_versions.proofs.Settled.{all_settled, new_update, one_settled, readings_short, start_settled}
 use Rattle.mds_versions.proofs.day_merge.settle_claimed.Goals as goal
 
 pub loop-update-init : goal.loop-update-init
-loop-update-init c = start_settled _ _ _ _ c.into_iter-update-iterator.ensures.into_iter_gives.0
+loop-update-init c = record {
+  settled = start_settled _ _ _ _ c.into_iter-update-iterator.ensures.into_iter_gives.0;
+  new = λ are. ap (held_all c.args.book.now) c.into_iter-update-iterator.ensures.into_iter_gives.0 ∙ c.requires.new are;
+}
 
-pub settle_update-requires : goal.settle_update-requires
-settle_update-requires c = readings_short _ _ c.requires _ _ _ _ _ _ _ c.loop-update.invariant c.in-Some.ensures.steps
+pub settle_update-requires-clause-few : goal.settle_update-requires-clause-few
+settle_update-requires-clause-few c = readings_short _ _ c.requires.short _ _ _ _ _ _ c.loop-update.invariant.settled c.in-Some.ensures.steps
+
+pub settle_update-requires-clause-new : goal.settle_update-requires-clause-new
+settle_update-requires-clause-new c = λ are.
+    (new_update _ _ c.in-Some.update c.in-Some.readings _ c.in-Some.ensures.steps (c.loop-update.invariant.new are)).0
 
 pub loop-update-preserved : goal.loop-update-preserved
-loop-update-preserved c =
-    one_settled _ _ _ _ _ _ _ _ _ _ c.in-Some.update c.in-Some.readings c.loop-update.invariant c.in-Some.ensures.steps c.in_ok-held.ensures.versions
-    c.in_ok-held.ensures.known c.in-Some-checked_add.ensures.1
+loop-update-preserved c = record {
+  settled = one_settled _ _ _ _ _ _ _ c.in-Some.update c.in-Some.readings c.loop-update.invariant.settled c.in-Some.ensures.steps
+      c.in_ok-settle_update.ensures;
+  new = λ are. (new_update _ _ c.in-Some.update c.in-Some.readings _ c.in-Some.ensures.steps (c.loop-update.invariant.new are)).1;
+}
 
-pub returns-clause-versions : goal.returns-clause-versions
-returns-clause-versions c = (all_settled _ _ _ _ _ _ c.loop-update.invariant c.in-None.ensures.steps.0).0
-
-pub returns-clause-known : goal.returns-clause-known
-returns-clause-known c = (all_settled _ _ _ _ _ _ c.loop-update.invariant c.in-None.ensures.steps.0).1
+pub returns : goal.returns
+returns c = all_settled _ _ _ _ _ c.loop-update.invariant.settled c.in-None.ensures.steps.0

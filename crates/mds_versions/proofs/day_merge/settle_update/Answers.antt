@@ -1,5 +1,6 @@
 use Rattle.std.proofs.Common.{length, sym, ap, ◌∙◌, arith}
-use Rattle.mds_versions.proofs.Settled.{interval_fits, known_fits, length_none, pushed, start_update, update_fresh, update_held, update_known, update_versions}
+use Rattle.mds_versions.specs.Claims.{held_count}
+use Rattle.mds_versions.proofs.Settled.{interval_fits, length_none, new_first, pushed, start_update, update_fresh, update_held, update_versions}
 use Rattle.mds_versions.proofs.day_merge.settle_update.Goals as goal
 
 pub loop-reading-init : goal.loop-reading-init
@@ -8,27 +9,26 @@ loop-reading-init c =
     record {
       settled = start_update _ _ _ _ _ gives.0;
       len = gives.1 ∙ c.args.readings.ok.0 ∙ ap length (sym gives.0);
+      new = λ are. ap (held_count c.args.book.now c.args.update 1) gives.0 ∙ c.requires.new are;
     }
 
 pub overflow_add-interval : goal.overflow_add-interval
 overflow_add-interval c =
     let s = c.in-Some.ensures.steps in
-    let f = interval_fits _ _ _ _ _ _ _ _ c.loop-reading.invariant.settled c.in-Some.reading _ s.0 in
-    omega (arith, f, c.requires)
+    let f = interval_fits _ _ _ _ _ _ _ c.loop-reading.invariant.settled c.in-Some.reading _ s.0 in
+    omega (arith, f, c.requires.few)
 
-pub overflow_add-known : goal.overflow_add-known
-overflow_add-known c =
-    let s = c.in-Some.ensures.steps in
-    let f = known_fits _ _ _ _ _ _ _ _ c.loop-reading.invariant.settled c.in-Some.reading _ s.0 c.if-has_reading.ensures in
-    omega (arith, f, c.requires)
+pub is_kept-requires : goal.is_kept-requires
+is_kept-requires c = λ are. (new_first _ _ _ _ c.in-Some.reading _ c.in-Some.ensures.steps.0 (c.loop-reading.invariant.new are)).0
 
-pub loop-reading-preserved-then-has_reading : goal.loop-reading-preserved-then-has_reading
-loop-reading-preserved-then-has_reading c =
+pub loop-reading-preserved-then-is_kept : goal.loop-reading-preserved-then-is_kept
+loop-reading-preserved-then-is_kept c =
     let s = c.in-Some.ensures.steps in
     let e = ap length s.0 in
     record {
-      settled = update_held _ _ _ _ _ _ _ _ c.loop-reading.invariant.settled c.in-Some.reading _ s.0 c.if-has_reading.ensures;
+      settled = update_held _ _ _ _ _ _ _ c.loop-reading.invariant.settled c.in-Some.reading _ s.0 c.if-is_kept.ensures;
       len = omega (arith, e, s.1, c.loop-reading.invariant.len);
+      new = λ are. (new_first _ _ _ _ c.in-Some.reading _ s.0 (c.loop-reading.invariant.new are)).1;
     }
 
 pub loop-reading-preserved : goal.loop-reading-preserved
@@ -36,16 +36,12 @@ loop-reading-preserved c =
     let s = c.in-Some.ensures.steps in
     let e = ap length s.0 in
     record {
-      settled = update_fresh _ _ _ _ _ _ _ _ c.loop-reading.invariant.settled c.in-Some.reading _ s.0 _ c.if-has_reading.ensures (pushed c.args.book.now _ _ _ _ _ _ _ c.stream.ensures c.day.ensures c.in_ok-push.ensures.items);
+      settled = update_fresh _ _ _ _ _ _ _ c.loop-reading.invariant.settled c.in-Some.reading _ s.0 _ c.if-is_kept.ensures (pushed c.args.book.now _ _ _ _ _ _ _ c.stream.ensures c.day.ensures c.in_ok-push.ensures.items);
       len = omega (arith, e, s.1, c.loop-reading.invariant.len);
+      new = λ are. (new_first _ _ _ _ c.in-Some.reading _ s.0 (c.loop-reading.invariant.new are)).1;
     }
 
-pub returns-clause-versions : goal.returns-clause-versions
-returns-clause-versions c =
-    update_versions _ _ _ _ _ _ _ _ c.loop-reading.invariant.settled
-    (length_none _ (sym c.loop-reading.invariant.len ∙ c.in-None.ensures.steps.0))
-
-pub returns-clause-known : goal.returns-clause-known
-returns-clause-known c =
-    update_known _ _ _ _ _ _ _ _ c.loop-reading.invariant.settled
+pub returns : goal.returns
+returns c =
+    update_versions _ _ _ _ _ _ _ c.loop-reading.invariant.settled
     (length_none _ (sym c.loop-reading.invariant.len ∙ c.in-None.ensures.steps.0))

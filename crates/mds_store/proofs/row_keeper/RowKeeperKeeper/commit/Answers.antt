@@ -1,4 +1,4 @@
-use Rattle.std.proofs.Common.{◌≡◌, sym, ◌∙◌, inl, inr, rules}
+use Rattle.std.proofs.Common.{sym, ◌∙◌, inl, inr, rules}
 use Rattle.sqlite.specs.Held.{state}
 use Rattle.sqlite.specs.State.{HasCleanDisk}
 use Rattle.mds_store.proofs.row_keeper.RowKeeperKeeper.commit.Goals as goal

@@ -1,0 +1,90 @@
+-- What a job fills in, and what stops it.
+use Rattle.std.proofs.Common.{◌≡◌, ◌+◌, ℕ, ℤ, List, [], ◌∷◌, ◌++◌, length, get_or, Some, refl, sym, ap, ◌∙◌, subst, inl, inr, arith}
+use Rattle.std.proofs.lemmas.Bool.{cases_lt}
+use Rattle.std.proofs.lemmas.List.{get_or_append_left, length-append}
+use Rattle.std.proofs.lemmas.Option.{slice_get-get_or, get_or_from_slice_get, slice_get_within}
+use Rattle.std.proofs.Math.Seq.{get_or-append_seam}
+use Rattle.mds_marks.specs.Reading.{ReadingValue}
+use Rattle.mds_world.specs.Facts.{JobContent}
+use Rattle.mds_world.specs.World.{World}
+use Rattle.mds_versions.specs.DayMerges.{IfRefused}
+use Rattle.mds_versions.specs.declared.day_merge.Stop.{Stop}
+use Rattle.mds_versions.specs.declared.day_merge.Stop.TheVariants.{Refused, Memory}
+use Rattle.mds_versions.specs.declared.refusal.Refusal.{Refusal}
+use Rattle.mds_versions.specs.declared.refusal.RefusalCode.{RefusalCode}
+use Rattle.mds_versions.specs.declared.refusal.RefusalCode.TheVariants.{LengthConflict, UnitConflict, VersionConflict, JobReused, Protected, StaleUpdate, NoLikeDay, TooLong, NoAnchor, UnknownDay, BadJob}
+use Rattle.mds_fill.specs.Fills.{AreSubstitutes, IsFillFault, IsFillRefusal, IsFilled, IsFree, IsSubstitute, IsTooLong, LacksLikeDay, target_count}
+use Rattle.mds_fill.specs.FillSteps.{AreFilled, IsLack}
+
+-- a refusal of a rule at an interval
+pub refusal_is : (w : World) (job : JobContent) (r : Refusal) (code : RefusalCode) (i : ℕ)
+    → r ≡ record { code = code; line = 0; field = 0; interval = i } → IsFillFault w job code i → IsFillRefusal w job r
+refusal_is w job r code i e fault =
+    subst (IsFillRefusal w job) (sym e) (record { line = refl; field = refl; fault = fault })
+
+-- what a job lacks stops it where nothing did before
+pub lack_stops : (w : World) (job : JobContent) (code : RefusalCode) → IsFree w job → (IsTooLong job → ⊥)
+    → IsLack w job code → IsFillFault w job code 0
+lack_stops w job NoLikeDay free short lack = (free, lack, refl)
+lack_stops w job NoAnchor free short lack = (free, short, lack, refl)
+lack_stops w job LengthConflict free short lack = lack
+lack_stops w job UnitConflict free short lack = lack
+lack_stops w job VersionConflict free short lack = lack
+lack_stops w job JobReused free short lack = lack
+lack_stops w job Protected free short lack = absurd lack
+lack_stops w job StaleUpdate free short lack = absurd lack
+lack_stops w job TooLong free short lack = absurd lack
+lack_stops w job UnknownDay free short lack = lack
+lack_stops w job BadJob free short lack = lack
+
+pub no_like_day : (w : World) (job : JobContent) (stop : Stop) → IsFree w job → (IsTooLong job → ⊥)
+    → IfRefused stop (λ refusal.
+    (refusal ≡ record { code = NoLikeDay; line = 0; field = 0; interval = 0 }) × LacksLikeDay w job)
+    → IfRefused stop (IsFillRefusal w job)
+no_like_day w job (Refused refusal) free short r = refusal_is w job refusal NoLikeDay 0 r.0 (free, r.1, refl)
+no_like_day w job Memory free short r = tt
+
+-- one reading more
+pub filled_more : (w : World) (job : JobContent) (i n m : ℕ) (xs ys : List ReadingValue) (r : ReadingValue)
+    → i ≡ job.first + n → m ≡ n + 1 → ys ≡ xs ++ r ∷ [] → AreFilled w job n xs → IsSubstitute w job i r
+    → AreFilled w job m ys
+filled_more w job i n m xs ys r at next e filled is =
+    let more : length ys ≡ m = ap length e ∙ length-append xs (r ∷ []) ∙ omega (arith, filled.many, next) in
+    record {
+      many = more;
+      each = λ k q h.
+          let value = get_or_from_slice_get ys k q q h in
+          let within = slice_get_within ys k q h in
+          elim (cases_lt k (length xs)) [
+            | inl a ↦
+                filled.each k q (slice_get-get_or xs k q a
+                ∙ ap (λ z. Some z) (sym (get_or_append_left xs (r ∷ []) q k a) ∙ sym (ap (λ l. get_or l k q) e) ∙ value))
+            | inr b ↦
+                let last : k ≡ length xs = omega (arith, filled.many) in
+                let here : i ≡ job.first + k = omega (arith, filled.many) in
+                let same : r ≡ q = sym (get_or-append_seam xs r [] q) ∙ sym (ap (λ n. get_or (xs ++ r ∷ []) n q) last)
+                ∙ sym (ap (λ l. get_or l k q) e) ∙ value in
+                subst (λ j. IsSubstitute w job j q) here (subst (IsSubstitute w job i) same is)
+          ];
+    }
+
+pub none_filled : (w : World) (job : JobContent) (n : ℕ) (xs : List ReadingValue) → n ≡ 0 → xs ≡ [] → AreFilled w job n xs
+none_filled w job n xs e f = record {
+  many = ap length f ∙ sym e;
+  each = λ k q h. let within = slice_get_within xs k q h in let none = ap length f in absurd (omega arith);
+}
+
+-- the reading of a value that fills
+pub substitute_is : (w : World) (job : JobContent) (i : ℕ) (r : ReadingValue) (v : ℤ)
+    → r.mark ≡ record {
+      quality = record { flag = job.flag; method = job.method };
+      reason = record { code = job.code; text = job.text };
+    }
+    → r.value ≡ Some v → IsFilled w job i v → IsSubstitute w job i r
+substitute_is w job i r v mark same filled = record { mark = mark; value = v; same = same; filled = filled }
+
+-- the readings of all targets of a job that nothing stops
+pub all_filled : (w : World) (job : JobContent) (readings : List ReadingValue) → IsFree w job → (IsTooLong job → ⊥)
+    → AreFilled w job (target_count job) readings → AreSubstitutes w job readings
+all_filled w job readings free short filled =
+    record { free = free; short = short; count = filled.many; each = filled.each }

@@ -1,0 +1,9 @@
+use Rattle.std.proofs.Common.{◌≤◌, ◌<◌, ℕ}
+use Rattle.mds_world.specs.World.{World}
+use Rattle.mds_fill.specs.Fills.{IsBookOf, IsStale}
+use Rattle.mds_fill.proofs.targets.first_stale.Given as goal
+
+abbrev pub invariant-loop-interval : goal.invariant-loop-interval
+invariant-loop-interval l =
+    (w : World) → IsBookOf w l.job.stream l.job.day l.book → (i : ℕ) → l.job.first ≤ i → i < l.interval
+    → IsStale w l.job.stream l.job.day i l.job.update → ⊥

@@ -1,0 +1,75 @@
+//! The values of a day that may stand in for others.
+
+ghost use Rattle.std.specs.Prelude.{◌≡◌, ◌↔◌, ◌≤◌, ℕ, IsTrue, MatchOption, Some};
+ghost use Rattle.std.specs.Bool.{MatchBool};
+ghost use Rattle.mds_names.specs.declared.stream.Stream.{Stream};
+ghost use Rattle.mds_world.specs.World.{World};
+ghost use Rattle.mds_jobs.specs.Jobs.{content_of};
+ghost use Rattle.mds_fill.specs.Fills.{Finds, HasAll, IsActualOrFinal, IsBookOf, IsLikeBook, IsLikeValue, IsUsable};
+
+use mds_jobs::Job;
+use mds_quantity::Quantity;
+use mds_terms::Reading;
+use mds_versions::DayBook;
+
+/// The usable value of an interval of a day.
+pub(crate) fn usable_value(book: &DayBook, job: &Job, interval: u16) -> Option<Quantity>
+    ensures { (w : World) (day : ℕ) → IsBookOf w job.now.stream day book.now
+        → Finds (IsUsable w (content_of job.now) day interval) result }
+{
+    book.is_lawful();
+    if !has_form_of(book, job) {
+        return None;
+    }
+    let Some(version) = book.current(interval) else {
+        return None;
+    };
+    if !is_actual_or_final(&version.reading) {
+        return None;
+    }
+    version.reading.value()
+}
+
+/// The usable value of an interval of the candidate at a place.
+pub(crate) fn candidate_value(slot: &Option<DayBook>, job: &Job, interval: u16) -> Option<Quantity>
+    ensures { (w : World) (place : ℕ) → IsLikeBook w (content_of job.now) place slot.now
+        → Finds (IsLikeValue w (content_of job.now) place interval) result }
+{
+    match slot {
+        Some(book) => usable_value(book, job, interval),
+        None => None,
+    }
+}
+
+/// Whether a day has a usable value for every target.
+pub(crate) fn has_all(book: &DayBook, job: &Job) -> bool
+    requires few { job.now.last ≤ 288 }
+    ensures { (w : World) (day : ℕ) → IsBookOf w job.now.stream day book.now
+        → MatchBool result (HasAll w (content_of job.now) day) (HasAll w (content_of job.now) day → ⊥) }
+{
+    for interval in job.first..job.last + 1 {
+        if usable_value(book, job, interval).is_none() {
+            return false;
+        }
+    }
+    true
+}
+
+/// Whether a day is known with a job's length and unit.
+fn has_form_of(book: &DayBook, job: &Job) -> bool
+    ensures { IsTrue result ↔ (book.now.head ≡ Some (job.now.length, job.now.unit)) }
+{
+    match book.head() {
+        Some((length, unit)) => length.minutes() == job.length.minutes() && unit == job.unit,
+        None => false,
+    }
+}
+
+/// Whether the flag of a reading is A or F.
+pub(crate) fn is_actual_or_final(reading: &Reading) -> bool
+    ensures { MatchBool result (IsActualOrFinal reading.now.mark.quality.flag)
+        (IsActualOrFinal reading.now.mark.quality.flag → ⊥) }
+{
+    let mark = reading.mark();
+    matches!(mark.quality.flag(), b'A' | b'F')
+}

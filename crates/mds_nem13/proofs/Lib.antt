@@ -1,0 +1,4 @@
+pub mod Apart
+pub mod Kept
+pub mod Steps
+pub mod Tellings

@@ -1,0 +1,4 @@
+pub mod Faultless
+pub mod LinesRead
+pub mod Longer
+pub mod Numbered
