@@ -47,11 +47,11 @@ fn text_of(alloc: Global, accumulations: &[Accumulation]) -> Result<String, Allo
 }
 
 /// A file with two notes and an empty line between them, and a period without an update.
-const NOTED: &str = "@#550,N,,A,\n\n550,,T1,,T2\n+$";
+const NOTED: &str = "@#550,N,,A,\n\n550,,B7,,B8\n+$";
 
 const NOTED_TEXT: &str = "2 1234567890 11 01 20031001103230 20040201100030 20040202125010\n\
     1141,01,11,11,METSER66,E,000021.2,20031001103230,A,,,000534.5,20040201100030,E64,77,,343.5,kWh,20040509,\
-    20040202125010\nN,,A,\n,T1,,T2\n6 1234567890 11  20031001103230 20040201100030 20040101123400\n\
+    20040202125010\nN,,A,\n,B7,,B8\n6 1234567890 11  20031001103230 20040201100030 20040101123400\n\
     ,,11,,,I,,20031001103230,,7,,,20040201100030,F05,,read late,-0.5,kWh,,\n";
 
 #[test]

@@ -17,7 +17,7 @@ onto_front x [] more some = absurd (omega arith)
 onto_front x (part ∷ parts) more some = refl
 
 -- a text is split on both sides of a separator
-split_both : (c : ℕ) (xs ys : List ℕ) → split c (xs ++ c ∷ ys) ≡ split c xs ++ split c ys
+pub split_both : (c : ℕ) (xs ys : List ℕ) → split c (xs ++ c ∷ ys) ≡ split c xs ++ split c ys
 split_both c [] ys = slice_split-cons_yes (λ b. eqb b c) c ys (grind (arith, nat_tests))
 split_both c (x ∷ xs) ys =
     elim (eqb x c) as (λ b. cond b ([] ∷ split c (xs ++ c ∷ ys)) (onto_first x (split c (xs ++ c ∷ ys)))

@@ -235,13 +235,7 @@ fn settle_head(
 
 /// Whether a book has this reading of an interval under an update. It isn't looked up where all that
 /// was claimed is new.
-fn is_kept(
-    book: &DayBook,
-    are_new: bool,
-    interval: u16,
-    update: Moment,
-    reading: &Reading,
-) -> bool
+fn is_kept(book: &DayBook, are_new: bool, interval: u16, update: Moment, reading: &Reading) -> bool
     requires { IsTrue are_new → is_held book.now update interval reading.now ≡ false }
     ensures { result ≡ is_held book.now update interval reading.now }
 {

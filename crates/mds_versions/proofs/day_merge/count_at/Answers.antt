@@ -11,7 +11,7 @@ returns-in_default-clause-some c =
 pub returns-then-is_same-clause-some : goal.returns-then-is_same-clause-some
 returns-then-is_same-clause-some c =
     let p = count_one _ _ _ _ c.requires c.args.reading.now c.in-Some.kept.now c.is_lawful.ensures.agrees c.in-Some.ensures.some
-        (c.is_same.ensures.0 c.if-is_same.true) in
+    (c.is_same.ensures.0 c.if-is_same.true) in
     (ap (λ t. cond t 1 0) (sym p.0), p.1)
 
 pub returns-else-is_same-clause-none : goal.returns-else-is_same-clause-none
