@@ -1,12 +1,9 @@
 //! The examples over stores in memory and in a file, and databases that are no stores.
 
-use crate::run_rows;
-use mds_examples::{
-    EXAMPLES, FIRST, Row, first_wrong, first_wrong_at_the_limits, request_of, text_of,
-};
+use mds_examples::{EXAMPLES, FIRST, first_wrong, request_of, text_of};
 use mds_service::apply;
-use mds_store::{RowKeeper, StoreFault, adopt, create};
-use sqlite::{Alter, Connection, Error, Wary};
+use mds_store::{StoreFault, adopt, create};
+use sqlite::{Connection, Wary};
 use std::fs;
 use std::test::Fail;
 
@@ -112,103 +109,5 @@ fn other_databases_are_refused(rt: HostRuntime) -> Result<(), Fail> {
         return Ok(());
     };
     assert_eq!(rt; fault, StoreFault::OtherSchema);
-    Ok(())
-}
-
-/// The store that was made or found.
-fn kept<S: Alter>(
-    store: Result<RowKeeper<S>, (StoreFault, Connection<S>)>,
-) -> Result<RowKeeper<S>, StoreFault> {
-    match store {
-        Ok(keeper) => Ok(keeper),
-        Err((fault, _)) => Err(fault),
-    }
-}
-
-/// The refusal of a store that was to be made or found, and the connection.
-fn refused<S: Alter>(
-    store: Result<RowKeeper<S>, (StoreFault, Connection<S>)>,
-) -> Result<(StoreFault, Connection<S>), &'static str> {
-    match store {
-        Ok(_) => Err("not refused"),
-        Err(refusal) => Ok(refusal),
-    }
-}
-
-/// Executes a statement: how many rows it changed.
-fn execute<S: Alter>(conn: &mut Connection<S>, sql: &str) -> Result<usize, Error> {
-    conn.execute(sql, &[])
-}
-
-/// A connection in a transaction is refused as it is. Once the transaction has ended it is taken, whatever was written.
-#[test]
-fn a_transaction_goes_on(rt: HostRuntime) -> Result<(), Fail> {
-    let alloc = rt.alloc();
-    let mut conn = Connection::open_in_memory(alloc)?;
-    execute(&mut conn, "BEGIN")?;
-    execute(&mut conn, "CREATE TABLE other (x)")?;
-    let (fault, mut conn) = refused(create(alloc, conn))?;
-    assert_eq!(rt;
-        (fault, conn.is_autocommit()),
-        (StoreFault::Unavailable, false)
-    );
-    assert_eq!(rt; execute(&mut conn, "INSERT INTO other VALUES (1)")?, 1);
-    execute(&mut conn, "DROP TABLE other")?;
-    execute(&mut conn, "COMMIT")?;
-    let mut conn = kept(create(alloc, conn))?.into_connection();
-    execute(&mut conn, "BEGIN")?;
-    execute(&mut conn, "UPDATE mds_schema SET version = 2")?;
-    let (fault, mut conn) = refused(adopt(alloc, conn))?;
-    assert_eq!(rt;
-        (fault, conn.is_autocommit()),
-        (StoreFault::Unavailable, false)
-    );
-    execute(&mut conn, "ROLLBACK")?;
-    let mut conn = kept(adopt(alloc, conn))?.into_connection();
-    execute(&mut conn, "UPDATE mds_schema SET version = 2")?;
-    let (fault, _) = refused(adopt(alloc, conn))?;
-    assert_eq!(rt; fault, StoreFault::OtherSchema);
-    Ok(())
-}
-
-/// What is answered of a store with the first file where the last interval has no version.
-const WITHOUT_48: [Row; 5] = [
-    ("versions", &["20240101"], 47, "47 20240102010203:A,,,1.5"),
-    ("versions", &["20240101"], 48, "48"),
-    (
-        "day",
-        &["20240101"],
-        0,
-        "30 kWh 20240102010203 1:A,,,1.5 48:N,,, 48",
-    ),
-    ("import", FIRST, 0, "added 1 known 47"),
-    (
-        "day",
-        &["20240101"],
-        0,
-        "30 kWh 20240102010203 1:A,,,1.5 48",
-    ),
-];
-
-/// Files give each interval of a day a version, but another program may take one away.
-#[test]
-fn an_interval_may_have_no_version(rt: HostRuntime) -> Result<(), Fail> {
-    let alloc = rt.alloc();
-    let mut keeper = kept(create(alloc, Connection::open_in_memory(alloc)?))?;
-    assert!(rt; run_rows(alloc, &mut keeper, &[])?.is_empty());
-    let first = request_of(alloc, "import", FIRST, 0)?;
-    assert_eq!(rt; run_rows(alloc, &mut keeper, &[first])?.len(), 1);
-    let mut conn = keeper.into_connection();
-    execute(&mut conn, "DELETE FROM mds_version WHERE slot = 48")?;
-    let mut keeper = kept(adopt(alloc, conn))?;
-    assert_eq!(rt; first_wrong(alloc, &mut keeper, &WITHOUT_48)?, None);
-    Ok(())
-}
-
-#[test]
-fn the_limits_hold(rt: HostRuntime) -> Result<(), Fail> {
-    let alloc = rt.alloc();
-    let mut keeper = kept(create(alloc, Connection::open_in_memory(alloc)?))?;
-    assert_eq!(rt; first_wrong_at_the_limits(alloc, &mut keeper)?, None);
     Ok(())
 }
