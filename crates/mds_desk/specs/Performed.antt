@@ -17,6 +17,10 @@ use Rattle.mds_desk.specs.declared.outcome.Status.TheVariants as status
 abbrev pub answer_text : Answer → List ℕ
 answer_text (told.Imported added known) =
     codes "added " ++ decimal added ++ codes " known " ++ decimal known ++ codes "\n"
+answer_text (told.Substituted count) = codes "substituted " ++ decimal count ++ codes "\n"
+answer_text (told.Known count) = codes "known " ++ decimal count ++ codes "\n"
+answer_text (told.HolidaysAdded added known) =
+    codes "added " ++ decimal added ++ codes " known " ++ decimal known ++ codes "\n"
 answer_text (told.File fault) = fault_text fault ++ codes "\n"
 answer_text (told.Refused refusal) = refusal_text refusal ++ codes "\n"
 answer_text told.Unavailable = codes "U1\n"
@@ -26,6 +30,9 @@ answer_text (told.Streams answers) = []
 
 abbrev pub answer_status : Answer → Status
 answer_status (told.Imported added known) = status.Done
+answer_status (told.Substituted count) = status.Done
+answer_status (told.Known count) = status.Done
+answer_status (told.HolidaysAdded added known) = status.Done
 answer_status (told.File fault) = status.Fault
 answer_status (told.Refused refusal) = status.Fault
 answer_status told.Unavailable = status.Unavailable

@@ -1,5 +1,5 @@
 -- What the program prints, and the status that it ends with (profile).
-use Rattle.std.specs.Prelude.{ℕ, List, [], ◌++◌, codes, Result, Ok, Err}
+use Rattle.std.specs.Prelude.{ℕ, List, [], ◌++◌, codes, decimal, Result, Ok, Err}
 use Rattle.mds_records.specs.Printed.{fault_text}
 use Rattle.mds_desk.specs.declared.checking.CheckFault.{CheckFault}
 use Rattle.mds_desk.specs.declared.checking.CheckFault.TheVariants as check
@@ -37,6 +37,8 @@ status_of outcome.Done = status.Done
 status_of outcome.Created = status.Done
 status_of (outcome.Answered s) = s
 status_of (outcome.Fault fault) = status.Fault
+status_of outcome.BadJob = status.Usage
+status_of (outcome.BadHolidays row) = status.Fault
 status_of outcome.Usage = status.Usage
 status_of outcome.NoText = status.Usage
 status_of outcome.NoInput = status.Unavailable
@@ -50,6 +52,8 @@ outcome_text outcome.Done = []
 outcome_text outcome.Created = codes "created\n"
 outcome_text (outcome.Answered s) = []
 outcome_text (outcome.Fault fault) = fault_text fault ++ codes "\n"
+outcome_text outcome.BadJob = codes "bad job\n"
+outcome_text (outcome.BadHolidays row) = codes "H1 line " ++ decimal row ++ codes "\n"
 outcome_text outcome.Usage = []
 outcome_text outcome.NoText = codes "a word is not UTF-8\n"
 outcome_text outcome.NoInput = codes "cannot read file\n"
@@ -57,15 +61,17 @@ outcome_text outcome.NoOutput = []
 outcome_text outcome.Unavailable = codes "U1\n"
 outcome_text outcome.OtherSchema = codes "U3\n"
 
--- What it comes to where the store can't be closed after it: what was printed stands, and in place of what is still to be
--- printed it is U1.
+-- What it comes to where the store can't be closed after it: what was made or printed stands, and a refusal that is still to be
+-- printed is U1.
 abbrev pub after_failed_close : Outcome → Outcome
 after_failed_close outcome.Done = outcome.Done
 after_failed_close (outcome.Answered s) = outcome.Answered s
 after_failed_close outcome.Usage = outcome.Usage
 after_failed_close outcome.NoOutput = outcome.NoOutput
-after_failed_close outcome.Created = outcome.Unavailable
+after_failed_close outcome.Created = outcome.Created
 after_failed_close (outcome.Fault fault) = outcome.Unavailable
+after_failed_close outcome.BadJob = outcome.Unavailable
+after_failed_close (outcome.BadHolidays row) = outcome.Unavailable
 after_failed_close outcome.NoText = outcome.Unavailable
 after_failed_close outcome.NoInput = outcome.Unavailable
 after_failed_close outcome.Unavailable = outcome.Unavailable

@@ -13,9 +13,9 @@ use std::fmt;
 pub enum Status {
     /// All was done.
     Done,
-    /// The file isn't well formed, or what it states was refused.
+    /// The file isn't well formed, or what it states or asks for was refused.
     Fault,
-    /// The words ask for nothing that the program does.
+    /// The words ask for nothing that the program does, or the file says no job.
     Usage,
     /// Something that is needed can't be had: the file, the store, the output or memory.
     Unavailable,
@@ -32,6 +32,10 @@ pub enum Outcome {
     Answered(Status),
     /// The file isn't well formed.
     Fault(FileFault),
+    /// The file says no substitution job.
+    BadJob,
+    /// The file is no list of holidays: the row of this number, from 1, is the first that differs (H1).
+    BadHolidays(u64),
     /// The words ask for nothing that the program does, and what they may be was printed.
     Usage,
     /// A word isn't text in UTF-8.
@@ -99,15 +103,20 @@ impl Outcome {
         }
     }
 
-    /// What it comes to where the store can't be closed after it. What was answered stands, since the file and its log
-    /// together are the store.
+    /// What it comes to where the store can't be closed after it. What was made or answered stands, since the file and its
+    /// log together are the store.
     pub fn after_failed_close(self) -> Outcome
         ensures { result ≡ after_failed_close self }
     {
         match self {
-            Outcome::Done | Outcome::Answered(_) | Outcome::Usage | Outcome::NoOutput => self,
-            Outcome::Created
-            | Outcome::Fault(_)
+            Outcome::Done
+            | Outcome::Created
+            | Outcome::Answered(_)
+            | Outcome::Usage
+            | Outcome::NoOutput => self,
+            Outcome::Fault(_)
+            | Outcome::BadJob
+            | Outcome::BadHolidays(_)
             | Outcome::NoText
             | Outcome::NoInput
             | Outcome::Unavailable
@@ -122,8 +131,8 @@ impl Outcome {
         match self {
             Outcome::Done | Outcome::Created => Status::Done,
             Outcome::Answered(status) => status,
-            Outcome::Fault(_) => Status::Fault,
-            Outcome::Usage | Outcome::NoText => Status::Usage,
+            Outcome::Fault(_) | Outcome::BadHolidays(_) => Status::Fault,
+            Outcome::BadJob | Outcome::Usage | Outcome::NoText => Status::Usage,
             Outcome::NoInput | Outcome::NoOutput | Outcome::Unavailable | Outcome::OtherSchema =>
                 Status::Unavailable,
         }
@@ -139,6 +148,8 @@ impl fmt::Display for Outcome {
             Outcome::Done | Outcome::Answered(_) | Outcome::Usage | Outcome::NoOutput => Ok(()),
             Outcome::Created => f.write_str("created\n"),
             Outcome::Fault(fault) => write!(f, "{fault}\n"),
+            Outcome::BadJob => f.write_str("bad job\n"),
+            Outcome::BadHolidays(row) => write!(f, "H1 line {row}\n"),
             Outcome::NoText => f.write_str("a word is not UTF-8\n"),
             Outcome::NoInput => f.write_str("cannot read file\n"),
             Outcome::Unavailable => f.write_str("U1\n"),

@@ -99,9 +99,13 @@ fn status_of(answer: &Answer) -> Status
     ensures { result ≡ answer_status answer.now }
 {
     match answer {
-        Answer::Imported { .. } | Answer::Day(_) | Answer::Versions(_) | Answer::Streams(_) => {
-            Status::Done
-        }
+        Answer::Imported { .. }
+        | Answer::Substituted { .. }
+        | Answer::Known { .. }
+        | Answer::HolidaysAdded { .. }
+        | Answer::Day(_)
+        | Answer::Versions(_)
+        | Answer::Streams(_) => Status::Done,
         Answer::File(_) | Answer::Refused(_) => Status::Fault,
         Answer::Unavailable => Status::Unavailable,
     }
@@ -112,7 +116,10 @@ fn answer_line(answer: &Answer) -> Line
     ensures { result.bytes ≡ answer_text answer.now }
 {
     match answer {
-        Answer::Imported { added, known } => imported_line(*added, *known),
+        Answer::Imported { added, known } => added_line(*added, *known),
+        Answer::Substituted { count } => count_line("substituted ", *count),
+        Answer::Known { count } => count_line("known ", *count),
+        Answer::HolidaysAdded { added, known } => added_line(*added, *known),
         Answer::File(fault) => fault_line(fault),
         Answer::Refused(refusal) => refusal_line(refusal),
         Answer::Unavailable => unavailable_line(),
@@ -120,12 +127,22 @@ fn answer_line(answer: &Answer) -> Line
     }
 }
 
-fn imported_line(added: u64, known: u64) -> Line
+fn added_line(added: u64, known: u64) -> Line
     ensures { result.bytes ≡ codes "added " ++ decimal added ++ codes " known " ++ decimal known ++ codes "\n" }
 {
     let mut line = Line::new();
     push_number(&mut line, "added ", added);
     push_number(&mut line, " known ", known);
+    line.push_str("\n");
+    line
+}
+
+fn count_line(name: &str, count: u64) -> Line
+    requires { length name.now ≤ 12 }
+    ensures { result.bytes ≡ name.now ++ decimal count ++ codes "\n" }
+{
+    let mut line = Line::new();
+    push_number(&mut line, name, count);
     line.push_str("\n");
     line
 }

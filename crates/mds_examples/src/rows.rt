@@ -2,13 +2,14 @@
 
 use crate::files::file_of;
 use crate::texts::text_of;
+use mds_jobs::{Job, JobId};
 use mds_records::FileKind;
 use mds_service::{Request, apply};
 use mds_terms::{Day, Stream};
 use mds_versions::Keeper;
 use std::alloc::{AllocError, Global};
 
-/// A request, and the text of its answer: what it is, a date or the pieces of a file, an interval.
+/// A request, and the text of its answer: what it is, dates or the pieces of a file or a job, an interval.
 pub type Row = (&'static str, &'static [&'static str], u16, &'static str);
 
 /// The file that the examples begin with: a day of 48 values 1.5.
@@ -61,7 +62,7 @@ const LATER_DAY: &[&str] = &["20240103"];
 const NOTHING: &[&str] = &[];
 
 /// The examples, each a list of requests.
-pub const EXAMPLES: [&[Row]; 10] = [
+pub const EXAMPLES: [&[Row]; 14] = [
     &TAKEN_IN,
     &FIVE_MINUTES,
     &LATEST_UPDATE,
@@ -72,6 +73,10 @@ pub const EXAMPLES: [&[Row]; 10] = [
     &TWO_UPDATES,
     &TWO_DAYS,
     &FIRST_MOMENT,
+    &SUBSTITUTED,
+    &MEAN_BELOW_ZERO,
+    &INTERPOLATED,
+    &ON_HOLIDAYS,
 ];
 
 /// A file is taken in, once.
@@ -276,8 +281,286 @@ const FIRST_MOMENT: [Row; 5] = [
     ("import", OF_1970, 0, "added 0 known 48"),
 ];
 
-/// A request: to import a file, for a day of the first file's stream, for the versions of an
-/// interval of a day, or for the streams.
+/// Two like days of Monday 22 January 2024: a week before, and two weeks before.
+const LIKE_DAYS: &[&str] = &[
+    "@#300,20240108,(A,,,20240116000000,;300,20240115,)A,,,20240116000000,;$",
+];
+
+/// The later of them under a later update.
+const LIKE_DAY_CORRECTED: &[&str] = &["@#300,20240115,!A,,,20240125000000,;$"];
+
+/// A job: intervals 5 to 8 by the mean of the like days.
+const MEAN: &[&str] = &[
+    "J1",
+    "NEM1201009,E1,20240122,5,8,30,kWh,15,F,76,,20240123000000",
+];
+
+/// Like days are copied, their means are taken, and what a job filled in is protected. A job that comes again is known, though its
+/// like days have other readings by then.
+const SUBSTITUTED: [Row; 18] = [
+    ("import", LIKE_DAYS, 0, "added 96 known 0"),
+    ("substitute", MEAN, 0, "substituted 4"),
+    (
+        "day",
+        &["20240122"],
+        0,
+        "30 kWh 20240123000000 1:N,,, 5:F15,76,,1.000002 9:N,,, 48",
+    ),
+    ("import", LIKE_DAY_CORRECTED, 0, "added 48 known 0"),
+    ("substitute", MEAN, 0, "known 4"),
+    (
+        "substitute",
+        &[
+            "J1",
+            "NEM1201009,E1,20240122,5,8,30,kWh,15,F,77,,20240123000000",
+        ],
+        0,
+        "M4 0 0 0",
+    ),
+    (
+        "substitute",
+        &[
+            "J2",
+            "NEM1201009,E1,20240122,5,8,30,kWh,15,F,76,,20240123000000",
+        ],
+        0,
+        "M5 0 0 5",
+    ),
+    (
+        "substitute",
+        &[
+            "J3",
+            "NEM1201009,E1,20240122,9,9,30,kWh,19,S,,,20240123000000",
+        ],
+        0,
+        "substituted 1",
+    ),
+    (
+        "substitute",
+        &[
+            "J4",
+            "NEM1201009,E1,20240122,9,9,30,kWh,19,S,,,20240123000000",
+        ],
+        0,
+        "M6 0 0 9",
+    ),
+    (
+        "substitute",
+        &[
+            "J4",
+            "NEM1201009,E1,20240122,9,9,30,kWh,14,E,,,20240124000000",
+        ],
+        0,
+        "substituted 1",
+    ),
+    (
+        "versions",
+        &["20240122"],
+        9,
+        "9 20240123000000:S19,,,0 20240124000000:E14,,,5",
+    ),
+    (
+        "substitute",
+        &[
+            "J5",
+            "NEM1201009,E1,20240122,9,8,30,kWh,19,S,,,20240124000000",
+        ],
+        0,
+        "M11 0 0 0",
+    ),
+    (
+        "substitute",
+        &[
+            "J5",
+            "NEM1201009,E1,20240122,1,1,15,kWh,19,S,,,20240124000000",
+        ],
+        0,
+        "M1 0 0 0",
+    ),
+    (
+        "substitute",
+        &[
+            "J5",
+            "NEM1201009,E1,20240122,1,1,30,MWh,19,S,,,20240124000000",
+        ],
+        0,
+        "M2 0 0 0",
+    ),
+    (
+        "substitute",
+        &[
+            "J5",
+            "NEM1201009,E1,20240301,1,1,30,kWh,14,S,,,20240302000000",
+        ],
+        0,
+        "M7 0 0 0",
+    ),
+    (
+        "substitute",
+        &[
+            "J5",
+            "NEM1201009,E1,20240210,1,5,30,kWh,17,S,,,20240211000000",
+        ],
+        0,
+        "M8 0 0 0",
+    ),
+    (
+        "substitute",
+        &[
+            "J5",
+            "NEM1201009,E1,20240210,1,4,30,kWh,17,S,,,20240211000000",
+        ],
+        0,
+        "M9 0 0 0",
+    ),
+    ("import", LIKE_DAYS, 0, "added 0 known 96"),
+];
+
+/// Two like days of Tuesday 23 January 2024, with a value below zero.
+const BELOW_ZERO: &[&str] = &[
+    "@#300,20240109,-1.000002,{{0,A,,,20240117000000,;",
+    "300,20240116,-1.000003,{{0,A,,,20240117000000,;$",
+];
+
+/// A mean half way between two millionths is rounded away from zero.
+const MEAN_BELOW_ZERO: [Row; 3] = [
+    ("import", BELOW_ZERO, 0, "added 96 known 0"),
+    (
+        "substitute",
+        &[
+            "J1",
+            "NEM1201009,E1,20240123,1,1,30,kWh,15,F,76,,20240124000000",
+        ],
+        0,
+        "substituted 1",
+    ),
+    (
+        "versions",
+        &["20240123"],
+        1,
+        "1 20240124000000:F15,76,,-1.000003",
+    ),
+];
+
+/// A day with a gap of two intervals at noon, and the end of the next day missing.
+const GAPS: &[&str] = &[
+    "@#300,20240201,{,,}V,,,20240202000000,;400,1,23,A,,;400,24,25,N,,;400,26,48,A,,;",
+    "300,20240202,{{0,,V,,,20240203000000,;400,1,47,A,,;400,48,48,N,,;$",
+];
+
+/// The first of them, where the gap is said to be substituted.
+const GAP_WITHOUT_VALUES: &[&str] = &[
+    "@#300,20240201,{,,}V,,,20240202000000,;400,1,23,A,,;400,24,25,S14,,;400,26,48,A,,;$",
+];
+
+/// The day behind them.
+const DAY_AFTER: &[&str] = &["@#300,20240203,}}1,1,A,,,20240204000000,;$"];
+
+/// Gaps are filled in by the line between their neighbours, also across midnight.
+const INTERPOLATED: [Row; 8] = [
+    ("import", GAP_WITHOUT_VALUES, 0, "L12 line 5"),
+    ("import", GAPS, 0, "added 96 known 0"),
+    (
+        "substitute",
+        &[
+            "K1",
+            "NEM1201009,E1,20240201,24,25,30,kWh,17,S,,,20240203000000",
+        ],
+        0,
+        "substituted 2",
+    ),
+    (
+        "substitute",
+        &[
+            "K2",
+            "NEM1201009,E1,20240202,48,48,30,kWh,17,S,,,20240204000000",
+        ],
+        0,
+        "M9 0 0 0",
+    ),
+    (
+        "day",
+        &["20240201"],
+        0,
+        "30 kWh 20240203000000 1:A,,,0 24:S17,,,0.333333 25:S17,,,0.666667 26:A,,,1 48",
+    ),
+    ("import", DAY_AFTER, 0, "added 48 known 0"),
+    (
+        "substitute",
+        &[
+            "K2",
+            "NEM1201009,E1,20240202,48,48,30,kWh,17,S,,,20240204000000",
+        ],
+        0,
+        "substituted 1",
+    ),
+    (
+        "versions",
+        &["20240202"],
+        48,
+        "48 20240203000000:N,,, 20240204000000:S17,,,0.5",
+    ),
+];
+
+/// A Sunday and a Friday before Friday 26 January 2024.
+const BEFORE_HOLIDAY: &[&str] = &[
+    "@#300,20240114,[A,,,20240120000000,;300,20240119,]A,,,20240120000000,;$",
+];
+
+/// That Friday.
+const HOLIDAY: &[&str] = &["@#300,20240126,?A,,,20240602000000,;$"];
+
+/// A holiday is listed once. Sundays are like it, and it isn't like the Fridays behind it.
+const ON_HOLIDAYS: [Row; 11] = [
+    ("holidays", &["20240126"], 0, "added 1 known 0"),
+    ("holidays", &["20240126"], 0, "added 0 known 1"),
+    (
+        "holidays",
+        &["20241225", "20240126", "20241225"],
+        0,
+        "added 1 known 1",
+    ),
+    ("holidays", NOTHING, 0, "added 0 known 0"),
+    ("import", BEFORE_HOLIDAY, 0, "added 96 known 0"),
+    (
+        "substitute",
+        &[
+            "H1",
+            "NEM1201009,E1,20240126,1,2,30,kWh,14,S,,,20240601000000",
+        ],
+        0,
+        "substituted 2",
+    ),
+    (
+        "day",
+        &["20240126"],
+        0,
+        "30 kWh 20240601000000 1:S14,,,3 3:N,,, 48",
+    ),
+    ("import", HOLIDAY, 0, "added 48 known 0"),
+    (
+        "substitute",
+        &[
+            "H2",
+            "NEM1201009,E1,20240202,1,1,30,kWh,14,S,,,20240601000000",
+        ],
+        0,
+        "substituted 1",
+    ),
+    ("versions", &["20240202"], 1, "1 20240601000000:S14,,,8"),
+    (
+        "substitute",
+        &[
+            "H3",
+            "NEM1201009,E1,20240301,1,1,30,kWh,14,S,,,20240601000000",
+        ],
+        0,
+        "M7 0 0 0",
+    ),
+];
+
+/// A request: to import a file, to do a job (its id, and its body as a store keeps it), to list holidays, for a day of the first
+/// file's stream, for the versions of an interval of a day, or for the streams.
 pub fn request_of(
     alloc: Global,
     what: &str,
@@ -290,6 +573,15 @@ pub fn request_of(
             kind: FileKind::Nem12,
             bytes,
         });
+    }
+    if what == "substitute" {
+        return match job_of(alloc, text)? {
+            Some(job) => Ok(Request::Substitute(job)),
+            None => Ok(Request::Streams),
+        };
+    }
+    if what == "holidays" {
+        return Ok(Request::Holidays(days_of(alloc, text)?));
     }
     let (Some(stream), Some(day)) = (
         Stream::read(b"NEM1201009", b"E1"),
@@ -306,6 +598,28 @@ pub fn request_of(
             interval,
         })
     }
+}
+
+/// A job by its id and its body.
+fn job_of(alloc: Global, text: &[&str]) -> Result<Option<Job>, AllocError> {
+    let [id, body] = text else {
+        return Ok(None);
+    };
+    let Some(id) = JobId::read(id.as_bytes()) else {
+        return Ok(None);
+    };
+    Job::from_body(alloc, id, body.as_bytes())
+}
+
+/// The days of dates.
+fn days_of(alloc: Global, dates: &[&str]) -> Result<Vec<Day>, AllocError> {
+    let mut days = Vec::new(alloc);
+    for date in dates {
+        if let Some(day) = Day::read(date.as_bytes()) {
+            days.push(day)?;
+        }
+    }
+    Ok(days)
 }
 
 /// Does an example's requests over a keeper that is empty. The answer is the first text that isn't the wanted one, with the

@@ -8,6 +8,9 @@ use std::alloc::{AllocError, Global};
 pub fn text_of(alloc: Global, answer: &Answer) -> Result<String, AllocError> {
     match answer {
         Answer::Imported { added, known } => format!(in alloc; "added {added} known {known}"),
+        Answer::HolidaysAdded { added, known } => format!(in alloc; "added {added} known {known}"),
+        Answer::Substituted { count } => format!(in alloc; "substituted {count}"),
+        Answer::Known { count } => format!(in alloc; "known {count}"),
         Answer::Day(answer) => day_text(alloc, answer),
         Answer::Versions(answer) => versions_text(alloc, answer),
         Answer::Streams(answers) => streams_text(alloc, answers),

@@ -1,9 +1,16 @@
--- What the want of a store comes to (profile).
+-- What the want of a store, or of a request, comes to (profile).
 use Rattle.mds_store.specs.declared.starting.StoreFault.{StoreFault}
 use Rattle.mds_store.specs.declared.starting.StoreFault.TheVariants as store
+use Rattle.mds_requests.specs.declared.requests.RequestFault.{RequestFault}
+use Rattle.mds_requests.specs.declared.requests.RequestFault.TheVariants as request
 use Rattle.mds_desk.specs.declared.outcome.Outcome.{Outcome}
 use Rattle.mds_desk.specs.declared.outcome.Outcome.TheVariants as outcome
 
 abbrev pub of_store : StoreFault → Outcome
 of_store store.Unavailable = outcome.Unavailable
 of_store store.OtherSchema = outcome.OtherSchema
+
+abbrev pub of_request_fault : RequestFault → Outcome
+of_request_fault request.BadJob = outcome.BadJob
+of_request_fault (request.BadHolidays row) = outcome.BadHolidays row
+of_request_fault request.Memory = outcome.Unavailable

@@ -28,26 +28,28 @@ use Rattle.mds_marks.specs.Quality.{QualityValue, is_quality, quality_of, qualit
 use Rattle.mds_marks.specs.Reading.{ReadingValue, is_lawful}
 use Rattle.mds_terms.specs.Event.{EventValue}
 use Rattle.mds_world.specs.Facts.{Fact}
-use Rattle.mds_world.specs.Facts.Fact.{DetailIs, EventIs, HeadIs}
+use Rattle.mds_world.specs.Facts.Fact.{DetailIs, EventIs, HeadIs, HolidayIs}
 use Rattle.mds_world.specs.declared.facts.Detail.{Detail}
 use Rattle.mds_world.specs.declared.facts.Head.{Head}
 use Rattle.mds_world.specs.declared.facts.Key.{Key}
 use Rattle.mds_versions.specs.Content as content
 use Rattle.mds_versions.specs.declared.additions.Additions.{Additions}
 use Rattle.mds_tables.proofs.InsertLemmas.{Adds as OneMore, adds, cast_int, either, simple}
-use Rattle.mds_tables.proofs.InsertTexts.{detail_terms, event_terms, head_terms, insert_detail, insert_detail_is, insert_detail_plain, insert_event, insert_event_is, insert_event_plain, insert_head, insert_head_is, insert_head_plain, insert_version, insert_version_is, insert_version_plain, version_terms}
-use Rattle.mds_tables.specs.Cells.{detail_cells, event_cells, head_cells, optional_cell, version_cells}
-use Rattle.mds_tables.specs.RowFacts.{detail_fact, event_fact, head_fact, version_fact}
+use Rattle.mds_tables.proofs.InsertTexts.{detail_terms, event_terms, head_terms, holiday_terms, insert_detail, insert_detail_is, insert_detail_plain, insert_event, insert_event_is, insert_event_plain, insert_head, insert_head_is, insert_head_plain, insert_holiday, insert_holiday_is, insert_holiday_plain, insert_job, insert_job_is, insert_job_plain, job_terms, insert_version, insert_version_is, insert_version_plain, version_terms}
+use Rattle.mds_tables.specs.Cells.{detail_cells, event_cells, head_cells, holiday_cells, optional_cell, version_cells}
+use Rattle.mds_tables.specs.RowFacts.{detail_fact, event_fact, head_fact, holiday_fact, job_fact, version_fact}
 use Rattle.mds_tables.specs.Stores.{Adds, Gains}
-use Rattle.mds_tables.specs.Tables.{detail_table, event_table, head_table, schema_1, tables_1, version_table}
-use Rattle.mds_inserts.specs.Parts.{Part, detail_part, event_part, head_part, rows_of, version_part}
+use Rattle.mds_tables.specs.Tables.{detail_table, event_table, head_table, holiday_table, job_table, schema_1, tables_1, version_table}
+use Rattle.mds_inserts.specs.JobRows.{AreRowsOf}
+use Rattle.mds_inserts.specs.declared.jobs.JobRow.{JobRow}
+use Rattle.mds_inserts.specs.Parts.{Part, detail_part, event_part, head_part, holiday_part, job_part, rows_of, version_part}
 use Rattle.mds_inserts.specs.Refusals.{FailsToPut, RefusesOne, TakesAll, insert_of}
 use Rattle.mds_inserts.specs.Writing.{KeepsOthers, Puts, PutsAll, PutsThere}
 use Rattle.mds_tables.proofs.CauseLemmas.{IsWhole, fails_since, fails_until, stopped_as}
 use Rattle.sqlite.specs.declared.error.Error.{Error}
 use Rattle.sqlite_tied.specs.Compute.{everything}
 use Rattle.mds_tables.proofs.FactLemmas.{detail_back, event_back, head_back, version_back}
-use Rattle.mds_inserts.proofs.RowLemmas.{gains_kept, gains_more, gains_one, kept_gains, say_more, world_after}
+use Rattle.mds_inserts.proofs.RowLemmas.{gains_kept, gains_more, gains_one, job_rows_are, kept_gains, say_more, world_after}
 
 -- no foreign key of these tables acts
 idle : (tree : ℕ) (news : List Row) → works schema_1 Enforced 0 tree [] news ≡ []
@@ -156,6 +158,23 @@ puts_event old new e count runs =
     puts_there event_table 4 insert_event event_terms 8 refl insert_event_is insert_event_plain event_cells EventIs
     event_fact old new e refl count refl (rw (cast_int, cast_optional)) (λ id. event_back id e) runs
 
+pub puts_holiday : (old new : State) (day : ℕ) (count : ℕ)
+    → (HasCleanDisk new → ExecutesInside 0 insert_holiday (holiday_cells day) old new (Ok count))
+    → PutsThere holiday_part old new (day ∷ [])
+puts_holiday old new day count runs =
+    puts_there holiday_table 6 insert_holiday holiday_terms 2 refl insert_holiday_is insert_holiday_plain holiday_cells
+    HolidayIs holiday_fact old new day refl count refl (rw cast_int) (λ id. refl) runs
+
+abbrev job_row_cells : JobRow → Row
+job_row_cells = job_part.cells
+
+pub puts_job : (old new : State) (row : JobRow) (count : ℕ)
+    → (HasCleanDisk new → ExecutesInside 0 insert_job (job_row_cells row) old new (Ok count))
+    → PutsThere job_part old new (row ∷ [])
+puts_job old new row count runs =
+    puts_there job_table 7 insert_job job_terms 4 refl insert_job_is insert_job_plain job_row_cells (job_part.fact) job_fact
+    old new row refl count refl (rw cast_int) (λ id. refl) runs
+
 head_whole : IsWhole insert_head 5 (understood schema_1 insert_head)
 unfolding understood everything
 head_whole = (omega arith, refl, refl)
@@ -171,6 +190,14 @@ detail_whole = (omega arith, refl, refl)
 event_whole : IsWhole insert_event 7 (understood schema_1 insert_event)
 unfolding understood everything
 event_whole = (omega arith, refl, refl)
+
+holiday_whole : IsWhole insert_holiday 1 (understood schema_1 insert_holiday)
+unfolding understood everything
+holiday_whole = (omega arith, refl, refl)
+
+job_whole : IsWhole insert_job 3 (understood schema_1 insert_job)
+unfolding understood everything
+job_whole = (omega arith, refl, refl)
 
 pub fails_head : (old new : State) (h : Head) (e : Error) → old.now.schema ≡ schema_1
     → ExecutesInside 0 insert_head (head_cells h) old new (Err e) → FailsToPut old new (rows_of head_part (h ∷ [])) old.now e
@@ -198,6 +225,20 @@ pub fails_event : (old new : State) (event : EventValue) (e : Error) → old.now
 fails_event old new event e has ran =
     fails_to_put event_table 4 insert_event event_terms 8 refl insert_event_is insert_event_plain event_cells EventIs
     event_fact old new event refl e event_whole has ran
+
+pub fails_holiday : (old new : State) (day : ℕ) (e : Error) → old.now.schema ≡ schema_1
+    → ExecutesInside 0 insert_holiday (holiday_cells day) old new (Err e)
+    → FailsToPut old new (rows_of holiday_part (day ∷ [])) old.now e
+fails_holiday old new day e has ran =
+    fails_to_put holiday_table 6 insert_holiday holiday_terms 2 refl insert_holiday_is insert_holiday_plain holiday_cells
+    HolidayIs holiday_fact old new day refl e holiday_whole has ran
+
+pub fails_job : (old new : State) (row : JobRow) (e : Error) → old.now.schema ≡ schema_1
+    → ExecutesInside 0 insert_job (job_row_cells row) old new (Err e)
+    → FailsToPut old new (rows_of job_part (row ∷ [])) old.now e
+fails_job old new row e has ran =
+    fails_to_put job_table 7 insert_job job_terms 4 refl insert_job_is insert_job_plain job_row_cells (job_part.fact) job_fact
+    old new row refl e job_whole has ran
 
 -- ---- rows that are put one after another
 
@@ -319,73 +360,106 @@ pub if_ok : {X E : Type 0} (r : Result X E) (A B : Type 0) → (A → B) → OnO
 if_ok (Ok x) A B f h = f h
 if_ok (Err e) A B f h = tt
 
+gains_jobs : (a b c d e f g : State) (added : Additions) (jobs : List JobRow)
+    → Puts head_part a b added.heads.items → Puts version_part b c added.versions.items
+    → Puts detail_part c d added.details.items → Puts event_part d e added.events.items
+    → Puts holiday_part e f added.holidays.items → Puts job_part f g jobs
+    → Gains 14 (map job_part.cells jobs) a.now.trees g.now.trees
+gains_jobs a b c d e f g added jobs p q r s t u =
+    kept_gains 14 _ a.now.trees f.now.trees g.now.trees
+    (t.others.1.1.1.1.1.1.1.0 (λ e. omega arith) ∙ s.others.1.1.1.1.1.1.1.0 (λ e. omega arith)
+    ∙ r.others.1.1.1.1.1.1.1.0 (λ e. omega arith) ∙ q.others.1.1.1.1.1.1.1.0 (λ e. omega arith)
+    ∙ p.others.1.1.1.1.1.1.1.0 (λ e. omega arith)) u.rows
+
 -- Each table has the rows of its part, and no other.
-adds_all : (a b c d e : State) (added : Additions) → Puts head_part a b added.heads.items
-    → Puts version_part b c added.versions.items → Puts detail_part c d added.details.items
-    → Puts event_part d e added.events.items → Adds a.now.trees e.now.trees added
-adds_all a b c d e added p q r s =
+adds_all : (a b c d e f g : State) (added : Additions) (jobs : List JobRow) → AreRowsOf added.jobs.items jobs
+    → Puts head_part a b added.heads.items → Puts version_part b c added.versions.items
+    → Puts detail_part c d added.details.items → Puts event_part d e added.events.items
+    → Puts holiday_part e f added.holidays.items → Puts job_part f g jobs → Adds a.now.trees g.now.trees added
+adds_all a b c d e f g added jobs are p q r s t u =
     let first = a.now.trees in
-    let last = e.now.trees in
+    let last = g.now.trees in
     record {
       schema =
-          s.others.0 (λ e. omega arith) ∙ r.others.0 (λ e. omega arith)
-          ∙ q.others.0 (λ e. omega arith) ∙ p.others.0 (λ e. omega arith);
+          u.others.0 (λ e. omega arith) ∙ t.others.0 (λ e. omega arith) ∙ s.others.0 (λ e. omega arith)
+          ∙ r.others.0 (λ e. omega arith) ∙ q.others.0 (λ e. omega arith) ∙ p.others.0 (λ e. omega arith);
       heads = gains_kept 2 _ first b.now.trees last p.rows
-          (s.others.1.0 (λ e. omega arith) ∙ r.others.1.0 (λ e. omega arith)
-          ∙ q.others.1.0 (λ e. omega arith));
+          (u.others.1.0 (λ e. omega arith) ∙ t.others.1.0 (λ e. omega arith) ∙ s.others.1.0 (λ e. omega arith)
+          ∙ r.others.1.0 (λ e. omega arith) ∙ q.others.1.0 (λ e. omega arith));
       versions = gains_kept 4 _ first c.now.trees last
           (kept_gains 4 _ first b.now.trees c.now.trees (p.others.1.1.0 (λ e. omega arith)) q.rows)
-          (s.others.1.1.0 (λ e. omega arith) ∙ r.others.1.1.0 (λ e. omega arith));
+          (u.others.1.1.0 (λ e. omega arith) ∙ t.others.1.1.0 (λ e. omega arith) ∙ s.others.1.1.0 (λ e. omega arith)
+          ∙ r.others.1.1.0 (λ e. omega arith));
       details = gains_kept 6 _ first d.now.trees last
           (kept_gains 6 _ first c.now.trees d.now.trees
           (q.others.1.1.1.0 (λ e. omega arith) ∙ p.others.1.1.1.0 (λ e. omega arith)) r.rows)
-          (s.others.1.1.1.0 (λ e. omega arith));
-      events = kept_gains 8 _ first d.now.trees last
+          (u.others.1.1.1.0 (λ e. omega arith) ∙ t.others.1.1.1.0 (λ e. omega arith)
+          ∙ s.others.1.1.1.0 (λ e. omega arith));
+      events = gains_kept 8 _ first e.now.trees last
+          (kept_gains 8 _ first d.now.trees e.now.trees
           (r.others.1.1.1.1.0 (λ e. omega arith) ∙ q.others.1.1.1.1.0 (λ e. omega arith)
-          ∙ p.others.1.1.1.1.0 (λ e. omega arith))
-          s.rows;
+          ∙ p.others.1.1.1.1.0 (λ e. omega arith)) s.rows)
+          (u.others.1.1.1.1.0 (λ e. omega arith) ∙ t.others.1.1.1.1.0 (λ e. omega arith));
       periods =
-          s.others.1.1.1.1.1.0 (λ e. omega arith) ∙ r.others.1.1.1.1.1.0 (λ e. omega arith)
+          u.others.1.1.1.1.1.0 (λ e. omega arith) ∙ t.others.1.1.1.1.1.0 (λ e. omega arith)
+          ∙ s.others.1.1.1.1.1.0 (λ e. omega arith) ∙ r.others.1.1.1.1.1.0 (λ e. omega arith)
           ∙ q.others.1.1.1.1.1.0 (λ e. omega arith) ∙ p.others.1.1.1.1.1.0 (λ e. omega arith);
-      holidays =
-          s.others.1.1.1.1.1.1.0 (λ e. omega arith) ∙ r.others.1.1.1.1.1.1.0 (λ e. omega arith)
-          ∙ q.others.1.1.1.1.1.1.0 (λ e. omega arith) ∙ p.others.1.1.1.1.1.1.0 (λ e. omega arith);
-      jobs =
-          s.others.1.1.1.1.1.1.1.0 (λ e. omega arith) ∙ r.others.1.1.1.1.1.1.1.0 (λ e. omega arith)
-          ∙ q.others.1.1.1.1.1.1.1.0 (λ e. omega arith) ∙ p.others.1.1.1.1.1.1.1.0 (λ e. omega arith);
+      holidays = gains_kept 12 _ first f.now.trees last
+          (kept_gains 12 _ first e.now.trees f.now.trees
+          (s.others.1.1.1.1.1.1.0 (λ e. omega arith) ∙ r.others.1.1.1.1.1.1.0 (λ e. omega arith)
+          ∙ q.others.1.1.1.1.1.1.0 (λ e. omega arith) ∙ p.others.1.1.1.1.1.1.0 (λ e. omega arith)) t.rows)
+          (u.others.1.1.1.1.1.1.0 (λ e. omega arith));
+      jobs = (
+        map job_part.cells jobs,
+        job_rows_are added.jobs.items jobs are,
+        gains_jobs a b c d e f g added jobs p q r s t u,
+      );
     }
 
--- the four parts of what is added, one after another
-pub all_there : {X E : Type 0} (a b c d e : State) (added : Additions) (result : Result X E)
+-- the six parts of what is added, one after another
+pub all_there : {X E : Type 0} (a b c d e f g : State) (added : Additions) (jobs : List JobRow) (result : Result X E)
+    → AreRowsOf added.jobs.items jobs
     → doubt b.is_clean ≤ doubt c.is_clean → doubt c.is_clean ≤ doubt d.is_clean → doubt d.is_clean ≤ doubt e.is_clean
+    → doubt e.is_clean ≤ doubt f.is_clean → doubt f.is_clean ≤ doubt g.is_clean
     → PutsThere head_part a b added.heads.items → PutsThere version_part b c added.versions.items
-    → PutsThere detail_part c d added.details.items → OnOk result (PutsThere event_part d e added.events.items)
-    → OnOk result (PutsAll a e added)
-all_there a b c d e added result bc cd de p q r = if_ok result _ _ (λ s.
-    let parts : HasCleanDisk e → IsTrue a.is_open → a.now.schema ≡ schema_1 → IsSound schema_1 a.now.trees
+    → PutsThere detail_part c d added.details.items → PutsThere event_part d e added.events.items
+    → PutsThere holiday_part e f added.holidays.items → OnOk result (PutsThere job_part f g jobs)
+    → OnOk result (PutsAll a g added)
+all_there a b c d e f g added jobs result are bc cd de ef fg p q r s t u = if_ok result _ _ (λ u.
+    let parts : HasCleanDisk g → IsTrue a.is_open → a.now.schema ≡ schema_1 → IsSound schema_1 a.now.trees
     → Puts head_part a b added.heads.items × Puts version_part b c added.versions.items
-    × Puts detail_part c d added.details.items × Puts event_part d e added.events.items =
+    × Puts detail_part c d added.details.items × Puts event_part d e added.events.items
+    × Puts holiday_part e f added.holidays.items × Puts job_part f g jobs =
     λ clean o has sound.
     let one = p.puts (omega arith) o has sound in
-    let two = q.puts (omega arith) (p.is_open (omega arith) o) one.schema one.sound in
-    let three = r.puts (omega arith) (q.is_open (omega arith) (p.is_open (omega arith) o)) two.schema two.sound in
-    let four = s.puts clean (r.is_open (omega arith) (q.is_open (omega arith) (p.is_open (omega arith) o)))
-    three.schema three.sound in
-    (one, two, three, four) in
+    let o2 = p.is_open (omega arith) o in
+    let two = q.puts (omega arith) o2 one.schema one.sound in
+    let o3 = q.is_open (omega arith) o2 in
+    let three = r.puts (omega arith) o3 two.schema two.sound in
+    let o4 = r.is_open (omega arith) o3 in
+    let four = s.puts (omega arith) o4 three.schema three.sound in
+    let o5 = s.is_open (omega arith) o4 in
+    let five = t.puts (omega arith) o5 four.schema four.sound in
+    let six = u.puts clean (t.is_open (omega arith) o5) five.schema five.sound in
+    (one, two, three, four, five, six) in
     record {
       was_open = λ clean o.
-          p.was_open (omega arith) (q.was_open (omega arith) (r.was_open (omega arith) (s.was_open clean o)));
+          p.was_open (omega arith) (q.was_open (omega arith) (r.was_open (omega arith) (s.was_open (omega arith)
+          (t.was_open (omega arith) (u.was_open clean o)))));
       is_open = λ clean o.
-          s.is_open clean (r.is_open (omega arith) (q.is_open (omega arith) (p.is_open (omega arith) o)));
+          u.is_open clean (t.is_open (omega arith) (s.is_open (omega arith) (r.is_open (omega arith)
+          (q.is_open (omega arith) (p.is_open (omega arith) o)))));
       inside = λ clean o.
-          s.inside clean (r.inside (omega arith) (q.inside (omega arith) (p.inside (omega arith) o)));
-      schema = λ clean o has sound. (parts clean o has sound).3.schema;
+          u.inside clean (t.inside (omega arith) (s.inside (omega arith) (r.inside (omega arith)
+          (q.inside (omega arith) (p.inside (omega arith) o)))));
+      schema = λ clean o has sound. (parts clean o has sound).5.schema;
       added = λ clean o has sound.
           let all = parts clean o has sound in
-          let rows = adds_all a b c d e added all.0 all.1 all.2 all.3 in
+          let rows = adds_all a b c d e f g added jobs are all.0 all.1 all.2 all.3 all.4 all.5 in
           record {
             rows = rows;
-            world = world_after a.now.trees e.now.trees added p.said q.said r.said s.said rows;
-            sound = all.3.sound;
+            world = world_after a.now.trees g.now.trees added jobs are p.said q.said r.said s.said t.said u.said rows
+                (gains_jobs a b c d e f g added jobs all.0 all.1 all.2 all.3 all.4 all.5);
+            sound = all.5.sound;
           };
-    })
+    }) u

@@ -1,6 +1,7 @@
 -- What rows that are put into the tables add to them, and to the facts that they say.
+use Rattle.std.specs.Prelude.{◌<◌, ◌+◌, length, slice_index_or, string_bytes, take}
 use Rattle.std.proofs.Common.{◌≡◌, ℕ, false, List, [], ◌∷◌, ◌++◌, drop, map, ◌||◌, IsPermutation, refl, sym, ap, subst, ◌∙◌}
-use Rattle.std.proofs.lemmas.List.{map-append, append_assoc}
+use Rattle.std.proofs.lemmas.List.{map-append, append_assoc, take_more}
 use Rattle.std.proofs.lemmas.List.Sorted.{IsPermutation-append_left, IsPermutation-cons, IsPermutation-map, IsPermutation-middle, IsPermutation-refl, IsPermutation-sym, IsPermutation-to_front, IsPermutation-trans, list_any-IsPermutation}
 use Rattle.std.specs.FinSet.{contains-from_list, from_list, same_set}
 use Rattle.std.specs.List.{AllByRecursion}
@@ -12,14 +13,19 @@ use Rattle.sqlite_rules.specs.Edit.{is_taken}
 use Rattle.sqlite_trees.specs.Tree.{Trees, put_row, rowid}
 use Rattle.sqlite_value.specs.Order.{Row, value_cmp}
 use Rattle.mds_world.specs.FactOrder.{exact, fact_cmp, total}
+use Rattle.mds_jobs.specs.declared.job.Job.{Job}
 use Rattle.mds_world.specs.Facts.{Fact}
+use Rattle.mds_world.specs.Facts.Fact.{JobIs}
 use Rattle.mds_world.specs.Sets.{list_append, union_assoc, union_comm}
 use Rattle.mds_world.specs.World.{World, union}
-use Rattle.mds_versions.specs.Content.{content}
+use Rattle.mds_versions.specs.Content.{content, job_fact as content_fact}
 use Rattle.mds_versions.specs.declared.additions.Additions.{Additions}
-use Rattle.mds_tables.specs.RowFacts.{detail_fact, event_fact, head_fact, holiday_fact, job_fact, period_fact, version_fact, world_in}
-use Rattle.mds_tables.specs.Stores.{Adds, Gains}
-use Rattle.mds_inserts.specs.Parts.{Part, detail_part, event_part, head_part, version_part}
+use Rattle.mds_tables.specs.RowFacts.{detail_fact, event_fact, head_fact, holiday_fact, job_fact, natural, period_fact, version_fact, world_in}
+use Rattle.mds_tables.specs.Stores.{Adds, AreJobRows, Gains}
+use Rattle.mds_tables.specs.Cells.{job_cells}
+use Rattle.mds_inserts.specs.JobRows.{AreRowsOf, IsRowOf}
+use Rattle.mds_inserts.specs.declared.jobs.JobRow.{JobRow}
+use Rattle.mds_inserts.specs.Parts.{Part, detail_part, event_part, head_part, holiday_part, job_part, version_part}
 
 -- a row under a fresh rowid is put between the others
 put_shuffles : (new : Row) (rows : List Row) → is_taken rows new ≡ false → IsPermutation (new ∷ rows) (put_row new rows)
@@ -146,13 +152,60 @@ event_bare : Unnamed event_fact
 event_bare [] = refl
 event_bare (x ∷ xs) = refl
 
+holiday_bare : Unnamed holiday_fact
+holiday_bare [] = refl
+holiday_bare (x ∷ xs) = refl
+
+job_bare : Unnamed job_fact
+job_bare [] = refl
+job_bare (x ∷ xs) = refl
+
+rows_push : (jobs : List (Job × ℕ)) (rows : List JobRow) (job : Job × ℕ) (row : JobRow) → AreRowsOf jobs rows → IsRowOf job row
+    → AreRowsOf (jobs ++ job ∷ []) (rows ++ row ∷ [])
+rows_push [] [] job row are is = (is, tt)
+rows_push [] (r ∷ rs) job row are is = absurd are
+rows_push (j ∷ js) [] job row are is = absurd are
+rows_push (j ∷ js) (r ∷ rs) job row are is = (are.0, rows_push js rs job row are.1 is)
+
+-- the row of the next job follows those of the jobs before it
+pub rows_more : (jobs : List (Job × ℕ)) (at : ℕ) (job : Job × ℕ) (rows new : List JobRow) (row : JobRow) → at < length jobs
+    → job ≡ slice_index_or jobs at job → AreRowsOf (take at jobs) rows → IsRowOf job row → new ≡ rows ++ row ∷ []
+    → AreRowsOf (take (at + 1) jobs) new
+rows_more jobs at job rows new row low is are of more =
+    let front : take (at + 1) jobs ≡ take at jobs ++ job ∷ [] =
+    take_more jobs at job low ∙ ap (λ x. take at jobs ++ x ∷ []) (sym is) in
+    subst (λ js. AreRowsOf js new) (sym front)
+    (subst (AreRowsOf (take at jobs ++ job ∷ [])) (sym more) (rows_push (take at jobs) rows job row are of))
+
+-- the rows of jobs are theirs
+pub job_rows_are : (jobs : List (Job × ℕ)) (rows : List JobRow) → AreRowsOf jobs rows → AreJobRows jobs (map job_part.cells rows)
+job_rows_are [] [] are = tt
+job_rows_are [] (row ∷ rows) are = absurd are
+job_rows_are (job ∷ jobs) [] are = absurd are
+job_rows_are (job ∷ jobs) (row ∷ rows) are =
+    let is = are.0 in (
+      (string_bytes row.body, is.body, λ i. job_cells (is.id i) (string_bytes row.body) (is.count i)),
+      job_rows_are jobs rows are.1,
+    )
+
+-- and say what they are
+job_facts_are : (jobs : List (Job × ℕ)) (rows : List JobRow) → AreRowsOf jobs rows
+    → map job_part.fact rows ≡ map content_fact jobs
+job_facts_are [] [] are = refl
+job_facts_are [] (row ∷ rows) are = absurd are
+job_facts_are (job ∷ jobs) [] are = absurd are
+job_facts_are (job ∷ jobs) (row ∷ rows) are =
+    let is = are.0 in
+    λ i. JobIs (is.id i) (is.says i) (natural (is.count i)) ∷ job_facts_are jobs rows are.1 i
+
 -- the World that the tables name is the union
-pub world_after : (old new : Trees) (added : Additions) → Say head_part added.heads.items
-    → Say version_part added.versions.items → Say detail_part added.details.items → Say event_part added.events.items
-    → Adds old new added → world_in new ≡ union (world_in old) (content added)
-world_after old new added heads versions details events adds =
-    more_first _ (map job_fact (old 14)) _ (map job_fact (new 14)) _
-    (more_first _ (map holiday_fact (old 12)) _ (map holiday_fact (new 12)) _
+pub world_after : (old new : Trees) (added : Additions) (jobs : List JobRow) → AreRowsOf added.jobs.items jobs
+    → Say head_part added.heads.items → Say version_part added.versions.items → Say detail_part added.details.items
+    → Say event_part added.events.items → Say holiday_part added.holidays.items → Say job_part jobs
+    → Adds old new added → Gains 14 (map job_part.cells jobs) old new → world_in new ≡ union (world_in old) (content added)
+world_after old new added jobs are heads versions details events holidays rows adds gains =
+    more_both _ (map job_fact (old 14)) _ (map job_fact (new 14)) _ _
+    (more_both _ (map holiday_fact (old 12)) _ (map holiday_fact (new 12)) _ _
     (more_first _ (map period_fact (old 10)) _ (map period_fact (new 10)) _
     (more_both _ (map event_fact (old 8)) _ (map event_fact (new 8)) _ _
     (more_both _ (map detail_fact (old 6)) _ (map detail_fact (new 6)) _ _
@@ -162,5 +215,6 @@ world_after old new added heads versions details events adds =
     (more detail_part detail_bare added.details.items details old new adds.details))
     (more event_part event_bare added.events.items events old new adds.events))
     (ap (map period_fact) adds.periods))
-    (ap (map holiday_fact) adds.holidays))
-    (ap (map job_fact) adds.jobs)
+    (more holiday_part holiday_bare added.holidays.items holidays old new adds.holidays))
+    (subst (λ fs. IsMore (map job_fact (new 14)) (map job_fact (old 14)) fs) (job_facts_are added.jobs.items jobs are)
+    (more job_part job_bare jobs rows old new gains))

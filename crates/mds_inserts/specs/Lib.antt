@@ -1,3 +1,4 @@
+pub mod JobRows
 pub mod Parts
 pub mod Refusals
 pub mod Writing

@@ -1,17 +1,19 @@
 -- How what is added becomes rows (profile).
-use Rattle.std.specs.Prelude.{ℕ, List, ◌++◌, map}
+use Rattle.std.specs.Prelude.{ℕ, List, ◌++◌, map, string_bytes}
 use Rattle.sqlite_value.specs.Order.{Row}
 use Rattle.mds_marks.specs.Reading.{ReadingValue}
 use Rattle.mds_terms.specs.Event.{EventValue}
+use Rattle.mds_jobs.specs.Bodies.{job_in, parts_of}
 use Rattle.mds_world.specs.Facts.{Fact}
-use Rattle.mds_world.specs.Facts.Fact.{DetailIs, EventIs, HeadIs}
+use Rattle.mds_world.specs.Facts.Fact.{DetailIs, EventIs, HeadIs, HolidayIs, JobIs}
 use Rattle.mds_world.specs.declared.facts.Detail.{Detail}
 use Rattle.mds_world.specs.declared.facts.Head.{Head}
 use Rattle.mds_world.specs.declared.facts.Key.{Key}
 use Rattle.mds_versions.specs.Content as content
 use Rattle.mds_versions.specs.declared.additions.Additions.{Additions}
-use Rattle.mds_tables.specs.Cells.{detail_cells, event_cells, head_cells, version_cells}
-use Rattle.mds_tables.specs.RowFacts.{detail_fact, event_fact, head_fact, version_fact}
+use Rattle.mds_inserts.specs.declared.jobs.JobRow.{JobRow}
+use Rattle.mds_tables.specs.Cells.{detail_cells, event_cells, head_cells, holiday_cells, job_cells, version_cells}
+use Rattle.mds_tables.specs.RowFacts.{detail_fact, event_fact, head_fact, holiday_fact, job_fact, natural, version_fact}
 
 -- How things of one kind are kept: the place of their table in the schema and its tree, the row of each without a rowid,
 -- its fact, and the fact that a row of the table says.
@@ -40,13 +42,27 @@ detail_part = record { place = 3; tree = 6; cells = detail_cells; fact = DetailI
 abbrev pub event_part : Part EventValue
 event_part = record { place = 4; tree = 8; cells = event_cells; fact = EventIs; read = event_fact }
 
+abbrev pub holiday_part : Part ℕ
+holiday_part = record { place = 6; tree = 12; cells = holiday_cells; fact = HolidayIs; read = holiday_fact }
+
+abbrev pub job_part : Part JobRow
+job_part = record {
+  place = 7;
+  tree = 14;
+  cells = λ row. job_cells row.id (string_bytes row.body) row.count;
+  fact = λ row. JobIs row.id (job_in (parts_of (string_bytes row.body))) (natural row.count);
+  read = job_fact;
+}
+
 -- their rows, each with the place of its table
 abbrev pub rows_of : {A : Type 0} → Part A → List A → List (ℕ × Row)
 rows_of part items = map (λ item. (part.place, part.cells item)) items
 
--- all rows of additions, in the order in which they are put
-abbrev pub rows_in : Additions → List (ℕ × Row)
-rows_in additions =
+-- all rows of additions, of which the rows of jobs are given, in the order in which they are put
+abbrev pub rows_in : Additions → List JobRow → List (ℕ × Row)
+rows_in additions jobs =
     rows_of head_part additions.heads.items
     ++ (rows_of version_part additions.versions.items
-    ++ (rows_of detail_part additions.details.items ++ rows_of event_part additions.events.items))
+    ++ (rows_of detail_part additions.details.items
+    ++ (rows_of event_part additions.events.items
+    ++ (rows_of holiday_part additions.holidays.items ++ rows_of job_part jobs))))

@@ -6,19 +6,10 @@ use Rattle.sqlite.specs.Table.{Table}
 use Rattle.sqlite.specs.declared.types.Value.{Value}
 use Rattle.sqlite_catalog.specs.Listing.{IsSound}
 use Rattle.sqlite_trees.specs.Tree.{Trees}
-use Rattle.sqlite_value.specs.Order.{Row}
-use Rattle.mds_marks.specs.Reading.{ReadingValue}
-use Rattle.mds_terms.specs.Event.{EventValue}
-use Rattle.mds_world.specs.Facts.{Fact}
-use Rattle.mds_world.specs.Facts.Fact.{DetailIs, EventIs, HeadIs}
 use Rattle.mds_world.specs.World.{union}
-use Rattle.mds_world.specs.declared.facts.Detail.{Detail}
-use Rattle.mds_world.specs.declared.facts.Head.{Head}
-use Rattle.mds_world.specs.declared.facts.Key.{Key}
 use Rattle.mds_versions.specs.Content as content
 use Rattle.mds_versions.specs.declared.additions.Additions.{Additions}
-use Rattle.mds_tables.specs.Cells.{detail_cells, event_cells, head_cells, version_cells}
-use Rattle.mds_tables.specs.RowFacts.{detail_fact, event_fact, head_fact, version_fact, world_in}
+use Rattle.mds_tables.specs.RowFacts.{world_in}
 use Rattle.mds_tables.specs.Stores.{Adds, Gains}
 use Rattle.mds_tables.specs.Tables.{schema_1, tables_1}
 use Rattle.mds_inserts.specs.Parts.{Part, rows_of}

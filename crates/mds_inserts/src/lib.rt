@@ -2,6 +2,8 @@
 #![tactic(auto)]
 
 mod committing;
+mod jobs;
 mod putting;
 
 pub use committing::commit;
+pub use jobs::{JobRow, job_rows};

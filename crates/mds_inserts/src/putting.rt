@@ -5,14 +5,17 @@ ghost use Rattle.sqlite.specs.Held.{state};
 ghost use Rattle.sqlite.specs.State.{HasCleanDisk, KeepsCommit, Survives};
 ghost use Rattle.sqlite_catalog.specs.Listing.{IsSound};
 ghost use Rattle.mds_tables.specs.Tables.{schema_1};
-ghost use Rattle.mds_inserts.specs.Parts.{Part, detail_part, event_part, head_part, rows_of, version_part};
+ghost use Rattle.mds_inserts.specs.Parts.{Part, detail_part, event_part, head_part, holiday_part, job_part, rows_of, version_part};
 ghost use Rattle.mds_inserts.specs.Refusals.{FailsToPut};
 ghost use Rattle.mds_inserts.specs.Writing.{PutsThere};
 
+use crate::jobs::JobRow;
 use mds_marks::{Reading, qualities_read_back};
 use mds_quantity::units_read_back;
-use mds_tables::{detail_cells, event_cells, head_cells, letter_of, version_cells};
-use mds_terms::Event;
+use mds_tables::{
+    detail_cells, event_cells, head_cells, holiday_cells, job_cells, letter_of, version_cells,
+};
+use mds_terms::{Day, Event};
 use mds_world::{Detail, Head, Key};
 use sqlite::{Alter, Error, Transaction};
 
@@ -108,6 +111,31 @@ impl Put for Event {
                 suffix.text().as_bytes(),
                 &letter[..count],
             ),
+        )?;
+        Ok(())
+    }
+}
+
+/// A holiday.
+impl Put for Day {
+    ghost part = { holiday_part };
+
+    fn put<S: Alter>(&self, tx: &mut Transaction<'_, S>) -> Result<(), Error> {
+        tx.execute(
+            "INSERT INTO mds_holiday (day) VALUES (?1)",
+            &holiday_cells(*self),
+        )?;
+        Ok(())
+    }
+}
+
+impl Put for JobRow {
+    ghost part = { job_part };
+
+    fn put<S: Alter>(&self, tx: &mut Transaction<'_, S>) -> Result<(), Error> {
+        tx.execute(
+            "INSERT INTO mds_job (id, body, total) VALUES (?1, ?2, ?3)",
+            &job_cells(&self.id, self.body.as_bytes(), self.count),
         )?;
         Ok(())
     }

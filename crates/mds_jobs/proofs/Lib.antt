@@ -1,1 +1,4 @@
+pub mod BodyParts
+pub mod BodySplits
+pub mod BodyTexts
 pub mod IdLemmas

@@ -1,3 +1,5 @@
+pub mod Bodies
+pub mod BodySteps
 pub mod Ids
 pub mod IdSteps
 pub mod Jobs

@@ -2,10 +2,12 @@
 //! and by which method.
 #![tactic(auto)]
 
+mod body;
 mod job;
 mod job_id;
 #[cfg(test)]
 mod tests;
 
+pub use body::bodies_read_back;
 pub use job::Job;
 pub use job_id::JobId;

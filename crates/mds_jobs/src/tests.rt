@@ -1,9 +1,10 @@
-//! Ids, and jobs that can't be done.
+//! Ids, jobs that can't be done, and bodies.
 
 use crate::{Job, JobId};
 use mds_quantity::Unit;
 use mds_terms::{Day, Length, Moment, Reason, Stream};
 use std::alloc::Global;
+use std::test::Fail;
 
 #[test]
 fn ids(rt: HostRuntime) {
@@ -39,7 +40,7 @@ fn job_of(alloc: Global, first: u16, last: u16, method: u8, flag: u8) -> Option<
         unit: Unit::KWh,
         method,
         flag,
-        reason: Reason::new(None, String::new(alloc))?,
+        reason: Reason::new(Some(76), String::new(alloc))?,
         update: Moment::read(b"20240123000000")?,
     })
 }
@@ -60,4 +61,30 @@ fn bad_jobs(rt: HostRuntime) {
         assert_eq!(rt; job.is_bad(), is_bad);
         assert!(rt; job.is_same(&job));
     }
+}
+
+const BODY: &str = "NEM1201009,E1,20240122,5,8,30,kWh,15,F,76,,20240123000000";
+
+#[test]
+fn bodies(rt: HostRuntime) -> Result<(), Fail> {
+    let job = job_of(rt.alloc(), 5, 8, 15, b'F').ok_or("no job")?;
+    let mut body = String::new(rt.alloc());
+    job.write_body(&mut body)?;
+    assert_eq!(rt; body.as_str(), BODY);
+    let back = Job::from_body(rt.alloc(), job.id, BODY.as_bytes())?.ok_or("no body")?;
+    assert!(rt; back.is_same(&job));
+    for text in [
+        "",
+        "NEM1201009,E1,20240122,5,8,30,kWh,15,F,76,20240123000000",
+        "NEM1201009,E1,20240122,5,8,30,kWh,15,F,76,,20240123000000,",
+        "NEM1201009,E1,20240122,+5,8,30,kWh,15,F,76,,20240123000000",
+        "NEM1201009,E1,20240122,5,65536,30,kWh,15,F,76,,20240123000000",
+        "NEM1201009,E1,20240122,5,8,30,kWh,256,F,76,,20240123000000",
+    ] {
+        assert!(rt;
+            Job::from_body(rt.alloc(), job.id, text.as_bytes())?.is_none(),
+            "with {text}"
+        );
+    }
+    Ok(())
 }

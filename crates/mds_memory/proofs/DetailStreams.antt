@@ -13,7 +13,7 @@ use Rattle.mds_versions.specs.Queries.{stream_cmp}
 use Rattle.mds_memory.specs.Stored.{AreDetailStreams, notes_world}
 use Rattle.mds_memory.specs.StoredNotes.{IsAtEnd, PutsLast}
 use Rattle.mds_memory.specs.declared.stored_notes.Note.{Note}
-use Rattle.mds_memory.specs.declared.stored_notes.Note.TheVariants.{Details, Event}
+use Rattle.mds_memory.specs.declared.stored_notes.Note.TheVariants.{Details, Event, Holiday}
 use Rattle.mds_memory.proofs.Ascending as up
 use Rattle.mds_memory.proofs.Ascending.{Ascends}
 use Rattle.mds_memory.proofs.FirstNotes.{first_not_gt, less_not_gt, stream_total}
@@ -157,6 +157,7 @@ none_in d [] a n m = m
 none_in d (x ∷ rest) a n (inl e) = n d (sym e)
 none_in d (Details f ∷ rest) a n (inr m) = n f refl
 none_in d (Event f ∷ rest) a n (inr m) = let l : note_cmp (Event f) (Details d) ≡ Less = a.0 (Details d) m in cc
+none_in d (Holiday f ∷ rest) a n (inr m) = let l : note_cmp (Holiday f) (Details d) ≡ Less = a.0 (Details d) m in cc
 
 pub done : (notes : BTreeSet Note) (streams : List Stream) (left : List Note) → IsOrdered note_cmp notes
     → IsRun notes streams left → HasNone left → AreDetailStreams (notes_world notes) streams

@@ -15,9 +15,9 @@ use Rattle.mds_world.specs.Current.{no_details}
 use Rattle.mds_world.specs.declared.facts.Detail.{Detail}
 use Rattle.mds_world.specs.World.{IsEventOf}
 use Rattle.mds_versions.specs.Queries.{stream_cmp}
-use Rattle.mds_memory.specs.StoredNotes.{HasDetailsOf, IsEventNoteOf, first_of_day}
+use Rattle.mds_memory.specs.StoredNotes.{HasDetailsOf, IsEventNoteOf, IsHolidayNote, first_of_day}
 use Rattle.mds_memory.specs.declared.stored_notes.Note.{Note}
-use Rattle.mds_memory.specs.declared.stored_notes.Note.TheVariants.{Details, Event}
+use Rattle.mds_memory.specs.declared.stored_notes.Note.TheVariants.{Details, Event, Holiday}
 use Rattle.mds_memory.proofs.NoteOrder.{note_cmp, stream_exact, tie}
 
 -- what is neither before nor after is the same
@@ -98,6 +98,9 @@ pub details_within : (stream : Stream) (x q : Note) → is_le (note_cmp (first_o
 details_within stream (Event e) q l b h =
     let wrong : note_cmp (Event e) (Details h.0) ≡ Less = subst (λ n. note_cmp (Event e) n ≡ Less) h.1 b in
     cc
+details_within stream (Holiday day) q l b h =
+    let wrong : note_cmp (Holiday day) (Details h.0) ≡ Less = subst (λ n. note_cmp (Holiday day) n ≡ Less) h.1 b in
+    cc
 details_within stream (Details d) q l b h =
     let below : note_cmp (Details d) (Details h.0) ≡ Less = subst (λ n. note_cmp (Details d) n ≡ Less) h.1 b in
     let up : is_gt (stream_cmp d.stream h.0.stream) ≡ false =
@@ -165,6 +168,9 @@ events_from stream day q h =
 pub events_within : (stream : Stream) (day : ℕ) (x q : Note) → is_le (note_cmp (Event (first_of_day stream day)) x) ≡ true
     → note_cmp x q ≡ Less → IsEventNoteOf stream day q → IsEventNoteOf stream day x
 events_within stream day (Details d) q l b h = cc l
+events_within stream day (Holiday date) q l b h =
+    let wrong : note_cmp (Holiday date) (Event h.0) ≡ Less = subst (λ n. note_cmp (Holiday date) n ≡ Less) h.1 b in
+    cc
 events_within stream day (Event e) q l b h =
     let below : event_cmp e h.0 ≡ Less = subst (λ n. note_cmp (Event e) n ≡ Less) h.1 b in
     let whole : key h.0 ≡ (stream.nmi, (stream.suffix, day)) = (λ i. (h.2.0 i, (h.2.1 i, h.2.2 i))) in
@@ -174,3 +180,14 @@ events_within stream day (Event e) q l b h =
     key_not_gt (first_of_day stream day) e (le_not_gt _ l) in
     let same : key e ≡ (stream.nmi, (stream.suffix, day)) = between key_total key_exact _ _ up down in
     (e, refl, ((λ i. (same i).0), (λ i. (same i).1.0), (λ i. (same i).1.1)))
+
+-- ---- holidays
+
+pub holidays_from : (q : Note) → IsHolidayNote q → is_le (note_cmp (Holiday 0) q) ≡ true
+holidays_from q h = subst (λ n. is_le (note_cmp (Holiday 0) n) ≡ true) (sym h.1) (zero_least h.0)
+
+pub holidays_within : (x q : Note) → is_le (note_cmp (Holiday 0) x) ≡ true → note_cmp x q ≡ Less → IsHolidayNote q
+    → IsHolidayNote x
+holidays_within (Details d) q l b h = cc l
+holidays_within (Event e) q l b h = cc l
+holidays_within (Holiday day) q l b h = (day, refl)

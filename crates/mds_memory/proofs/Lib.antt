@@ -1,11 +1,13 @@
 pub mod Ascending
 pub mod Changed
 pub mod DetailStreams
+pub mod Entries
 pub mod FirstNotes
 pub mod NoteOrder
 pub mod Notes
 pub mod Places
 pub mod Ranges
 pub mod StoredDays
+pub mod StoredJobs
 pub mod Kept
 pub mod Streams

@@ -13,7 +13,7 @@ use Rattle.mds_terms.specs.TermOrder.{details_exact, event_exact}
 use Rattle.mds_world.specs.declared.facts.Detail.{Detail}
 use Rattle.mds_versions.specs.Queries.{stream_cmp}
 use Rattle.mds_memory.specs.declared.stored_notes.Note.{Note}
-use Rattle.mds_memory.specs.declared.stored_notes.Note.TheVariants.{Details, Event}
+use Rattle.mds_memory.specs.declared.stored_notes.Note.TheVariants.{Details, Event, Holiday}
 use Rattle.mds_memory.specs.contracts.stored_notes.NoteOrd.TheImpl as note_ord
 use Rattle.mds_memory.specs.contracts.stored_notes.NoteOrd.TheImpl.Laws as note_laws
 
@@ -68,5 +68,10 @@ detail_exact x y e =
 pub exact : IsAntisymmetric note_cmp
 exact (Details a) (Details b) e = ap Details (detail_exact a b e)
 exact (Details a) (Event b) e = cc (before_events a b)
+exact (Details a) (Holiday b) e = cc e
 exact (Event a) (Details b) e = cc (after_details a b)
 exact (Event a) (Event b) e = ap Event (event_exact a b e)
+exact (Event a) (Holiday b) e = cc e
+exact (Holiday a) (Details b) e = cc e
+exact (Holiday a) (Event b) e = cc e
+exact (Holiday a) (Holiday b) e = ap Holiday (nat_cmp-IsAntisymmetric a b e)

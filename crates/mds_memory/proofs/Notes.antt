@@ -15,14 +15,19 @@ use Rattle.mds_world.specs.Sets.{◌∈◌, or_left, or_right, split_or}
 use Rattle.mds_world.specs.World.{union}
 use Rattle.mds_memory.specs.Stored.{note_fact, notes_world}
 use Rattle.mds_memory.specs.declared.stored_notes.Note.{Note}
-use Rattle.mds_memory.specs.declared.stored_notes.Note.TheVariants.{Details, Event}
+use Rattle.mds_memory.specs.declared.stored_notes.Note.TheVariants.{Details, Event, Holiday}
 use Rattle.mds_memory.proofs.NoteOrder.{exact, note_cmp, total}
 
 one_note : (a b : Note) → note_fact a ≡ note_fact b → a ≡ b
 one_note (Details a) (Details b) e = cc
 one_note (Details a) (Event b) e = cc
+one_note (Details a) (Holiday b) e = cc
 one_note (Event a) (Details b) e = cc
 one_note (Event a) (Event b) e = cc
+one_note (Event a) (Holiday b) e = cc
+one_note (Holiday a) (Details b) e = cc
+one_note (Holiday a) (Event b) e = cc
+one_note (Holiday a) (Holiday b) e = cc
 
 -- a fact of the notes' World is that of one of them
 pub noted : (notes : BTreeSet Note) (f : Fact) → f ∈ notes_world notes → (n : Note) × Member n notes.keys × (f ≡ note_fact n)
@@ -133,7 +138,7 @@ more_notes old new more h = same_by _ _
     ])
 
 -- one more of a list
-taken_more : (xs : List Note) (i : ℕ) (x : Note) → i < length xs → x ≡ slice_index_or xs i x → (q : Note)
+pub taken_more : {K : Type 0} (xs : List K) (i : ℕ) (x : K) → i < length xs → x ≡ slice_index_or xs i x → (q : K)
     → Member q (take (i + 1) xs) ↔ (Member q (take i xs) ⊎ (q ≡ x))
 taken_more xs i x l is q = (
   (λ m. elim (member_append q (take i xs) _ (subst (Member q) (take_more xs i x l) m)) [

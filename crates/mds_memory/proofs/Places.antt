@@ -1,16 +1,13 @@
 -- Maps of days by their entries.
-use Rattle.std.proofs.Common.{◌≡◌, List, [], ◌∷◌, true, false, Option, Some, None, refl, sym, ap, ◌∙◌, subst, inl, inr}
-use Rattle.std.specs.Prelude.{◌⊎◌, cond, is_some, IfOk, Result, Ok, Err}
+use Rattle.std.proofs.Common.{◌≡◌, List, ◌∷◌, true, false, Option, Some, None, refl, sym, subst}
+use Rattle.std.specs.Prelude.{◌⊎◌, is_some, IfOk, Result, Ok, Err}
 use Rattle.std.specs.BTreeMap.{insert_entry, is_at}
-use Rattle.std.specs.Cmp.{IsTotalOrder, tied_itself}
+use Rattle.std.specs.Cmp.{IsTotalOrder}
 use Rattle.std.specs.Cmp.Lexicographic.{slice_cmp}
-use Rattle.std.specs.List.{AllByRecursion}
 use Rattle.std.specs.List.Sorted.{IsStrictlySortedBy}
 use Rattle.std.specs.Map.{keys_of, lookup}
-use Rattle.std.specs.Ordering.{is_eq, match_ordering, nat_cmp}
-use Rattle.std.specs.declared.cmp.Ordering.{Ordering}
-use Rattle.std.specs.declared.cmp.Ordering.TheVariants.{Less, Equal, Greater}
-use Rattle.std.proofs.lemmas.Map.Keys.{sorted_head, sorted_tail}
+use Rattle.std.specs.Ordering.{nat_cmp}
+use Rattle.std.specs.declared.cmp.Ordering.TheVariants.{Less, Equal}
 use Rattle.std.proofs.lemmas.Map.Lookups.{exact_bytes, exact_pairs, exact_unsigned}
 use Rattle.mds_names.specs.declared.stream.Stream.{Stream}
 use Rattle.mds_world.specs.declared.facts.StreamDay.{StreamDay}
@@ -19,6 +16,7 @@ use Rattle.mds_names.specs.contracts.stream.StreamOrd.TheImpl.Laws as stream_law
 use Rattle.mds_world.specs.Lists.{Member}
 use Rattle.mds_versions.specs.Queries.{stream_cmp}
 use Rattle.mds_memory.specs.Stored.{place_cmp}
+use Rattle.mds_memory.proofs.Entries as entries
 
 pub place_total : IsTotalOrder place_cmp
 place_total = place_laws.total-law
@@ -55,100 +53,31 @@ is_there (Some x) e = (x, refl)
 
 module _ {X : Type 0} where
   pub insert_here : (es : List (StreamDay × X)) (k : StreamDay) (v : X) → Member (k, v) (insert_entry place_cmp es k v)
-  insert_here [] k v = inl refl
-  insert_here (e ∷ es) k v =
-      elim (place_cmp k e.0) as (λ r. place_cmp k e.0 ≡ r
-      → Member (k, v) (match_ordering r ((k, v) ∷ e ∷ es) ((e.0, v) ∷ es) (e ∷ insert_entry place_cmp es k v))) [
-        | Less ↦ λ _. inl refl
-        | Equal ↦ λ q. inl (λ i. (place_exact k e.0 q i, v))
-        | Greater ↦ λ _. inr (insert_here es k v)
-      ] refl
+  insert_here = entries.insert_here place_cmp place_exact place_total
 
   pub insert_only : (es : List (StreamDay × X)) (k : StreamDay) (v : X) (e : StreamDay × X)
       → Member e (insert_entry place_cmp es k v) → (e ≡ (k, v)) ⊎ Member e es
-  insert_only [] k v e m = elim m [ inl a ↦ inl a | inr z ↦ absurd z ]
-  insert_only (x ∷ es) k v e m =
-      elim (place_cmp k x.0) as (λ r. place_cmp k x.0 ≡ r
-      → Member e (match_ordering r ((k, v) ∷ x ∷ es) ((x.0, v) ∷ es) (x ∷ insert_entry place_cmp es k v))
-      → (e ≡ (k, v)) ⊎ Member e (x ∷ es)) [
-        | Less ↦ λ _ n. elim n [ inl a ↦ inl a | inr b ↦ inr b ]
-        | Equal ↦ λ q n. elim n [
-          | inl a ↦ inl (a ∙ (λ i. (sym (place_exact k x.0 q) i, v)))
-          | inr b ↦ inr (inr b)
-        ]
-        | Greater ↦ λ _ n. elim n [
-          | inl a ↦ inr (inl a)
-          | inr b ↦ elim (insert_only es k v e b) [ inl a ↦ inl a | inr c ↦ inr (inr c) ]
-        ]
-      ] refl m
+  insert_only = entries.insert_only place_cmp place_exact place_total
 
   pub insert_other : (es : List (StreamDay × X)) (k : StreamDay) (v : X) (e : StreamDay × X)
       → Member e es → Member e (insert_entry place_cmp es k v) ⊎ (e.0 ≡ k)
-  insert_other [] k v e m = absurd m
-  insert_other (x ∷ es) k v e m =
-      elim (place_cmp k x.0) as (λ r. place_cmp k x.0 ≡ r
-      → Member e (match_ordering r ((k, v) ∷ x ∷ es) ((x.0, v) ∷ es) (x ∷ insert_entry place_cmp es k v)) ⊎ (e.0 ≡ k)) [
-        | Less ↦ λ _. inl (inr m)
-        | Equal ↦ λ q. elim m [
-          | inl a ↦ inr (ap (λ y. y.0) a ∙ sym (place_exact k x.0 q))
-          | inr b ↦ inl (inr b)
-        ]
-        | Greater ↦ λ _. elim m [
-          | inl a ↦ inl (inl a)
-          | inr b ↦ elim (insert_other es k v e b) [ inl c ↦ inl (inr c) | inr q ↦ inr q ]
-        ]
-      ] refl
-
-  at_itself : (k : StreamDay) (v : X) (x : StreamDay × X) → (k, v) ≡ x → is_eq (place_cmp k x.0) ≡ true
-  at_itself k v x e = ap (λ y. is_eq (place_cmp k y.0)) (sym e) ∙ ap is_eq (tied_itself place_total k)
+  insert_other = entries.insert_other place_cmp place_exact place_total
 
   -- what has an entry is found
   pub not_absent : (es : List (StreamDay × X)) (k : StreamDay) (v : X) → Member (k, v) es
       → lookup (is_at (place_cmp k)) es ≡ None → ⊥
-  not_absent [] k v m n = m
-  not_absent (x ∷ es) k v m n =
-      elim (is_eq (place_cmp k x.0)) as (λ b. is_eq (place_cmp k x.0) ≡ b
-      → cond b (Some x.1) (lookup (is_at (place_cmp k)) es) ≡ None → ⊥) [
-        | true ↦ λ _ e. cc
-        | false ↦ λ f e. elim m [
-          | inl a ↦ let t = at_itself k v x a in cc
-          | inr b ↦ not_absent es k v b e
-        ]
-      ] refl n
+  not_absent = entries.not_absent place_cmp place_exact place_total
 
   pub found_in : (es : List (StreamDay × X)) (k : StreamDay) (v : X)
       → lookup (is_at (place_cmp k)) es ≡ Some v → Member (k, v) es
-  found_in [] k v e = cc
-  found_in (x ∷ es) k v e =
-      elim (place_cmp k x.0) as (λ r. place_cmp k x.0 ≡ r
-      → cond (is_eq r) (Some x.1) (lookup (is_at (place_cmp k)) es) ≡ Some v → Member (k, v) (x ∷ es)) [
-        | Less ↦ λ _ f. inr (found_in es k v f)
-        | Equal ↦ λ q f. let g : x.1 ≡ v = cc in inl (λ i. (place_exact k x.0 q i, sym g i))
-        | Greater ↦ λ _ f. inr (found_in es k v f)
-      ] refl e
-
-  later : (R : StreamDay → StreamDay → Ordering) (k : StreamDay) (es : List (StreamDay × X)) (e : StreamDay × X)
-      → AllByRecursion (λ y. R k y ≡ Less) (keys_of es) → Member e es → R k e.0 ≡ Less
-  later R k [] e a m = absurd m
-  later R k (x ∷ es) e a (inl q) = ap (λ y. R k y.0) q ∙ a.0
-  later R k (x ∷ es) e a (inr m) = later R k es e a.1 m
+  found_in = entries.found_in place_cmp place_exact place_total
 
   -- the first of a list in order is before the others
   pub first_before : (x : StreamDay × X) (es : List (StreamDay × X)) (e : StreamDay × X)
       → IsStrictlySortedBy place_cmp (keys_of (x ∷ es)) → Member e es → place_cmp x.0 e.0 ≡ Less
-  first_before x es e s m = later place_cmp x.0 es e (sorted_head place_cmp x.0 (keys_of es) s) m
+  first_before = entries.first_before place_cmp place_exact place_total
 
   -- a day has one entry
   pub one_entry : (es : List (StreamDay × X)) → IsStrictlySortedBy place_cmp (keys_of es) → (k : StreamDay) (v w : X)
       → Member (k, v) es → Member (k, w) es → v ≡ w
-  one_entry [] s k v w m n = absurd m
-  one_entry (x ∷ es) s k v w (inl a) (inl b) = ap (λ y. y.1) (a ∙ sym b)
-  one_entry (x ∷ es) s k v w (inl a) (inr b) =
-      let l = first_before x es (k, w) s b in
-      let r : place_cmp k k ≡ Less = ap (λ y. place_cmp y.0 k) a ∙ l in
-      let t = tied_itself place_total k in cc
-  one_entry (x ∷ es) s k v w (inr a) (inl b) =
-      let l = first_before x es (k, v) s a in
-      let r : place_cmp k k ≡ Less = ap (λ y. place_cmp y.0 k) b ∙ l in
-      let t = tied_itself place_total k in cc
-  one_entry (x ∷ es) s k v w (inr a) (inr b) = one_entry es (sorted_tail place_cmp x.0 (keys_of es) s) k v w a b
+  one_entry = entries.one_entry place_cmp place_exact place_total

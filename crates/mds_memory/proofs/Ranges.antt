@@ -1,11 +1,11 @@
 -- What a run through the notes from a first one on has found.
-use Rattle.std.specs.Prelude.{◌≡◌, ℕ, true, List, [], ◌∷◌, ◌++◌, map, Option, None, Some, IfNone, IfSome}
+use Rattle.std.specs.Prelude.{◌≡◌, ◌<◌, ℕ, true, List, [], ◌∷◌, ◌++◌, map, Option, None, Some, IfNone, IfSome}
 use Rattle.std.specs.Borrow.{Bor}
 use Rattle.std.proofs.Common.{ap, subst, sym, refl, inl, inr, ◌∙◌}
 use Rattle.std.specs.BTreeMap.Range.{range_contains}
 use Rattle.std.specs.BTreeSet.{BTreeSet, IsOrdered, keys_between}
-use Rattle.std.specs.Cmp.{tied_itself}
-use Rattle.std.specs.Ordering.{is_le, nat_cmp, ordering_then}
+use Rattle.std.specs.Cmp.{ranks, tied_itself}
+use Rattle.std.specs.Ordering.{MatchOrdering, is_le, nat_cmp, ordering_then}
 use Rattle.std.specs.declared.cmp.Ordering.TheVariants.{Less}
 use Rattle.std.specs.declared.ops.Bound.TheVariants.{Included, Unbounded}
 use Rattle.mds_names.specs.declared.stream.Stream.{Stream}
@@ -17,14 +17,14 @@ use Rattle.mds_world.specs.Facts.Fact.{DetailIs}
 use Rattle.mds_world.specs.Lists.{Apart, Member, append_left, append_right, in_map, map_in, member_append}
 use Rattle.mds_world.specs.Sets.{◌∈◌, both_and, split_and}
 use Rattle.mds_world.specs.World.{IsEventOf}
-use Rattle.mds_versions.specs.Queries.{AreEventsOf}
+use Rattle.mds_versions.specs.Queries.{AreEventsOf, AreHolidays}
 use Rattle.mds_memory.specs.Stored.{notes_world}
-use Rattle.mds_memory.specs.StoredNotes.{HasDetailsOf, IsEventNoteOf, first_of_day}
+use Rattle.mds_memory.specs.StoredNotes.{HasDetailsOf, IsEventNoteOf, IsHolidayNote, first_of_day}
 use Rattle.mds_memory.specs.declared.stored_notes.Note.{Note}
-use Rattle.mds_memory.specs.declared.stored_notes.Note.TheVariants.{Details, Event}
+use Rattle.mds_memory.specs.declared.stored_notes.Note.TheVariants.{Details, Event, Holiday}
 use Rattle.mds_memory.proofs.Ascending as up
 use Rattle.mds_memory.proofs.Ascending.{Ascends}
-use Rattle.mds_memory.proofs.FirstNotes.{details_from, details_within, events_from, events_within, first_of, stream_total}
+use Rattle.mds_memory.proofs.FirstNotes.{details_from, details_within, events_from, events_within, first_of, holidays_from, holidays_within, stream_total}
 use Rattle.mds_memory.proofs.NoteOrder.{note_cmp, total}
 use Rattle.mds_memory.proofs.Notes.{in_notes, notes_in}
 
@@ -239,6 +239,54 @@ pub last_none : (notes : BTreeSet Note) (stream : Stream) (last : Option (Bor De
     → DetailIs (record { stream = stream; moment = moment; details = other }) ∈ notes_world notes → ⊥)
 last_none notes stream None left o so stop = no_detail notes stream left o so stop
 last_none notes stream (Some d) left o so stop = tt
+
+-- ---- the holidays
+
+abbrev pub AreHolidaysSoFar : BTreeSet Note → List ℕ → List Note → Type 0
+AreHolidaysSoFar notes days left = map Holiday days ++ left ≡ from notes (Holiday 0)
+
+pub holidays_begin : (notes : BTreeSet Note) (days : List ℕ) (first : Note) (left : List Note) → days ≡ []
+    → first ≡ Holiday 0 → left ≡ from notes first → AreHolidaysSoFar notes days left
+holidays_begin notes days first left none is all = ap (λ ds. map Holiday ds ++ left) none ∙ all ∙ ap (from notes) is
+
+holiday_push : (ds : List ℕ) (day : ℕ) (left : List Note)
+    → map Holiday (ds ++ day ∷ []) ++ left ≡ map Holiday ds ++ Holiday day ∷ left
+holiday_push [] day left = refl
+holiday_push (d ∷ ds) day left = ap (λ ns. Holiday d ∷ ns) (holiday_push ds day left)
+
+pub one_holiday : (notes : BTreeSet Note) (old new : List ℕ) (left rest : List Note) (note : Note) (day : ℕ)
+    → AreHolidaysSoFar notes old left → left ≡ note ∷ rest → note ≡ Holiday day → new ≡ old ++ day ∷ []
+    → AreHolidaysSoFar notes new rest
+one_holiday notes old new left rest note day so next is push =
+    ap (λ ds. map Holiday ds ++ rest) push ∙ holiday_push old day rest
+    ∙ ap (λ n. map Holiday old ++ n ∷ rest) (sym is) ∙ ap (λ ns. map Holiday old ++ ns) (sym next) ∙ so
+
+below : (a b : ℕ) → nat_cmp a b ≡ Less → a < b
+below a b e = subst (λ r. MatchOrdering r (a < b) (a ≡ b) (b < a)) e (ranks a b)
+
+days_ascend : (ds : List ℕ) → Ascends note_cmp (map Holiday ds) → Ascends nat_cmp ds
+days_ascend [] a = tt
+days_ascend (d ∷ ds) a = ((λ q m. a.0 (Holiday q) (map_in Holiday ds q m)), days_ascend ds a.1)
+
+one_day : (a b : ℕ) → Holiday a ≡ Holiday b → a ≡ b
+one_day a b e = cc
+
+pub holidays_done : (notes : BTreeSet Note) (days : List ℕ) (left : List Note) → IsOrdered note_cmp notes
+    → AreHolidaysSoFar notes days left → HasStopped IsHolidayNote left → AreHolidays (notes_world notes) days
+holidays_done notes days left o so stop = record {
+  each = λ d. (
+    (λ m.
+        notes_in notes (Holiday d) (from_in notes (Holiday 0) (Holiday d)
+        (subst (Member (Holiday d)) so (append_left (Holiday d) (map Holiday days) left (map_in Holiday days d m))))),
+    (λ h.
+        let m = all_found IsHolidayNote notes (Holiday 0) (map Holiday days) left o so stop holidays_within holidays_from
+        (Holiday d) (in_notes notes (Holiday d) h) (d, refl) in
+        let r = in_map Holiday days (Holiday d) m in
+        subst (λ k. Member k days) (sym (one_day d r.0 r.2)) r.1),
+  );
+  ascending = λ i j d l m. below _ _ (up.pairs nat_cmp days (days_ascend days
+      (up.front note_cmp (map Holiday days) left (subst (Ascends note_cmp) (sym so) (ascending notes (Holiday 0) o)))) i j d l m);
+}
 
 -- at the end, and at a note of another kind
 pub at_end : (P : Note → Type 0) (left : List Note) → left ≡ [] → HasStopped P left

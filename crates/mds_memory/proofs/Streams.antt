@@ -12,28 +12,30 @@ use Rattle.std.specs.declared.cmp.Ordering.TheVariants.{Less, Equal, Greater}
 use Rattle.std.proofs.lemmas.List.{take_all}
 use Rattle.std.proofs.lemmas.Map.Keys.{sorted_tail}
 use Rattle.mds_quantity.specs.declared.unit.Unit.{Unit as MeasureUnit}
+use Rattle.mds_jobs.specs.declared.job.Job.{Job}
 use Rattle.mds_names.specs.declared.stream.Stream.{Stream}
 use Rattle.mds_world.specs.declared.facts.Head.{Head}
 use Rattle.mds_world.specs.declared.facts.StreamDay.{StreamDay}
 use Rattle.mds_world.specs.Facts.{Fact, PeriodKey, PeriodContent}
 use Rattle.mds_world.specs.Facts.Fact.{HeadIs, PeriodIs}
 use Rattle.mds_world.specs.Lists.{Member, append_left, append_right, in_map, member_append}
-use Rattle.mds_world.specs.Members.{in_union, union_left}
 use Rattle.mds_world.specs.Sets.{◌∈◌}
 use Rattle.mds_versions.specs.Books.{BookValue, book_facts, head_facts, row_fact}
+use Rattle.mds_versions.specs.Content.{job_fact}
 use Rattle.mds_versions.specs.Queries.{AreKnownStreams, stream_cmp}
 use Rattle.mds_memory.specs.Stored.{AreDetailStreams, AreHeadStreams, AreOfTheirDays, days_world, note_fact, notes_world, place_cmp, stored_world}
 use Rattle.mds_memory.specs.StoredNotes.{IsAtEnd, PutsLast}
 use Rattle.mds_versions.specs.declared.day_book.Version.{Version}
 use Rattle.mds_memory.specs.declared.stored_notes.Note.{Note}
-use Rattle.mds_memory.specs.declared.stored_notes.Note.TheVariants.{Details, Event}
+use Rattle.mds_memory.specs.declared.stored_notes.Note.TheVariants.{Details, Event, Holiday}
 use Rattle.mds_memory.proofs.Ascending as up
 use Rattle.mds_memory.proofs.Ascending.{Ascends}
 use Rattle.mds_memory.proofs.DetailStreams.{at_last, ends_at, get_member, less_or_tied}
 use Rattle.mds_memory.proofs.FirstNotes.{first_not_gt, less_not_gt}
-use Rattle.mds_memory.proofs.Kept.{detail_same, in_notes_list, of_days}
+use Rattle.mds_memory.proofs.Kept.{days_in_whole, detail_same, in_notes_list, in_stored, of_days}
 use Rattle.mds_memory.proofs.Places.{first_before, stream_exact, stream_total}
 use Rattle.mds_memory.proofs.StoredDays.{Kept, days_in, fact_on, in_days}
+use Rattle.mds_memory.proofs.StoredJobs.{Jobs, in_jobs}
 
 -- a stream is put down in its place
 pub record IsPut (x : Stream) (old new : List Stream) : Type 0 where
@@ -373,30 +375,37 @@ end_of_b a b left_a left_b out new so none n =
 no_period_note : (note : Note) (key : PeriodKey) (content : PeriodContent) → PeriodIs key content ≡ note_fact note → ⊥
 no_period_note (Details detail) key content e = cc
 no_period_note (Event event) key content e = cc
+no_period_note (Holiday day) key content e = cc
 
-no_period : (days : Kept) (notes : BTreeSet Note) (key : PeriodKey) (content : PeriodContent)
-    → PeriodIs key content ∈ stored_world days notes → ⊥
-no_period days notes key content h = elim (in_union (days_world days) (notes_world notes) (PeriodIs key content) h) [
+no_period_job : (job : Job × ℕ) (key : PeriodKey) (content : PeriodContent) → PeriodIs key content ≡ job_fact job → ⊥
+no_period_job job key content e = cc
+
+no_period : (days : Kept) (notes : BTreeSet Note) (jobs : Jobs) (key : PeriodKey) (content : PeriodContent)
+    → PeriodIs key content ∈ stored_world days notes jobs → ⊥
+no_period days notes jobs key content h = elim (in_stored days notes jobs (PeriodIs key content) h) [
   | inl a ↦ let r = in_days days (PeriodIs key content) a in fact_on r.0.1 (PeriodIs key content) r.2
-  | inr b ↦ let r = in_notes_list notes (PeriodIs key content) b in no_period_note r.0 key content r.2
+  | inr b ↦ elim b [
+    | inl c ↦ let r = in_notes_list notes (PeriodIs key content) c in no_period_note r.0 key content r.2
+    | inr c ↦ let r = in_jobs jobs (PeriodIs key content) c in no_period_job r.1 key content r.3
+  ]
 ]
 
-pub known_streams : (days : Kept) (notes : BTreeSet Note) (of_days_streams of_details streams : List Stream)
+pub known_streams : (days : Kept) (notes : BTreeSet Note) (jobs : Jobs) (of_days_streams of_details streams : List Stream)
     → AreHeadStreams (days_world days) of_days_streams → AreDetailStreams (notes_world notes) of_details
     → ((s : Stream) → Member s streams ↔ (Member s of_days_streams ⊎ Member s of_details))
-    → AllPairs (λ x y. stream_cmp x y ≡ Less) streams → AreKnownStreams (stored_world days notes) streams
-known_streams days notes hs ds streams h d each up = record {
+    → AllPairs (λ x y. stream_cmp x y ≡ Less) streams → AreKnownStreams (stored_world days notes jobs) streams
+known_streams days notes jobs hs ds streams h d each up = record {
   each = λ s. (
     (λ m. elim ((each s).0 m) [
-      | inl n ↦ let r = (h.each s).0 n in inl (r.0, union_left (days_world days) (notes_world notes) _ r.1, r.2)
-      | inr n ↦ let r = (d.each s).0 n in inr (inl (r.0, (detail_same days notes r.0).0 r.1, r.2))
+      | inl n ↦ let r = (h.each s).0 n in inl (r.0, days_in_whole days notes jobs _ r.1, r.2)
+      | inr n ↦ let r = (d.each s).0 n in inr (inl (r.0, (detail_same days notes jobs r.0).0 r.1, r.2))
     ]),
     (λ k. elim k [
       | inl r ↦ (each s).1 (inl ((h.each s).1
-          (r.0, of_days days notes r.0.stream r.0.day (HeadIs r.0) (refl, refl) r.1, r.2)))
+          (r.0, of_days days notes jobs r.0.stream r.0.day (HeadIs r.0) (refl, refl) r.1, r.2)))
       | inr q ↦ elim q [
-        | inl r ↦ (each s).1 (inr ((d.each s).1 (r.0, (detail_same days notes r.0).1 r.1, r.2)))
-        | inr r ↦ absurd (no_period days notes r.0 r.1 r.2)
+        | inl r ↦ (each s).1 (inr ((d.each s).1 (r.0, (detail_same days notes jobs r.0).1 r.1, r.2)))
+        | inr r ↦ absurd (no_period days notes jobs r.0 r.1 r.2)
       ]
     ]),
   );

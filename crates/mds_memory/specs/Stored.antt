@@ -1,5 +1,5 @@
 -- What a keeper in memory keeps, as a World.
-use Rattle.std.specs.Prelude.{◌≡◌, ◌↔◌, List, map}
+use Rattle.std.specs.Prelude.{◌≡◌, ◌↔◌, ℕ, List, [], ◌∷◌, Option, Some, None, map}
 use Rattle.std.specs.List.{flat_map, AllPairs}
 use Rattle.std.specs.BTreeMap.{BTreeMap, IsOrdered}
 use Rattle.std.specs.BTreeSet.{BTreeSet}
@@ -7,23 +7,27 @@ use Rattle.std.specs.FinSet as set
 use Rattle.std.specs.Ordering.{nat_cmp, ordering_then}
 use Rattle.std.specs.declared.cmp.Ordering.{Ordering}
 use Rattle.std.specs.declared.cmp.Ordering.TheVariants.{Less}
+use Rattle.mds_jobs.specs.contracts.job_id.JobIdOrd.TheImpl as id_ord
+use Rattle.mds_jobs.specs.declared.job.Job.{Job}
 use Rattle.mds_names.specs.declared.stream.Stream.{Stream}
 use Rattle.mds_world.specs.declared.facts.Detail.{Detail}
 use Rattle.mds_world.specs.declared.facts.Head.{Head}
 use Rattle.mds_world.specs.declared.facts.StreamDay.{StreamDay}
 use Rattle.mds_world.specs.Facts.{Fact}
-use Rattle.mds_world.specs.Facts.Fact.{HeadIs, DetailIs, EventIs}
+use Rattle.mds_world.specs.Facts.Fact.{HeadIs, DetailIs, EventIs, HolidayIs}
 use Rattle.mds_world.specs.Lists.{Member}
 use Rattle.mds_world.specs.Sets.{◌∈◌}
 use Rattle.mds_world.specs.World.{IsLawful, IsOn, World, union}
 use Rattle.mds_versions.specs.Books.{BookValue, book_facts, book_world}
+use Rattle.mds_versions.specs.Content.{job_fact}
 use Rattle.mds_versions.specs.Queries.{stream_cmp}
 use Rattle.mds_memory.specs.declared.stored_notes.Note.{Note}
-use Rattle.mds_memory.specs.declared.stored_notes.Note.TheVariants.{Details, Event}
+use Rattle.mds_memory.specs.declared.stored_notes.Note.TheVariants.{Details, Event, Holiday}
 
 abbrev pub note_fact : Note → Fact
 note_fact (Details detail) = DetailIs detail
 note_fact (Event event) = EventIs event
+note_fact (Holiday day) = HolidayIs day
 
 abbrev pub notes_world : BTreeSet Note → World
 notes_world notes = set.from_list (map note_fact notes.keys)
@@ -31,8 +35,16 @@ notes_world notes = set.from_list (map note_fact notes.keys)
 abbrev pub days_world : BTreeMap StreamDay BookValue → World
 days_world days = set.from_list (flat_map (λ entry. book_facts entry.1) days.entries)
 
-abbrev pub stored_world : BTreeMap StreamDay BookValue → BTreeSet Note → World
-stored_world days notes = union (days_world days) (notes_world notes)
+-- a place without a job stands for nothing
+abbrev pub kept_facts : Option (Job × ℕ) → List Fact
+kept_facts None = []
+kept_facts (Some job) = job_fact job ∷ []
+
+abbrev pub jobs_world : BTreeMap (List ℕ) (Option (Job × ℕ)) → World
+jobs_world jobs = set.from_list (flat_map (λ entry. kept_facts entry.1) jobs.entries)
+
+abbrev pub stored_world : BTreeMap StreamDay BookValue → BTreeSet Note → BTreeMap (List ℕ) (Option (Job × ℕ)) → World
+stored_world days notes jobs = union (union (days_world days) (notes_world notes)) (jobs_world jobs)
 
 -- by stream, and then by date
 abbrev pub place_cmp : StreamDay → StreamDay → Ordering
@@ -44,10 +56,21 @@ pub record AreOfTheirDays (days : BTreeMap StreamDay BookValue) : Type 0 where
       → (book.stream ≡ place.stream) × (book.day ≡ place.day)
   pub ordered : IsOrdered place_cmp days
 
--- what is stored is lawful, and each day stands in its place
-pub record IsStored (days : BTreeMap StreamDay BookValue) (notes : BTreeSet Note) : Type 0 where
-  pub lawful : IsLawful (stored_world days notes)
+-- the order of the ids of jobs
+abbrev pub id_cmp : List ℕ → List ℕ → Ordering
+id_cmp = (id_ord.ghosts).cmp
+
+-- each job stands under its id, and no two ids are one
+pub record AreOfTheirIds (jobs : BTreeMap (List ℕ) (Option (Job × ℕ))) : Type 0 where
+  pub theirs : (id : List ℕ) (job : Job × ℕ) → Member (id, Some job) jobs.entries → job.0.id ≡ id
+  pub ordered : IsOrdered id_cmp jobs
+
+-- what is stored is lawful, each day stands in its place, and each job under its id
+pub record IsStored (days : BTreeMap StreamDay BookValue) (notes : BTreeSet Note)
+    (jobs : BTreeMap (List ℕ) (Option (Job × ℕ))) : Type 0 where
+  pub lawful : IsLawful (stored_world days notes jobs)
   pub theirs : AreOfTheirDays days
+  pub ids : AreOfTheirIds jobs
 
 -- a day of which something is added is changed, and a changed day has what was kept of it and what is added
 pub record IsChange (w more : World) (changed : BTreeMap StreamDay BookValue) : Type 0 where
@@ -61,6 +84,11 @@ abbrev pub HasRoom : BTreeMap StreamDay BookValue → BTreeMap StreamDay BookVal
 HasRoom days changed =
     (place : StreamDay) (book : BookValue) → Member (place, book) changed.entries
     → (kept : BookValue) × Member (place, kept) days.entries
+
+-- each job has a place
+abbrev pub HasPlaces : BTreeMap (List ℕ) (Option (Job × ℕ)) → List (Job × ℕ) → Type 0
+HasPlaces jobs more =
+    (job : Job × ℕ) → Member job more → (kept : Option (Job × ℕ)) × Member (job.0.id, kept) jobs.entries
 
 pub record AreHeadStreams (w : World) (streams : List Stream) : Type 0 where
   pub each : (stream : Stream) → Member stream streams ↔ ((head : Head) × (HeadIs head ∈ w) × (head.stream ≡ stream))

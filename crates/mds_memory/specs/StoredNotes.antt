@@ -1,11 +1,11 @@
--- Notes by their stream, and by their day.
+-- Notes by their kind, their stream and their day.
 use Rattle.std.specs.Prelude.{◌≡◌, ◌⊎◌, ◌-◌, ℕ, List, [], ◌∷◌, ◌++◌, length, slice_get, None, Some}
 use Rattle.mds_names.specs.declared.stream.Stream.{Stream}
 use Rattle.mds_terms.specs.Event.{EventValue}
 use Rattle.mds_world.specs.declared.facts.Detail.{Detail}
 use Rattle.mds_world.specs.World.{IsEventOf}
 use Rattle.mds_memory.specs.declared.stored_notes.Note.{Note}
-use Rattle.mds_memory.specs.declared.stored_notes.Note.TheVariants.{Details, Event}
+use Rattle.mds_memory.specs.declared.stored_notes.Note.TheVariants.{Details, Event, Holiday}
 
 -- the note has details of the stream
 abbrev pub HasDetailsOf : Stream → Note → Type 0
@@ -14,6 +14,10 @@ HasDetailsOf stream note = (detail : Detail) × (note ≡ Details detail) × (de
 -- the note is an event of the day
 abbrev pub IsEventNoteOf : Stream → ℕ → Note → Type 0
 IsEventNoteOf stream day note = (event : EventValue) × (note ≡ Event event) × IsEventOf stream day event
+
+-- the note is a holiday
+abbrev pub IsHolidayNote : Note → Type 0
+IsHolidayNote note = (day : ℕ) × (note ≡ Holiday day)
 
 -- the event of a day that stands before all others of that day
 abbrev pub first_of_day : Stream → ℕ → EventValue

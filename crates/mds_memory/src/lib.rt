@@ -4,6 +4,7 @@
 mod laws;
 mod memory;
 mod stored_days;
+mod stored_jobs;
 mod stored_notes;
 
 pub use laws::a_memory_keeper_is_sound;

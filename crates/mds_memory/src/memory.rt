@@ -11,10 +11,12 @@ ghost use Rattle.mds_versions.specs.Queries.{stream_cmp};
 ghost use Rattle.mds_memory.specs.Stored.{AreHeadStreams, AreOfTheirDays, days_world};
 
 use crate::stored_days::{changed_days, day_of, make_room, put_days};
+use crate::stored_jobs::{job_of, make_places, put_jobs};
 use crate::stored_notes::{
-    Note, current_details, detail_streams, events_of, has_details, has_event, insert_notes,
-    notes_of, push_new,
+    Note, current_details, detail_streams, events_of, has_details, has_event, holidays_of,
+    insert_notes, notes_of, push_new,
 };
+use mds_jobs::{Job, JobId};
 use mds_terms::{Day, Details, Event, Stream};
 use mds_versions::{Additions, DayBook, Keeper, Unavailable};
 use mds_world::{Detail, StreamDay};
@@ -29,8 +31,10 @@ pub struct MemoryKeeper {
     alloc: Global,
     /// The days by stream and date. One that has neither head nor version stands for nothing.
     days: BTreeMap<StreamDay, DayBook>,
-    /// All details and events.
+    /// All details, events and holidays.
     notes: BTreeSet<Note>,
+    /// The substitution jobs by their ids. A place without a job stands for nothing.
+    jobs: BTreeMap<JobId, Option<(Job, u64)>>,
 }
 
 impl Model for MemoryKeeper {
@@ -43,9 +47,9 @@ impl Model for MemoryKeeper {
 
     ghost coded = { code coded_fact };
 
-    ghost view = { λ k. stored_world k.days k.notes };
+    ghost view = { λ k. stored_world k.days k.notes k.jobs };
 
-    ghost invariant = { λ k. IsStored k.days k.notes };
+    ghost invariant = { λ k. IsStored k.days k.notes k.jobs };
 }
 
 impl MemoryKeeper {
@@ -58,6 +62,7 @@ impl MemoryKeeper {
             alloc,
             days: BTreeMap::new(alloc),
             notes: BTreeSet::new(alloc),
+            jobs: BTreeMap::new(alloc),
         }
     }
 }
@@ -110,6 +115,14 @@ impl Keeper for MemoryKeeper {
         has_event(&self.notes, event).map_err(|_| Unavailable)
     }
 
+    fn holidays(&mut self) -> Result<Vec<Day>, Unavailable> {
+        holidays_of(self.alloc, &self.notes).map_err(|_| Unavailable)
+    }
+
+    fn job(&mut self, id: JobId) -> Result<Option<(Job, u64)>, Unavailable> {
+        job_of(&self.jobs, &id).map_err(|_| Unavailable)
+    }
+
     // All that needs memory comes before the first change that shows, or is taken back.
     fn commit(&mut self, additions: Additions) -> Result<(), Unavailable> {
         let Additions {
@@ -117,8 +130,10 @@ impl Keeper for MemoryKeeper {
             versions,
             details,
             events,
+            holidays,
+            jobs,
         } = additions;
-        let Ok(notes) = notes_of(self.alloc, details, events) else {
+        let Ok(notes) = notes_of(self.alloc, details, events, holidays) else {
             return Err(Unavailable);
         };
         let Ok(changed) = changed_days(self.alloc, &self.days, heads, versions) else {
@@ -127,10 +142,14 @@ impl Keeper for MemoryKeeper {
         if make_room(self.alloc, &mut self.days, &changed).is_err() {
             return Err(Unavailable);
         }
+        if make_places(&mut self.jobs, &jobs).is_err() {
+            return Err(Unavailable);
+        }
         if insert_notes(&mut self.notes, &notes).is_err() {
             return Err(Unavailable);
         }
         put_days(&mut self.days, changed);
+        put_jobs(&mut self.jobs, jobs);
         Ok(())
     }
 }

@@ -1,29 +1,30 @@
-//! The details and events that are kept in memory.
+//! The details, events and holidays that are kept in memory.
 
 ghost use Rattle.std.specs.Prelude.{◌≡◌, ◌↔◌, ◌⊎◌, ◌++◌, IsTrue, IfNone, IfOk, IfSome, OnOk, OnErr, ℕ, map};
 ghost use Rattle.std.specs.FinSet as set;
 ghost use Rattle.mds_terms.specs.Details.{DetailsValue};
 ghost use Rattle.mds_world.specs.Current.{IsCurrentDetails, IsGreatestDetail, no_details};
-ghost use Rattle.mds_world.specs.Facts.Fact.{DetailIs, EventIs};
+ghost use Rattle.mds_world.specs.Facts.Fact.{DetailIs, EventIs, HolidayIs};
 ghost use Rattle.mds_world.specs.Lists.{Apart, Member};
 ghost use Rattle.mds_world.specs.Sets.{◌∈◌};
 ghost use Rattle.mds_world.specs.World.{IsEventOf, union};
-ghost use Rattle.mds_versions.specs.Queries.{AreEventsOf};
+ghost use Rattle.mds_versions.specs.Queries.{AreEventsOf, AreHolidays};
 ghost use Rattle.mds_memory.specs.Stored.{AreDetailStreams, note_fact, notes_world};
 ghost use Rattle.mds_memory.specs.StoredNotes.{HasDetailsOf, IsAtEnd, IsEventNoteOf, PutsLast, first_of_day};
 ghost use Rattle.mds_memory.specs.declared.stored_notes.Note.{Note as ANote};
-ghost use Rattle.mds_memory.specs.declared.stored_notes.Note.TheVariants.{Details as DetailsNote, Event as EventNote};
+ghost use Rattle.mds_memory.specs.declared.stored_notes.Note.TheVariants.{Details as DetailsNote, Event as EventNote, Holiday as HolidayNote};
 
 use mds_terms::{Day, Details, Event, EventRef, Moment, PrintableText, Stream};
 use mds_world::Detail;
 use std::alloc::{AllocError, Global};
 use std::collections::BTreeSet;
 
-/// What is kept beside a day's head and versions.
+/// What is kept beside the books of days and the jobs.
 #[derive(PartialEq, Eq, PartialOrd, Ord, Drop)]
 pub(crate) enum Note {
     Details(Detail),
     Event(Event),
+    Holiday(Day),
 }
 
 impl Note {
@@ -34,6 +35,7 @@ impl Note {
         match self {
             Note::Details(detail) => Ok(Note::Details(detail.try_clone()?)),
             Note::Event(event) => Ok(Note::Event(event.try_clone()?)),
+            Note::Holiday(day) => Ok(Note::Holiday(*day)),
         }
     }
 
@@ -63,20 +65,26 @@ impl Note {
     }
 }
 
-/// Details and events as notes.
+/// Details, events and holidays as notes.
 pub(crate) fn notes_of(
     alloc: Global,
     details: Vec<Detail>,
     events: Vec<Event>,
+    holidays: Vec<Day>,
 ) -> Result<Vec<Note>, AllocError>
-    ensures { IfOk result (λ notes. map note_fact notes.items ≡ map DetailIs details.items ++ map EventIs events.items) }
+    ensures { IfOk result (λ notes. map note_fact notes.items
+        ≡ map DetailIs details.items ++ map EventIs events.items ++ map HolidayIs holidays.items) }
 {
-    let mut notes = Vec::with_capacity(alloc, details.len().saturating_add(events.len()))?;
+    let count = details.len().saturating_add(events.len());
+    let mut notes = Vec::with_capacity(alloc, count.saturating_add(holidays.len()))?;
     for detail in details {
         notes.push(Note::Details(detail))?;
     }
     for event in events {
         notes.push(Note::Event(event))?;
+    }
+    for day in holidays {
+        notes.push(Note::Holiday(day))?;
     }
     Ok(notes)
 }
@@ -229,6 +237,27 @@ fn has_note(notes: &BTreeSet<Note>, note: &Note) -> bool
     ensures { IsTrue result ↔ (note_fact note.now ∈ notes_world notes.now) }
 {
     notes.contains(note)
+}
+
+/// The holidays, ascending, each once.
+pub(crate) fn holidays_of(alloc: Global, notes: &BTreeSet<Note>) -> Result<Vec<Day>, AllocError>
+    ensures { IfOk result (λ days. AreHolidays (notes_world notes.now) days.items) }
+{
+    let mut days = Vec::new(alloc);
+    for note in notes.range(first_holiday()..) {
+        let Note::Holiday(day) = note else {
+            break;
+        };
+        days.push(*day)?;
+    }
+    Ok(days)
+}
+
+/// The note of a holiday that stands before all others.
+fn first_holiday() -> Note
+    ensures { result ≡ HolidayNote 0 }
+{
+    Note::Holiday(Day::from_number(0).unwrap())
 }
 
 /// The streams that have details, ascending, each once.

@@ -5,9 +5,10 @@ ghost use Rattle.std.specs.Prelude.{◌≡◌};
 ghost use Rattle.std.specs.IoError.{error_kind};
 
 use mds_desk::{Outcome, Status, check};
-use mds_files::{import, init};
+use mds_files::{ask, init};
 use mds_lines::Counted;
 use mds_records::FileKind;
+use mds_requests::FileCommand;
 use mds_words::{Input, Words, WordsFault, read_words};
 use std::io::{ErrorKind, Read};
 use std::{env, fs, io};
@@ -34,7 +35,11 @@ fn outcome_of_call(rt: &HostRuntime) -> Outcome {
     match read_words(rt.alloc(), words.as_slice()) {
         Ok(Words::Check { input }) => check_input(rt, input),
         Ok(Words::Init { store }) => init(rt, store),
-        Ok(Words::Import { store, input }) => import_input(rt, store, input),
+        Ok(Words::Import { store, input }) => ask_input(rt, store, FileCommand::Import, input),
+        Ok(Words::Substitute { store, input }) => {
+            ask_input(rt, store, FileCommand::Substitute, input)
+        }
+        Ok(Words::Holidays { store, input }) => ask_input(rt, store, FileCommand::Holidays, input),
         Err(WordsFault::Memory) => Outcome::Unavailable,
         Err(WordsFault::Text(text)) => usage(rt, text.as_str()),
     }
@@ -76,12 +81,12 @@ fn check_reader(rt: &HostRuntime, reader: impl Read + Drop) -> Outcome {
     Outcome::of_check(check(rt.alloc(), FileKind::Nem12, &mut reader, &mut writer))
 }
 
-/// Imports an input into a store.
-fn import_input(rt: &HostRuntime, store: &str, input: Input<'_>) -> Outcome {
+/// Asks a store for what an input says.
+fn ask_input(rt: &HostRuntime, store: &str, command: FileCommand, input: Input<'_>) -> Outcome {
     match input {
-        Input::Standard => import(rt, store, rt.reader()),
+        Input::Standard => ask(rt, store, command, rt.reader()),
         Input::File(name) => match fs::open(rt, name) {
-            Ok(file) => import(rt, store, file),
+            Ok(file) => ask(rt, store, command, file),
             Err(_) => Outcome::NoInput,
         },
     }

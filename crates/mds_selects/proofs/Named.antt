@@ -1,5 +1,5 @@
 -- The facts of a World that rows name, kind by kind.
-use Rattle.std.specs.Prelude.{◌≡◌, ◌↔◌, List, ◌++◌, map, refl}
+use Rattle.std.specs.Prelude.{◌≡◌, ◌↔◌, ℕ, List, ◌++◌, map, refl}
 use Rattle.std.proofs.Common.{sym, subst, inl, inr}
 use Rattle.sqlite_trees.specs.Tree.{Trees}
 use Rattle.sqlite_value.specs.Order.{Row}
@@ -8,7 +8,7 @@ use Rattle.mds_terms.specs.Event.{EventValue}
 use Rattle.mds_world.specs.declared.facts.Detail.{Detail}
 use Rattle.mds_world.specs.declared.facts.Head.{Head}
 use Rattle.mds_world.specs.declared.facts.Key.{Key}
-use Rattle.mds_world.specs.Facts.{Fact, PeriodKey, PeriodContent}
+use Rattle.mds_world.specs.Facts.{Fact, JobContent, PeriodKey, PeriodContent}
 use Rattle.mds_world.specs.Facts.Fact.{DetailIs, EventIs, HeadIs, HolidayIs, JobIs, PeriodIs, VersionIs}
 use Rattle.mds_world.specs.Lists.{Member, append_left, append_right, in_map, map_in, member_append}
 use Rattle.mds_world.specs.Members.{in_list, list_in}
@@ -141,4 +141,19 @@ module _ (trees : Trees) where
     (λ m. is_named (PeriodIs k c) (in_list _ _ m)),
     (λ n. list_in (facts_in trees) (PeriodIs k c) (append_left (PeriodIs k c) six jobs (append_left (PeriodIs k c) five holidays
         (append_right (PeriodIs k c) four periods (names period_fact (trees 10) _ n))))),
+  )
+
+  pub of_holiday : (day : ℕ) → (HolidayIs day ∈ world_in trees) ↔ Names holiday_fact (trees 12) (HolidayIs day)
+  of_holiday day = (
+    (λ m. is_named (HolidayIs day) (in_list _ _ m)),
+    (λ n. list_in (facts_in trees) (HolidayIs day) (append_left (HolidayIs day) six jobs
+        (append_right (HolidayIs day) five holidays (names holiday_fact (trees 12) _ n)))),
+  )
+
+  pub of_job : (id : List ℕ) (c : JobContent) (count : ℕ)
+      → (JobIs id c count ∈ world_in trees) ↔ Names job_fact (trees 14) (JobIs id c count)
+  of_job id c count = (
+    (λ m. is_named (JobIs id c count) (in_list _ _ m)),
+    (λ n. list_in (facts_in trees) (JobIs id c count) (append_right (JobIs id c count) six jobs
+        (names job_fact (trees 14) _ n))),
   )

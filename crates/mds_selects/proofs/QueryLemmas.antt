@@ -25,7 +25,7 @@ use Rattle.mds_world.specs.declared.facts.Detail.{Detail}
 use Rattle.mds_world.specs.Lists.{Member}
 use Rattle.mds_tables.specs.Cells.{day_cells, detail_cells, event_cells, optional_cell, stream_cells}
 use Rattle.mds_tables.specs.Stores.{ChangesNothing, Finds, Selects, SelectsAll}
-use Rattle.mds_tables.specs.Tables.{detail_table, event_table, head_table, number, period_table, schema_1, version_table}
+use Rattle.mds_tables.specs.Tables.{detail_table, event_table, head_table, holiday_table, job_table, number, period_table, schema_1, version_table}
 use Rattle.mds_tables.proofs.CallLemmas.{not_run}
 use Rattle.mds_selects.proofs.KeyLemmas.{tests}
 use Rattle.mds_selects.proofs.MemberLemmas.{all_has, selects, selects_all}
@@ -124,6 +124,18 @@ module _ (db : Trees) (sound : IsSound schema_1 db) (row : Row) where
   period_typed m =
       let fits = (sound.obeys.rules Datatype).1.1.1.1.1.0 in
       let it = kept period_table (db 10) fits (sound.obeys.rules NotNull).1.1.1.1.1.0 m in
+      record { typed = (both _ _ it.0).0; present = it.1 }
+
+  pub holiday_typed : Member row (db 12) → AreTyped holiday_table.columns row
+  holiday_typed m =
+      let fits = (sound.obeys.rules Datatype).1.1.1.1.1.1.0 in
+      let it = kept holiday_table (db 12) fits (sound.obeys.rules NotNull).1.1.1.1.1.1.0 m in
+      record { typed = (both _ _ it.0).0; present = it.1 }
+
+  pub job_typed : Member row (db 14) → AreTyped job_table.columns row
+  job_typed m =
+      let fits = (sound.obeys.rules Datatype).1.1.1.1.1.1.1.0 in
+      let it = kept job_table (db 14) fits (sound.obeys.rules NotNull).1.1.1.1.1.1.1.0 m in
       record { typed = (both _ _ it.0).0; present = it.1 }
 
 -- ---- the keys of the queries

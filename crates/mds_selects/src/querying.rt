@@ -350,7 +350,7 @@ fn add_event(alloc: Global, found: &mut BTreeSet<Event>, row: &Row) -> Result<()
 }
 
 /// Puts one more into a set.
-fn put<T: Ord + Drop>(found: &mut BTreeSet<T>, item: T) -> Result<(), Unavailable>
+pub fn put<T: Ord + Drop>(found: &mut BTreeSet<T>, item: T) -> Result<(), Unavailable>
     ensures { IsAntisymmetric T.cmp → OnOk result ((q : T) → Member q found.new.keys ↔ (Member q found.old.keys ⊎ (q ≡ item))) }
 {
     match found.insert(item) {
@@ -360,7 +360,7 @@ fn put<T: Ord + Drop>(found: &mut BTreeSet<T>, item: T) -> Result<(), Unavailabl
 }
 
 /// All of a set, in their order.
-fn in_order<T: Ord + Drop>(alloc: Global, found: BTreeSet<T>) -> Result<Vec<T>, Unavailable>
+pub fn in_order<T: Ord + Drop>(alloc: Global, found: BTreeSet<T>) -> Result<Vec<T>, Unavailable>
     ensures same { IfOk result (λ all. all.items ≡ found.keys) }
     ensures ascending { IfOk result (λ all. AllPairs (λ a b. T.cmp a b ≡ Less) all.items) }
     ensures apart { IfOk result (λ all. Apart all.items) }

@@ -37,7 +37,7 @@ use sqlite::types::ValueRef;
 use std::alloc::Global;
 
 /// The text in a column.
-fn text_at<'a>(row: &'a Row, at: usize) -> Option<&'a [u8]>
+pub fn text_at<'a>(row: &'a Row, at: usize) -> Option<&'a [u8]>
     ensures some { IfSome result (λ text. column row.now at ≡ Text text.now) }
     ensures none { IfNone result ((text : List ℕ) → column row.now at ≢ Text text) }
 {
@@ -48,7 +48,7 @@ fn text_at<'a>(row: &'a Row, at: usize) -> Option<&'a [u8]>
 }
 
 /// The number in a column.
-fn int_at(row: &Row, at: usize) -> Option<i64>
+pub fn int_at(row: &Row, at: usize) -> Option<i64>
     ensures some { IfSome result (λ number. column row.now at ≡ Int number) }
     ensures none { IfNone result ((number : ℤ) → column row.now at ≢ Int number) }
 {
@@ -86,7 +86,7 @@ pub(crate) fn stream_in(row: &Row) -> Option<Stream>
 }
 
 /// The day in a column.
-fn day_at(row: &Row, at: usize) -> Option<Day>
+pub fn day_at(row: &Row, at: usize) -> Option<Day>
     ensures some { IfSome result (λ day. column row.now at ≡ Int (pos day)) }
     ensures none { IfNone result ((day : ℕ) → IsDay day → column row.now at ≢ number_cell day) }
 {

@@ -18,13 +18,13 @@ use Rattle.mds_world.specs.declared.facts.StreamDay.{StreamDay}
 use Rattle.mds_world.specs.Counts.{countable, is_counted}
 use Rattle.mds_world.specs.FactOrder.{exact, fact_cmp, total}
 use Rattle.mds_world.specs.Facts.{Fact}
-use Rattle.mds_world.specs.Facts.Fact.{HeadIs, DetailIs, EventIs}
+use Rattle.mds_world.specs.Facts.Fact.{HeadIs, DetailIs, EventIs, HolidayIs}
 use Rattle.mds_world.specs.Lists.{Apart, Member, append_left, append_right, apart_append, in_map, member_append}
 use Rattle.mds_world.specs.Members.{in_list, in_union, len_list, list_in, same_by, union_left, union_right}
 use Rattle.mds_world.specs.Sets.{◌∈◌, difference_in, in_difference, in_intersection, in_retain, intersection_in, len_union, retain_in, not_in_empty}
 use Rattle.mds_world.specs.World.{IsOn, World, union}
 use Rattle.mds_versions.specs.Books.{book_world}
-use Rattle.mds_versions.specs.Content.{content_facts, version_fact}
+use Rattle.mds_versions.specs.Content.{content_facts, job_fact, version_fact}
 use Rattle.mds_versions.specs.DayMerges.{DayMergeValue, Settles}
 use Rattle.mds_versions.specs.Queries.{stream_cmp}
 use Rattle.mds_versions.specs.declared.additions.Additions.{Additions}
@@ -60,6 +60,8 @@ pub record IsPart (all rest : List Entry) (a : Additions) (known : ℕ) : Type 0
   pub split : all ≡ done ++ rest
   pub no_details : a.details.items ≡ []
   pub no_events : a.events.items ≡ []
+  pub no_holidays : a.holidays.items ≡ []
+  pub no_jobs : a.jobs.items ≡ []
   pub within : (f : Fact) → Member f (day_facts a) → (e : Entry) × Member e done × (f ∈ new_of e.1)
   pub whole : (e : Entry) → Member e done → (f : Fact) → f ∈ new_of e.1 → Member f (day_facts a)
   pub apart : SayApart done → Apart (day_facts a)
@@ -154,6 +156,8 @@ part_more all left rest old new known more sum e p is s count =
       split = p.split ∙ ap (λ l. p.done ++ l) is ∙ append_one p.done e rest;
       no_details = ap (λ v. v.items) s.same_details ∙ p.no_details;
       no_events = ap (λ v. v.items) s.same_events ∙ p.no_events;
+      no_holidays = ap (λ v. v.items) s.same_holidays ∙ p.no_holidays;
+      no_jobs = ap (λ v. v.items) s.same_jobs ∙ p.no_jobs;
       within = λ f m. elim (in_merge a b c d f (subst (Member f) facts m)) [
         | inl n ↦ let r = p.within f n in (r.0, append_left r.0 p.done (e ∷ []) r.1, r.2)
         | inr n ↦ (e, append_right e p.done (e ∷ []) (inl refl), mine f n)
@@ -197,12 +201,18 @@ part_start all rest a e none =
     let v = map version_fact a.versions.items in
     let d = map DetailIs a.details.items in
     let t = map EventIs a.events.items in
-    let left = nothing_left (h ++ v ++ d) t none in
+    let l = map HolidayIs a.holidays.items in
+    let j = map job_fact a.jobs.items in
+    let listed = nothing_left (h ++ v ++ d ++ t ++ l) j none in
+    let told = nothing_left (h ++ v ++ d ++ t) l listed in
+    let left = nothing_left (h ++ v ++ d) t told in
     let facts : day_facts a ≡ [] = nothing_left (h ++ v) d left in record {
       done = [];
       split = sym e;
       no_details = nothing_in DetailIs a.details.items (nothing_right (h ++ v) d left);
-      no_events = nothing_in EventIs a.events.items (nothing_right (h ++ v ++ d) t none);
+      no_events = nothing_in EventIs a.events.items (nothing_right (h ++ v ++ d) t told);
+      no_holidays = nothing_in HolidayIs a.holidays.items (nothing_right (h ++ v ++ d ++ t) l listed);
+      no_jobs = nothing_in job_fact a.jobs.items (nothing_right (h ++ v ++ d ++ t ++ l) j none);
       within = λ f m. absurd (subst (Member f) facts m);
       whole = λ x m f k. absurd m;
       apart = λ say. subst Apart (sym facts) tt;
@@ -401,6 +411,8 @@ module _ {R : StreamDay → StreamDay → Ordering} (o : IsTotalOrder R) (w fact
       ]) in record {
         no_details = p.no_details;
         no_events = p.no_events;
+        no_holidays = p.no_holidays;
+        no_jobs = p.no_jobs;
         apart = apart;
         just = same_by _ _
             (λ f h. new_facts a known p f (in_list (day_facts a) f h))

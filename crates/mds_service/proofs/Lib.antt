@@ -1,3 +1,8 @@
+mod Contexts
+mod Listed
+mod ListedWorld
+mod Puts
+mod Substituted
 mod Adding
 mod Committed
 mod Sifting

@@ -36,6 +36,8 @@ cut_last a (x ∷ rs) (y ∷ ss) b w r s left run cut = inr (cut_last run.0 rs s
 -- Unavailable changes nothing
 idle : (a : World) (r : Request) (b : World) → Step a r told.Unavailable b → b ≡ a
 idle a (asked.Import kind bytes) b step = step
+idle a (asked.Substitute job) b step = step.1
+idle a (asked.Holidays days) b step = step
 idle a (asked.Day stream day) b step = step.1
 idle a (asked.Versions stream day interval) b step = step.1
 idle a asked.Streams b step = step.1

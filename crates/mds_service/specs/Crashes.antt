@@ -1,12 +1,11 @@
 -- What a crash leaves of a store (profile): the World after the answers that were given, or that World with one more whole
 -- request whose answer was Unavailable.
-use Rattle.std.specs.Prelude.{◌≡◌, ◌≢◌, ◌⊎◌, ℕ, List, ◌∷◌}
-use Rattle.mds_records.specs.declared.file.FileKind.{FileKind}
+use Rattle.std.specs.Prelude.{◌≡◌, ◌≢◌, ◌⊎◌, List, ◌∷◌}
 use Rattle.mds_world.specs.World.{IsLawful, World}
 use Rattle.mds_service.specs.declared.request.Request.{Request}
 use Rattle.mds_service.specs.declared.request.Answer.{Answer}
 use Rattle.mds_service.specs.declared.request.Answer.TheVariants as told
-use Rattle.mds_service.specs.Machine.{ImportStep, Step}
+use Rattle.mds_service.specs.Machine.{Step}
 
 -- The answer was Unavailable, and this is the World that another answer would have made.
 abbrev pub IsCut : World → Request → Answer → World → Type 0
@@ -36,18 +35,17 @@ Goes was_sound is_sound old new could_leave may_leave request answer =
     → (v : World) × IsLawful v × Step w request answer v × (is_sound → new ≡ v)
     × ((left : World) → may_leave left → Leaves (could_leave left) w v request answer left)
 
--- After an import: the World, what could be left before where the World is the same, or where the answer is Unavailable
--- the World that another answer would have made.
-abbrev pub LeavesImport : Type 0 → World → World → FileKind → List ℕ → Answer → World → Type 0
-LeavesImport before old new kind text answer left =
+-- The same of a step by what a request holds: after it the World, what could be left before where the World is the same, or where
+-- the answer is Unavailable the World that another answer would have made.
+abbrev pub LeavesBy : Type 0 → World → World → (World → Answer → World → Type 0) → Answer → World → Type 0
+LeavesBy before old new step answer left =
     (left ≡ new) ⊎ (((new ≡ old) × before) ⊎ ((answer ≡ told.Unavailable)
-    × (wanted : Answer) × (wanted ≢ told.Unavailable) × ImportStep old kind text wanted left))
+    × (wanted : Answer) × (wanted ≢ told.Unavailable) × step old wanted left))
 
--- An import over a store that keeps some lawful World where it is sound: a step of the machine to a lawful one that is
--- kept where it is sound.
-abbrev pub ImportGoes : Type 0 → Type 0 → World → World → (World → Type 0) → (World → Type 0) → FileKind → List ℕ
-    → Answer → Type 0
-ImportGoes was_sound is_sound old new could_leave may_leave kind text answer =
+-- From a store that keeps some lawful World where it is sound, such a step to a lawful one that is kept where it is sound.
+abbrev pub GoesBy : Type 0 → Type 0 → World → World → (World → Type 0) → (World → Type 0)
+    → (World → Answer → World → Type 0) → Answer → Type 0
+GoesBy was_sound is_sound old new could_leave may_leave step answer =
     (w : World) → IsLawful w → (was_sound → old ≡ w)
-    → (v : World) × IsLawful v × ImportStep w kind text answer v × (is_sound → new ≡ v)
-    × ((left : World) → may_leave left → LeavesImport (could_leave left) w v kind text answer left)
+    → (v : World) × IsLawful v × step w answer v × (is_sound → new ≡ v)
+    × ((left : World) → may_leave left → LeavesBy (could_leave left) w v step answer left)

@@ -1,5 +1,9 @@
 pub mod Crashes
 pub mod Gathering
+pub mod Holidays
 pub mod Imports
+pub mod ListingSteps
 pub mod Machine
 pub mod Readings
+pub mod Substitution
+pub mod SubstitutionSteps

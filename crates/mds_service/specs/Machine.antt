@@ -30,6 +30,8 @@ use Rattle.mds_service.specs.declared.request.Answer.TheVariants as told
 use Rattle.mds_service.specs.declared.request.DayAnswer.{DayAnswer}
 use Rattle.mds_service.specs.declared.request.StreamAnswer.{StreamAnswer}
 use Rattle.mds_service.specs.declared.request.VersionsAnswer.{VersionsAnswer}
+use Rattle.mds_service.specs.Holidays.{HolidaysStep}
+use Rattle.mds_service.specs.Substitution.{SubstituteStep}
 
 -- the fault of a file of a kind, if it isn't well formed
 abbrev pub fault_in : FileKind → List ℕ → Option FileFault
@@ -116,6 +118,8 @@ TellsStreams w answer = ⊥
 -- One request: the World before, the answer, and the World after. A query changes nothing.
 abbrev pub Step : World → Request → Answer → World → Type 0
 Step old (asked.Import kind bytes) answer new = ImportStep old kind bytes.items answer new
+Step old (asked.Substitute job) answer new = SubstituteStep old job answer new
+Step old (asked.Holidays days) answer new = HolidaysStep old days.items answer new
 Step old (asked.Day stream day) answer new = TellsDay old stream day answer × (new ≡ old)
 Step old (asked.Versions stream day interval) answer new =
     TellsVersions old stream day interval answer × (new ≡ old)

@@ -3,8 +3,8 @@
 ghost use Rattle.std.specs.Prelude.{◌≡◌, None, Some, Err, IfOk};
 ghost use Rattle.mds_records.specs.declared.file.FileFault.{FileFault};
 ghost use Rattle.mds_statements.specs.Delivered.{delivery_statements};
-ghost use Rattle.mds_service.specs.Crashes.{ImportGoes};
-ghost use Rattle.mds_service.specs.Machine.{fault_in, stated_in};
+ghost use Rattle.mds_service.specs.Crashes.{GoesBy};
+ghost use Rattle.mds_service.specs.Machine.{ImportStep, fault_in, stated_in};
 
 use crate::gathering::{Gathered, gather};
 use crate::news::{new_details, new_events};
@@ -28,8 +28,8 @@ pub(crate) fn import<K: Keeper>(
 
     // It is a step of the machine, and a crash leaves what it left before, the World after it, or where the answer is
     // Unavailable the World that another answer would have made.
-    ensures step { K.honest keeper.new → ImportGoes (K.sound keeper.old) (K.sound keeper.new) (K.world keeper.old)
-        (K.world keeper.new) (K.may_leave keeper.old) (K.may_leave keeper.new) kind text.now result }
+    ensures step { K.honest keeper.new → GoesBy (K.sound keeper.old) (K.sound keeper.new) (K.world keeper.old)
+        (K.world keeper.new) (K.may_leave keeper.old) (K.may_leave keeper.new) (λ w. ImportStep w kind text.now) result }
 {
     let delivery = match read(alloc, kind, text) {
         Ok(delivery) => delivery,

@@ -1,5 +1,6 @@
 //! Requests, and their answers.
 
+use mds_jobs::Job;
 use mds_marks::Reading;
 use mds_quantity::Unit;
 use mds_records::{FileFault, FileKind};
@@ -14,6 +15,10 @@ pub enum Request {
         kind: FileKind,
         bytes: Vec<u8>,
     },
+    /// To fill in what a substitution job asks for.
+    Substitute(Job),
+    /// To list days as holidays beside those that are listed.
+    Holidays(Vec<Day>),
     /// For a day's current readings.
     Day {
         stream: Stream,
@@ -34,6 +39,12 @@ pub enum Request {
 pub enum Answer {
     /// The file is taken in: so many of its versions are new, and so many were there.
     Imported { added: u64, known: u64 },
+    /// The job is done: so many intervals are filled in.
+    Substituted { count: u64 },
+    /// The job was done before: so many intervals were filled in then. Nothing is changed.
+    Known { count: u64 },
+    /// All the days are listed now: so many of them are new, and so many were listed. A day that comes twice counts once.
+    HolidaysAdded { added: u64, known: u64 },
     Day(DayAnswer),
     Versions(VersionsAnswer),
     /// The known streams, in the order of their bytes.

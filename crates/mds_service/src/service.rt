@@ -6,8 +6,10 @@ ghost use Rattle.mds_service.specs.Crashes.{Goes, MayLeave};
 ghost use Rattle.mds_service.specs.Machine.{Run};
 
 use crate::importing::import;
+use crate::listing::list_holidays;
 use crate::queries::{day, streams, versions};
 use crate::request::{Answer, Request};
+use crate::substituting::substitute;
 use mds_versions::Keeper;
 use std::alloc::{AllocError, Global};
 
@@ -25,6 +27,8 @@ pub fn apply<K: Keeper>(alloc: Global, keeper: &mut K, request: &Request) -> Ans
 {
     match request {
         Request::Import { kind, bytes } => import(alloc, keeper, *kind, bytes),
+        Request::Substitute(job) => substitute(alloc, keeper, job),
+        Request::Holidays(days) => list_holidays(alloc, keeper, days),
         Request::Day { stream, day: date } => day(alloc, keeper, *stream, *date),
         Request::Versions {
             stream,

@@ -8,7 +8,9 @@ ghost use Rattle.mds_tables.specs.RowFacts.{world_in};
 ghost use Rattle.mds_tables.specs.Stores.{Holds, world_of};
 ghost use Rattle.mds_store.specs.Props.{Holds-prop, settles};
 
-use mds_inserts::commit;
+use mds_inserts::{commit, job_rows};
+use mds_jobs::{Job, JobId};
+use mds_lists::{holidays_of, job_of};
 use mds_selects::{
     current_details, events_of, has_details, has_event, head_of, streams, versions_of,
 };
@@ -93,7 +95,18 @@ impl<S: Alter> Keeper for RowKeeper<S> {
         has_event(&mut self.conn, event)
     }
 
+    fn holidays(&mut self) -> Result<Vec<Day>, Unavailable> {
+        holidays_of(self.alloc, &mut self.conn)
+    }
+
+    fn job(&mut self, id: JobId) -> Result<Option<(Job, u64)>, Unavailable> {
+        job_of(self.alloc, &mut self.conn, id)
+    }
+
     fn commit(&mut self, additions: Additions) -> Result<(), Unavailable> {
-        commit(&mut self.conn, &additions).map_err(|_| Unavailable)
+        let Ok(jobs) = job_rows(self.alloc, &additions.jobs) else {
+            return Err(Unavailable);
+        };
+        commit(&mut self.conn, &additions, &jobs).map_err(|_| Unavailable)
     }
 }

@@ -1,6 +1,6 @@
 -- From the library's words for a failure to its cause.
-use Rattle.std.proofs.Common.{◌≡◌, ◌⊎◌, ◌≤◌, inl, inr, ℕ, List, [], ◌||◌, length, true, false, not, ◌&&◌, is_some, Bool, IsTrue, Option, None, Some, Ok, Err, Result, refl, sym, ap, subst, subst₂, ◌∙◌, arith}
-use Rattle.std.proofs.lemmas.Bool.{both_ways, cases_Bool}
+use Rattle.std.proofs.Common.{◌≡◌, ◌⊎◌, ◌≤◌, inl, inr, ℕ, List, [], ◌||◌, length, false, not, ◌&&◌, is_some, IsTrue, Option, None, Some, Ok, Err, Result, sym, ap, subst, ◌∙◌, arith}
+use Rattle.std.proofs.lemmas.Bool.{both_ways}
 use Rattle.std.proofs.lemmas.List.{append-nil}
 use Rattle.sqlite.specs.Command.{Command}
 use Rattle.sqlite.specs.Command.TheVariants.{CreateTable, Insert}
@@ -9,7 +9,7 @@ use Rattle.sqlite.specs.Effect.{is_query}
 use Rattle.sqlite.specs.Listing.{understood}
 use Rattle.sqlite.specs.Order.{Row}
 use Rattle.sqlite.specs.Schema.{Schema}
-use Rattle.sqlite.specs.State.{EndsScope, Escapes, ExecutesIn, ExecutesInside, Fails, HasCause, IsMisplaced, IsNotRun, IsNoStatement, RunsCommand, State, is_pragma, mode_of, shows_rows, text_of}
+use Rattle.sqlite.specs.State.{EndsScope, Escapes, ExecutesIn, ExecutesInside, Fails, HasCause, IsMisplaced, IsNotRun, IsNoStatement, RunsCommand, State, is_pragma, mode_of, text_of}
 use Rattle.sqlite.specs.declared.error.Error.{Error}
 use Rattle.sqlite.specs.Clock.{timed}
 use Rattle.sqlite.proofs.Callers.{IsPlain, command_of, statement_of}
@@ -18,7 +18,7 @@ use Rattle.sqlite_resolve.specs.declared.error.CompileError.{CompileError}
 use Rattle.sqlite_schema.specs.declared.command.Returning.{Returning}
 use Rattle.sqlite_trees.specs.declared.error.StoreError.{StoreError}
 use Rattle.sqlite_trees.specs.declared.error.StoreError.TheVariants.{OutOfMemory, Io, Corrupt, Full, Broken, Unstorable}
-use Rattle.mds_tables.specs.Causes.{HasFailed, IsBehind, IsCutOff, RanOut, StoreFails}
+use Rattle.mds_tables.specs.Causes.{HasFailed, IsBehind, RanOut, StoreFails}
 
 behind : (old new : State) (TooBig : Type 0) (e : StoreError) → HasCause old new TooBig e → IsBehind old new TooBig e
 unfolding RanOut

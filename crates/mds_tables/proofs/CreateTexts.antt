@@ -1,5 +1,5 @@
 -- What the texts that make the tables mean.
-use Rattle.std.proofs.Common.{◌≡◌, ◌<◌, ◌+◌, ◌*◌, ◌^◌, ◌==◌, ◌++◌, ℕ, List, [], ◌∷◌, codes, false, true, length, take, refl, Ok, IsUtf8, arith}
+use Rattle.std.proofs.Common.{◌≡◌, ◌<◌, ◌+◌, ◌*◌, ◌^◌, ◌++◌, ℕ, List, [], ◌∷◌, codes, false, true, length, take, refl, Ok, IsUtf8, arith}
 use Rattle.std.specs.List.{AllByRecursion}
 use Rattle.sqlite.specs.Change.{automatics, created, is_reserved, is_used, next_tree}
 use Rattle.sqlite.specs.Command.TheVariants.{CreateTable}

@@ -1,5 +1,5 @@
 -- The texts that make the tables, by their number.
-use Rattle.std.proofs.Common.{◌≡◌, ◌<◌, ◌+◌, inl, ℕ, zero, suc, List, [], Ok, Err, arith}
+use Rattle.std.proofs.Common.{◌≡◌, ◌<◌, ◌+◌, inl, ℕ, zero, suc, [], Ok, Err, arith}
 use Rattle.sqlite.specs.State.{ExecutesInside, HasCleanDisk, State}
 use Rattle.sqlite.specs.Table.{Table}
 use Rattle.sqlite.specs.declared.error.Error.{Error}

@@ -78,3 +78,31 @@ insert_event_is = refl
 pub insert_event_plain : IsPlain (understood schema_1 insert_event)
 unfolding understood everything
 insert_event_plain = (refl, refl)
+
+abbrev pub insert_holiday : List ℕ
+insert_holiday = codes "INSERT INTO mds_holiday (day) VALUES (?1)"
+
+abbrev pub holiday_terms : List Term
+holiday_terms = lit Null ∷ col 0 0 ∷ []
+
+pub insert_holiday_is : command_of (understood schema_1 insert_holiday) ≡ Insert 6 (Values holiday_terms 2)
+unfolding understood everything
+insert_holiday_is = refl
+
+pub insert_holiday_plain : IsPlain (understood schema_1 insert_holiday)
+unfolding understood everything
+insert_holiday_plain = (refl, refl)
+
+abbrev pub insert_job : List ℕ
+insert_job = codes "INSERT INTO mds_job (id, body, total) VALUES (?1, ?2, ?3)"
+
+abbrev pub job_terms : List Term
+job_terms = lit Null ∷ col 0 0 ∷ col 0 1 ∷ col 0 2 ∷ []
+
+pub insert_job_is : command_of (understood schema_1 insert_job) ≡ Insert 7 (Values job_terms 4)
+unfolding understood everything
+insert_job_is = refl
+
+pub insert_job_plain : IsPlain (understood schema_1 insert_job)
+unfolding understood everything
+insert_job_plain = (refl, refl)

@@ -8,7 +8,7 @@ use Rattle.std.proofs.lemmas.Bool.{both_ways}
 use Rattle.sqlite.proofs.StateLemmas.{survives_then}
 use Rattle.sqlite_catalog.specs.Listing.{IsSound}
 use Rattle.mds_tables.specs.Causes.{HasFailed}
-use Rattle.mds_tables.specs.Making.{HasMade, KeepsNothing, LeavesMade, MakesThere, SaysVersion, schema_of}
+use Rattle.mds_tables.specs.Making.{HasMade, KeepsNothing, LeavesMade, MakesThere, SaysVersion}
 use Rattle.mds_tables.specs.Stores.{IsReady}
 use Rattle.mds_tables.specs.Tables.{no_schema, schema_1}
 use Rattle.mds_tables.proofs.CallLemmas.{survives_more}

@@ -1,19 +1,17 @@
 -- That nothing but the limit of steps is against the row of mds_schema, where no table has a row.
-use Rattle.std.proofs.Common.{◌≡◌, inl, inr, ℕ, zero, suc, ◌<◌, ◌+◌, pos, Bool, List, [], ◌∷◌, length, true, false, None, Some, Option, Ok, Err, Result, IsSome, All, refl, sym, ap, subst, ◌∙◌, arith}
-use Rattle.std.proofs.lemmas.Bool.{both_ways}
+use Rattle.std.proofs.Common.{◌≡◌, inl, inr, ℕ, zero, suc, pos, List, [], ◌∷◌, length, true, false, None, Some, Option, Ok, Err, IsSome, All, refl, sym, ap, subst, ◌∙◌, arith}
 use Rattle.std.proofs.lemmas.Nat.Bits.{bit_at-zero}
 use Rattle.std.specs.Float.{NotNan}
-use Rattle.std.specs.List.{AllByRecursion, list_all}
+use Rattle.std.specs.List.{AllByRecursion}
 use Rattle.sqlite.specs.Command.TheVariants.{Insert}
 use Rattle.sqlite.specs.Does.{Does}
-use Rattle.sqlite.specs.Effect.{Database}
 use Rattle.sqlite.specs.Listing.{understood}
 use Rattle.sqlite.specs.Order.{Row}
 use Rattle.sqlite.specs.Rows.{Edited, Inserts, Outcome, Sourced, Task, Written, stamped}
 use Rattle.sqlite.specs.Source.{Source}
 use Rattle.sqlite.specs.declared.run.Mode.{Mode}
 use Rattle.sqlite.specs.Source.TheVariants.{Values}
-use Rattle.sqlite.specs.State.{ExecutesInside, State, mode_of}
+use Rattle.sqlite.specs.State.{ExecutesInside, State}
 use Rattle.sqlite.specs.Table.{Table}
 use Rattle.sqlite.specs.Tree.{Trees, put_row, with_tree}
 use Rattle.sqlite.specs.declared.error.Error.{Error}
@@ -32,12 +30,11 @@ use Rattle.sqlite_schema.specs.Rules.{Keeps, Refers, passes}
 use Rattle.sqlite_schema.specs.declared.schema.Among.TheVariants.{All as Whatever}
 use Rattle.sqlite_schema.specs.declared.schema.Constraint.TheVariants.{Check, Datatype, ForeignKey, NotNull, PrimaryKey, Unique}
 use Rattle.sqlite_schema.specs.declared.schema.Keys.TheVariants.{Enforced}
-use Rattle.sqlite_schema.specs.declared.schema.Reference.{Reference}
-use Rattle.sqlite_sql.specs.Ops.{binary, unary}
+use Rattle.sqlite_sql.specs.Ops.{binary}
 use Rattle.sqlite_trees.specs.View.{IsStorable}
 use Rattle.sqlite_value.specs.Keys.{first_key}
 use Rattle.sqlite_value.specs.Order.{number, value_cmp}
-use Rattle.mds_tables.specs.Causes.{HasFailed, IsCutOff}
+use Rattle.mds_tables.specs.Causes.{HasFailed}
 use Rattle.mds_tables.specs.Making.{AreEmpty}
 use Rattle.mds_tables.specs.Tables.{schema_1, schema_table, tables_1}
 use Rattle.mds_tables.proofs.CauseLemmas.{IsWhole, fails_until, stopped_as}

@@ -1,5 +1,5 @@
 -- The columns of the row that names a fact (profile), without a rowid.
-use Rattle.std.specs.Prelude.{ℕ, pos, negsuc, List, [], ◌∷◌, Option, Some, None, unwrap_or}
+use Rattle.std.specs.Prelude.{ℕ, ℤ, pos, negsuc, List, [], ◌∷◌, Option, Some, None, unwrap_or}
 use Rattle.sqlite_value.specs.Order.{Row}
 use Rattle.sqlite.specs.declared.types.Value.{Value}
 use Rattle.sqlite.specs.declared.types.Value.TheVariants.{Int, Text}
@@ -49,3 +49,10 @@ abbrev pub event_cells : EventValue → Row
 event_cells e =
     Text e.nmi ∷ Text e.suffix ∷ number_cell e.day ∷ Text (letter_text e.trans) ∷ Text e.ticket
     ∷ optional_cell e.moment ∷ Text e.reading ∷ []
+
+abbrev pub holiday_cells : ℕ → Row
+holiday_cells day = number_cell day ∷ []
+
+-- an id, a body, and a count
+abbrev pub job_cells : List ℕ → List ℕ → ℤ → Row
+job_cells id body count = Text id ∷ Text body ∷ Int count ∷ []

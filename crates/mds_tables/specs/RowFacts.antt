@@ -3,22 +3,16 @@
 use Rattle.std.specs.Prelude.{ℕ, ◌+◌, ◌^◌, ℤ, pos, negsuc, List, [], ◌∷◌, ◌++◌, map, Option, Some, None, unwrap_or, ◌==◌, if◌then◌else◌}
 use Rattle.std.proofs.Common.{suc, zero}
 use Rattle.std.specs.FinSet as set
-use Rattle.std.specs.List.{slice_index_or, slice_split}
-use Rattle.std.specs.Str.Parse.{digits_value}
-use Rattle.mds_calendar.specs.Calendar.{day_of, moment_of}
-use Rattle.mds_calendar.specs.Length.{length_of}
+use Rattle.std.specs.List.{slice_split}
 use Rattle.sqlite_rules.specs.Edit.{id_in}
 use Rattle.sqlite_trees.specs.Tree.{Trees}
 use Rattle.sqlite_value.specs.Order.{Row, bytes, column}
-use Rattle.mds_quantity.specs.Unit.{unit_of}
-use Rattle.mds_quantity.specs.declared.unit.Unit.{Unit as MeasureUnit}
-use Rattle.mds_quantity.specs.declared.unit.Unit.TheVariants.{MWh}
-use Rattle.mds_names.specs.Names.{is_comma}
 use Rattle.mds_names.specs.declared.stream.Stream.{Stream}
 use Rattle.mds_marks.specs.Quality.{QualityValue, null, quality_of}
 use Rattle.mds_marks.specs.Reading.{ReadingValue}
-use Rattle.mds_marks.specs.Reason.{code_of}
-use Rattle.mds_world.specs.Facts.{Fact, JobContent, PeriodContent}
+use Rattle.mds_jobs.specs.Bodies.{job_in, parts_of}
+pub use Rattle.mds_jobs.specs.Bodies.{unit_named}
+use Rattle.mds_world.specs.Facts.{Fact, PeriodContent}
 use Rattle.mds_world.specs.Facts.Fact.{DetailIs, EventIs, HeadIs, HolidayIs, JobIs, PeriodIs, VersionIs}
 use Rattle.mds_world.specs.World.{World}
 
@@ -48,10 +42,6 @@ optional_at row at = optional (int_at row at)
 -- the stream that the first two columns name
 abbrev pub stream_in : Row → Stream
 stream_in row = record { nmi = text_at row 1; suffix = text_at row 2 }
-
--- The unit of a text. A text that is none, which the store never writes, is taken as MWh.
-abbrev pub unit_named : List ℕ → MeasureUnit
-unit_named text = unwrap_or (unit_of text) MWh
 
 abbrev pub head_fact : Row → Fact
 head_fact row =
@@ -104,10 +94,6 @@ event_fact row = EventIs (record {
   reading = text_at row 7;
 })
 
--- the texts of a line between its commas
-abbrev pub parts_of : List ℕ → List (List ℕ)
-parts_of line = slice_split is_comma line
-
 -- What the lines of an accumulation's body say: the first its fields, and each other the texts of a note.
 abbrev pub content_in : List (List ℕ) → PeriodContent
 content_in [] = record { fields = []; notes = [] }
@@ -128,25 +114,7 @@ period_fact row =
 abbrev pub holiday_fact : Row → Fact
 holiday_fact row = HolidayIs (natural_at row 1)
 
--- What the texts of a job's body say: stream, day, first and last interval, length, unit, method, flag, reason and update.
--- For a text that is none of its kind, which the store never writes, there is a default.
-abbrev pub job_in : List (List ℕ) → JobContent
-job_in parts =
-    let part : ℕ → List ℕ = λ at. slice_index_or parts at [] in
-    record {
-      stream = record { nmi = part 0; suffix = part 1 };
-      day = unwrap_or (day_of (part 2)) 0;
-      first = digits_value 10 (part 3);
-      last = digits_value 10 (part 4);
-      length = unwrap_or (length_of (part 5)) 0;
-      unit = unit_named (part 6);
-      method = digits_value 10 (part 7);
-      flag = slice_index_or (part 8) 0 0;
-      code = unwrap_or (code_of (part 9)) None;
-      text = part 10;
-      update = unwrap_or (moment_of (part 11)) 0;
-    }
-
+-- a job's body says its content, text by text
 abbrev pub job_fact : Row → Fact
 job_fact row = JobIs (text_at row 1) (job_in (parts_of (text_at row 2))) (natural_at row 3)
 

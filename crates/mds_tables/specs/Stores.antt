@@ -10,7 +10,10 @@ use Rattle.mds_world.specs.Lists.{Member}
 use Rattle.mds_world.specs.World.{World, union}
 use Rattle.mds_versions.specs.Content.{content}
 use Rattle.mds_versions.specs.declared.additions.Additions.{Additions}
-use Rattle.mds_tables.specs.Cells.{detail_cells, event_cells, head_cells, version_cells}
+use Rattle.mds_jobs.specs.Bodies.{IsJobBody}
+use Rattle.mds_jobs.specs.Jobs.{content_of}
+use Rattle.mds_jobs.specs.declared.job.Job.{Job}
+use Rattle.mds_tables.specs.Cells.{detail_cells, event_cells, head_cells, holiday_cells, job_cells, version_cells}
 use Rattle.mds_tables.specs.RowFacts.{int_at, world_in}
 use Rattle.mds_tables.specs.Tables.{schema_1}
 
@@ -50,6 +53,18 @@ pub record AreOpen (old new : State) : Type 0 where
 abbrev pub Gains : ℕ → List Row → Trees → Trees → Type 0
 Gains tree rows old new = IsPermutation (map (drop 1) (old tree) ++ rows) (map (drop 1) (new tree))
 
+-- the row is that of the job, whose body is one that its content has
+abbrev pub IsJobRow : Job × ℕ → Row → Type 0
+IsJobRow job row =
+    (body : List ℕ) × IsJobBody (content_of job.0) body × (row ≡ job_cells job.0.id body (pos job.1))
+
+-- the row of each job, in their order
+abbrev pub AreJobRows : List (Job × ℕ) → List Row → Type 0
+AreJobRows [] [] = Unit {0}
+AreJobRows (job ∷ jobs) (row ∷ rows) = IsJobRow job row × AreJobRows jobs rows
+AreJobRows [] (row ∷ rows) = ⊥
+AreJobRows (job ∷ jobs) [] = ⊥
+
 -- Each table has the rows of its facts among the additions, column by column, beside those that were there, and no other.
 pub record Adds (old new : Trees) (additions : Additions) : Type 0 where
   pub schema : new 0 ≡ old 0
@@ -58,8 +73,8 @@ pub record Adds (old new : Trees) (additions : Additions) : Type 0 where
   pub details : Gains 6 (map detail_cells additions.details.items) old new
   pub events : Gains 8 (map event_cells additions.events.items) old new
   pub periods : new 10 ≡ old 10
-  pub holidays : new 12 ≡ old 12
-  pub jobs : new 14 ≡ old 14
+  pub holidays : Gains 12 (map holiday_cells additions.holidays.items) old new
+  pub jobs : (rows : List Row) × AreJobRows additions.jobs.items rows × Gains 14 rows old new
 
 -- The additions are committed to what was kept.
 pub record Commits (old new : State) (additions : Additions) : Type 0 where

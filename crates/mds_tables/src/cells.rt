@@ -1,11 +1,12 @@
 //! The columns of rows, lent from the terms that they say.
 
-ghost use Rattle.std.specs.Prelude.{◌≡◌, ◌≤◌, pos, take, unwrap_or};
+ghost use Rattle.std.specs.Prelude.{◌≡◌, ◌≤◌, [], ◌∷◌, pos, take, unwrap_or};
 ghost use Rattle.sqlite.specs.Values.{bound};
-ghost use Rattle.sqlite.specs.declared.types.Value.TheVariants.{Int};
+ghost use Rattle.sqlite.specs.declared.types.Value.TheVariants.{Int, Text};
 ghost use Rattle.mds_marks.specs.Quality.{quality_text};
 ghost use Rattle.mds_tables.specs.Cells as row;
 
+use mds_jobs::JobId;
 use mds_marks::Reading;
 use mds_terms::{Day, Event, Moment, Stream};
 use mds_world::{Detail, Head, Key};
@@ -151,4 +152,29 @@ pub fn letter_of(event: &Event) -> ([u8; 1], usize)
         Some(code) => ([code.letter()], 1),
         None => ([0], 0),
     }
+}
+
+/// The column of a holiday.
+pub fn holiday_cells(day: Day) -> [ValueRef<'static>; 1]
+    ensures { bound result ≡ row.holiday_cells day }
+{
+    [ValueRef::Int(day.number())]
+}
+
+/// The column that names a job.
+pub fn id_cells<'a>(id: &'a JobId) -> [ValueRef<'a>; 1]
+    ensures { bound result ≡ Text id.now ∷ [] }
+{
+    [ValueRef::Text(id.text().as_bytes())]
+}
+
+/// The columns of a job, of which the body is given.
+pub fn job_cells<'a>(id: &'a JobId, body: &'a [u8], count: i64) -> [ValueRef<'a>; 3]
+    ensures { bound result ≡ row.job_cells id.now body.now count }
+{
+    [
+        ValueRef::Text(id.text().as_bytes()),
+        ValueRef::Text(body),
+        ValueRef::Int(count),
+    ]
 }

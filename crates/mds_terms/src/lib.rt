@@ -25,5 +25,6 @@ pub use mds_marks::{
     readings_read_back,
 };
 pub use mds_names::{Nmi, Stream, Suffix, names_read_back};
+pub use parts::write_joined;
 pub use printable::PrintableText;
 pub use trans_code::TransCode;

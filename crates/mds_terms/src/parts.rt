@@ -54,7 +54,7 @@ pub(crate) fn read_optional_trans(text: &[u8]) -> Option<Option<TransCode>>
 }
 
 /// Appends texts joined by commas. After an error a front of that may be appended.
-pub(crate) fn write_joined(out: &mut String, texts: &[&str]) -> Result<(), AllocError>
+pub fn write_joined(out: &mut String, texts: &[&str]) -> Result<(), AllocError>
     ensures done { OnOk result (Appends (string_bytes out.old) (string_bytes out.new)
         (joined (map (λ text. text.now) texts.now))) }
     ensures part { OnErr result (AppendsPart (string_bytes out.old) (string_bytes out.new)

@@ -11,14 +11,14 @@ use Rattle.mds_names.specs.declared.stream.Stream.{Stream}
 use Rattle.mds_world.specs.Counts.{countable, is_counted}
 use Rattle.mds_world.specs.FactOrder.{exact, fact_cmp, total}
 use Rattle.mds_world.specs.Facts.{Fact}
-use Rattle.mds_world.specs.Facts.Fact.{HeadIs, DetailIs, EventIs}
+use Rattle.mds_world.specs.Facts.Fact.{HeadIs, DetailIs, EventIs, HolidayIs}
 use Rattle.mds_world.specs.Lists.{Apart, Member, member_append, append_right, flat_in, in_flat, in_map}
 use Rattle.mds_world.specs.Members.{same_by, in_union, union_left, union_right, in_list, list_in, len_list}
 use Rattle.mds_world.specs.Sets.{◌∈◌, decided, difference_in, in_difference, in_retain, list_append, retain_in, union_empty}
 use Rattle.mds_world.specs.Stated.{day_facts}
 use Rattle.mds_world.specs.World.{Agrees, IsLawful, World, union}
 use Rattle.mds_versions.specs.Books.{BookValue, book_world}
-use Rattle.mds_versions.specs.Content.{content, content_facts, version_fact}
+use Rattle.mds_versions.specs.Content.{content, content_facts, job_fact, version_fact}
 use Rattle.mds_versions.specs.DayMerges.{AreAscending, DayMergeValue, IfRefused, IsPlan, Settles}
 use Rattle.mds_versions.specs.Merge.{Breaks, IsRefusal, claim_facts, claim_world, claims_upto, claims_world}
 use Rattle.mds_versions.specs.declared.additions.Additions.{Additions}
@@ -211,18 +211,28 @@ added_facts d old new known s e =
     let V = map version_fact old.versions.items in
     let D = map DetailIs old.details.items in
     let E = map EventIs old.events.items in
-    let e3 : (H ++ V) ++ D ≡ [] = nil_left ((H ++ V) ++ D) E e in
+    let L = map HolidayIs old.holidays.items in
+    let J = map job_fact old.jobs.items in
+    let e5 : (((H ++ V) ++ D) ++ E) ++ L ≡ [] = nil_left ((((H ++ V) ++ D) ++ E) ++ L) J e in
+    let e4 : ((H ++ V) ++ D) ++ E ≡ [] = nil_left (((H ++ V) ++ D) ++ E) L e5 in
+    let e3 : (H ++ V) ++ D ≡ [] = nil_left ((H ++ V) ++ D) E e4 in
     let e2 : H ++ V ≡ [] = nil_left (H ++ V) D e3 in
     let hs : old.heads.items ≡ [] = nil_map HeadIs old.heads.items (nil_left H V e2) in
     let vs : old.versions.items ≡ [] = nil_map version_fact old.versions.items (nil_right H V e2) in
     let ds : old.details.items ≡ [] = nil_map DetailIs old.details.items (nil_right (H ++ V) D e3) in
-    let es : old.events.items ≡ [] = nil_map EventIs old.events.items (nil_right ((H ++ V) ++ D) E e) in
+    let es : old.events.items ≡ [] = nil_map EventIs old.events.items (nil_right ((H ++ V) ++ D) E e4) in
+    let ls : old.holidays.items ≡ [] = nil_map HolidayIs old.holidays.items (nil_right (((H ++ V) ++ D) ++ E) L e5) in
+    let js : old.jobs.items ≡ [] = nil_map job_fact old.jobs.items (nil_right ((((H ++ V) ++ D) ++ E) ++ L) J e) in
     let h : new.heads.items ≡ s.heads = s.more_heads ∙ ap (λ l. l ++ s.heads) hs in
     let v : new.versions.items ≡ s.versions = s.more_versions ∙ ap (λ l. l ++ s.versions) vs in
     let x : new.details.items ≡ [] = ap (λ k. k.items) s.same_details ∙ ds in
-    let y : new.events.items ≡ [] = ap (λ k. k.items) s.same_events ∙ es in (
-      (λ i. map HeadIs (h i) ++ map version_fact (v i) ++ map DetailIs (x i) ++ map EventIs (y i))
-          ∙ append-nil ((map HeadIs s.heads ++ map version_fact s.versions) ++ []) ∙ append-nil (map HeadIs s.heads ++ map version_fact s.versions),
+    let y : new.events.items ≡ [] = ap (λ k. k.items) s.same_events ∙ es in
+    let z : new.holidays.items ≡ [] = ap (λ k. k.items) s.same_holidays ∙ ls in
+    let w : new.jobs.items ≡ [] = ap (λ k. k.items) s.same_jobs ∙ js in
+    let N = map HeadIs s.heads ++ map version_fact s.versions in (
+      (λ i. map HeadIs (h i) ++ map version_fact (v i) ++ map DetailIs (x i) ++ map EventIs (y i) ++ map HolidayIs (z i)
+          ++ map job_fact (w i))
+          ∙ append-nil (((N ++ []) ++ []) ++ []) ∙ append-nil ((N ++ []) ++ []) ∙ append-nil (N ++ []) ∙ append-nil N,
       v,
     )
 

@@ -1,7 +1,8 @@
 //! What is added to a World.
 
+use mds_jobs::Job;
 use mds_marks::Reading;
-use mds_terms::Event;
+use mds_terms::{Day, Event};
 use mds_world::{Detail, Head, Key};
 use std::alloc::Global;
 
@@ -13,6 +14,9 @@ pub struct Additions {
     pub versions: Vec<(Key, Reading)>,
     pub details: Vec<Detail>,
     pub events: Vec<Event>,
+    pub holidays: Vec<Day>,
+    /// The substitution jobs, each with the count of the readings that it made.
+    pub jobs: Vec<(Job, u64)>,
 }
 
 impl Additions {
@@ -28,6 +32,8 @@ impl Additions {
             versions: Vec::new(alloc),
             details: Vec::new(alloc),
             events: Vec::new(alloc),
+            holidays: Vec::new(alloc),
+            jobs: Vec::new(alloc),
         }
     }
 }

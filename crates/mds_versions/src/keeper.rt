@@ -7,10 +7,11 @@ ghost use Rattle.mds_world.specs.Sets.{◌∈◌};
 ghost use Rattle.mds_world.specs.World.{World, IsLawful, union};
 ghost use Rattle.mds_versions.specs.Books.{IsDay};
 ghost use Rattle.mds_versions.specs.Content.{AreNew, content};
-ghost use Rattle.mds_versions.specs.Queries.{AreEventsOf, AreKnownStreams};
+ghost use Rattle.mds_versions.specs.Queries.{AreEventsOf, AreHolidays, AreKnownStreams, IsJobOf};
 
 use crate::additions::Additions;
 use crate::day_book::DayBook;
+use mds_jobs::{Job, JobId};
 use mds_terms::{Day, Details, Event, Stream};
 use mds_world::Detail;
 
@@ -89,6 +90,24 @@ pub trait Keeper {
         ensures before { sound self.new → sound self.old }
         ensures open { honest self.new → OnOk result (sound self.new) }
         ensures has { sound self.new → IfOk result (λ has. IsTrue has ↔ (EventIs event.now ∈ world self.old)) }
+        ensures same { sound self.new → world self.new ≡ world self.old }
+        ensures crash { honest self.new → (left : World) → may_leave self.new left → may_leave self.old left };
+
+    /// The listed holidays, ascending, each once.
+    fn holidays(&mut self) -> Result<Vec<Day>, Unavailable>
+        ensures outside { honest self.new → honest self.old }
+        ensures before { sound self.new → sound self.old }
+        ensures open { honest self.new → OnOk result (sound self.new) }
+        ensures holidays { sound self.new → IfOk result (λ days. AreHolidays (world self.old) days.items) }
+        ensures same { sound self.new → world self.new ≡ world self.old }
+        ensures crash { honest self.new → (left : World) → may_leave self.new left → may_leave self.old left };
+
+    /// The substitution job of an id, with the count of the readings that it made. `None` where there is none.
+    fn job(&mut self, id: JobId) -> Result<Option<(Job, u64)>, Unavailable>
+        ensures outside { honest self.new → honest self.old }
+        ensures before { sound self.new → sound self.old }
+        ensures open { honest self.new → OnOk result (sound self.new) }
+        ensures job { sound self.new → IfOk result (IsJobOf (world self.old) id) }
         ensures same { sound self.new → world self.new ≡ world self.old }
         ensures crash { honest self.new → (left : World) → may_leave self.new left → may_leave self.old left };
 

@@ -3,7 +3,7 @@ use Rattle.std.specs.Prelude.{ℕ, List, Option, Some, None}
 use Rattle.mds_words.specs.declared.words.Input.{Input}
 use Rattle.mds_words.specs.declared.words.Input.TheVariants.{Standard, File}
 use Rattle.mds_words.specs.declared.words.Words.{Words}
-use Rattle.mds_words.specs.declared.words.Words.TheVariants.{Check, Init, Import}
+use Rattle.mds_words.specs.declared.words.Words.TheVariants.{Check, Init, Import, Substitute, Holidays}
 
 -- standard input, or the file of a name
 abbrev pub input_value : Input → Option (List ℕ)
@@ -15,3 +15,5 @@ abbrev pub asked_check : Words → Option (Option (List ℕ))
 asked_check (Check input) = Some (input_value input)
 asked_check (Init store) = None
 asked_check (Import store input) = None
+asked_check (Substitute store input) = None
+asked_check (Holidays store input) = None

@@ -42,6 +42,14 @@ fn matched<'a>(alloc: Global, words: &'a [String]) -> Result<Words<'a>, Error> {
             store: word(found, "store"),
             input: Input::new(word(found, "file")),
         },
+        Some((name, found)) if name == "substitute" => Words::Substitute {
+            store: word(found, "store"),
+            input: Input::new(word(found, "file")),
+        },
+        Some((name, found)) if name == "holidays" => Words::Holidays {
+            store: word(found, "store"),
+            input: Input::new(word(found, "file")),
+        },
         Some((_, found)) => Words::Check {
             input: Input::new(word(found, "file")),
         },
@@ -56,18 +64,32 @@ fn word<'a>(found: &ArgMatches<'a>, id: &str) -> &'a str {
     found.get_str(id).unwrap_or("")
 }
 
+/// What a file is that is checked or imported.
+const MDFF: &str = "A file of the Meter Data File Format; - is standard input";
+
 /// The commands, and what words they take.
 fn grammar<'a>(alloc: Global) -> Result<Command<'a>, AllocError> {
     let check = Command::new(alloc, "check")
         .about("Checks a NEM12 file, and prints what each of its days adds up to")
-        .arg(file(alloc))?;
+        .arg(file(alloc, MDFF))?;
     let init = Command::new(alloc, "init")
         .about("Makes a store in a new file")
         .arg(store(alloc))?;
     let import = Command::new(alloc, "import")
         .about("Adds what a NEM12 file states to a store")
         .arg(store(alloc))?
-        .arg(file(alloc))?;
+        .arg(file(alloc, MDFF))?;
+    let substitute = Command::new(alloc, "substitute")
+        .about("Fills in readings of a day by a substitution job, and keeps the job")
+        .arg(store(alloc))?
+        .arg(file(alloc, "A substitution job in JSON; - is standard input"))?;
+    let holidays = Command::new(alloc, "holidays")
+        .about("Lists days as holidays")
+        .arg(store(alloc))?
+        .arg(file(
+            alloc,
+            "A CSV text: the head row date, and a row CCYYMMDD for each day; - is standard input",
+        ))?;
     Command::new(alloc, "mdstore")
         .about("The interval data store of an electricity metering data provider")
         .no_binary_name(true)
@@ -75,14 +97,16 @@ fn grammar<'a>(alloc: Global) -> Result<Command<'a>, AllocError> {
         .subcommand_required(true)
         .subcommand(check)?
         .subcommand(init)?
-        .subcommand(import)
+        .subcommand(import)?
+        .subcommand(substitute)?
+        .subcommand(holidays)
 }
 
-fn file<'a>(alloc: Global) -> Arg<'a> {
+fn file<'a>(alloc: Global, help: &'a str) -> Arg<'a> {
     Arg::new(alloc, "file")
         .value_name("FILE")
         .required(true)
-        .help("A file of the Meter Data File Format; - is standard input")
+        .help(help)
 }
 
 fn store<'a>(alloc: Global) -> Arg<'a> {

@@ -17,6 +17,14 @@ fn asked(alloc: Global, text: &str) -> Result<String, AllocError> {
             "import {store} {}",
             name_of(input)
         ),
+        Ok(Words::Substitute { store, input }) => format!(in alloc;
+            "substitute {store} {}",
+            name_of(input)
+        ),
+        Ok(Words::Holidays { store, input }) => format!(in alloc;
+            "holidays {store} {}",
+            name_of(input)
+        ),
         Err(WordsFault::Memory) => String::from_str(alloc, "memory"),
         Err(WordsFault::Text(text)) => Ok(text),
     }
@@ -51,6 +59,14 @@ fn words_ask(rt: HostRuntime) -> Result<(), Fail> {
             "import week.db standard input",
         ),
         ("import --store week.db -- -x", "import week.db -x"),
+        (
+            "substitute --store week.db job.json",
+            "substitute week.db job.json",
+        ),
+        (
+            "holidays --store week.db -",
+            "holidays week.db standard input",
+        ),
     ];
     for (words, wanted) in rows {
         let asked = asked(rt.alloc(), words)?;

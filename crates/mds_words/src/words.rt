@@ -25,6 +25,10 @@ pub enum Words<'a> {
     Init { store: &'a str },
     /// That a file is imported into the store in the file of a name.
     Import { store: &'a str, input: Input<'a> },
+    /// That the substitution job that a file says is done in the store in the file of a name.
+    Substitute { store: &'a str, input: Input<'a> },
+    /// That the days of a list in a file are listed as holidays in the store in the file of a name.
+    Holidays { store: &'a str, input: Input<'a> },
 }
 
 /// Why words ask for nothing.

@@ -1,6 +1,6 @@
 use Rattle.std.proofs.Common.{◌++◌, map, refl}
-use Rattle.mds_world.specs.Facts.Fact.{DetailIs, EventIs}
-use Rattle.mds_memory.specs.declared.stored_notes.Note.TheVariants.{Details, Event}
+use Rattle.mds_world.specs.Facts.Fact.{DetailIs, EventIs, HolidayIs}
+use Rattle.mds_memory.specs.declared.stored_notes.Note.TheVariants.{Details, Event, Holiday}
 use Rattle.mds_memory.specs.Stored.{note_fact}
 use Rattle.mds_memory.proofs.Notes.{begun, ended, moved, none_left}
 use Rattle.mds_memory.proofs.stored_notes.notes_of.Goals as goal
@@ -18,5 +18,11 @@ loop-event-init c = begun DetailIs EventIs c.loop-detail.notes.items _ c.into_it
 pub loop-event-preserved : goal.loop-event-preserved
 loop-event-preserved c = moved EventIs Event (λ _. refl) _ c.push-in-loop-event.new.self.items _ c.next-in-loop-event.new.self.rest.items c.in-Some-event.event _ c.in_ok-push-2.ensures.items c.in-Some-event.ensures.steps.0 c.loop-event.invariant
 
+pub loop-day-init : goal.loop-day-init
+loop-day-init c = begun EventIs HolidayIs c.loop-event.notes.items _ c.into_iter-day-iterator.result.rest.items c.args.holidays.items _ (none_left _ _ c.loop-event.event-iterator.rest.ok.0 c.in-None-event.ensures.steps.0) c.into_iter-day-iterator.ensures.into_iter_gives.0 c.loop-event.invariant
+
+pub loop-day-preserved : goal.loop-day-preserved
+loop-day-preserved c = moved HolidayIs Holiday (λ _. refl) _ c.push-in-loop-day.new.self.items _ c.next-in-loop-day.new.self.rest.items c.in-Some-day.day _ c.in_ok-push-3.ensures.items c.in-Some-day.ensures.steps.0 c.loop-day.invariant
+
 pub returns : goal.returns
-returns c = ended EventIs c.loop-event.notes.items _ _ (none_left _ _ c.loop-event.event-iterator.rest.ok.0 c.in-None-event.ensures.steps.0) c.loop-event.invariant
+returns c = ended HolidayIs c.loop-day.notes.items _ _ (none_left _ _ c.loop-day.day-iterator.rest.ok.0 c.in-None-day.ensures.steps.0) c.loop-day.invariant

@@ -103,8 +103,10 @@ commit-requires-clause-new g c = λ sound.
       versions = c.in-Ok-settle.additions.versions;
       details = c.in-Ok-new_details.details;
       events = c.in-Ok-new_events.events;
+      holidays = c.in-Ok-settle.additions.holidays;
+      jobs = c.in-Ok-settle.additions.jobs;
     } in
-    are_new _ _ _ _ _ _ _ x _ a (c.new_events.ensures.kept honest w two sound) refl refl refl refl
+    are_new _ _ _ _ _ _ _ x _ a (c.new_events.ensures.kept honest w two sound) refl refl refl refl refl refl
 
 pub commit-requires-clause-lawful : goal.commit-requires-clause-lawful
 commit-requires-clause-lawful g c = λ sound lawful.
@@ -125,9 +127,11 @@ commit-requires-clause-lawful g c = λ sound lawful.
       versions = c.in-Ok-settle.additions.versions;
       details = c.in-Ok-new_details.details;
       events = c.in-Ok-new_events.events;
+      holidays = c.in-Ok-settle.additions.holidays;
+      jobs = c.in-Ok-settle.additions.jobs;
     } in
     let was : IsLawful w = subst IsLawful now lawful in
-    lawful_commit _ _ _ _ _ _ _ x _ a now refl refl refl refl was (c.in-Ok-gather.ensures.agrees early w shows was)
+    lawful_commit _ _ _ _ _ _ _ x _ a now refl refl refl refl refl refl was (c.in-Ok-gather.ensures.agrees early w shows was)
 
 pub returns-in-Ok-commit-clause-step : goal.returns-in-Ok-commit-clause-step
 returns-in-Ok-commit-clause-step g c = λ honest w lawful shows.
@@ -145,12 +149,14 @@ returns-in-Ok-commit-clause-step g c = λ honest w lawful shows.
       versions = c.in-Ok-settle.additions.versions;
       details = c.in-Ok-new_details.details;
       events = c.in-Ok-new_events.events;
+      holidays = c.in-Ok-settle.additions.holidays;
+      jobs = c.in-Ok-settle.additions.jobs;
     } in
     let sound = c.in-Ok-commit.ensures.open honest in
     let now = c.new_events.ensures.kept last w two (c.commit.ensures.before sound) in
     let t = taken_in _ _ _ _ _ _ _ x c.args.kind c.args.text.now _ _ a c.len-added.result c.in-Ok.ensures.done.0
     (ap stated (sym c.in-Ok.ensures.done.1) ∙ (c.in-Ok-gather.ensures.gathered early w shows).all) now (c.in-Ok-commit.ensures.ok sound)
-    refl refl refl refl lawful (c.in-Ok-gather.ensures.agrees early w shows lawful)
+    refl refl refl refl refl refl lawful (c.in-Ok-gather.ensures.agrees early w shows lawful)
     (c.len-added.ensures ∙ c.in-Ok-settle.additions.versions.ok.0) in (
       g.K.Keeper.world c.commit.new.self,
       t.0,
@@ -176,6 +182,8 @@ returns-in-Err-clause-step g c = λ honest w lawful shows.
       versions = c.in-Ok-settle.additions.versions;
       details = c.in-Ok-new_details.details;
       events = c.in-Ok-new_events.events;
+      holidays = c.in-Ok-settle.additions.holidays;
+      jobs = c.in-Ok-settle.additions.jobs;
     } in (
       w,
       lawful,
@@ -190,7 +198,7 @@ returns-in-Err-clause-step g c = λ honest w lawful shows.
         | inr it ↦
             let t = taken_in _ _ _ _ _ _ _ x c.args.kind c.args.text.now _ left a c.len-added.result
             c.in-Ok.ensures.done.0 (ap stated (sym c.in-Ok.ensures.done.1) ∙ (c.in-Ok-gather.ensures.gathered early w shows).all)
-            (three it.0) it.1 refl refl refl refl lawful (c.in-Ok-gather.ensures.agrees early w shows lawful)
+            (three it.0) it.1 refl refl refl refl refl refl lawful (c.in-Ok-gather.ensures.agrees early w shows lawful)
             (c.len-added.ensures ∙ c.in-Ok-settle.additions.versions.ok.0) in
             inr (inr (refl, told.Imported c.len-added.result c.in-Ok-settle.known, (λ e. cc), t.1))
       ],

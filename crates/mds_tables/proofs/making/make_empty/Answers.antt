@@ -1,8 +1,7 @@
-use Rattle.std.proofs.Common.{arith, refl, rules}
+use Rattle.std.proofs.Common.{refl}
 use Rattle.sqlite.specs.Held.{state}
-use Rattle.sqlite.proofs.InsideLemmas.{keeps_then}
-use Rattle.mds_tables.proofs.CallLemmas.{keeps_same, survives_more, survives_same}
-use Rattle.mds_tables.proofs.CreateLemmas.{none_there, there_then}
+use Rattle.mds_tables.proofs.CallLemmas.{keeps_same, survives_same}
+use Rattle.mds_tables.proofs.CreateLemmas.{none_there}
 use Rattle.mds_tables.proofs.making.make_empty.Goals as goal
 
 pub loop-n-init : goal.loop-n-init

@@ -2,50 +2,64 @@ use Rattle.std.proofs.Common.{◌≡◌, ◌++◌, ◌∙◌, ap, inr, map, subs
 use Rattle.std.specs.FinSet as set
 use Rattle.mds_world.specs.Facts.Fact.{HeadIs}
 use Rattle.mds_world.specs.World.{IsLawful, union}
-use Rattle.mds_versions.specs.Content.{content, version_fact}
-use Rattle.mds_memory.specs.Stored.{IsChange, days_world, stored_world}
-use Rattle.mds_memory.proofs.Kept.{committed, lawful_days, notes_absent, notes_apart, ok_now}
+use Rattle.mds_versions.specs.Content.{content, job_fact, version_fact}
+use Rattle.mds_memory.specs.Stored.{HasPlaces, IsChange, days_world, stored_world}
+use Rattle.mds_memory.proofs.Kept.{committed, lawful_days, lawful_jobs, notes_absent, notes_apart, ok_now}
 use Rattle.mds_memory.proofs.memory.MemoryKeeperKeeper.commit.Goals as goal
 use Rattle.mds_memory.proofs.memory.MemoryKeeperKeeper.commit.Goals.{After-drop-notes-2}
 
 pub changed_days-requires-clause-lawful : goal.changed_days-requires-clause-lawful
 changed_days-requires-clause-lawful c =
-    lawful_days c.self.inside.days c.self.inside.notes c.args.additions
+    lawful_days c.self.inside.days c.self.inside.notes c.self.inside.jobs c.args.additions
     (subst (λ w. IsLawful (union w (content c.args.additions))) (sym c.self.view_is)
     (c.requires.lawful tt (subst IsLawful c.self.view_is c.self.invariant.lawful)))
 
 pub insert_notes-requires-clause-apart : goal.insert_notes-requires-clause-apart
 insert_notes-requires-clause-apart c =
-    rw c.deref.ensures.value (notes_apart c.args.self.now c.args.additions c.in-Ok.notes.items (c.requires.new tt) c.in-Ok.ensures)
+    rw c.deref-2.ensures.value (notes_apart c.args.self.now c.args.additions c.in-Ok.notes.items (c.requires.new tt) c.in-Ok.ensures)
 
 pub insert_notes-requires-clause-absent : goal.insert_notes-requires-clause-absent
 insert_notes-requires-clause-absent c =
-    rw c.deref.ensures.value
-    (notes_absent c.self.inside.days c.self.inside.notes c.args.self.now c.args.additions c.in-Ok.notes.items c.self.view_is
+    rw c.deref-2.ensures.value
+    (notes_absent c.self.inside.days c.self.inside.notes c.self.inside.jobs c.args.self.now c.args.additions c.in-Ok.notes.items c.self.view_is
     (c.requires.new tt) c.in-Ok.ensures)
 
 pub put_days-requires-clause-room : goal.put_days-requires-clause-room
 put_days-requires-clause-room c = ok_now c.make_room.result _ c.make_room.ensures.room c.if-is_err.ensures.value
 
+pub put_jobs-requires-clause-room : goal.put_jobs-requires-clause-room
+put_jobs-requires-clause-room c =
+    subst (HasPlaces c.make_places.new.jobs) c.deref.ensures.value
+    (ok_now c.make_places.result _ c.make_places.ensures.room c.if-is_err-2.ensures.value)
+
+pub put_jobs-requires-clause-lawful : goal.put_jobs-requires-clause-lawful
+put_jobs-requires-clause-lawful c =
+    subst (λ w. IsLawful (union w (set.from_list (map job_fact c.args.additions.jobs.items)))) (sym c.make_places.ensures.same)
+    (lawful_jobs c.self.inside.days c.self.inside.notes c.self.inside.jobs c.args.additions
+    (subst (λ w. IsLawful (union w (content c.args.additions))) (sym c.self.view_is)
+    (c.requires.lawful tt (subst IsLawful c.self.view_is c.self.invariant.lawful))))
+
 made : (c : After-drop-notes-2)
-    → stored_world c.put_days.new.days c.insert_notes.new.notes
-    ≡ union (stored_world c.self.inside.days c.self.inside.notes) (content c.args.additions)
+    → stored_world c.put_days.new.days c.insert_notes.new.notes c.put_jobs.new.jobs
+    ≡ union (stored_world c.self.inside.days c.self.inside.notes c.self.inside.jobs) (content c.args.additions)
 made c =
     let change = c.in-Ok-changed_days.ensures in
     let here : IsChange (days_world c.make_room.new.days) (set.from_list (map HeadIs c.args.additions.heads.items ++ map version_fact c.args.additions.versions.items)) c.in-Ok-changed_days.changed =
     subst (λ w. IsChange w (set.from_list (map HeadIs c.args.additions.heads.items ++ map version_fact c.args.additions.versions.items)) c.in-Ok-changed_days.changed)
     (sym c.make_room.ensures.same) change.1 in
-    committed c.self.inside.days c.put_days.new.days c.self.inside.notes c.insert_notes.new.notes c.args.additions c.in-Ok.notes.items
+    committed c.self.inside.days c.put_days.new.days c.self.inside.notes c.insert_notes.new.notes c.self.inside.jobs c.put_jobs.new.jobs c.args.additions c.in-Ok.notes.items
     (c.put_days.ensures.put _ here
     ∙ ap (λ w. union w (set.from_list (map HeadIs c.args.additions.heads.items ++ map version_fact c.args.additions.versions.items))) c.make_room.ensures.same)
-    (rw c.deref.ensures.value at (ok_now c.insert_notes.result _ c.insert_notes.ensures.ok c.if-is_err-2.ensures.value))
+    (rw c.deref-2.ensures.value at (ok_now c.insert_notes.result _ c.insert_notes.ensures.ok c.if-is_err-3.ensures.value))
     c.in-Ok.ensures
+    (c.put_jobs.ensures.put ∙ ap (λ w. union w (set.from_list (map job_fact c.args.additions.jobs.items))) c.make_places.ensures.same)
 
 pub invariant_of-self-2 : goal.invariant_of-self-2
 invariant_of-self-2 c = record {
   lawful = subst IsLawful (ap (λ w. union w (content c.args.additions)) (sym c.self.view_is) ∙ sym (made c))
       (c.requires.lawful tt (subst IsLawful c.self.view_is c.self.invariant.lawful));
   theirs = c.put_days.ensures.theirs;
+  ids = c.put_jobs.ensures.theirs;
 }
 
 pub returns-clause-ok : goal.returns-clause-ok

@@ -11,5 +11,5 @@ returns-clause-streams c = λ sound.
     let details : AreDetailStreams (notes_world c.self.inside.notes) c.deref-2.result.now =
     subst (AreDetailStreams (notes_world c.self.inside.notes)) (sym c.deref-2.ensures.value) c.in-Ok-detail_streams.ensures in
     subst (λ w. AreKnownStreams w c.in-Ok-merged.streams.items) c.self.view_is
-    (known_streams c.self.inside.days c.self.inside.notes _ _ _ heads details c.in-Ok-merged.ensures.each
+    (known_streams c.self.inside.days c.self.inside.notes c.self.inside.jobs _ _ _ heads details c.in-Ok-merged.ensures.each
     c.in-Ok-merged.ensures.ascending)

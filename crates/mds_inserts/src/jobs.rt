@@ -1,0 +1,71 @@
+//! The rows of substitution jobs.
+
+ghost use Rattle.std.specs.Prelude.{◌≡◌, ◌<◌, IfOk, OnErr, length, string_bytes};
+ghost use Rattle.mds_jobs.specs.Bodies.{IsJobBody, job_in, parts_of};
+ghost use Rattle.mds_jobs.specs.Jobs.{content_of};
+ghost use Rattle.mds_inserts.specs.JobRows.{AreRowsOf, IsRowOf};
+
+use mds_jobs::{Job, JobId};
+use mds_versions::Unavailable;
+use std::alloc::Global;
+
+/// What the row of a job holds: its id, its body, and the count of the readings that it made.
+#[derive(Drop)]
+pub struct JobRow {
+    pub(crate) id: JobId,
+    pub(crate) body: String,
+    pub(crate) count: i64,
+}
+
+/// The row of each job, in their order. Unavailable where there is no memory for their texts, or for a job that no row
+/// holds: one whose flag is no capital letter, or whose count is 2^63 or more.
+pub fn job_rows(alloc: Global, jobs: &[(Job, u64)]) -> Result<Vec<JobRow>, Unavailable>
+    ensures rows { IfOk result (λ rows. AreRowsOf jobs.now rows.items) }
+    ensures none { OnErr result (0 < length jobs.now) }
+{
+    let Ok(mut rows) = Vec::with_capacity(alloc, jobs.len()) else {
+        return Err(Unavailable);
+    };
+    for i in 0..jobs.len() {
+        let Ok(row) = job_row(alloc, &jobs[i]) else {
+            return Err(Unavailable);
+        };
+        let Ok(_) = rows.push(row) else {
+            return Err(Unavailable);
+        };
+    }
+    Ok(rows)
+}
+
+/// The row of a job.
+fn job_row(alloc: Global, job: &(Job, u64)) -> Result<JobRow, Unavailable>
+    ensures { IfOk result (IsRowOf job.now) }
+{
+    let Ok(count) = i64::try_from(job.1) else {
+        return Err(Unavailable);
+    };
+    let Ok(body) = body_of(alloc, &job.0) else {
+        return Err(Unavailable);
+    };
+    Ok(JobRow {
+        id: job.0.id,
+        body,
+        count,
+    })
+}
+
+/// The body of a job, which reads back.
+fn body_of(alloc: Global, job: &Job) -> Result<String, Unavailable>
+    ensures is { IfOk result (λ body. IsJobBody (content_of job.now) (string_bytes body)) }
+    ensures says { IfOk result (λ body. job_in (parts_of (string_bytes body)) ≡ content_of job.now) }
+{
+    let is_letter = job.flag.is_ascii_uppercase();
+    if !is_letter {
+        return Err(Unavailable);
+    }
+    let mut body = String::new(alloc);
+    match job.write_body(&mut body) {
+        Ok(()) => Ok(body),
+        Err(_) => Err(Unavailable),
+    }
+}

@@ -1,0 +1,64 @@
+-- The body of a substitution job, the text that a store keeps of it beside its id (profile): twelve written texts joined
+-- by commas.
+use Rattle.std.specs.Prelude.{◌≡◌, ◌<◌, ◌^◌, ℕ, List, [], ◌∷◌, IsTrue, decimal, Some, None, unwrap_or}
+use Rattle.std.specs.Char.{is_ascii_uppercase}
+use Rattle.std.specs.List.{slice_index_or, slice_split}
+use Rattle.std.specs.Str.Parse.{digits_value}
+use Rattle.mds_quantity.specs.Unit.{unit_of, unit_text}
+use Rattle.mds_quantity.specs.declared.unit.Unit.{Unit as MeasureUnit}
+use Rattle.mds_quantity.specs.declared.unit.Unit.TheVariants.{MWh}
+use Rattle.mds_calendar.specs.Calendar.{day_of, moment_of}
+use Rattle.mds_calendar.specs.Length.{is_length, length_of}
+use Rattle.mds_names.specs.Names.{is_comma, is_name, nmi_length, suffix_length}
+use Rattle.mds_marks.specs.Reason.{code_of, code_text, is_reason}
+use Rattle.mds_terms.specs.Parts.{joined}
+use Rattle.mds_world.specs.Facts.{JobContent}
+
+-- The body of a job: stream, day, first and last interval, length, unit, method, flag, code and text of the reason, and
+-- update. The day and the update stand as the texts that read as them, so a job has one body.
+pub record IsJobBody (job : JobContent) (body : List ℕ) : Type 0 where
+  pub date : List ℕ
+  pub update : List ℕ
+  pub day : day_of date ≡ Some job.day
+  pub moment : moment_of update ≡ Some job.update
+  pub texts : body
+      ≡ joined (job.stream.nmi ∷ job.stream.suffix ∷ date ∷ decimal job.first ∷ decimal job.last ∷ decimal job.length
+      ∷ unit_text job.unit ∷ decimal job.method ∷ (job.flag ∷ []) ∷ code_text job.code ∷ job.text ∷ update ∷ [])
+
+-- what the types of a job's parts hold, and a flag that is a capital letter
+pub record IsLawfulJob (job : JobContent) : Type 0 where
+  pub nmi : IsTrue (is_name nmi_length job.stream.nmi)
+  pub suffix : IsTrue (is_name suffix_length job.stream.suffix)
+  pub first : job.first < 2 ^ 16
+  pub last : job.last < 2 ^ 16
+  pub length : IsTrue (is_length job.length)
+  pub method : job.method < 2 ^ 8
+  pub flag : IsTrue (is_ascii_uppercase job.flag)
+  pub reason : IsTrue (is_reason job.code job.text)
+
+-- the texts of a line between its commas
+abbrev pub parts_of : List ℕ → List (List ℕ)
+parts_of line = slice_split is_comma line
+
+-- The unit of a text. A text that is none, which the store never writes, is taken as MWh.
+abbrev pub unit_named : List ℕ → MeasureUnit
+unit_named text = unwrap_or (unit_of text) MWh
+
+-- What the texts of a job's body say: stream, day, first and last interval, length, unit, method, flag, reason and update.
+-- For a text that is none of its kind, which the store never writes, there is a default.
+abbrev pub job_in : List (List ℕ) → JobContent
+job_in parts =
+    let part : ℕ → List ℕ = λ at. slice_index_or parts at [] in
+    record {
+      stream = record { nmi = part 0; suffix = part 1 };
+      day = unwrap_or (day_of (part 2)) 0;
+      first = digits_value 10 (part 3);
+      last = digits_value 10 (part 4);
+      length = unwrap_or (length_of (part 5)) 0;
+      unit = unit_named (part 6);
+      method = digits_value 10 (part 7);
+      flag = slice_index_or (part 8) 0 0;
+      code = unwrap_or (code_of (part 9)) None;
+      text = part 10;
+      update = unwrap_or (moment_of (part 11)) 0;
+    }

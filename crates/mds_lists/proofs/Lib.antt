@@ -1,0 +1,2 @@
+pub mod ListTexts
+pub mod Listed

@@ -1,0 +1,28 @@
+-- What a file asks for that comes with a command (profile).
+use Rattle.std.specs.Prelude.{◌≡◌, ℕ, List}
+use Rattle.mds_records.specs.declared.file.FileKind.TheVariants.{Nem12}
+use Rattle.mds_jobs.specs.declared.job.Job.{Job}
+use Rattle.mds_json.specs.JobObjects.{IsJobText}
+use Rattle.mds_holidays.specs.Holidays.{DiffersFirst, IsListOf, rows_of}
+use Rattle.mds_service.specs.declared.request.Request.{Request}
+use Rattle.mds_service.specs.declared.request.Request.TheVariants as asked
+use Rattle.mds_requests.specs.declared.requests.FileCommand.{FileCommand}
+use Rattle.mds_requests.specs.declared.requests.FileCommand.TheVariants as command
+use Rattle.mds_requests.specs.declared.requests.RequestFault.{RequestFault}
+use Rattle.mds_requests.specs.declared.requests.RequestFault.TheVariants as fault
+
+-- the request that it says
+abbrev pub Asks : FileCommand → List ℕ → Request → Type 0
+Asks command.Import text (asked.Import kind bytes) = (kind ≡ Nem12) × (bytes.items ≡ text)
+Asks command.Substitute text (asked.Substitute job) = IsJobText text job
+Asks command.Holidays text (asked.Holidays days) = IsListOf (rows_of text) days.items
+Asks what text request = ⊥
+
+-- Why it says none: it is no job, or no list of holidays from a row on. Of want of memory nothing is said, but that an
+-- import takes none.
+abbrev pub AsksNothing : FileCommand → List ℕ → RequestFault → Type 0
+AsksNothing command.Substitute text fault.BadJob = (job : Job) → ¬ IsJobText text job
+AsksNothing command.Substitute text fault.Memory = Unit {0}
+AsksNothing command.Holidays text (fault.BadHolidays row) = DiffersFirst (rows_of text) row
+AsksNothing command.Holidays text fault.Memory = Unit {0}
+AsksNothing what text reason = ⊥
