@@ -80,9 +80,9 @@ ascends : (days : List ℕ) → AllPairs (λ a b. a < b) days → Ascends days
 ascends [] up = tt
 ascends (day ∷ days) up = (
   (λ later m.
-  let p = place_of later days m in
-  let less = up 0 (suc p.0) day (omega arith) (omega (arith, p.1)) in
-  let at = p.2 day in omega (arith, less, at)),
+      let p = place_of later days m in
+      let less = up 0 (suc p.0) day (omega arith) (omega (arith, p.1)) in
+      let at = p.2 day in omega (arith, less, at)),
   ascends days (λ i j d l m. up (suc i) (suc j) d (omega (arith, l)) (omega (arith, m))),
 )
 
@@ -110,11 +110,11 @@ len_keys days once r =
     let same = set_same nat_cmp_total nat_cmp-IsAntisymmetric days once r in
     let all : holidays_world once.keys ≡ holidays_world days = same_by _ _
     (λ f h. let m = in_map HolidayIs once.keys f (in_list (map HolidayIs once.keys) f h) in
-        list_in (map HolidayIs days) f
-        (subst (λ x. Member x (map HolidayIs days)) (sym m.2) (map_in HolidayIs days m.0 ((same m.0).0 m.1))))
+    list_in (map HolidayIs days) f
+    (subst (λ x. Member x (map HolidayIs days)) (sym m.2) (map_in HolidayIs days m.0 ((same m.0).0 m.1))))
     (λ f h. let m = in_map HolidayIs days f (in_list (map HolidayIs days) f h) in
-        list_in (map HolidayIs once.keys) f
-        (subst (λ x. Member x (map HolidayIs once.keys)) (sym m.2) (map_in HolidayIs once.keys m.0 ((same m.0).1 m.1)))) in
+    list_in (map HolidayIs once.keys) f
+    (subst (λ x. Member x (map HolidayIs once.keys)) (sym m.2) (map_in HolidayIs once.keys m.0 ((same m.0).1 m.1)))) in
     sym (len_map once.keys)
     ∙ sym (len_list (map HolidayIs once.keys)
     (apart_map HolidayIs one_holiday once.keys (set_apart nat_cmp_total days once r)))

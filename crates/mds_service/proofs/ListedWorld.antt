@@ -62,12 +62,12 @@ module _ (w : World) (days : List ℕ) where
     added_is =
         let same : holidays_world new ≡ set.difference (holidays_world days) w = same_by _ _
         (λ f h. let m = holiday_in new f h in
-            let n = (are.each m.0).0 m.1 in
-            sets.difference_in total exact (holidays_world days) w f (in_holidays days f m.0 n.0 m.2)
-            (λ k. n.1 (subst (λ x. x ∈ w) m.2 k)))
+        let n = (are.each m.0).0 m.1 in
+        sets.difference_in total exact (holidays_world days) w f (in_holidays days f m.0 n.0 m.2)
+        (λ k. n.1 (subst (λ x. x ∈ w) m.2 k)))
         (λ f h. let p = sets.in_difference total exact (holidays_world days) w f h in
-            let m = holiday_in days f p.0 in
-            in_holidays new f m.0 ((are.each m.0).1 (m.1, λ k. p.1 (subst (λ x. x ∈ w) (sym m.2) k))) m.2) in
+        let m = holiday_in days f p.0 in
+        in_holidays new f m.0 ((are.each m.0).1 (m.1, λ k. p.1 (subst (λ x. x ∈ w) (sym m.2) k))) m.2) in
         sym (len_map new) ∙ sym (len_list (map HolidayIs new) apart) ∙ ap set.len same
 
     known_is : known ≡ set.len (set.intersection (holidays_world days) w)

@@ -178,10 +178,10 @@ versions_apart : (stream : Stream) (day update i : ℕ) (rs : List ReadingValue)
 versions_apart stream day update i [] = tt
 versions_apart stream day update i (r ∷ rs) = (
   (λ m.
-  let n = from_versions stream day update (i + 1) rs _ m in
-  let same = same_key _ _ _ _ n.3 in
-  let e : i ≡ i + 1 + n.0 = ap (λ (k : Key). k.interval) same.0 in
-  absurd (omega (arith, e))),
+      let n = from_versions stream day update (i + 1) rs _ m in
+      let same = same_key _ _ _ _ n.3 in
+      let e : i ≡ i + 1 + n.0 = ap (λ (k : Key). k.interval) same.0 in
+      absurd (omega (arith, e))),
   versions_apart stream day update (i + 1) rs,
 )
 

@@ -39,11 +39,7 @@ pub(crate) fn list_holidays<K: Keeper>(alloc: Global, keeper: &mut K, days: &[Da
 
 /// Those of the days that aren't listed, each once, and how many of them are: each counts once. It
 /// goes down both in their order, side by side.
-fn sift(
-    alloc: Global,
-    days: &[Day],
-    listed: &[Day],
-) -> Result<(Vec<Day>, u64), AllocError>
+fn sift(alloc: Global, days: &[Day], listed: &[Day]) -> Result<(Vec<Day>, u64), AllocError>
     ensures { (w : World) → AreHolidays w listed.now
         → IfOk result (λ sifted. AreSifted w days.now sifted.0.items sifted.1) }
 {

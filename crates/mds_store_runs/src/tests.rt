@@ -156,11 +156,7 @@ fn no_store_is_made_in_a_transaction(rt: HostRuntime) -> Result<(), Fail> {
     );
     execute_all(
         &mut conn,
-        &[
-            "INSERT INTO other VALUES (1)",
-            "DROP TABLE other",
-            "COMMIT",
-        ],
+        &["INSERT INTO other VALUES (1)", "DROP TABLE other", "COMMIT"],
     )?;
     kept(create(rt.alloc(), conn))?;
     Ok(())
@@ -171,10 +167,7 @@ fn no_store_is_made_in_a_transaction(rt: HostRuntime) -> Result<(), Fail> {
 fn no_store_is_found_in_a_transaction(rt: HostRuntime) -> Result<(), Fail> {
     let conn = Connection::open_in_memory(rt.alloc())?;
     let mut conn = kept(create(rt.alloc(), conn))?.into_connection();
-    execute_all(
-        &mut conn,
-        &["BEGIN", "UPDATE mds_schema SET version = 2"],
-    )?;
+    execute_all(&mut conn, &["BEGIN", "UPDATE mds_schema SET version = 2"])?;
     let (fault, mut conn) = refused(adopt(rt.alloc(), conn))?;
     assert_eq!(rt;
         (fault, conn.is_autocommit()),

@@ -24,7 +24,6 @@ returns-in_default-sift-clause-step g c = λ honest w lawful shows. (
   λ left it. inr (inl (refl, c.holidays.ensures.crash honest left it)),
 )
 
-
 pub commit-requires-clause-new : goal.commit-requires-clause-new
 commit-requires-clause-new g c = λ sound.
     let here : World = g.K.Keeper.world c.args.keeper.now in
