@@ -8,4 +8,5 @@ pub mod Rests
 pub mod Seeks
 pub mod Splits
 pub mod StreamFacts
+pub mod StreamSteps
 pub mod Taken

@@ -7,4 +7,5 @@ pub mod Numbered
 pub mod Readers
 pub mod Reads
 pub mod Rest
+pub mod Streams
 pub mod TextLeft

@@ -7,6 +7,7 @@ mod line;
 mod reader;
 mod rest;
 mod source;
+mod streams;
 mod text_source;
 
 pub use fields::Fields;
@@ -14,6 +15,7 @@ pub use line::{Kind, KindFault, Line, one_split};
 pub use reader::{LineBuffer, LineFault, LineReader};
 pub use rest::{is_blank_from, next_field};
 pub use source::{Counted, Sink, Source};
+pub use streams::{read_more, write_whole};
 pub use text_source::TextSource;
 
 #[cfg(test)]

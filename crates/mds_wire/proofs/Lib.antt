@@ -1,0 +1,9 @@
+pub mod BodyReads
+pub mod CallSteps
+pub mod Finds
+pub mod HeadLemmas
+pub mod HeadReads
+pub mod Meant
+pub mod Named
+pub mod Numbers
+pub mod Written

@@ -1,0 +1,137 @@
+-- What a head and what came behind it mean.
+use Rattle.std.proofs.Common.{◌≡◌, ℕ, ◌+◌, ◌-◌, ◌<◌, ◌≤◌, ◌⊎◌, inl, inr, Bool, true, false, ltb, List, [], ◌∷◌, ◌++◌, length, take, drop, refl, sym, ◌∙◌, ap, subst, arith, length-append, bytes_eq, codes}
+use Rattle.std.proofs.lemmas.List.{append-nil, take_all, take-append-le, length-take-le}
+use Rattle.std.proofs.lemmas.Bool.Decides.{nat_tests}
+use Rattle.httparse.specs.Grammar.{RequestHead, ReadsRequest, HasNoRequest}
+use Rattle.httparse.specs.Spans.{IsRequestAt, span_bytes}
+use Rattle.httparse.specs.declared.spans.HeaderSpan.{HeaderSpan}
+use Rattle.httparse.specs.declared.spans.RequestSpans.{RequestSpans}
+use Rattle.httparse.proofs.GrammarLemmas.{ReadsRequest-append, request_unique}
+use Rattle.mds_wire.specs.Heads.{IsWhole, IsNoHead, most_fields, longest_head}
+use Rattle.mds_wire.specs.Judging.{judge, parts_of, parts_at}
+use Rattle.mds_wire.specs.declared.judge.Judged.{Judged}
+use Rattle.mds_wire.specs.declared.judge.Judged.TheVariants.{Refused, Wanted}
+use Rattle.mds_wire.specs.declared.route.Route.{Route}
+use Rattle.mds_wire.specs.declared.answer.Status.{Status}
+use Rattle.mds_wire.specs.declared.answer.Status.TheVariants.{Unavailable, BadRequest, FieldsTooLarge}
+use Rattle.mds_wire.specs.Meaning.{Answer, Beginning, no_head, overlong, whole, BeginsSo, AnswersBeginning, StepOf, AnswersJudged, Means, Awaits, in_body, refused}
+use Rattle.mds_wire.specs.Serving.{IsUnfinished}
+
+-- the parts that spans show are those of the head
+pub parts_same : (bytes : List ℕ) (fields : List HeaderSpan) (r : RequestSpans) (h : RequestHead) → IsRequestAt bytes fields r h → parts_at bytes fields r ≡ parts_of h
+parts_same bytes fields r h at = λ i. record {
+  method = at.method i;
+  target = at.path i;
+  minor = at.version i;
+  fields = at.fields i;
+}
+
+none : (xs : List ℕ) → length xs ≡ 0 → xs ≡ []
+none [] e = refl
+none (x ∷ xs) e = absurd (omega (arith, e))
+
+-- the body, of which a part came with the head
+pub body_is : (rest more : List ℕ) (size : ℕ) → length (take size rest) + length more ≡ size → (take size (rest ++ more) ≡ take size rest ++ more) × (size ≤ length (rest ++ more))
+body_is rest more size e = at (ltb (length rest) size) refl where
+  at : (t : Bool) → ltb (length rest) size ≡ t → (take size (rest ++ more) ≡ take size rest ++ more) × (size ≤ length (rest ++ more))
+  at true t =
+      let all : take size rest ≡ rest = take_all size rest (grind (arith, nat_tests)) in
+      let sizes : length rest + length more ≡ size = ap (λ xs. length xs + length more) (sym all) ∙ e in
+      let sum = length-append rest more in
+      (take_all size (rest ++ more) (omega arith) ∙ ap (λ xs. xs ++ more) (sym all), omega arith)
+  at false t =
+      let le : size ≤ length rest = grind (arith, nat_tests) in
+      let full = length-take-le size rest le in
+      let sum = length-append rest more in
+      (take-append-le size rest more le ∙ sym (append-nil (take size rest)) ∙ ap (λ xs. take size rest ++ xs) (sym (none more (omega arith))), omega arith)
+
+-- what is lacking of a body, of which a part came with the head
+lacking_is : (rest more : List ℕ) (size count : ℕ) → 0 < count → length (take size rest) + length more + count ≡ size → length (rest ++ more) + count ≡ size
+lacking_is rest more size count some e = at (ltb (length rest) size) refl where
+  at : (t : Bool) → ltb (length rest) size ≡ t → length (rest ++ more) + count ≡ size
+  at true t =
+      let all : length (take size rest) ≡ length rest = ap length (take_all size rest (grind (arith, nat_tests))) in
+      omega (arith, length-append rest more)
+  at false t =
+      let le : size ≤ length rest = grind (arith, nat_tests) in
+      absurd (omega (arith, length-take-le size rest le))
+
+-- what the head of these spans asks for, and what came behind it
+begins_whole : (bytes more : List ℕ) (fields : List HeaderSpan) (r : RequestSpans) (w : IsWhole bytes fields r)
+    → BeginsSo (bytes ++ more) (whole w.head (drop r.len bytes ++ more))
+begins_whole bytes more fields r w = (ReadsRequest-append bytes w.head (drop r.len bytes) more w.at.reads, w.few)
+
+-- more of its body is awaited
+pub awaits_body : (bytes : List ℕ) (fields : List HeaderSpan) (r : RequestSpans) (w : IsWhole bytes fields r) (route : Route) (size : ℕ) (front : List ℕ)
+    → Wanted route size ≡ judge (parts_at bytes fields r) → front ≡ take size (drop r.len bytes) → (more : List ℕ) (count : ℕ) → 0 < count
+    → length front + length more + count ≡ size → Awaits (bytes ++ more) count
+awaits_body bytes fields r w route size front is front_is more count some e =
+    in_body w.head (drop r.len bytes ++ more) route size (begins_whole bytes more fields r w)
+    (sym (is ∙ ap judge (parts_same bytes fields r w.head w.at)))
+    (lacking_is (drop r.len bytes) more size count some (subst (λ (t : List ℕ). length t + length more + count ≡ size) front_is e))
+
+pub unfinished_body : (bytes : List ℕ) (fields : List HeaderSpan) (r : RequestSpans) (w : IsWhole bytes fields r) (route : Route) (size : ℕ) (front : List ℕ)
+    → Wanted route size ≡ judge (parts_at bytes fields r) → front ≡ take size (drop r.len bytes) → (more : List ℕ)
+    → length front + length more < size → IsUnfinished (bytes ++ more)
+unfinished_body bytes fields r w route size front is front_is more lt =
+    let count = size - (length front + length more) in
+    (count, omega arith, awaits_body bytes fields r w route size front is front_is more count (omega arith) (omega arith))
+
+module _ {S : Type 0} (Step : StepOf S) (Same : S → S → Type 0) where
+  means_judged : (bytes more : List ℕ) (fields : List HeaderSpan) (r : RequestSpans) (w : IsWhole bytes fields r) (judged : Judged) (old new : S) (answer : Answer)
+      → judged ≡ judge (parts_at bytes fields r)
+      → AnswersJudged Step Same judged w.head (drop r.len bytes ++ more) old answer new → Means Step Same (bytes ++ more) old answer new
+  means_judged bytes more fields r w judged old new answer is h = record {
+    beginning = whole w.head (drop r.len bytes ++ more);
+    begins = begins_whole bytes more fields r w;
+    answers = subst (λ (j : Judged). AnswersJudged Step Same j w.head (drop r.len bytes ++ more) old answer new) (is ∙ ap judge (parts_same bytes fields r w.head w.at)) h;
+  }
+
+  pub means_refused : (bytes : List ℕ) (fields : List HeaderSpan) (r : RequestSpans) (w : IsWhole bytes fields r) (status : Status) (head : Bool) (s : S)
+      → Refused status ≡ judge (parts_at bytes fields r) → head ≡ bytes_eq (span_bytes bytes r.method) (codes "HEAD")
+      → Means Step Same (bytes ++ []) s (refused status head) s
+  means_refused bytes fields r w status head s is head_is =
+      means_judged bytes [] fields r w (Refused status) s s (refused status head) is
+      (ap (refused status) (head_is ∙ ap (λ m. bytes_eq m (codes "HEAD")) w.at.method), refl)
+
+  pub means_unavailable : (bytes more : List ℕ) (fields : List HeaderSpan) (r : RequestSpans) (w : IsWhole bytes fields r) (route : Route) (size : ℕ) (old new : S)
+      → Wanted route size ≡ judge (parts_at bytes fields r) → (new ≡ old) ⊎ Same old new
+      → Means Step Same (bytes ++ more) old (refused Unavailable false) new
+  means_unavailable bytes more fields r w route size old new is same =
+      means_judged bytes more fields r w (Wanted route size) old new (refused Unavailable false) is (inr (refl, same))
+
+  pub means_step : (bytes more : List ℕ) (fields : List HeaderSpan) (r : RequestSpans) (w : IsWhole bytes fields r) (route : Route) (size : ℕ) (old new : S) (target body : List ℕ) (answer : Answer)
+      → Wanted route size ≡ judge (parts_at bytes fields r) → length (take size (drop r.len bytes)) + length more ≡ size
+      → target ≡ span_bytes bytes r.path → body ≡ take size (drop r.len bytes) ++ more → answer.is_head ≡ false
+      → Step old route target body answer.status answer.kind answer.body new → Means Step Same (bytes ++ more) old answer new
+  means_step bytes more fields r w route size old new target body answer is sizes target_is body_is' not_head step =
+      let b = body_is (drop r.len bytes) more size sizes in
+      let moved = subst (λ (t : List ℕ). Step old route t body answer.status answer.kind answer.body new) (target_is ∙ w.at.path) step in
+      means_judged bytes more fields r w (Wanted route size) old new answer is
+      (inl (b.1, not_head, subst (λ (t : List ℕ). Step old route w.head.target t answer.status answer.kind answer.body new) (body_is' ∙ sym b.0) moved))
+
+  -- Bytes that begin with a head of at most 64 fields mean what it says, and nothing else.
+  whole_means : (bytes rest : List ℕ) (head : RequestHead) (b : Beginning) (old new : S) (answer : Answer) → ReadsRequest bytes head rest → length head.fields ≤ most_fields
+      → BeginsSo bytes b → AnswersBeginning Step Same b old answer new → AnswersJudged Step Same (judge (parts_of head)) head rest old answer new
+  whole_means bytes rest head no_head old new answer reads few never a =
+      absurd (omega (arith, few, never.none [] head rest (subst (λ (xs : List ℕ). ReadsRequest xs head rest) (sym (append-nil bytes)) reads)))
+  whole_means bytes rest head overlong old new answer reads few never a = absurd (never.1 head rest reads)
+  whole_means bytes rest head (whole other more) old new answer reads few is a =
+      let same = request_unique bytes other head more rest is.0 reads in
+      subst (λ (h : RequestHead). AnswersJudged Step Same (judge (parts_of h)) h rest old answer new) same.0
+      (subst (λ (xs : List ℕ). AnswersJudged Step Same (judge (parts_of other)) other xs old answer new) same.1 a)
+
+  pub head_means : (bytes rest : List ℕ) (head : RequestHead) (old new : S) (answer : Answer) → ReadsRequest bytes head rest → length head.fields ≤ most_fields
+      → Means Step Same bytes old answer new → AnswersJudged Step Same (judge (parts_of head)) head rest old answer new
+  head_means bytes rest head old new answer reads few m = whole_means bytes rest head m.beginning old new answer reads few m.begins m.answers
+
+  -- Bytes that hold no head are answered 400 or 431.
+  headless : (bytes : List ℕ) (b : Beginning) (old new : S) (answer : Answer) → HasNoRequest bytes → BeginsSo bytes b → AnswersBeginning Step Same b old answer new
+      → (((answer ≡ refused BadRequest false) × IsNoHead bytes) ⊎ ((answer ≡ refused FieldsTooLarge false) × (length bytes ≡ longest_head))) × (new ≡ old)
+  headless bytes no_head old new answer none is a = (inl (a.0, is), a.1)
+  headless bytes overlong old new answer none is a = (inr (a.0, is.0), a.1)
+  headless bytes (whole head rest) old new answer none is a = absurd (none head rest is.0)
+
+  pub headless_means : (bytes : List ℕ) (old new : S) (answer : Answer) → HasNoRequest bytes → Means Step Same bytes old answer new
+      → (((answer ≡ refused BadRequest false) × IsNoHead bytes) ⊎ ((answer ≡ refused FieldsTooLarge false) × (length bytes ≡ longest_head))) × (new ≡ old)
+  headless_means bytes old new answer none m = headless bytes m.beginning old new answer none m.begins m.answers

@@ -1,0 +1,82 @@
+use Rattle.std.proofs.Common.{◌≡◌, ◌+◌, ◌++◌, [], List, ℕ, take, length, ap, sym, ◌∙◌, subst, arith, refl, inl, inr, bytes_eq, codes}
+use Rattle.std.proofs.lemmas.List.{take_rest}
+use Rattle.mds_wire.proofs.CallSteps.{read_none, read_for}
+use Rattle.mds_wire.proofs.Meant.{means_refused, means_unavailable, means_step, awaits_body, unfinished_body}
+use Rattle.mds_wire.proofs.serve.perform.Goals as goal
+
+pub returns-in-Refused-clause-does : goal.returns-in-Refused-clause-does
+returns-in-Refused-clause-does g c = record {
+  more = [];
+  few = omega arith;
+  read = read_none _ _ _ _;
+  is = means_refused g.H.Handler.step g.H.Handler.same c.args.bytes.now c.args.fields.now c.args.read.spans c.requires.whole c.in-Refused.status c.is_head-is_head.result c.args.handler.now
+      (sym c.in-Refused.is ∙ c.judge_head.ensures.value) (c.is_head-is_head.ensures ∙ ap (λ m. bytes_eq m (codes "HEAD")) c.of.ensures);
+}
+
+pub returns-in-Ok-handle-clause-does : goal.returns-in-Ok-handle-clause-does
+returns-in-Ok-handle-clause-does g c =
+    let r = c.in-Ok.ensures.read in
+    let judged = sym c.in-Wanted.is ∙ c.judge_head.ensures.value in
+    let front = c.front_of-front.ensures.value ∙ ap (take c.in-Wanted.size) (take_rest c.args.bytes.now c.args.read.spans.len) in
+    record {
+      more = r.bytes;
+      few = omega (arith, r.few, c.judge_head.ensures.few _ _ c.in-Wanted.is);
+      read = read_for _ _ _ _ _ _ _ _ _ (awaits_body c.args.bytes.now c.args.fields.now c.args.read.spans c.requires.whole c.in-Wanted.route c.in-Wanted.size _ judged front) r.read;
+      is = means_step g.H.Handler.step g.H.Handler.same c.args.bytes.now r.bytes c.args.fields.now c.args.read.spans c.requires.whole c.in-Wanted.route c.in-Wanted.size c.args.handler.now _ _ _ _
+          judged
+          (subst (λ (xs : List ℕ). length xs + length r.bytes ≡ c.in-Wanted.size) front r.is.1)
+          c.of-in-Ok.ensures
+          (c.deref.ensures.value ∙ r.is.0 ∙ ap (λ xs. xs ++ r.bytes) front)
+          refl
+          c.in-Ok-handle.ensures.step;
+    }
+
+pub returns-in-Ok-clause-does : goal.returns-in-Ok-clause-does
+returns-in-Ok-clause-does g c =
+    let r = c.in-Ok.ensures.read in
+    let judged = sym c.in-Wanted.is ∙ c.judge_head.ensures.value in
+    let front = c.front_of-front.ensures.value ∙ ap (take c.in-Wanted.size) (take_rest c.args.bytes.now c.args.read.spans.len) in
+    record {
+      more = r.bytes;
+      few = omega (arith, r.few, c.judge_head.ensures.few _ _ c.in-Wanted.is);
+      read = read_for _ _ _ _ _ _ _ _ _ (awaits_body c.args.bytes.now c.args.fields.now c.args.read.spans c.requires.whole c.in-Wanted.route c.in-Wanted.size _ judged front) r.read;
+      is = means_unavailable g.H.Handler.step g.H.Handler.same c.args.bytes.now r.bytes c.args.fields.now c.args.read.spans c.requires.whole c.in-Wanted.route c.in-Wanted.size c.args.handler.now _
+          judged (inr c.in-Err.ensures.same);
+    }
+
+pub returns-in-Err-Memory-clause-does : goal.returns-in-Err-Memory-clause-does
+returns-in-Err-Memory-clause-does g c =
+    let r = rw c.in-Err-Memory.field-0-is at c.in-Err-Memory.ensures.read in
+    let judged = sym c.in-Wanted.is ∙ c.judge_head.ensures.value in
+    let front = c.front_of-front.ensures.value ∙ ap (take c.in-Wanted.size) (take_rest c.args.bytes.now c.args.read.spans.len) in
+    record {
+      more = r.bytes;
+      few = omega (arith, r.few, c.judge_head.ensures.few _ _ c.in-Wanted.is);
+      read = read_for _ _ _ _ _ _ _ _ _ (awaits_body c.args.bytes.now c.args.fields.now c.args.read.spans c.requires.whole c.in-Wanted.route c.in-Wanted.size _ judged front) r.read;
+      is = means_unavailable g.H.Handler.step g.H.Handler.same c.args.bytes.now r.bytes c.args.fields.now c.args.read.spans c.requires.whole c.in-Wanted.route c.in-Wanted.size c.args.handler.now c.args.handler.now
+          judged (inl refl);
+    }
+
+pub returns-in-Err-Closed-clause-does : goal.returns-in-Err-Closed-clause-does
+returns-in-Err-Closed-clause-does g c =
+    let r = rw c.in-Err-Closed.field-0-is at c.in-Err-Closed.ensures.read in
+    let judged = sym c.in-Wanted.is ∙ c.judge_head.ensures.value in
+    let front = c.front_of-front.ensures.value ∙ ap (take c.in-Wanted.size) (take_rest c.args.bytes.now c.args.read.spans.len) in
+    record {
+      more = r.bytes;
+      few = omega (arith, r.few, c.judge_head.ensures.few _ _ c.in-Wanted.is);
+      read = read_for _ _ _ _ _ _ _ _ _ (awaits_body c.args.bytes.now c.args.fields.now c.args.read.spans c.requires.whole c.in-Wanted.route c.in-Wanted.size _ judged front) r.read;
+      is = (refl, r.is.0, unfinished_body c.args.bytes.now c.args.fields.now c.args.read.spans c.requires.whole c.in-Wanted.route c.in-Wanted.size _ judged front r.bytes r.is.1);
+    }
+
+pub returns-clause-does : goal.returns-clause-does
+returns-clause-does g c =
+    let r = rw c.in-Err-Read.field-0-is at c.in-Err-Read.ensures.read in
+    let judged = sym c.in-Wanted.is ∙ c.judge_head.ensures.value in
+    let front = c.front_of-front.ensures.value ∙ ap (take c.in-Wanted.size) (take_rest c.args.bytes.now c.args.read.spans.len) in
+    record {
+      more = r.bytes;
+      few = omega (arith, r.few, c.judge_head.ensures.few _ _ c.in-Wanted.is);
+      read = read_for _ _ _ _ _ _ _ _ _ (awaits_body c.args.bytes.now c.args.fields.now c.args.read.spans c.requires.whole c.in-Wanted.route c.in-Wanted.size _ judged front) r.read;
+      is = refl;
+    }

@@ -1,0 +1,12 @@
+pub mod Answers
+pub mod BodySteps
+pub mod Calls
+pub mod HeadSteps
+pub mod Heads
+pub mod JudgeSteps
+pub mod Judging
+pub mod Laws
+pub mod Meaning
+pub mod Routes
+pub mod ServeSteps
+pub mod Serving

@@ -1,0 +1,57 @@
+-- The routes, their methods, and the paths that they are for (profile).
+use Rattle.std.specs.Prelude.{ℕ, Bool, ◌==◌, ◌&&◌, nat_lt, List, [], ◌∷◌, drop, Option, if◌then◌else◌, codes, find, length, slice_index_or}
+use Rattle.std.specs.List.{position_or_len}
+use Rattle.mds_wire.specs.declared.route.Method.{Method}
+use Rattle.mds_wire.specs.declared.route.Method.TheVariants.{Get, Post}
+use Rattle.mds_wire.specs.declared.route.Route.{Route}
+use Rattle.mds_wire.specs.declared.route.Route.TheVariants.{Imports, Substitutions, Holidays, Streams, Days, Versions, Periods, Gaps, Finals, Exports}
+
+abbrev pub slash : ℕ
+slash = 47
+
+abbrev pub star : ℕ
+star = 42
+
+-- how many bytes stand before the next slash
+abbrev pub part_length : List ℕ → ℕ
+part_length path = position_or_len (λ byte. byte == slash) path
+
+-- a path is of a pattern: a star stands for one or more bytes up to the next slash or the end, any other byte for
+-- itself
+abbrev pub fits : List ℕ → List ℕ → Bool
+fits [] path = length path == 0
+fits (p ∷ pattern) path =
+    if p == star then nat_lt 0 (part_length path) && fits pattern (drop (part_length path) path)
+    else nat_lt 0 (length path) && (slice_index_or path 0 0 == p) && fits pattern (drop 1 path)
+
+-- the paths of each route
+abbrev pub pattern_of : Route → List ℕ
+pattern_of Imports = codes "/v1/imports"
+pattern_of Substitutions = codes "/v1/substitutions"
+pattern_of Holidays = codes "/v1/holidays"
+pattern_of Streams = codes "/v1/streams"
+pattern_of Days = codes "/v1/days/*/*/*"
+pattern_of Versions = codes "/v1/versions/*/*/*/*"
+pattern_of Periods = codes "/v1/periods/*/*"
+pattern_of Gaps = codes "/v1/gaps"
+pattern_of Finals = codes "/v1/finals"
+pattern_of Exports = codes "/v1/exports/nem12"
+
+-- all routes
+abbrev pub routes : List Route
+routes = Imports ∷ Substitutions ∷ Holidays ∷ Streams ∷ Days ∷ Versions ∷ Periods ∷ Gaps ∷ Finals ∷ Exports ∷ []
+
+-- the route that a path is for
+unfoldable pub route_of : List ℕ → Option Route
+route_of path = find (λ route. fits (pattern_of route) path) routes
+
+-- the one method of each route
+abbrev pub method_of : Route → Method
+method_of Imports = Post
+method_of Substitutions = Post
+method_of Holidays = Post
+method_of route = Get
+
+abbrev pub method_text : Method → List ℕ
+method_text Get = codes "GET"
+method_text Post = codes "POST"

@@ -1,0 +1,19 @@
+//! One HTTP request over any reader, writer and handler: its head and body are read and judged, it is handled, and
+//! its answer is written.
+#![tactic(auto)]
+
+mod answer;
+mod body;
+mod head;
+mod judge;
+mod laws;
+mod route;
+mod serve;
+
+pub use answer::{Kind, Status};
+pub use laws::laws_of;
+pub use route::{Method, Route};
+pub use serve::{Handler, Unavailable, WireFault, serve_one};
+
+#[cfg(test)]
+mod tests;
