@@ -2,7 +2,7 @@ mod Contexts
 mod Listed
 mod ListedWorld
 mod Puts
-mod Substituted
+pub mod Substituted
 mod Adding
 mod Committed
 mod Sifting

@@ -1,0 +1,145 @@
+-- Files that agree, in a run.
+use Rattle.std.specs.Prelude.{◌≡◌, ℕ, ◌+◌, Some, None, List, [], ◌∷◌, map}
+use Rattle.std.proofs.Common.{sym, ap, ◌∙◌, subst, inl, inr, arith, refl}
+use Rattle.std.specs.List.{All, sum_by}
+use Rattle.std.proofs.lemmas.List.Elements.{All-cons, All-head, All-nil, All-tail}
+use Rattle.std.specs.declared.alloc.Global.{Global}
+use Rattle.std.specs.declared.vec.Vec.{Vec}
+use Rattle.mds_records.specs.declared.file.FileKind.{FileKind}
+use Rattle.mds_world.specs.Counts.{counted}
+use Rattle.mds_world.specs.FactOrder.{exact, total}
+use Rattle.mds_world.specs.Facts.{Fact}
+use Rattle.mds_world.specs.Facts.Fact.{HeadIs, VersionIs, PeriodIs}
+use Rattle.mds_world.specs.Lists.{Member}
+use Rattle.mds_world.specs.Members.{in_union, union_left, union_right}
+use Rattle.mds_world.specs.Sets.{◌∈◌, union_assoc}
+use Rattle.mds_world.specs.Stated.{stated}
+use Rattle.mds_world.specs.World.{Agrees, World, union}
+use Rattle.mds_versions.specs.Merge.{IsRefusal, upto}
+use Rattle.mds_versions.specs.declared.refusal.Refusal.{Refusal}
+use Rattle.mds_service.specs.declared.request.Request.{Request}
+use Rattle.mds_service.specs.declared.request.Request.TheVariants as asked
+use Rattle.mds_service.specs.declared.request.Answer.{Answer}
+use Rattle.mds_service.specs.declared.request.Answer.TheVariants as told
+use Rattle.mds_service.specs.Machine.{ImportStep, Run, Step, fault_in, stated_in}
+use Rattle.mds_laws.specs.AnyOrder.{AllAgree, IsGiven, IsImported, IsWellFormed, facts_in, together}
+use Rattle.mds_laws.specs.Kept.{came_in}
+use Rattle.mds_laws.proofs.Conflicts.{agrees_within, breaks_none, union_within, upto_within}
+use Rattle.mds_laws.proofs.Kept.{counts_of_run}
+use Rattle.mds_laws.proofs.Members.{none_in}
+use Rattle.mds_laws.proofs.Parts.{in_together}
+
+-- files of which every two agree, and with the World, agree as a whole
+module _ (w : World) (files : List Request) (agree : AllAgree w files) where
+  whose : (f : Fact) → f ∈ union w (together (map facts_in files))
+      → (x : World) × Member x (w ∷ map facts_in files) × (f ∈ x)
+  whose f h = elim (in_union w (together (map facts_in files)) f h) [
+    | inl a ↦ (w, inl refl, a)
+    | inr b ↦ let r = in_together (map facts_in files) f b in (r.0, inr r.1, r.2)
+  ]
+
+  as_a_whole : Agrees (union w (together (map facts_in files)))
+  as_a_whole = record {
+    one_head = λ a b h k s d.
+        let x = whose (HeadIs a) h in
+        let y = whose (HeadIs b) k in
+        (agree x.0 y.0 x.1 y.1).one_head a b (union_left x.0 y.0 _ x.2) (union_right x.0 y.0 _ y.2) s d;
+    one_reading = λ key a b h k.
+        let x = whose (VersionIs key a) h in
+        let y = whose (VersionIs key b) k in
+        (agree x.0 y.0 x.1 y.1).one_reading key a b (union_left x.0 y.0 _ x.2) (union_right x.0 y.0 _ y.2);
+    one_content = λ key a b h k.
+        let x = whose (PeriodIs key a) h in
+        let y = whose (PeriodIs key b) k in
+        (agree x.0 y.0 x.1 y.1).one_content key a b (union_left x.0 y.0 _ x.2) (union_right x.0 y.0 _ y.2);
+  }
+
+no_fault : {A : Type 0} (fault : A) (found : _) → found ≡ Some fault → found ≡ None → ⊥
+no_fault fault found e n = cc
+
+no_refusal : (w : World) (kind : FileKind) (text : List ℕ) (refusal : Refusal)
+    → Agrees (union w (stated (stated_in kind text))) → IsRefusal w (λ line. upto line (stated_in kind text)) refusal → ⊥
+no_refusal w kind text refusal agrees is =
+    let xs = stated_in kind text in
+    let part : Agrees (union w (upto refusal.line xs)) =
+    agrees_within (union w (stated xs)) (union w (upto refusal.line xs))
+    (union_within w (upto refusal.line xs) (stated xs) (upto_within refusal.line xs)) agrees in
+    breaks_none (union w (upto refusal.line xs)) refusal.code refusal.interval part is.breaks
+
+-- a file that agrees is taken in
+file_taken : (old : World) (kind : FileKind) (bytes : Vec ℕ Global) (answer : Answer) (new : World)
+    → fault_in kind bytes.items ≡ None → Agrees (union old (stated (stated_in kind bytes.items)))
+    → ImportStep old kind bytes.items answer new → IsGiven answer
+    → IsImported answer × (new ≡ union old (stated (stated_in kind bytes.items)))
+file_taken old kind bytes (told.Imported added known) new well agrees step given = (tt, step.2)
+file_taken old kind bytes (told.File fault) new well agrees step given =
+    absurd (no_fault fault (fault_in kind bytes.items) step.0 well)
+file_taken old kind bytes (told.Refused refusal) new well agrees step given =
+    absurd (no_refusal old kind bytes.items refusal agrees step.1)
+file_taken old kind bytes told.Unavailable new well agrees step given = absurd (given refl)
+file_taken old kind bytes (told.Substituted count) new well agrees step given = absurd step
+file_taken old kind bytes (told.Known count) new well agrees step given = absurd step
+file_taken old kind bytes (told.HolidaysAdded added known) new well agrees step given = absurd step
+file_taken old kind bytes (told.Day answer) new well agrees step given = absurd step
+file_taken old kind bytes (told.Versions answer) new well agrees step given = absurd step
+file_taken old kind bytes (told.Streams answers) new well agrees step given = absurd step
+
+taken : (old : World) (request : Request) (answer : Answer) (new : World) → IsWellFormed request
+    → Agrees (union old (facts_in request)) → Step old request answer new → IsGiven answer
+    → IsImported answer × (new ≡ union old (facts_in request))
+taken old (asked.Import kind bytes) answer new well agrees step given =
+    file_taken old kind bytes answer new well agrees step given
+taken old (asked.Substitute job) answer new well agrees step given = absurd well
+taken old (asked.Holidays days) answer new well agrees step given = absurd well
+taken old (asked.Day stream day) answer new well agrees step given = absurd well
+taken old (asked.Versions stream day interval) answer new well agrees step given = absurd well
+taken old asked.Streams answer new well agrees step given = absurd well
+
+all_taken : (old new : World) (files : List Request) (answers : List Answer) → All IsWellFormed files
+    → Agrees (union old (together (map facts_in files))) → Run old files answers new → All IsGiven answers
+    → All IsImported answers × (new ≡ union old (together (map facts_in files)))
+all_taken old new [] [] well agrees steps given = (All-nil IsImported, steps ∙ sym (none_in old))
+all_taken old new [] (answer ∷ answers) well agrees steps given = absurd steps
+all_taken old new (file ∷ files) [] well agrees steps given = absurd steps
+all_taken old new (file ∷ files) (answer ∷ answers) well agrees steps given =
+    let facts = facts_in file in
+    let rest = together (map facts_in files) in
+    let here : Agrees (union old facts) = agrees_within (union old (union facts rest)) (union old facts)
+    (union_within old facts (union facts rest) (union_left facts rest)) agrees in
+    let one = taken old file answer steps.0 (All-head IsWellFormed file files well) here steps.1
+    (All-head IsGiven answer answers given) in
+    let grouped : union steps.0 rest ≡ union old (union facts rest) =
+    ap (λ w. union w rest) one.1 ∙ union_assoc total exact old facts rest in
+    let others = all_taken steps.0 new files answers (All-tail IsWellFormed file files well)
+    (subst Agrees (sym grouped) agrees) steps.2 (All-tail IsGiven answer answers given) in
+    (All-cons IsImported answer answers one.0 others.0, others.1 ∙ grouped)
+
+pub each_is_taken_in : (old new : World) (files : List Request) (answers : List Answer) → All IsWellFormed files
+    → AllAgree old files → Run old files answers new → All IsGiven answers
+    → All IsImported answers × (new ≡ union old (together (map facts_in files)))
+each_is_taken_in old new files answers well agree steps given =
+    all_taken old new files answers well (as_a_whole old files agree) steps given
+
+same_sum : (a b w x y : ℕ) → a ≡ w + x → b ≡ w + y → a ≡ b → x ≡ y
+same_sum a b w x y p q e = omega (arith, p, q, e)
+
+pub same_facts_end_alike : (old new other_new : World) (files others : List Request) (answers other_answers : List Answer)
+    → All IsWellFormed files → All IsWellFormed others
+    → together (map facts_in files) ≡ together (map facts_in others) → AllAgree old files
+    → Run old files answers new → Run old others other_answers other_new
+    → All IsGiven answers → All IsGiven other_answers
+    → All IsImported answers × All IsImported other_answers × (new ≡ other_new)
+    × (sum_by came_in answers ≡ sum_by came_in other_answers)
+same_facts_end_alike old new other_new files others answers other_answers well other_well same agree steps other_steps given
+    other_given =
+    let agrees = as_a_whole old files agree in
+    let one = all_taken old new files answers well agrees steps given in
+    let two = all_taken old other_new others other_answers other_well (subst (λ u. Agrees (union old u)) same agrees)
+    other_steps other_given in
+    let alike : new ≡ other_new = one.1 ∙ ap (union old) same ∙ sym two.1 in (
+      one.0,
+      two.0,
+      alike,
+      same_sum _ _ _ _ _ (counts_of_run old new files answers steps)
+          (counts_of_run old other_new others other_answers other_steps) (ap counted alike),
+    )

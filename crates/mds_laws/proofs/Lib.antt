@@ -1,0 +1,9 @@
+pub mod AnyOrder
+pub mod Conflicts
+pub mod Exchange
+pub mod Kept
+pub mod Lawful
+pub mod Members
+pub mod Parts
+pub mod PutBeside
+pub mod Seen

@@ -1,0 +1,12 @@
+use Rattle.mds_laws.proofs.AnyOrder.{each_is_taken_in, same_facts_end_alike}
+use Rattle.mds_laws.proofs.Parts.{parts_state_the_whole}
+use Rattle.mds_laws.proofs.laws.files_come_in_any_order.Goals as goal
+
+pub returns-clause-each : goal.returns-clause-each
+returns-clause-each c = each_is_taken_in
+
+pub returns-clause-alike : goal.returns-clause-alike
+returns-clause-alike c = same_facts_end_alike
+
+pub returns-clause-parts : goal.returns-clause-parts
+returns-clause-parts c = parts_state_the_whole

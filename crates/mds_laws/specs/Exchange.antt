@@ -1,0 +1,36 @@
+-- A job and a file that states nothing of the days that the job may look at may change places (profile).
+use Rattle.std.specs.Prelude.{◌≡◌, ◌⊎◌, ◌↔◌, ℕ, ◌+◌, None, [], ◌∷◌}
+use Rattle.std.specs.declared.alloc.Global.{Global}
+use Rattle.std.specs.declared.vec.Vec.{Vec}
+use Rattle.mds_records.specs.declared.file.FileKind.{FileKind}
+use Rattle.mds_world.specs.declared.facts.Head.{Head}
+use Rattle.mds_world.specs.Facts.{JobContent}
+use Rattle.mds_world.specs.Facts.Fact.{HeadIs}
+use Rattle.mds_world.specs.Sets.{◌∈◌}
+use Rattle.mds_world.specs.Stated.{stated}
+use Rattle.mds_world.specs.World.{World}
+use Rattle.mds_jobs.specs.Jobs.{content_of}
+use Rattle.mds_jobs.specs.declared.job.Job.{Job}
+use Rattle.mds_fill.specs.Fills.{IsLike}
+use Rattle.mds_service.specs.declared.request.Request.TheVariants as asked
+use Rattle.mds_service.specs.declared.request.Answer.{Answer}
+use Rattle.mds_service.specs.Machine.{Run, fault_in, stated_in}
+
+-- the days of its stream that a job may look at: its own, the days before and after it, and its candidates
+abbrev pub MayLookAt : World → JobContent → ℕ → Type 0
+MayLookAt w job day =
+    (day ≡ job.day) ⊎ ((day + 1 ≡ job.day) ⊎ ((day ≡ job.day + 1) ⊎ ((place : ℕ) × IsLike w job place day)))
+
+-- no head of such a day is among the facts
+abbrev pub LeavesAlone : World → World → Job → Type 0
+LeavesAlone w facts job =
+    (head : Head) → HeadIs head ∈ facts → head.stream ≡ job.stream → MayLookAt w (content_of job) head.day → ⊥
+
+-- A job and a file that, if it is well formed, leaves these days alone: whatever they are answered and end in, one
+-- after the other, they may be answered and end in the other way round.
+abbrev pub MayChangePlaces : Type 0
+MayChangePlaces =
+    (old new : World) (kind : FileKind) (bytes : Vec ℕ Global) (job : Job) (of_file of_job : Answer)
+    → (fault_in kind bytes.items ≡ None → LeavesAlone old (stated (stated_in kind bytes.items)) job)
+    → (Run old (asked.Import kind bytes ∷ asked.Substitute job ∷ []) (of_file ∷ of_job ∷ []) new)
+    ↔ (Run old (asked.Substitute job ∷ asked.Import kind bytes ∷ []) (of_job ∷ of_file ∷ []) new)

@@ -1,0 +1,101 @@
+-- Nothing is lost (profile): what a World holds stays as it is, what comes in is told by the answers, and what came in
+-- came by one request.
+use Rattle.std.specs.Prelude.{◌≡◌, ℕ, ◌+◌, true, List, ◌∷◌, ◌++◌}
+use Rattle.std.specs.List.{sum_by}
+use Rattle.mds_marks.specs.Reading.{ReadingValue}
+use Rattle.mds_world.specs.declared.facts.Head.{Head}
+use Rattle.mds_world.specs.declared.facts.Key.{Key}
+use Rattle.mds_world.specs.Counts.{counted, is_counted}
+use Rattle.mds_world.specs.Facts.{Fact, JobContent, PeriodContent, PeriodKey}
+use Rattle.mds_world.specs.Facts.Fact.{HeadIs, VersionIs, PeriodIs, JobIs}
+use Rattle.mds_world.specs.Sets.{◌∈◌}
+use Rattle.mds_world.specs.Stated.{stated}
+use Rattle.mds_world.specs.World.{IsLawful, World}
+use Rattle.mds_jobs.specs.Jobs.{content_of}
+use Rattle.mds_jobs.specs.declared.job.Job.{Job}
+use Rattle.mds_fill.specs.Fills.{IsSubstitute, IsTarget}
+use Rattle.mds_service.specs.declared.request.Request.{Request}
+use Rattle.mds_service.specs.declared.request.Request.TheVariants as asked
+use Rattle.mds_service.specs.declared.request.Answer.{Answer}
+use Rattle.mds_service.specs.declared.request.Answer.TheVariants as told
+use Rattle.mds_service.specs.Machine.{Run, Step, stated_in}
+
+-- Whatever a World holds, a later one of the run holds.
+abbrev pub NothingIsMissing : Type 0
+NothingIsMissing =
+    (old new : World) (requests : List Request) (answers : List Answer)
+    → Run old requests answers new → (fact : Fact) → fact ∈ old → fact ∈ new
+
+-- From a lawful World a run ends in a lawful one.
+abbrev pub LawStays : Type 0
+LawStays =
+    (old new : World) (requests : List Request) (answers : List Answer)
+    → Run old requests answers new → IsLawful old → IsLawful new
+
+-- Where both hold a version or an accumulation of one key, a head of one day or a job of one id, these are the same.
+pub record AreUnaltered (old new : World) : Type 0 where
+  pub versions : (key : Key) (a b : ReadingValue) → VersionIs key a ∈ old → VersionIs key b ∈ new → a ≡ b
+  pub heads : (a b : Head) → HeadIs a ∈ old → HeadIs b ∈ new → a.stream ≡ b.stream → a.day ≡ b.day → a ≡ b
+  pub periods : (key : PeriodKey) (a b : PeriodContent) → PeriodIs key a ∈ old → PeriodIs key b ∈ new → a ≡ b
+  pub jobs : (id : List ℕ) (a b : JobContent) (m n : ℕ) → JobIs id a m ∈ old → JobIs id b n ∈ new → (a ≡ b) × (m ≡ n)
+
+-- What a lawful World holds, a later one of the run doesn't hold otherwise.
+abbrev pub NothingIsAltered : Type 0
+NothingIsAltered =
+    (old new : World) (requests : List Request) (answers : List Answer)
+    → Run old requests answers new → IsLawful old → AreUnaltered old new
+
+-- how many versions and accumulations came in, as an answer tells
+abbrev pub came_in : Answer → ℕ
+came_in (told.Imported added known) = added
+came_in (told.Substituted count) = count
+came_in answer = 0
+
+-- The versions and accumulations are as many more as the answers of the run tell.
+abbrev pub AnswersTellHowMany : Type 0
+AnswersTellHowMany =
+    (old new : World) (requests : List Request) (answers : List Answer)
+    → Run old requests answers new → counted new ≡ counted old + sum_by came_in answers
+
+-- A request of a run, with the World before it, its answer, and the World after it.
+pub record IsStepOf (old new : World) (requests : List Request) (answers : List Answer)
+    (before : World) (request : Request) (answer : Answer) (after : World) : Type 0 where
+  pub earlier : List Request
+  pub later : List Request
+  pub told_earlier : List Answer
+  pub told_later : List Answer
+  pub asked : requests ≡ earlier ++ request ∷ later
+  pub answered : answers ≡ told_earlier ++ answer ∷ told_later
+  pub run_before : Run old earlier told_earlier before
+  pub step : Step before request answer after
+  pub run_after : Run after later told_later new
+
+-- a target of a job, with the job's update, flag, method and reason, and the value by its method in this World
+abbrev pub IsOfJob : World → Job → Fact → Type 0
+IsOfJob w job (VersionIs key reading) =
+    (key.stream ≡ job.stream) × (key.day ≡ job.day) × (key.update ≡ job.update)
+    × IsTarget (content_of job) key.interval × IsSubstitute w (content_of job) key.interval reading
+IsOfJob w job fact = ⊥
+
+-- what a file that was taken in states, or what a job that was done fills in by the World before it
+abbrev pub ComesBy : World → Request → Answer → Fact → Type 0
+ComesBy before (asked.Import kind bytes) (told.Imported added known) fact = fact ∈ stated (stated_in kind bytes.items)
+ComesBy before (asked.Substitute job) (told.Substituted count) fact = IsOfJob before job fact
+ComesBy before request answer fact = ⊥
+
+-- The request of a run that a fact came in by: it isn't there before, and is after.
+pub record CameBy (old new : World) (requests : List Request) (answers : List Answer) (fact : Fact) : Type 0 where
+  pub before : World
+  pub after : World
+  pub request : Request
+  pub answer : Answer
+  pub step : IsStepOf old new requests answers before request answer after
+  pub absent : fact ∈ before → ⊥
+  pub present : fact ∈ after
+  pub by : ComesBy before request answer fact
+
+-- Each version and accumulation that a run brought came by such a request.
+abbrev pub EachCameByOne : Type 0
+EachCameByOne =
+    (old new : World) (requests : List Request) (answers : List Answer) (fact : Fact) → is_counted fact ≡ true
+    → Run old requests answers new → fact ∈ new → (fact ∈ old → ⊥) → CameBy old new requests answers fact

@@ -1,0 +1,29 @@
+//! The laws. The functions do nothing.
+
+ghost use Rattle.mds_laws.specs.AnyOrder.{EachIsTakenIn, PartsStateTheWhole, SameFactsEndAlike};
+ghost use Rattle.mds_laws.specs.Exchange.{MayChangePlaces};
+ghost use Rattle.mds_laws.specs.Kept.{AnswersTellHowMany, EachCameByOne, LawStays, NothingIsAltered, NothingIsMissing};
+
+/// What was taken in stays and stays as it is, the answers tell how many versions and accumulations
+/// came in, and each came by one file or one job.
+pub fn nothing_is_lost()
+    ensures lawful { LawStays }
+    ensures missing { NothingIsMissing }
+    ensures altered { NothingIsAltered }
+    ensures count { AnswersTellHowMany }
+    ensures origin { EachCameByOne }
+{}
+
+/// Files that agree are taken in whatever their order, and what is kept in the end, and how much was
+/// added, turns on what they state together alone; the parts of a file together state what it does.
+pub fn files_come_in_any_order()
+    ensures each { EachIsTakenIn }
+    ensures alike { SameFactsEndAlike }
+    ensures parts { PartsStateTheWhole }
+{}
+
+/// A job and a file that states nothing of the days that the job may look at: both answers and what
+/// is kept in the end may be the same, whichever comes first.
+pub fn a_job_and_a_file_change_places()
+    ensures { MayChangePlaces }
+{}

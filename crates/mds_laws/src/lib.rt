@@ -1,0 +1,8 @@
+//! Laws of the machine, over every World and every run: what any list of requests keeps, and where
+//! their order doesn't matter. The statements stand in `specs`, over the `Step` and `Run` that
+//! `mds_service::run` keeps to. The functions do nothing.
+#![tactic(auto)]
+
+mod laws;
+
+pub use laws::{a_job_and_a_file_change_places, files_come_in_any_order, nothing_is_lost};
