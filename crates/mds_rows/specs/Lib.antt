@@ -1,0 +1,4 @@
+pub mod Begun
+pub mod ReadBack
+pub mod RowSteps
+pub mod Rows
