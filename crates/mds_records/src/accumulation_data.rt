@@ -84,7 +84,6 @@ struct AmountTerms {
 }
 
 /// Reads the text of a 250 record.
-#[inline(never)]
 pub fn read_accumulation_data(text: &[u8]) -> Result<AccumulationDataRecord<'_>, FieldFault>
     ensures { (file : HeaderName) (n : ℕ) → MatchResult result
         (λ r. (field_fault file Kind.AccumulationData n text.now ≡ None) × IsAccumulationData text.now r)
