@@ -1,7 +1,7 @@
 //! What `mdstore check FILE` does, in plain Rust: it reads a NEM12 file line by line, holds each
 //! record against the layouts and the faults of `docs/FORMATS.md`, adds up each day's values in
-//! millionths, and prints a line for each day, or the file's first fault. `bench/run` compares the
-//! two.
+//! millionths, and prints a line for each day, or the file's first fault. `plain FILE nem13` does
+//! so with a NEM13 file, and prints a line for each accumulation. `bench/run` compares the two.
 
 use std::env;
 use std::fs::File;
@@ -39,7 +39,7 @@ enum Failure {
     Fault(Fault),
 }
 
-/// The records that a NEM12 file may have.
+/// The records that a file may have.
 #[derive(Clone, Copy, PartialEq)]
 enum Kind {
     Header,
@@ -49,6 +49,7 @@ enum Kind {
     B2b,
     End,
     Accumulation,
+    AccumulationB2b,
 }
 
 /// The stream, the unit and the count of intervals of the last 200 record.
@@ -75,6 +76,8 @@ struct Day {
 
 /// A file's check, as far as it has come.
 struct Check {
+    /// Whether it is a NEM13 file.
+    is_nem13: bool,
     line: usize,
     last: Option<Kind>,
     details: Option<Details>,
@@ -97,12 +100,13 @@ struct Fields<I> {
 
 fn main() -> ExitCode {
     let Some(path) = env::args().nth(1) else {
-        eprintln!("usage: plain FILE");
+        eprintln!("usage: plain FILE [nem13]");
         return ExitCode::from(2);
     };
+    let is_nem13 = env::args().nth(2).is_some_and(|kind| kind == "nem13");
     let result = File::open(path)
         .map_err(|_| Failure::Read)
-        .and_then(report_of);
+        .and_then(|file| report_of(file, is_nem13));
     let (status, text) = match result {
         Ok(report) => (0, report),
         Err(Failure::Read) => (3, b"cannot read file\n".to_vec()),
@@ -121,9 +125,10 @@ fn main() -> ExitCode {
 }
 
 /// What is printed of a file.
-fn report_of(file: impl Read) -> Result<Vec<u8>, Failure> {
+fn report_of(file: impl Read, is_nem13: bool) -> Result<Vec<u8>, Failure> {
     let mut reader = BufReader::with_capacity(BLOCK, file);
     let mut check = Check {
+        is_nem13,
         line: 0,
         last: None,
         details: None,
@@ -169,7 +174,11 @@ impl Check {
         }
         let mut fields = fields_of(line);
         let kind = kind_of(fields.next()).ok_or_else(|| self.fault("L2"))?;
-        if !may_follow(self.last, kind) {
+        let is_in_place = match self.is_nem13 {
+            true => may_follow_in_nem13(self.last, kind),
+            false => may_follow(self.last, kind),
+        };
+        if !is_in_place {
             return Err(self.fault("L3"));
         }
         self.last = Some(kind);
@@ -182,7 +191,9 @@ impl Check {
             Kind::Day => self.take_day(fields),
             Kind::Event => self.take_event(fields),
             Kind::B2b => self.take_b2b(fields),
-            Kind::End | Kind::Accumulation => fields.finish(self.line, 1),
+            Kind::Accumulation => self.take_accumulation(fields),
+            Kind::AccumulationB2b => self.take_accumulation_b2b(fields),
+            Kind::End => fields.finish(self.line, 1),
         }
     }
 
@@ -223,10 +234,14 @@ impl Check {
         mut fields: Fields<impl Iterator<Item = &'a [u8]>>,
     ) -> Result<(), Fault> {
         let name = fields.next();
-        if name == b"NEM13" {
+        let (own, other) = match self.is_nem13 {
+            true => (b"NEM13", b"NEM12"),
+            false => (b"NEM12", b"NEM13"),
+        };
+        if name == other {
             return Err(self.fault("L11"));
         }
-        fields.judge(name == b"NEM12");
+        fields.judge(name == own);
         fields.test(|text| is_minute(text) || is_moment(text));
         fields.test(is_printable);
         fields.test(is_printable);
@@ -352,9 +367,54 @@ impl Check {
         &self,
         mut fields: Fields<impl Iterator<Item = &'a [u8]>>,
     ) -> Result<(), Fault> {
-        fields.test(|text| matches!(text, [] | [b'A'..=b'Z']));
+        fields.test(is_trans);
         fields.test(is_printable);
         fields.test(is_no_moment_or_one);
+        fields.test(is_printable);
+        fields.finish(self.line, 1)
+    }
+
+    /// Prints the accumulation of a 250 record.
+    fn take_accumulation<'a>(
+        &mut self,
+        mut fields: Fields<impl Iterator<Item = &'a [u8]>>,
+    ) -> Result<(), Fault> {
+        let nmi = fields.read(name_of::<10>);
+        fields.test(is_printable);
+        fields.test(is_printable);
+        let suffix = fields.read(name_of::<2>);
+        fields.test(is_printable);
+        fields.test(is_printable);
+        fields.test(|text| matches!(text, b"I" | b"E"));
+        let previous = fields.read_read(false);
+        let current = fields.read_read(true);
+        let quantity = fields.read(millionths);
+        let unit = fields.read(unit_of);
+        fields.test(|text| text.is_empty() || is_day(text));
+        fields.test(is_no_moment_or_one);
+        fields.test(is_no_moment_or_one);
+        fields.finish(self.line, 20)?;
+        if let (Some(nmi), Some(suffix), Some(quantity), Some(unit)) = (nmi, suffix, quantity, unit) {
+            let report = &mut self.report;
+            for text in [&nmi[..], &suffix, previous, current] {
+                report.extend_from_slice(text);
+                report.push(b' ');
+            }
+            print_total(i128::from(quantity), report);
+            report.push(b' ');
+            report.extend_from_slice(unit.as_bytes());
+            report.push(b'\n');
+        }
+        Ok(())
+    }
+
+    fn take_accumulation_b2b<'a>(
+        &self,
+        mut fields: Fields<impl Iterator<Item = &'a [u8]>>,
+    ) -> Result<(), Fault> {
+        fields.test(is_trans);
+        fields.test(is_printable);
+        fields.test(is_trans);
         fields.test(is_printable);
         fields.finish(self.line, 1)
     }
@@ -423,6 +483,20 @@ impl<'a, I: Iterator<Item = &'a [u8]>> Fields<I> {
         value
     }
 
+    /// Judges the fields of a register read, and answers that of its moment.
+    fn read_read(&mut self, has_quality: bool) -> &'a [u8] {
+        self.test(is_printable);
+        let moment = self.next();
+        self.judge(is_moment(moment));
+        self.test(|text| match text {
+            [] => !has_quality,
+            _ => flag_of(text).is_some_and(|flag| flag != b'V'),
+        });
+        self.test(is_code);
+        self.test(is_reason);
+        moment
+    }
+
     /// The fault of a line whose fields are all read: L4, or L5 of its first bad field.
     fn finish(mut self, line: usize, least: usize) -> Result<(), Fault> {
         if self.given < least || self.parts.any(|text| !text.is_empty()) {
@@ -448,10 +522,11 @@ fn kind_of(indicator: &[u8]) -> Option<Kind> {
     Some(match indicator {
         b"100" => Kind::Header,
         b"200" => Kind::Details,
-        b"250" | b"550" => Kind::Accumulation,
+        b"250" => Kind::Accumulation,
         b"300" => Kind::Day,
         b"400" => Kind::Event,
         b"500" => Kind::B2b,
+        b"550" => Kind::AccumulationB2b,
         b"900" => Kind::End,
         _ => return None,
     })
@@ -466,8 +541,24 @@ fn may_follow(last: Option<Kind>, kind: Kind) -> bool {
         Some(Details) => matches!(kind, Details | Day | End),
         Some(Day | Event) => matches!(kind, Day | Event | B2b | Details | End),
         Some(B2b) => matches!(kind, B2b | Day | Details | End),
-        Some(End | Accumulation) => false,
+        Some(End | Accumulation | AccumulationB2b) => false,
     }
+}
+
+/// Whether a record of a NEM13 file may stand after the last one.
+fn may_follow_in_nem13(last: Option<Kind>, kind: Kind) -> bool {
+    use Kind::*;
+    match last {
+        None => kind == Header,
+        Some(Header) => matches!(kind, Accumulation | End),
+        Some(Accumulation | AccumulationB2b) => matches!(kind, Accumulation | AccumulationB2b | End),
+        Some(_) => false,
+    }
+}
+
+/// Whether a text is empty or a transaction code.
+fn is_trans(text: &[u8]) -> bool {
+    matches!(text, [] | [b'A'..=b'Z'])
 }
 
 /// An NMI or a suffix.

@@ -1,4 +1,2 @@
-pub mod Answer
 pub mod Performed
 pub mod Program
-pub mod Report

@@ -13,7 +13,7 @@ use Rattle.mds_desk.specs.declared.performing.PerformFault.TheVariants.{Memory, 
 use Rattle.mds_desk.specs.declared.outcome.Status.{Status}
 use Rattle.mds_desk.specs.declared.outcome.Status.TheVariants as status
 
--- what is printed of an answer, as a line; no command asks for a day, for versions or for streams yet
+-- what is printed of an answer, as a line; no command asks for a day, for versions, for accumulations or for streams yet
 abbrev pub answer_text : Answer → List ℕ
 answer_text (told.Imported added known) =
     codes "added " ++ decimal added ++ codes " known " ++ decimal known ++ codes "\n"
@@ -26,6 +26,7 @@ answer_text (told.Refused refusal) = refusal_text refusal ++ codes "\n"
 answer_text told.Unavailable = codes "U1\n"
 answer_text (told.Day answer) = []
 answer_text (told.Versions answer) = []
+answer_text (told.Period answer) = []
 answer_text (told.Streams answers) = []
 
 abbrev pub answer_status : Answer → Status
@@ -38,6 +39,7 @@ answer_status (told.Refused refusal) = status.Fault
 answer_status told.Unavailable = status.Unavailable
 answer_status (told.Day answer) = status.Done
 answer_status (told.Versions answer) = status.Done
+answer_status (told.Period answer) = status.Done
 answer_status (told.Streams answers) = status.Done
 
 -- From a World the machine does one step, to a lawful World that is kept where the keeper is sound; and a crash leaves that, or

@@ -1,8 +1,8 @@
 -- What the program prints, and the status that it ends with (profile).
 use Rattle.std.specs.Prelude.{ℕ, List, [], ◌++◌, codes, decimal, Result, Ok, Err}
 use Rattle.mds_records.specs.Printed.{fault_text}
-use Rattle.mds_desk.specs.declared.checking.CheckFault.{CheckFault}
-use Rattle.mds_desk.specs.declared.checking.CheckFault.TheVariants as check
+use Rattle.mds_check.specs.declared.checking.CheckFault.{CheckFault}
+use Rattle.mds_check.specs.declared.checking.CheckFault.TheVariants as check
 use Rattle.mds_desk.specs.declared.performing.PerformFault.{PerformFault}
 use Rattle.mds_desk.specs.declared.performing.PerformFault.TheVariants as perform
 use Rattle.mds_desk.specs.declared.outcome.Outcome.{Outcome}

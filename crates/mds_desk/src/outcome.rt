@@ -3,8 +3,8 @@
 ghost use Rattle.std.specs.Prelude.{◌≡◌, ◌↔◌, IsTrue, Some};
 ghost use Rattle.mds_desk.specs.Program.{after_failed_close, of_check, of_request, outcome_text, status_code, status_of};
 
-use crate::checking::CheckFault;
 use crate::performing::PerformFault;
+use mds_check::CheckFault;
 use mds_records::FileFault;
 use std::fmt;
 

@@ -9,10 +9,9 @@ ghost use Rattle.mds_versions.specs.Refusals.{place_text, refusal_text};
 ghost use Rattle.mds_desk.specs.Performed.{Does, answer_status, answer_text, is_write_failure};
 
 use crate::outcome::Status;
-use crate::output::write_whole;
 use arrayvec::ArrayString;
 use itoa::Buffer;
-use mds_lines::Sink;
+use mds_lines::{Sink, write_whole};
 use mds_records::FileFault;
 use mds_service::{Answer, Request, run};
 use mds_versions::{Keeper, Refusal};
@@ -105,6 +104,7 @@ fn status_of(answer: &Answer) -> Status
         | Answer::HolidaysAdded { .. }
         | Answer::Day(_)
         | Answer::Versions(_)
+        | Answer::Period(_)
         | Answer::Streams(_) => Status::Done,
         Answer::File(_) | Answer::Refused(_) => Status::Fault,
         Answer::Unavailable => Status::Unavailable,
@@ -123,7 +123,8 @@ fn answer_line(answer: &Answer) -> Line
         Answer::File(fault) => fault_line(fault),
         Answer::Refused(refusal) => refusal_line(refusal),
         Answer::Unavailable => unavailable_line(),
-        Answer::Day(_) | Answer::Versions(_) | Answer::Streams(_) => Line::new(),
+        Answer::Day(_) | Answer::Versions(_) | Answer::Period(_) | Answer::Streams(_) =>
+            Line::new(),
     }
 }
 

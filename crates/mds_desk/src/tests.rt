@@ -5,8 +5,9 @@ mod performing;
 mod slow;
 mod small;
 
-use crate::{CheckFault, Outcome, check};
+use crate::Outcome;
 use made::Random;
+use mds_check::{CheckFault, check};
 use mds_lines::Counted;
 use mds_records::FileKind;
 use std::alloc::{AllocError, Global};

@@ -62,7 +62,7 @@ const LATER_DAY: &[&str] = &["20240103"];
 const NOTHING: &[&str] = &[];
 
 /// The examples, each a list of requests.
-pub const EXAMPLES: [&[Row]; 14] = [
+pub const EXAMPLES: [&[Row]; 16] = [
     &TAKEN_IN,
     &FIVE_MINUTES,
     &LATEST_UPDATE,
@@ -77,6 +77,8 @@ pub const EXAMPLES: [&[Row]; 14] = [
     &MEAN_BELOW_ZERO,
     &INTERPOLATED,
     &ON_HOLIDAYS,
+    &ACCUMULATIONS,
+    &DESCENDING,
 ];
 
 /// A file is taken in, once.
@@ -559,20 +561,107 @@ const ON_HOLIDAYS: [Row; 11] = [
     ),
 ];
 
-/// A request: to import a file, to do a job (its id, and its body as a store keeps it), to list holidays, for a day of the first
-/// file's stream, for the versions of an interval of a day, or for the streams.
+/// The header of a NEM13 file.
+const HEADER_13: &str = "100,NEM13,200401011234,MDP1,RETAILER;";
+
+/// An accumulation to 1 February 2004, with a note.
+const TO_FEBRUARY: &str =
+    "250,1234567890,1141,01,11,11,METSER66,E,000021.2,20031001103230,A,,,000534.5,20040201100030,E64,77,,343.5,kWh,20040509,20040202125010,20040203000130;550,N,,A,;";
+
+/// The same with another quantity.
+const OF_OTHER_QUANTITY: &str =
+    "250,1234567890,1141,01,11,11,METSER66,E,000021.2,20031001103230,A,,,000534.5,20040201100030,E64,77,,344.5,kWh,20040509,20040202125010,20040203000130;550,N,,A,;";
+
+/// That from there to 1 March.
+const TO_MARCH: &str =
+    "250,1234567890,1141,01,11,11,METSER66,E,000534.5,20040201100030,A,,,000600.0,20040301100030,A,,,65.5,kWh,,20040302125010,;";
+
+/// The same of another register, and updated when the file was made.
+const OF_OTHER_REGISTER: &str =
+    "250,1234567890,1141,02,11,11,METSER66,E,000534.5,20040201100030,A,,,000600.0,20040301100030,A,,,65.5,kWh,,,;";
+
+/// The file of the accumulation to February.
+pub const PERIODS: &[&str] = &[HEADER_13, TO_FEBRUARY, "$"];
+
+const METER: &[&str] = &["1234567890", "11"];
+
+/// Accumulations are taken in, once. One that conflicts, with what is kept or with its file, changes nothing.
+const ACCUMULATIONS: [Row; 13] = [
+    ("period", METER, 0, "1234567890,11"),
+    ("import13", PERIODS, 0, "added 1 known 0"),
+    ("import13", PERIODS, 0, "added 0 known 1"),
+    (
+        "period",
+        METER,
+        0,
+        "1234567890,11 01,20031001103230,20040201100030,20040202125010:1141,01,11,11,METSER66,E,000021.2,20031001103230,A,,,000534.5,20040201100030,E64,77,,343.5,kWh,20040509,20040202125010\nN,,A,",
+    ),
+    (
+        "import13",
+        &[HEADER_13, OF_OTHER_QUANTITY, "$"],
+        0,
+        "M3 2 0 0",
+    ),
+    (
+        "import13",
+        &[HEADER_13, TO_MARCH, TO_MARCH, OF_OTHER_QUANTITY, "$"],
+        0,
+        "M3 4 0 0",
+    ),
+    ("streams", NOTHING, 0, "1234567890,11=,,,, "),
+    ("period", &["NEM1201009", "E1"], 0, "NEM1201009,E1"),
+    (
+        "import13",
+        &[HEADER_13, TO_MARCH, TO_FEBRUARY, TO_MARCH, "$"],
+        0,
+        "added 1 known 1",
+    ),
+    ("import13", &["@$"], 0, "L11 line 1"),
+    ("import", PERIODS, 0, "L11 line 1"),
+    ("import13", &[HEADER_13, "$"], 0, "added 0 known 0"),
+    ("import", FIRST, 0, "added 48 known 0"),
+];
+
+/// The accumulations of a stream stand in the order of their registers, and then of their reads, however they came. A file that
+/// conflicts with itself changes nothing.
+const DESCENDING: [Row; 4] = [
+    (
+        "import13",
+        &[HEADER_13, TO_FEBRUARY, OF_OTHER_QUANTITY, "$"],
+        0,
+        "M3 4 0 0",
+    ),
+    ("streams", NOTHING, 0, ""),
+    (
+        "import13",
+        &[HEADER_13, OF_OTHER_REGISTER, TO_MARCH, TO_FEBRUARY, "$"],
+        0,
+        "added 3 known 0",
+    ),
+    (
+        "period",
+        METER,
+        0,
+        "1234567890,11 01,20031001103230,20040201100030,20040202125010:1141,01,11,11,METSER66,E,000021.2,20031001103230,A,,,000534.5,20040201100030,E64,77,,343.5,kWh,20040509,20040202125010\nN,,A, 01,20040201100030,20040301100030,20040302125010:1141,01,11,11,METSER66,E,000534.5,20040201100030,A,,,000600.0,20040301100030,A,,,65.5,kWh,,20040302125010 02,20040201100030,20040301100030,20040101123400:1141,02,11,11,METSER66,E,000534.5,20040201100030,A,,,000600.0,20040301100030,A,,,65.5,kWh,,",
+    ),
+];
+
+/// A request: to import a file of either kind, to do a job (its id, and its body as a store keeps it), to list holidays, for a day of the first
+/// file's stream, for the versions of an interval of a day, for the accumulations of a stream, or for the streams.
 pub fn request_of(
     alloc: Global,
     what: &str,
     text: &[&str],
     interval: u16,
 ) -> Result<Request, AllocError> {
-    if what == "import" {
+    if what == "import" || what == "import13" {
+        let kind = if what == "import" {
+            FileKind::Nem12
+        } else {
+            FileKind::Nem13
+        };
         let bytes = file_of(alloc, text)?;
-        return Ok(Request::Import {
-            kind: FileKind::Nem12,
-            bytes,
-        });
+        return Ok(Request::Import { kind, bytes });
     }
     if what == "substitute" {
         return match job_of(alloc, text)? {
@@ -582,6 +671,12 @@ pub fn request_of(
     }
     if what == "holidays" {
         return Ok(Request::Holidays(days_of(alloc, text)?));
+    }
+    if what == "period" {
+        return Ok(match stream_of(text) {
+            Some(stream) => Request::Period { stream },
+            None => Request::Streams,
+        });
     }
     let (Some(stream), Some(day)) = (
         Stream::read(b"NEM1201009", b"E1"),
@@ -597,6 +692,14 @@ pub fn request_of(
             day,
             interval,
         })
+    }
+}
+
+/// A stream by its NMI and its suffix.
+fn stream_of(text: &[&str]) -> Option<Stream> {
+    match text {
+        [nmi, suffix] => Stream::read(nmi.as_bytes(), suffix.as_bytes()),
+        _ => None,
     }
 }
 

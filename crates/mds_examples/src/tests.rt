@@ -2,7 +2,7 @@
 
 use crate::files::file_of;
 use crate::{
-    EARLIER, EXAMPLES, FIRST, file_at_the_limits, first_wrong, first_wrong_at_the_limits,
+    EARLIER, EXAMPLES, FIRST, PERIODS, file_at_the_limits, first_wrong, first_wrong_at_the_limits,
     request_of, text_of,
 };
 use mds_memory::MemoryKeeper;
@@ -106,9 +106,10 @@ fn the_limits_hold(rt: HostRuntime) -> Result<(), Fail> {
 fn memory_is_wanting(rt: HostRuntime) -> Result<(), Fail> {
     let alloc = rt.alloc();
     let mut keeper = MemoryKeeper::new(alloc);
-    let (Ok(first), Ok(earlier), Ok(day)) = (
+    let (Ok(first), Ok(earlier), Ok(periods), Ok(day)) = (
         request_of(alloc, "import", FIRST, 0),
         request_of(alloc, "import", EARLIER, 0),
+        request_of(alloc, "import13", PERIODS, 0),
         request_of(alloc, "day", &["20240101"], 0),
     ) else {
         return Ok(());
@@ -116,6 +117,7 @@ fn memory_is_wanting(rt: HostRuntime) -> Result<(), Fail> {
     for (request, wanted, again) in [
         (first, "added 48 known 0", "added 0 known 48"),
         (earlier, "added 48 known 0", "added 0 known 48"),
+        (periods, "added 1 known 0", "added 0 known 1"),
         (
             day,
             "30 kWh 20240102010203 1:A,,,1.5 48",

@@ -1,7 +1,7 @@
 //! Answers as texts.
 
 use mds_marks::Reading;
-use mds_service::{Answer, DayAnswer, StreamAnswer, VersionsAnswer};
+use mds_service::{Answer, DayAnswer, PeriodAnswer, StreamAnswer, VersionsAnswer};
 use std::alloc::{AllocError, Global};
 
 /// The text of an answer.
@@ -13,6 +13,7 @@ pub fn text_of(alloc: Global, answer: &Answer) -> Result<String, AllocError> {
         Answer::Known { count } => format!(in alloc; "known {count}"),
         Answer::Day(answer) => day_text(alloc, answer),
         Answer::Versions(answer) => versions_text(alloc, answer),
+        Answer::Period(answer) => periods_text(alloc, answer),
         Answer::Streams(answers) => streams_text(alloc, answers),
         Answer::File(fault) => format!(in alloc; "{fault}"),
         Answer::Refused(refusal) => {
@@ -62,6 +63,24 @@ fn versions_text(alloc: Global, answer: &VersionsAnswer) -> Result<String, Alloc
         version.update.write_to(&mut out)?;
         out.push(':')?;
         version.reading.write_to(&mut out)?;
+    }
+    Ok(out)
+}
+
+/// The accumulations of a stream: of each the register, the two reads and the update, and its content.
+fn periods_text(alloc: Global, answer: &PeriodAnswer) -> Result<String, AllocError> {
+    let mut out = String::new(alloc);
+    answer.stream.write_to(&mut out)?;
+    for period in &answer.periods {
+        let key = &period.key;
+        out.push(' ')?;
+        out.push_str(key.register.text())?;
+        for moment in [key.start, key.finish, key.update] {
+            out.push(',')?;
+            moment.write_to(&mut out)?;
+        }
+        out.push(':')?;
+        out.push_str(period.content.text())?;
     }
     Ok(out)
 }

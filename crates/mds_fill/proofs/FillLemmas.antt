@@ -12,7 +12,7 @@ use Rattle.mds_versions.specs.declared.day_merge.Stop.{Stop}
 use Rattle.mds_versions.specs.declared.day_merge.Stop.TheVariants.{Refused, Memory}
 use Rattle.mds_versions.specs.declared.refusal.Refusal.{Refusal}
 use Rattle.mds_versions.specs.declared.refusal.RefusalCode.{RefusalCode}
-use Rattle.mds_versions.specs.declared.refusal.RefusalCode.TheVariants.{LengthConflict, UnitConflict, VersionConflict, JobReused, Protected, StaleUpdate, NoLikeDay, TooLong, NoAnchor, UnknownDay, BadJob}
+use Rattle.mds_versions.specs.declared.refusal.RefusalCode.TheVariants.{LengthConflict, UnitConflict, VersionConflict, JobReused, Protected, StaleUpdate, NoLikeDay, TooLong, NoAnchor, UnknownDay, BadJob, RangeTooWide}
 use Rattle.mds_fill.specs.Fills.{AreSubstitutes, IsFillFault, IsFillRefusal, IsFilled, IsFree, IsSubstitute, IsTooLong, LacksLikeDay, target_count}
 use Rattle.mds_fill.specs.FillSteps.{AreFilled, IsLack}
 
@@ -36,6 +36,7 @@ lack_stops w job StaleUpdate free short lack = absurd lack
 lack_stops w job TooLong free short lack = absurd lack
 lack_stops w job UnknownDay free short lack = lack
 lack_stops w job BadJob free short lack = lack
+lack_stops w job RangeTooWide free short lack = lack
 
 pub no_like_day : (w : World) (job : JobContent) (stop : Stop) → IsFree w job → (IsTooLong job → ⊥)
     → IfRefused stop (λ refusal.

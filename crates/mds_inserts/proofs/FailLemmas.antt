@@ -10,7 +10,7 @@ use Rattle.mds_versions.specs.declared.additions.Additions.{Additions}
 use Rattle.mds_tables.specs.Tables.{schema_1}
 use Rattle.mds_tables.proofs.CauseLemmas.{fails_since, store_fails}
 use Rattle.mds_inserts.specs.declared.jobs.JobRow.{JobRow}
-use Rattle.mds_inserts.specs.Parts.{Part, detail_part, event_part, head_part, holiday_part, job_part, rows_in, rows_of, version_part}
+use Rattle.mds_inserts.specs.Parts.{Part, detail_part, event_part, head_part, holiday_part, job_part, period_part, rows_in, rows_of, version_part}
 use Rattle.mds_inserts.specs.Refusals.{FailsToPut, RefusesOne}
 use Rattle.mds_inserts.specs.Writing.{PutsAll, PutsThere}
 use Rattle.mds_inserts.proofs.PutLemmas.{fails_later, fails_more}
@@ -33,8 +33,11 @@ after part a b c items more s clean p e why o inside has sound =
 abbrev from_holidays : Additions → List JobRow → List (ℕ × Row)
 from_holidays added jobs = rows_of holiday_part added.holidays.items ++ rows_of job_part jobs
 
+abbrev from_periods : Additions → List JobRow → List (ℕ × Row)
+from_periods added jobs = rows_of period_part added.periods.items ++ from_holidays added jobs
+
 abbrev from_events : Additions → List JobRow → List (ℕ × Row)
-from_events added jobs = rows_of event_part added.events.items ++ from_holidays added jobs
+from_events added jobs = rows_of event_part added.events.items ++ from_periods added jobs
 
 abbrev from_details : Additions → List JobRow → List (ℕ × Row)
 from_details added jobs = rows_of detail_part added.details.items ++ from_events added jobs
@@ -85,9 +88,9 @@ events_fail a b c d f added jobs s0 s1 s2 clean o inside has sound p0 p1 p2 e wh
     after head_part a b f added.heads.items _ s0 (omega (arith, s1.clean, s2.clean, clean)) p0 e
     (after version_part b c f added.versions.items _ s1 (omega (arith, s2.clean, clean)) p1 e
     (after detail_part c d f added.details.items _ s2 clean p2 e
-    (λ o inside has sound. fails_more d f (rows_of event_part added.events.items) (from_holidays added jobs) d.now e (why o inside has sound)))) o inside has sound
+    (λ o inside has sound. fails_more d f (rows_of event_part added.events.items) (from_periods added jobs) d.now e (why o inside has sound)))) o inside has sound
 
-pub holidays_fail : (a b c d f g : State) (added : Additions) (jobs : List JobRow)
+pub periods_fail : (a b c d f g : State) (added : Additions) (jobs : List JobRow)
     → Survives a b (λ _. ⊥)
     → Survives b c (λ _. ⊥)
     → Survives c d (λ _. ⊥)
@@ -98,15 +101,15 @@ pub holidays_fail : (a b c d f g : State) (added : Additions) (jobs : List JobRo
     → PutsThere version_part b c added.versions.items
     → PutsThere detail_part c d added.details.items
     → PutsThere event_part d f added.events.items
-    → (e : Error) → Why f g (rows_of holiday_part added.holidays.items) e → FailsToPut a g (rows_in added jobs) a.now e
-holidays_fail a b c d f g added jobs s0 s1 s2 s3 clean o inside has sound p0 p1 p2 p3 e why =
+    → (e : Error) → Why f g (rows_of period_part added.periods.items) e → FailsToPut a g (rows_in added jobs) a.now e
+periods_fail a b c d f g added jobs s0 s1 s2 s3 clean o inside has sound p0 p1 p2 p3 e why =
     after head_part a b g added.heads.items _ s0 (omega (arith, s1.clean, s2.clean, s3.clean, clean)) p0 e
     (after version_part b c g added.versions.items _ s1 (omega (arith, s2.clean, s3.clean, clean)) p1 e
     (after detail_part c d g added.details.items _ s2 (omega (arith, s3.clean, clean)) p2 e
     (after event_part d f g added.events.items _ s3 clean p3 e
-    (λ o inside has sound. fails_more f g (rows_of holiday_part added.holidays.items) (rows_of job_part jobs) f.now e (why o inside has sound))))) o inside has sound
+    (λ o inside has sound. fails_more f g (rows_of period_part added.periods.items) (from_holidays added jobs) f.now e (why o inside has sound))))) o inside has sound
 
-pub jobs_fail : {X : Type 0} (a b c d f g h : State) (added : Additions) (jobs : List JobRow)
+pub holidays_fail : (a b c d f g h : State) (added : Additions) (jobs : List JobRow)
     → Survives a b (λ _. ⊥)
     → Survives b c (λ _. ⊥)
     → Survives c d (λ _. ⊥)
@@ -118,19 +121,44 @@ pub jobs_fail : {X : Type 0} (a b c d f g h : State) (added : Additions) (jobs :
     → PutsThere version_part b c added.versions.items
     → PutsThere detail_part c d added.details.items
     → PutsThere event_part d f added.events.items
-    → PutsThere holiday_part f g added.holidays.items
-    → (r : Result X Error)
-    → (IsTrue g.is_open → IsTrue g.in_transaction → g.now.schema ≡ schema_1 → IsSound schema_1 g.now.trees
-    → IfErr r (FailsToPut g h (rows_of job_part jobs) g.now))
-    → IfErr r (FailsToPut a h (rows_in added jobs) a.now)
-jobs_fail a b c d f g h added jobs s0 s1 s2 s3 s4 clean o inside has sound p0 p1 p2 p3 p4 (Ok x) why = tt
-jobs_fail a b c d f g h added jobs s0 s1 s2 s3 s4 clean o inside has sound p0 p1 p2 p3 p4 (Err e) why =
+    → PutsThere period_part f g added.periods.items
+    → (e : Error) → Why g h (rows_of holiday_part added.holidays.items) e → FailsToPut a h (rows_in added jobs) a.now e
+holidays_fail a b c d f g h added jobs s0 s1 s2 s3 s4 clean o inside has sound p0 p1 p2 p3 p4 e why =
     after head_part a b h added.heads.items _ s0 (omega (arith, s1.clean, s2.clean, s3.clean, s4.clean, clean)) p0 e
     (after version_part b c h added.versions.items _ s1 (omega (arith, s2.clean, s3.clean, s4.clean, clean)) p1 e
     (after detail_part c d h added.details.items _ s2 (omega (arith, s3.clean, s4.clean, clean)) p2 e
     (after event_part d f h added.events.items _ s3 (omega (arith, s4.clean, clean)) p3 e
-    (after holiday_part f g h added.holidays.items _ s4 clean p4 e
-    why)))) o inside has sound
+    (after period_part f g h added.periods.items _ s4 clean p4 e
+    (λ o inside has sound. fails_more g h (rows_of holiday_part added.holidays.items) (rows_of job_part jobs) g.now e (why o inside has sound)))))) o inside has sound
+
+pub jobs_fail : {X : Type 0} (a b c d f g h k : State) (added : Additions) (jobs : List JobRow)
+    → Survives a b (λ _. ⊥)
+    → Survives b c (λ _. ⊥)
+    → Survives c d (λ _. ⊥)
+    → Survives d f (λ _. ⊥)
+    → Survives f g (λ _. ⊥)
+    → Survives g h (λ _. ⊥)
+    → HasCleanDisk h
+    → IsTrue a.is_open → IsTrue a.in_transaction → a.now.schema ≡ schema_1 → IsSound schema_1 a.now.trees
+    → PutsThere head_part a b added.heads.items
+    → PutsThere version_part b c added.versions.items
+    → PutsThere detail_part c d added.details.items
+    → PutsThere event_part d f added.events.items
+    → PutsThere period_part f g added.periods.items
+    → PutsThere holiday_part g h added.holidays.items
+    → (r : Result X Error)
+    → (IsTrue h.is_open → IsTrue h.in_transaction → h.now.schema ≡ schema_1 → IsSound schema_1 h.now.trees
+    → IfErr r (FailsToPut h k (rows_of job_part jobs) h.now))
+    → IfErr r (FailsToPut a k (rows_in added jobs) a.now)
+jobs_fail a b c d f g h k added jobs s0 s1 s2 s3 s4 s5 clean o inside has sound p0 p1 p2 p3 p4 p5 (Ok x) why = tt
+jobs_fail a b c d f g h k added jobs s0 s1 s2 s3 s4 s5 clean o inside has sound p0 p1 p2 p3 p4 p5 (Err e) why =
+    after head_part a b k added.heads.items _ s0 (omega (arith, s1.clean, s2.clean, s3.clean, s4.clean, s5.clean, clean)) p0 e
+    (after version_part b c k added.versions.items _ s1 (omega (arith, s2.clean, s3.clean, s4.clean, s5.clean, clean)) p1 e
+    (after detail_part c d k added.details.items _ s2 (omega (arith, s3.clean, s4.clean, s5.clean, clean)) p2 e
+    (after event_part d f k added.events.items _ s3 (omega (arith, s4.clean, s5.clean, clean)) p3 e
+    (after period_part f g k added.periods.items _ s4 (omega (arith, s5.clean, clean)) p4 e
+    (after holiday_part g h k added.holidays.items _ s5 clean p5 e
+    why))))) o inside has sound
 
 module _ (start begins said new : State) (is : begins ≡ record start { in_transaction = true }) (added : Additions)
     (jobs : List JobRow) (one : Survives begins said (λ _. ⊥)) (later : HasCleanDisk new → HasCleanDisk said) (puts : PutsAll begins said added) where

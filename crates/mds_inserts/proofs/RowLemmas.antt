@@ -25,7 +25,7 @@ use Rattle.mds_tables.specs.Stores.{Adds, AreJobRows, Gains}
 use Rattle.mds_tables.specs.Cells.{job_cells}
 use Rattle.mds_inserts.specs.JobRows.{AreRowsOf, IsRowOf}
 use Rattle.mds_inserts.specs.declared.jobs.JobRow.{JobRow}
-use Rattle.mds_inserts.specs.Parts.{Part, detail_part, event_part, head_part, holiday_part, job_part, version_part}
+use Rattle.mds_inserts.specs.Parts.{Part, detail_part, event_part, head_part, holiday_part, job_part, period_part, version_part}
 
 -- a row under a fresh rowid is put between the others
 put_shuffles : (new : Row) (rows : List Row) → is_taken rows new ≡ false → IsPermutation (new ∷ rows) (put_row new rows)
@@ -90,16 +90,6 @@ more_both xs ys us vs fs gs p q =
     ∙ sym (union_assoc total exact x y (union f g))
     ∙ (λ i. union (sym (append_of xs ys) i) (sym (append_of fs gs) i))
 
--- more in the first of two parts
-more_first : (xs ys us vs fs : List Fact) → IsMore us xs fs → vs ≡ ys → IsMore (us ++ vs) (xs ++ ys) fs
-more_first xs ys us vs fs p same =
-    let x = of xs in
-    let y = of ys in
-    let f = of fs in
-    append_of us vs ∙ (λ i. union (p i) (of (same i))) ∙ union_assoc total exact x f y
-    ∙ ap (union x) (union_comm total exact f y) ∙ sym (union_assoc total exact x y f)
-    ∙ ap (λ w. union w f) (sym (append_of xs ys))
-
 -- the rowid is nothing that a fact says
 abbrev Unnamed : (Row → Fact) → Type 0
 Unnamed read = (row : Row) → read row ≡ read (Null ∷ drop 1 row)
@@ -152,6 +142,10 @@ event_bare : Unnamed event_fact
 event_bare [] = refl
 event_bare (x ∷ xs) = refl
 
+period_bare : Unnamed period_fact
+period_bare [] = refl
+period_bare (x ∷ xs) = refl
+
 holiday_bare : Unnamed holiday_fact
 holiday_bare [] = refl
 holiday_bare (x ∷ xs) = refl
@@ -201,12 +195,13 @@ job_facts_are (job ∷ jobs) (row ∷ rows) are =
 -- the World that the tables name is the union
 pub world_after : (old new : Trees) (added : Additions) (jobs : List JobRow) → AreRowsOf added.jobs.items jobs
     → Say head_part added.heads.items → Say version_part added.versions.items → Say detail_part added.details.items
-    → Say event_part added.events.items → Say holiday_part added.holidays.items → Say job_part jobs
+    → Say event_part added.events.items → Say period_part added.periods.items → Say holiday_part added.holidays.items
+    → Say job_part jobs
     → Adds old new added → Gains 14 (map job_part.cells jobs) old new → world_in new ≡ union (world_in old) (content added)
-world_after old new added jobs are heads versions details events holidays rows adds gains =
+world_after old new added jobs are heads versions details events periods holidays rows adds gains =
     more_both _ (map job_fact (old 14)) _ (map job_fact (new 14)) _ _
     (more_both _ (map holiday_fact (old 12)) _ (map holiday_fact (new 12)) _ _
-    (more_first _ (map period_fact (old 10)) _ (map period_fact (new 10)) _
+    (more_both _ (map period_fact (old 10)) _ (map period_fact (new 10)) _ _
     (more_both _ (map event_fact (old 8)) _ (map event_fact (new 8)) _ _
     (more_both _ (map detail_fact (old 6)) _ (map detail_fact (new 6)) _ _
     (more_both (map head_fact (old 2)) (map version_fact (old 4)) (map head_fact (new 2)) (map version_fact (new 4)) _ _
@@ -214,7 +209,7 @@ world_after old new added jobs are heads versions details events holidays rows a
     (more version_part version_bare added.versions.items versions old new adds.versions))
     (more detail_part detail_bare added.details.items details old new adds.details))
     (more event_part event_bare added.events.items events old new adds.events))
-    (ap (map period_fact) adds.periods))
+    (more period_part period_bare added.periods.items periods old new adds.periods))
     (more holiday_part holiday_bare added.holidays.items holidays old new adds.holidays))
     (subst (λ fs. IsMore (map job_fact (new 14)) (map job_fact (old 14)) fs) (job_facts_are added.jobs.items jobs are)
     (more job_part job_bare jobs rows old new gains))

@@ -5,6 +5,7 @@ use Rattle.mds_marks.specs.Reading.{ReadingValue}
 use Rattle.mds_terms.specs.Event.{EventValue}
 use Rattle.mds_jobs.specs.Bodies.{job_in, parts_of}
 use Rattle.mds_world.specs.Facts.{Fact}
+use Rattle.mds_statements.specs.declared.periods.Period.{Period}
 use Rattle.mds_world.specs.Facts.Fact.{DetailIs, EventIs, HeadIs, HolidayIs, JobIs}
 use Rattle.mds_world.specs.declared.facts.Detail.{Detail}
 use Rattle.mds_world.specs.declared.facts.Head.{Head}
@@ -12,8 +13,8 @@ use Rattle.mds_world.specs.declared.facts.Key.{Key}
 use Rattle.mds_versions.specs.Content as content
 use Rattle.mds_versions.specs.declared.additions.Additions.{Additions}
 use Rattle.mds_inserts.specs.declared.jobs.JobRow.{JobRow}
-use Rattle.mds_tables.specs.Cells.{detail_cells, event_cells, head_cells, holiday_cells, job_cells, version_cells}
-use Rattle.mds_tables.specs.RowFacts.{detail_fact, event_fact, head_fact, holiday_fact, job_fact, natural, version_fact}
+use Rattle.mds_tables.specs.Cells.{detail_cells, event_cells, head_cells, holiday_cells, job_cells, period_cells, version_cells}
+use Rattle.mds_tables.specs.RowFacts.{detail_fact, event_fact, head_fact, holiday_fact, job_fact, natural, period_fact, version_fact}
 
 -- How things of one kind are kept: the place of their table in the schema and its tree, the row of each without a rowid,
 -- its fact, and the fact that a row of the table says.
@@ -42,6 +43,9 @@ detail_part = record { place = 3; tree = 6; cells = detail_cells; fact = DetailI
 abbrev pub event_part : Part EventValue
 event_part = record { place = 4; tree = 8; cells = event_cells; fact = EventIs; read = event_fact }
 
+abbrev pub period_part : Part Period
+period_part = record { place = 5; tree = 10; cells = period_cells; fact = content.period_fact; read = period_fact }
+
 abbrev pub holiday_part : Part ℕ
 holiday_part = record { place = 6; tree = 12; cells = holiday_cells; fact = HolidayIs; read = holiday_fact }
 
@@ -65,4 +69,5 @@ rows_in additions jobs =
     ++ (rows_of version_part additions.versions.items
     ++ (rows_of detail_part additions.details.items
     ++ (rows_of event_part additions.events.items
-    ++ (rows_of holiday_part additions.holidays.items ++ rows_of job_part jobs))))
+    ++ (rows_of period_part additions.periods.items
+    ++ (rows_of holiday_part additions.holidays.items ++ rows_of job_part jobs)))))

@@ -37,6 +37,7 @@ fn put_all<S: Alter>(
     put_each(tx, &additions.versions)?;
     put_each(tx, &additions.details)?;
     put_each(tx, &additions.events)?;
+    put_each(tx, &additions.periods)?;
     put_each(tx, &additions.holidays)?;
     put_each(tx, jobs)
 }

@@ -5,15 +5,17 @@ ghost use Rattle.sqlite.specs.Held.{state};
 ghost use Rattle.sqlite.specs.State.{HasCleanDisk, KeepsCommit, Survives};
 ghost use Rattle.sqlite_catalog.specs.Listing.{IsSound};
 ghost use Rattle.mds_tables.specs.Tables.{schema_1};
-ghost use Rattle.mds_inserts.specs.Parts.{Part, detail_part, event_part, head_part, holiday_part, job_part, rows_of, version_part};
+ghost use Rattle.mds_inserts.specs.Parts.{Part, detail_part, event_part, head_part, holiday_part, job_part, period_part, rows_of, version_part};
 ghost use Rattle.mds_inserts.specs.Refusals.{FailsToPut};
 ghost use Rattle.mds_inserts.specs.Writing.{PutsThere};
 
 use crate::jobs::JobRow;
 use mds_marks::{Reading, qualities_read_back};
 use mds_quantity::units_read_back;
+use mds_statements::Period;
 use mds_tables::{
-    detail_cells, event_cells, head_cells, holiday_cells, job_cells, letter_of, version_cells,
+    detail_cells, event_cells, head_cells, holiday_cells, job_cells, letter_of, period_cells,
+    version_cells,
 };
 use mds_terms::{Day, Event};
 use mds_world::{Detail, Head, Key};
@@ -111,6 +113,18 @@ impl Put for Event {
                 suffix.text().as_bytes(),
                 &letter[..count],
             ),
+        )?;
+        Ok(())
+    }
+}
+
+impl Put for Period {
+    ghost part = { period_part };
+
+    fn put<S: Alter>(&self, tx: &mut Transaction<'_, S>) -> Result<(), Error> {
+        tx.execute(
+            "INSERT INTO mds_period (nmi, suffix, register, start, finish, moment, body) VALUES (?1, ?2, ?3, ?4, ?5, ?6, ?7)",
+            &period_cells(self),
         )?;
         Ok(())
     }

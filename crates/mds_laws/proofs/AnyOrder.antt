@@ -22,12 +22,12 @@ use Rattle.mds_service.specs.declared.request.Request.TheVariants as asked
 use Rattle.mds_service.specs.declared.request.Answer.{Answer}
 use Rattle.mds_service.specs.declared.request.Answer.TheVariants as told
 use Rattle.mds_service.specs.Machine.{ImportStep, Run, Step, fault_in, stated_in}
-use Rattle.mds_laws.specs.AnyOrder.{AllAgree, IsGiven, IsImported, IsWellFormed, facts_in, together}
+use Rattle.mds_laws.specs.AnyOrder.{AllAgree, AreParts, IsGiven, IsImported, IsWellFormed, facts_in, statements_in, together}
 use Rattle.mds_laws.specs.Kept.{came_in}
 use Rattle.mds_laws.proofs.Conflicts.{agrees_within, breaks_none, union_within, upto_within}
-use Rattle.mds_laws.proofs.Kept.{counts_of_run}
+use Rattle.mds_laws.proofs.Kept.{counts_of_run, step_counts}
 use Rattle.mds_laws.proofs.Members.{none_in}
-use Rattle.mds_laws.proofs.Parts.{in_together}
+use Rattle.mds_laws.proofs.Parts.{in_together, parts_state_the_whole}
 
 -- files of which every two agree, and with the World, agree as a whole
 module _ (w : World) (files : List Request) (agree : AllAgree w files) where
@@ -82,6 +82,7 @@ file_taken old kind bytes (told.Known count) new well agrees step given = absurd
 file_taken old kind bytes (told.HolidaysAdded added known) new well agrees step given = absurd step
 file_taken old kind bytes (told.Day answer) new well agrees step given = absurd step
 file_taken old kind bytes (told.Versions answer) new well agrees step given = absurd step
+file_taken old kind bytes (told.Period answer) new well agrees step given = absurd step
 file_taken old kind bytes (told.Streams answers) new well agrees step given = absurd step
 
 taken : (old : World) (request : Request) (answer : Answer) (new : World) → IsWellFormed request
@@ -93,6 +94,7 @@ taken old (asked.Substitute job) answer new well agrees step given = absurd well
 taken old (asked.Holidays days) answer new well agrees step given = absurd well
 taken old (asked.Day stream day) answer new well agrees step given = absurd well
 taken old (asked.Versions stream day interval) answer new well agrees step given = absurd well
+taken old (asked.Period stream) answer new well agrees step given = absurd well
 taken old asked.Streams answer new well agrees step given = absurd well
 
 all_taken : (old new : World) (files : List Request) (answers : List Answer) → All IsWellFormed files
@@ -142,4 +144,37 @@ same_facts_end_alike old new other_new files others answers other_answers well o
       alike,
       same_sum _ _ _ _ _ (counts_of_run old new files answers steps)
           (counts_of_run old other_new others other_answers other_steps) (ap counted alike),
+    )
+
+-- ---- a file and its parts
+
+facts_of_request : (request : Request) → facts_in request ≡ stated (statements_in request)
+facts_of_request (asked.Import kind bytes) = refl
+facts_of_request (asked.Substitute job) = refl
+facts_of_request (asked.Holidays days) = refl
+facts_of_request (asked.Day stream day) = refl
+facts_of_request (asked.Versions stream day interval) = refl
+facts_of_request (asked.Period stream) = refl
+facts_of_request asked.Streams = refl
+
+facts_of_requests : (requests : List Request) → map facts_in requests ≡ map stated (map statements_in requests)
+facts_of_requests [] = refl
+facts_of_requests (request ∷ requests) = λ i. facts_of_request request i ∷ facts_of_requests requests i
+
+pub parts_end_as_the_whole : (old new other_new : World) (whole : Request) (parts : List Request) (answer : Answer)
+    (answers : List Answer) → IsWellFormed whole → All IsWellFormed parts
+    → AreParts (statements_in whole) (map statements_in parts) → Agrees (union old (facts_in whole))
+    → Step old whole answer new → Run old parts answers other_new → IsGiven answer → All IsGiven answers
+    → IsImported answer × All IsImported answers × (new ≡ other_new) × (came_in answer ≡ sum_by came_in answers)
+parts_end_as_the_whole old new other_new whole parts answer answers well part_well are agrees step steps given part_given =
+    let same : together (map facts_in parts) ≡ facts_in whole =
+    ap together (facts_of_requests parts) ∙ parts_state_the_whole (statements_in whole) (map statements_in parts) are
+    ∙ sym (facts_of_request whole) in
+    let one = taken old whole answer new well agrees step given in
+    let more = all_taken old other_new parts answers part_well (subst (λ u. Agrees (union old u)) (sym same) agrees) steps part_given in
+    let alike : new ≡ other_new = one.1 ∙ ap (union old) (sym same) ∙ sym more.1 in (
+      one.0,
+      more.0,
+      alike,
+      same_sum _ _ _ _ _ (step_counts old whole answer new step) (counts_of_run old other_new parts answers steps) (ap counted alike),
     )

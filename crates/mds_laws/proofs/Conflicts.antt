@@ -46,6 +46,7 @@ breaks_none w code.TooLong interval agrees breaks = breaks
 breaks_none w code.NoAnchor interval agrees breaks = breaks
 breaks_none w code.UnknownDay interval agrees breaks = breaks
 breaks_none w code.BadJob interval agrees breaks = breaks
+breaks_none w code.RangeTooWide interval agrees breaks = breaks
 
 in_cond : {A : Type 0} (b : Bool) (x y : A) (ys : List A) → Member x (cond b (y ∷ ys) ys) → (x ≡ y) ⊎ Member x ys
 in_cond true x y ys m = m

@@ -121,6 +121,7 @@ module _ (w : World) (kind : FileKind) (bytes : Vec ℕ Global) (job : Job)
   file_alike (told.HolidaysAdded added known) m step = absurd step
   file_alike (told.Day answer) m step = absurd step
   file_alike (told.Versions answer) m step = absurd step
+  file_alike (told.Period answer) m step = absurd step
   file_alike (told.Streams answers) m step = absurd step
 
   module _ (readings : List ReadingValue) (are : AreSubstitutes w (content_of job) readings) (suits : SuitsDay w job) where
@@ -172,6 +173,7 @@ module _ (w : World) (kind : FileKind) (bytes : Vec ℕ Global) (job : Job)
     file_over (told.HolidaysAdded added known) m step = absurd step
     file_over (told.Day answer) m step = absurd step
     file_over (told.Versions answer) m step = absurd step
+    file_over (told.Period answer) m step = absurd step
     file_over (told.Streams answers) m step = absurd step
 
     -- and under it
@@ -196,6 +198,7 @@ module _ (w : World) (kind : FileKind) (bytes : Vec ℕ Global) (job : Job)
     file_back (told.HolidaysAdded added known) v step = absurd step
     file_back (told.Day answer) v step = absurd step
     file_back (told.Versions answer) v step = absurd step
+    file_back (told.Period answer) v step = absurd step
     file_back (told.Streams answers) v step = absurd step
 
 -- ---- a job over a World that is the same to it
@@ -216,6 +219,7 @@ job_idle w m job s (told.Imported added known) new none step = absurd step
 job_idle w m job s (told.HolidaysAdded added known) new none step = absurd step
 job_idle w m job s (told.Day answer) new none step = absurd step
 job_idle w m job s (told.Versions answer) new none step = absurd step
+job_idle w m job s (told.Period answer) new none step = absurd step
 job_idle w m job s (told.Streams answers) new none step = absurd step
 job_idle w m job s (told.File fault) new none step = absurd step
 
@@ -286,6 +290,7 @@ module _ (old new : World) (kind : FileKind) (bytes : Vec ℕ Global) (job : Job
   either (told.HolidaysAdded added known) = idle_either (told.HolidaysAdded added known) tt
   either (told.Day answer) = idle_either (told.Day answer) tt
   either (told.Versions answer) = idle_either (told.Versions answer) tt
+  either (told.Period answer) = idle_either (told.Period answer) tt
   either (told.Streams answers) = idle_either (told.Streams answers) tt
   either (told.File fault) = idle_either (told.File fault) tt
 

@@ -208,6 +208,7 @@ grows old (asked.Import kind bytes) (told.Known count) new step = absurd step
 grows old (asked.Import kind bytes) (told.HolidaysAdded added known) new step = absurd step
 grows old (asked.Import kind bytes) (told.Day answer) new step = absurd step
 grows old (asked.Import kind bytes) (told.Versions answer) new step = absurd step
+grows old (asked.Import kind bytes) (told.Period answer) new step = absurd step
 grows old (asked.Import kind bytes) (told.Streams answers) new step = absurd step
 grows old (asked.Substitute job) (told.Substituted count) new step = grows_job old job count new step
 grows old (asked.Substitute job) (told.Known count) new step = idle _ _ _ _ refl step.2
@@ -217,6 +218,7 @@ grows old (asked.Substitute job) (told.Imported added known) new step = absurd s
 grows old (asked.Substitute job) (told.HolidaysAdded added known) new step = absurd step
 grows old (asked.Substitute job) (told.Day answer) new step = absurd step
 grows old (asked.Substitute job) (told.Versions answer) new step = absurd step
+grows old (asked.Substitute job) (told.Period answer) new step = absurd step
 grows old (asked.Substitute job) (told.Streams answers) new step = absurd step
 grows old (asked.Substitute job) (told.File fault) new step = absurd step
 grows old (asked.Holidays days) (told.HolidaysAdded added known) new step = grows_holidays old days added known new step
@@ -226,6 +228,7 @@ grows old (asked.Holidays days) (told.Substituted count) new step = absurd step
 grows old (asked.Holidays days) (told.Known count) new step = absurd step
 grows old (asked.Holidays days) (told.Day answer) new step = absurd step
 grows old (asked.Holidays days) (told.Versions answer) new step = absurd step
+grows old (asked.Holidays days) (told.Period answer) new step = absurd step
 grows old (asked.Holidays days) (told.Streams answers) new step = absurd step
 grows old (asked.Holidays days) (told.File fault) new step = absurd step
 grows old (asked.Holidays days) (told.Refused refusal) new step = absurd step
@@ -237,6 +240,7 @@ grows old (asked.Day stream day) (told.Substituted count) new step = absurd step
 grows old (asked.Day stream day) (told.Known count) new step = absurd step.0
 grows old (asked.Day stream day) (told.HolidaysAdded added known) new step = absurd step.0
 grows old (asked.Day stream day) (told.Versions answer) new step = absurd step.0
+grows old (asked.Day stream day) (told.Period answer) new step = absurd step.0
 grows old (asked.Day stream day) (told.Streams answers) new step = absurd step.0
 grows old (asked.Day stream day) (told.File fault) new step = absurd step.0
 grows old (asked.Versions stream day interval) (told.Versions answer) new step = idle _ _ _ _ refl step.1
@@ -247,8 +251,20 @@ grows old (asked.Versions stream day interval) (told.Substituted count) new step
 grows old (asked.Versions stream day interval) (told.Known count) new step = absurd step.0
 grows old (asked.Versions stream day interval) (told.HolidaysAdded added known) new step = absurd step.0
 grows old (asked.Versions stream day interval) (told.Day answer) new step = absurd step.0
+grows old (asked.Versions stream day interval) (told.Period answer) new step = absurd step.0
 grows old (asked.Versions stream day interval) (told.Streams answers) new step = absurd step.0
 grows old (asked.Versions stream day interval) (told.File fault) new step = absurd step.0
+grows old (asked.Period stream) (told.Period answer) new step = idle _ _ _ _ refl step.1
+grows old (asked.Period stream) told.Unavailable new step = idle _ _ _ _ refl step.1
+grows old (asked.Period stream) (told.Imported added known) new step = absurd step.0
+grows old (asked.Period stream) (told.Substituted count) new step = absurd step.0
+grows old (asked.Period stream) (told.Known count) new step = absurd step.0
+grows old (asked.Period stream) (told.HolidaysAdded added known) new step = absurd step.0
+grows old (asked.Period stream) (told.Day answer) new step = absurd step.0
+grows old (asked.Period stream) (told.Versions answer) new step = absurd step.0
+grows old (asked.Period stream) (told.Streams answers) new step = absurd step.0
+grows old (asked.Period stream) (told.File fault) new step = absurd step.0
+grows old (asked.Period stream) (told.Refused refusal) new step = absurd step.0
 grows old asked.Streams (told.Streams answers) new step = idle _ _ _ _ refl step.1
 grows old asked.Streams told.Unavailable new step = idle _ _ _ _ refl step.1
 grows old asked.Streams (told.Imported added known) new step = absurd step.0
@@ -257,6 +273,7 @@ grows old asked.Streams (told.Known count) new step = absurd step.0
 grows old asked.Streams (told.HolidaysAdded added known) new step = absurd step.0
 grows old asked.Streams (told.Day answer) new step = absurd step.0
 grows old asked.Streams (told.Versions answer) new step = absurd step.0
+grows old asked.Streams (told.Period answer) new step = absurd step.0
 grows old asked.Streams (told.File fault) new step = absurd step.0
 grows old asked.Streams (told.Refused refusal) new step = absurd step.0
 
@@ -267,7 +284,7 @@ step_keeps : (old : World) (request : Request) (answer : Answer) (new : World) �
 step_keeps old request answer new step f h =
     let g = grows old request answer new step in subst (λ w. f ∈ w) (sym g.is) (union_left old g.more f h)
 
-step_counts : (old : World) (request : Request) (answer : Answer) (new : World) → Step old request answer new
+pub step_counts : (old : World) (request : Request) (answer : Answer) (new : World) → Step old request answer new
     → counted new ≡ counted old + came_in answer
 step_counts old request answer new step =
     let g = grows old request answer new step in

@@ -6,7 +6,7 @@ use Rattle.std.proofs.lemmas.Bool.Decides.{nat_tests}
 use Rattle.mds_calendar.specs.Length.{count_of, is_length}
 use Rattle.mds_marks.specs.Reading.{ReadingValue}
 use Rattle.mds_records.specs.declared.file.FileKind.{FileKind}
-use Rattle.mds_records.specs.declared.file.FileKind.TheVariants.{Nem12}
+use Rattle.mds_records.specs.declared.file.FileKind.TheVariants.{Nem12, Nem13}
 use Rattle.mds_world.specs.declared.facts.Head.{Head}
 use Rattle.mds_world.specs.declared.facts.Key.{Key}
 use Rattle.mds_world.specs.Facts.{Fact, JobContent}
@@ -20,17 +20,20 @@ use Rattle.mds_statements.specs.Statements.{DayStatement, Statement, days_in, da
 use Rattle.mds_statements.specs.Statements.Statement.{HeaderOf, DetailsOf, DayOf, EventOf, PeriodOf}
 use Rattle.mds_nem12.proofs.Orderly.{days_have_lengths, days_whole}
 use Rattle.mds_versions.proofs.Taken.{from_versions}
+use Rattle.std.proofs.lemmas.List.Elements.{All-nil}
+use Rattle.mds_service.proofs.FileKinds.{no_days}
 use Rattle.mds_service.specs.Imports.{IsWholeDay}
 use Rattle.mds_service.specs.Machine.{fault_in, stated_in}
 use Rattle.mds_laws.proofs.Members as members
 use Rattle.mds_laws.proofs.Members.{all_member, in_stated, same_key, within}
 
--- each day of a well formed file has a reading for each interval
+-- each day of a well formed file has a reading for each interval; a NEM13 file has no days
 days_are_whole : (kind : FileKind) (text : List ℕ) → fault_in kind text ≡ None → All IsWholeDay (days_of (stated_in kind text))
 days_are_whole Nem12 text well =
     let lengths = days_have_lengths text well in
     let whole = days_whole text in
     λ k d lt. record { sized = lengths k d lt; whole = whole k d lt }
+days_are_whole Nem13 text well = subst (All IsWholeDay) (sym (no_days text)) (All-nil IsWholeDay)
 
 abbrev head_of : DayStatement → Head
 head_of day = record { stream = day.stream; day = day.date; length = day.length; unit = day.unit }

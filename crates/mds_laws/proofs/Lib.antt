@@ -4,6 +4,7 @@ pub mod Exchange
 pub mod Kept
 pub mod Lawful
 pub mod Members
+pub mod Origins
 pub mod Parts
 pub mod PutBeside
 pub mod Seen

@@ -7,7 +7,8 @@ use Rattle.mds_world.specs.declared.facts.Head.{Head}
 use Rattle.mds_world.specs.declared.facts.Key.{Key}
 use Rattle.mds_world.specs.Counts.{added_by, countable, is_counted, known_by}
 use Rattle.mds_world.specs.FactOrder.{exact, total}
-use Rattle.mds_world.specs.Facts.{Fact, PeriodContent, PeriodKey}
+use Rattle.mds_world.specs.Facts.{Fact, PeriodContent}
+use Rattle.mds_statements.specs.declared.periods.PeriodKey.{PeriodKey}
 use Rattle.mds_world.specs.Facts.Fact.{HeadIs, VersionIs, PeriodIs, JobIs}
 use Rattle.mds_world.specs.Lists.{Member}
 use Rattle.mds_world.specs.Members.{in_list, in_union, same_by, union_left, union_right}
@@ -215,6 +216,7 @@ module _ (w : World) (job : Job) (readings : List ReadingValue) (are : AreSubsti
     breaks_more code.NoAnchor i breaks = breaks
     breaks_more code.UnknownDay i breaks = breaks
     breaks_more code.BadJob i breaks = breaks
+    breaks_more code.RangeTooWide i breaks = breaks
 
     pub breaks_less : (broken : RefusalCode) (i : ℕ) → Breaks more broken i → Breaks less broken i
     breaks_less code.LengthConflict i (two, z) = (lengths_less two, z)
@@ -233,6 +235,7 @@ module _ (w : World) (job : Job) (readings : List ReadingValue) (are : AreSubsti
     breaks_less code.NoAnchor i breaks = breaks
     breaks_less code.UnknownDay i breaks = breaks
     breaks_less code.BadJob i breaks = breaks
+    breaks_less code.RangeTooWide i breaks = breaks
 
     -- what counts of the facts isn't put by the job
     not_put : (f : Fact) → f ∈ countable facts → f ∈ countable (union w put) → f ∈ countable w

@@ -185,6 +185,7 @@ fill_fault w m job s code.VersionConflict interval f = f
 fill_fault w m job s code.JobReused interval f = f
 fill_fault w m job s code.UnknownDay interval f = f
 fill_fault w m job s code.BadJob interval f = f
+fill_fault w m job s code.RangeTooWide interval f = f
 
 pub new_job : (w m : World) (job : Job) → AreAlike w m (content_of job) → IsNewJob w job → IsNewJob m job
 new_job w m job s new content n h = new content n ((s.jobs job.id content n).1 h)
@@ -195,6 +196,7 @@ suits_day w m job s suits head h e d = suits head ((s.heads head e (inl d)).1 h)
 job_fault : (w m : World) (job : Job) → AreAlike w m (content_of job) → (broken : RefusalCode) (interval : ℕ)
     → IsJobFault w job broken interval → IsJobFault m job broken interval
 job_fault w m job s code.BadJob interval f = f
+job_fault w m job s code.RangeTooWide interval (good, new, suits, f) = absurd f
 job_fault w m job s code.JobReused interval (good, (content, n, h, other), z) =
     (good, (content, n, (s.jobs job.id content n).0 h, other), z)
 job_fault w m job s code.LengthConflict interval (good, new, (head, h, e, d, other), z) =

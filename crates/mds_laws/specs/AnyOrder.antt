@@ -11,7 +11,7 @@ use Rattle.mds_service.specs.declared.request.Request.{Request}
 use Rattle.mds_service.specs.declared.request.Request.TheVariants as asked
 use Rattle.mds_service.specs.declared.request.Answer.{Answer}
 use Rattle.mds_service.specs.declared.request.Answer.TheVariants as told
-use Rattle.mds_service.specs.Machine.{Run, fault_in, stated_in}
+use Rattle.mds_service.specs.Machine.{Run, Step, fault_in, stated_in}
 use Rattle.mds_laws.specs.Kept.{came_in}
 
 -- to take in a well formed file
@@ -92,3 +92,18 @@ abbrev pub PartsStateTheWhole : Type 0
 PartsStateTheWhole =
     (whole : List Statement) (parts : List (List Statement)) → AreParts whole parts
     → together (map stated parts) ≡ stated whole
+
+-- what a file states, in the order of its lines
+abbrev pub statements_in : Request → List Statement
+statements_in (asked.Import kind bytes) = stated_in kind bytes.items
+statements_in request = []
+
+-- A file that agrees with the World and the files that are its parts: each is taken in where it has an answer, what the whole
+-- ends in the parts do in any order, and as many versions and accumulations are added.
+abbrev pub PartsEndAsTheWhole : Type 0
+PartsEndAsTheWhole =
+    (old new other_new : World) (whole : Request) (parts : List Request) (answer : Answer) (answers : List Answer)
+    → IsWellFormed whole → All IsWellFormed parts → AreParts (statements_in whole) (map statements_in parts)
+    → Agrees (union old (facts_in whole))
+    → Step old whole answer new → Run old parts answers other_new → IsGiven answer → All IsGiven answers
+    → IsImported answer × All IsImported answers × (new ≡ other_new) × (came_in answer ≡ sum_by came_in answers)

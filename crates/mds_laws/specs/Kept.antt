@@ -2,11 +2,15 @@
 -- came by one request.
 use Rattle.std.specs.Prelude.{◌≡◌, ℕ, ◌+◌, true, List, ◌∷◌, ◌++◌}
 use Rattle.std.specs.List.{sum_by}
+use Rattle.std.specs.declared.alloc.Global.{Global}
+use Rattle.std.specs.declared.vec.Vec.{Vec}
 use Rattle.mds_marks.specs.Reading.{ReadingValue}
+use Rattle.mds_records.specs.declared.file.FileKind.TheVariants.{Nem13}
 use Rattle.mds_world.specs.declared.facts.Head.{Head}
 use Rattle.mds_world.specs.declared.facts.Key.{Key}
 use Rattle.mds_world.specs.Counts.{counted, is_counted}
-use Rattle.mds_world.specs.Facts.{Fact, JobContent, PeriodContent, PeriodKey}
+use Rattle.mds_world.specs.Facts.{Fact, JobContent, PeriodContent}
+use Rattle.mds_statements.specs.declared.periods.PeriodKey.{PeriodKey}
 use Rattle.mds_world.specs.Facts.Fact.{HeadIs, VersionIs, PeriodIs, JobIs}
 use Rattle.mds_world.specs.Sets.{◌∈◌}
 use Rattle.mds_world.specs.Stated.{stated}
@@ -99,3 +103,22 @@ abbrev pub EachCameByOne : Type 0
 EachCameByOne =
     (old new : World) (requests : List Request) (answers : List Answer) (fact : Fact) → is_counted fact ≡ true
     → Run old requests answers new → fact ∈ new → (fact ∈ old → ⊥) → CameBy old new requests answers fact
+
+-- The NEM13 file of a run that an accumulation came in by: it was taken in, and states the accumulation, which wasn't there before.
+pub record CameByFile (old new : World) (requests : List Request) (answers : List Answer)
+    (key : PeriodKey) (content : PeriodContent) : Type 0 where
+  pub before : World
+  pub after : World
+  pub bytes : Vec ℕ Global
+  pub added : ℕ
+  pub known : ℕ
+  pub step : IsStepOf old new requests answers before (asked.Import Nem13 bytes) (told.Imported added known) after
+  pub absent : PeriodIs key content ∈ before → ⊥
+  pub among : PeriodIs key content ∈ stated (stated_in Nem13 bytes.items)
+
+-- Each accumulation that a run brought came by such a file.
+abbrev pub EachPeriodCameByFile : Type 0
+EachPeriodCameByFile =
+    (old new : World) (requests : List Request) (answers : List Answer) (key : PeriodKey) (content : PeriodContent)
+    → Run old requests answers new → PeriodIs key content ∈ new → (PeriodIs key content ∈ old → ⊥)
+    → CameByFile old new requests answers key content

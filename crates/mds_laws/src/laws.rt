@@ -1,25 +1,28 @@
 //! The laws. The functions do nothing.
 
-ghost use Rattle.mds_laws.specs.AnyOrder.{EachIsTakenIn, PartsStateTheWhole, SameFactsEndAlike};
+ghost use Rattle.mds_laws.specs.AnyOrder.{EachIsTakenIn, PartsEndAsTheWhole, PartsStateTheWhole, SameFactsEndAlike};
 ghost use Rattle.mds_laws.specs.Exchange.{MayChangePlaces};
-ghost use Rattle.mds_laws.specs.Kept.{AnswersTellHowMany, EachCameByOne, LawStays, NothingIsAltered, NothingIsMissing};
+ghost use Rattle.mds_laws.specs.Kept.{AnswersTellHowMany, EachCameByOne, EachPeriodCameByFile, LawStays, NothingIsAltered, NothingIsMissing};
 
 /// What was taken in stays and stays as it is, the answers tell how many versions and accumulations
-/// came in, and each came by one file or one job.
+/// came in, and each came by one file or one job: an accumulation by a NEM13 file that states it.
 pub fn nothing_is_lost()
     ensures lawful { LawStays }
     ensures missing { NothingIsMissing }
     ensures altered { NothingIsAltered }
     ensures count { AnswersTellHowMany }
     ensures origin { EachCameByOne }
+    ensures periods { EachPeriodCameByFile }
 {}
 
 /// Files that agree are taken in whatever their order, and what is kept in the end, and how much was
-/// added, turns on what they state together alone; the parts of a file together state what it does.
+/// added, turns on what they state together alone; the parts of a file together state what it does, and
+/// end as it does.
 pub fn files_come_in_any_order()
     ensures each { EachIsTakenIn }
     ensures alike { SameFactsEndAlike }
     ensures parts { PartsStateTheWhole }
+    ensures split { PartsEndAsTheWhole }
 {}
 
 /// A job and a file that states nothing of the days that the job may look at: both answers and what

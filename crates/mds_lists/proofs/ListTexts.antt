@@ -1,10 +1,15 @@
 -- What the texts of the queries mean.
 use Rattle.std.proofs.Common.{◌≡◌, List, ℕ, [], ◌∷◌, false, codes, refl}
+use Rattle.sqlite.specs.Collation.TheVariants.{Binary}
 use Rattle.sqlite.specs.Command.TheVariants.{Select}
 use Rattle.sqlite.specs.Listing.{reads_listing, understood}
 use Rattle.sqlite.specs.Query.{Query}
+use Rattle.sqlite.specs.Term.{Term, col, op2}
 use Rattle.sqlite.proofs.Callers.{IsPlain, command_of}
+use Rattle.sqlite_sql.specs.declared.ops.BinaryOp.TheVariants.{Compare}
+use Rattle.sqlite_sql.specs.declared.ops.CompareOp.TheVariants.{Ge, Le}
 use Rattle.sqlite_tied.specs.Compute.{everything}
+use Rattle.sqlite_value.specs.declared.keys.Key.{Key}
 use Rattle.mds_tables.specs.Tables.{schema_1}
 use Rattle.mds_selects.proofs.SelectTexts.{columns_at, equals, from_one}
 
@@ -38,3 +43,82 @@ select_job_is = refl
 pub select_job_plain : IsPlain (understood schema_1 select_job) × (reads_listing schema_1 select_job ≡ false)
 unfolding understood everything
 select_job_plain = ((refl, refl), refl)
+
+abbrev pub rising : Key
+rising = record { collation = Binary; descending = false }
+
+abbrev pub select_periods : List ℕ
+select_periods = codes "SELECT nmi, suffix, register, start, finish, moment, body FROM mds_period WHERE nmi = ?1 AND suffix = ?2 ORDER BY register, start, finish, moment"
+
+abbrev pub periods_query : Query
+periods_query =
+    from_one 10 (equals 1 0 ∷ equals 2 1 ∷ []) (columns_at (1 ∷ 2 ∷ 3 ∷ 4 ∷ 5 ∷ 6 ∷ 7 ∷ [])) ((col 1 3, rising)
+    ∷ (col 1 4, rising) ∷ (col 1 5, rising) ∷ (col 1 6, rising) ∷ [])
+
+pub select_periods_is : command_of (understood schema_1 select_periods)
+    ≡ Select (record { lets = []; body = periods_query }) (codes "nmi" ∷ codes "suffix" ∷ codes "register" ∷ codes "start" ∷ codes "finish" ∷ codes "moment" ∷ codes "body" ∷ [])
+unfolding understood everything
+select_periods_is = refl
+
+pub select_periods_plain : IsPlain (understood schema_1 select_periods) × (reads_listing schema_1 select_periods ≡ false)
+unfolding understood everything
+select_periods_plain = ((refl, refl), refl)
+
+abbrev pub select_content : List ℕ
+select_content = codes "SELECT body FROM mds_period WHERE nmi = ?1 AND suffix = ?2 AND register = ?3 AND start = ?4 AND finish = ?5 AND moment = ?6"
+
+abbrev pub content_query : Query
+content_query =
+    from_one 10 (equals 1 0 ∷ equals 2 1 ∷ equals 3 2 ∷ equals 4 3 ∷ equals 5 4 ∷ equals 6 5 ∷ []) (columns_at (7 ∷ [])) ([])
+
+pub select_content_is : command_of (understood schema_1 select_content)
+    ≡ Select (record { lets = []; body = content_query }) (codes "body" ∷ [])
+unfolding understood everything
+select_content_is = refl
+
+pub select_content_plain : IsPlain (understood schema_1 select_content) × (reads_listing schema_1 select_content ≡ false)
+unfolding understood everything
+select_content_plain = ((refl, refl), refl)
+
+-- a column is at least, and at most, the parameter
+abbrev pub at_least : ℕ → ℕ → Term
+at_least at param = op2 (Compare Ge Binary) (col 1 at) (col 0 param)
+
+abbrev pub at_most : ℕ → ℕ → Term
+at_most at param = op2 (Compare Le Binary) (col 1 at) (col 0 param)
+
+-- a stream, and a range of days
+abbrev pub range_tests : List Term
+range_tests = equals 1 0 ∷ equals 2 1 ∷ at_least 3 2 ∷ at_most 3 3 ∷ []
+
+abbrev pub select_heads : List ℕ
+select_heads = codes "SELECT nmi, suffix, day, length, unit FROM mds_head WHERE nmi = ?1 AND suffix = ?2 AND day >= ?3 AND day <= ?4 ORDER BY day"
+
+abbrev pub heads_query : Query
+heads_query = from_one 2 range_tests (columns_at (1 ∷ 2 ∷ 3 ∷ 4 ∷ 5 ∷ [])) ((col 1 3, rising) ∷ [])
+
+pub select_heads_is : command_of (understood schema_1 select_heads)
+    ≡ Select (record { lets = []; body = heads_query }) (codes "nmi" ∷ codes "suffix" ∷ codes "day" ∷ codes "length" ∷ codes "unit" ∷ [])
+unfolding understood everything
+select_heads_is = refl
+
+pub select_heads_plain : IsPlain (understood schema_1 select_heads) × (reads_listing schema_1 select_heads ≡ false)
+unfolding understood everything
+select_heads_plain = ((refl, refl), refl)
+
+abbrev pub select_versions : List ℕ
+select_versions = codes "SELECT nmi, suffix, day, slot, moment, quality, code, note, amount FROM mds_version WHERE nmi = ?1 AND suffix = ?2 AND day >= ?3 AND day <= ?4 ORDER BY day, slot, moment"
+
+abbrev pub versions_query : Query
+versions_query =
+    from_one 4 range_tests (columns_at (1 ∷ 2 ∷ 3 ∷ 4 ∷ 5 ∷ 6 ∷ 7 ∷ 8 ∷ 9 ∷ [])) ((col 1 3, rising) ∷ (col 1 4, rising)
+    ∷ (col 1 5, rising) ∷ [])
+
+pub select_versions_is : command_of (understood schema_1 select_versions)
+    ≡ Select (record { lets = []; body = versions_query }) (codes "nmi" ∷ codes "suffix" ∷ codes "day" ∷ codes "slot" ∷ codes "moment" ∷ codes "quality" ∷ codes "code" ∷ codes "note" ∷ codes "amount" ∷ [])
+unfolding understood everything
+select_versions_is = refl
+
+pub select_versions_plain : IsPlain (understood schema_1 select_versions) × (reads_listing schema_1 select_versions ≡ false)
+unfolding understood everything
+select_versions_plain = ((refl, refl), refl)

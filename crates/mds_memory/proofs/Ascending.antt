@@ -34,6 +34,14 @@ module _ {K : Type 0} (c : K → K → Ordering) where
     push ks x a.1 (λ q m. below q (inr m)),
   )
 
+  pub join : (ks ls : List K) → Ascends ks → Ascends ls → ((q r : K) → Member q ks → Member r ls → c q r ≡ Less)
+      → Ascends (ks ++ ls)
+  join [] ls a b below = b
+  join (k ∷ ks) ls a b below = (
+    (λ q m. elim (member_append q ks ls m) [ inl n ↦ a.0 q n | inr n ↦ below k q (inl refl) n ]),
+    join ks ls a.1 b (λ p q m n. below p q (inr m) n),
+  )
+
   -- those of the front stand before those of the back
   pub across : (ks ls : List K) → Ascends (ks ++ ls) → (q r : K) → Member q ks → Member r ls → c q r ≡ Less
   across [] ls a q r m n = absurd m

@@ -19,6 +19,7 @@ use Rattle.mds_memory.proofs.Ascending.{Ascends}
 use Rattle.mds_memory.proofs.FirstNotes.{first_not_gt, less_not_gt, stream_total}
 use Rattle.mds_memory.proofs.NoteOrder.{note_cmp, stream_exact}
 use Rattle.mds_memory.proofs.Notes.{in_notes, notes_in}
+use Rattle.mds_memory.proofs.Runs.{across_push}
 
 pub get_member : (s : Stream) (xs : List Stream) (i : ℕ) → slice_get xs i ≡ Some s → Member s xs
 get_member s [] i e = cc
@@ -78,10 +79,6 @@ pub less_or_tied : (r : Ordering) → is_gt r ≡ false → (r ≡ Less) ⊎ (r 
 less_or_tied Less e = inl refl
 less_or_tied Equal e = inr refl
 less_or_tied Greater e = cc
-
-pub across_push : (seen : List Note) (x : Note) (rest : List Note) → (seen ++ x ∷ []) ++ rest ≡ seen ++ x ∷ rest
-across_push [] x rest = refl
-across_push (n ∷ seen) x rest = ap (λ ns. n ∷ ns) (across_push seen x rest)
 
 longer : (seen : List Note) (x : Note) (s : Stream) → HasStream seen s → HasStream (seen ++ x ∷ []) s
 longer seen x s h = (h.0, append_left (Details h.0) seen (x ∷ []) h.1, h.2)

@@ -21,7 +21,7 @@ use Rattle.mds_memory.specs.declared.stored_notes.Note.TheVariants.{Details, Eve
 use Rattle.mds_memory.proofs.NoteOrder.{note_cmp, stream_exact, tie}
 
 -- what is neither before nor after is the same
-between : {K : Type 0} {R : K → K → Ordering} → IsTotalOrder R → IsAntisymmetric R → (x y : K)
+pub between : {K : Type 0} {R : K → K → Ordering} → IsTotalOrder R → IsAntisymmetric R → (x y : K)
     → is_gt (R x y) ≡ false → is_gt (R y x) ≡ false → x ≡ y
 between {K} {R} total exact x y f g = exact x y (by (R x y) (R y x) (total.antisymm x y) f g)
   where
@@ -32,7 +32,7 @@ between {K} {R} total exact x y f g = exact x y (by (R x y) (R y x) (total.antis
     by Equal b e f g = refl
     by Greater b e f g = cc
 
-le_not_gt : (r : Ordering) → is_le r ≡ true → is_gt r ≡ false
+pub le_not_gt : (r : Ordering) → is_le r ≡ true → is_gt r ≡ false
 le_not_gt Less e = refl
 le_not_gt Equal e = refl
 le_not_gt Greater e = cc
@@ -45,15 +45,15 @@ first_not_gt Less b e = refl
 first_not_gt Equal b e = refl
 first_not_gt Greater b e = e
 
-le_then : (a b : Ordering) → is_le a ≡ true → is_le b ≡ true → is_le (ordering_then a b) ≡ true
+pub le_then : (a b : Ordering) → is_le a ≡ true → is_le b ≡ true → is_le (ordering_then a b) ≡ true
 le_then Less b f g = refl
 le_then Equal b f g = g
 le_then Greater b f g = f
 
-tied_le : (r : Ordering) → r ≡ Equal → is_le r ≡ true
+pub tied_le : (r : Ordering) → r ≡ Equal → is_le r ≡ true
 tied_le r e = ap is_le e
 
-zero_least : (n : ℕ) → is_le (nat_cmp 0 n) ≡ true
+pub zero_least : (n : ℕ) → is_le (nat_cmp 0 n) ≡ true
 zero_least n = by (nat_cmp 0 n) (ranks 0 n)
   where
     by : (r : Ordering) → MatchOrdering r (0 < n) (0 ≡ n) (n < 0) → is_le r ≡ true
@@ -61,7 +61,7 @@ zero_least n = by (nat_cmp 0 n) (ranks 0 n)
     by Equal m = refl
     by Greater m = absurd (omega arith)
 
-empty_least : (xs : List ℕ) → is_le (slice_cmp nat_cmp [] xs) ≡ true
+pub empty_least : (xs : List ℕ) → is_le (slice_cmp nat_cmp [] xs) ≡ true
 empty_least [] = refl
 empty_least (x ∷ xs) = refl
 

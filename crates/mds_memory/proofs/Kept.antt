@@ -1,4 +1,4 @@
--- What a keeper in memory keeps: a World of days, of notes and of jobs.
+-- What a keeper in memory keeps: a World of days, of notes, of jobs and of accumulations.
 use Rattle.std.proofs.Common.{◌≡◌, ℕ, List, [], ◌∷◌, ◌++◌, refl, sym, ap, ◌∙◌, subst, inl, inr}
 use Rattle.std.specs.Prelude.{◌⊎◌, ◌↔◌, map, is_err, false, IfOk, OnOk, Option, Some, None, Result, Ok, Err}
 use Rattle.std.specs.BTreeMap.{IsOrdered}
@@ -6,26 +6,29 @@ use Rattle.std.specs.BTreeSet.{BTreeSet}
 use Rattle.std.specs.FinSet as set
 use Rattle.mds_jobs.specs.declared.job.Job.{Job}
 use Rattle.mds_names.specs.declared.stream.Stream.{Stream}
+use Rattle.mds_statements.specs.declared.periods.Period.{Period}
+use Rattle.mds_statements.specs.declared.periods.PeriodKey.{PeriodKey}
 use Rattle.mds_terms.specs.Details.{DetailsValue}
 use Rattle.mds_terms.specs.Event.{EventValue}
 use Rattle.mds_world.specs.declared.facts.Detail.{Detail}
 use Rattle.mds_world.specs.Current.{IsCurrentDetails}
 use Rattle.mds_world.specs.FactOrder.{exact, total}
-use Rattle.mds_world.specs.Facts.{Fact, JobContent}
-use Rattle.mds_world.specs.Facts.Fact.{HeadIs, VersionIs, DetailIs, EventIs, HolidayIs, JobIs}
+use Rattle.mds_world.specs.Facts.{Fact, JobContent, PeriodContent}
+use Rattle.mds_world.specs.Facts.Fact.{HeadIs, VersionIs, DetailIs, EventIs, PeriodIs, HolidayIs, JobIs}
 use Rattle.mds_world.specs.Lists.{Apart, Member, append_left, append_right, in_map, map_in, member_append}
 use Rattle.mds_world.specs.Members.{in_list, in_union, list_in, same_by, union_left, union_right}
 use Rattle.mds_world.specs.Sets.{◌∈◌, not_in_empty}
 use Rattle.mds_world.specs.World.{Agrees, IsLawful, IsOn, World, union}
 use Rattle.mds_versions.specs.Books.{BookValue, IsDay}
-use Rattle.mds_versions.specs.Content.{AreNew, content, content_facts, job_fact, version_fact}
-use Rattle.mds_versions.specs.Queries.{AreEventsOf, AreHolidays, IsJobOf}
-use Rattle.mds_memory.specs.Stored.{IsStored, days_world, id_cmp, jobs_world, note_fact, notes_world, place_cmp, stored_world}
+use Rattle.mds_versions.specs.Content.{AreNew, content, content_facts, job_fact, period_fact, version_fact}
+use Rattle.mds_versions.specs.Queries.{AreDaysOf, AreEventsOf, AreHolidays, ArePeriodsOf, IsContentOf, IsJobOf}
+use Rattle.mds_memory.specs.Stored.{IsStored, days_world, id_cmp, jobs_world, key_cmp, note_fact, notes_world, periods_world, place_cmp, stored_world}
 use Rattle.mds_versions.specs.declared.additions.Additions.{Additions}
 use Rattle.mds_memory.specs.declared.stored_notes.Note.{Note}
 use Rattle.mds_memory.specs.declared.stored_notes.Note.TheVariants.{Details, Event, Holiday}
 use Rattle.mds_memory.proofs.StoredDays.{Kept, fact_on, in_days, nothing_lawful}
 use Rattle.mds_memory.proofs.StoredJobs.{Jobs, in_jobs}
+use Rattle.mds_memory.proofs.StoredPeriods.{Periods, in_periods}
 
 -- a note is of no day's head or versions
 note_not_on : (stream : Stream) (day : ℕ) (note : Note) → IsOn stream day (note_fact note) → ⊥
@@ -37,59 +40,102 @@ note_not_on stream day (Holiday date) on = on
 job_not_on : (stream : Stream) (day : ℕ) (f : Fact) (job : Job × ℕ) → f ≡ job_fact job → IsOn stream day f → ⊥
 job_not_on stream day f job e on = subst (IsOn stream day) e on
 
+-- and nor is an accumulation
+period_not_on : (stream : Stream) (day : ℕ) (f : Fact) (key : PeriodKey) (content : PeriodContent) → f ≡ PeriodIs key content
+    → IsOn stream day f → ⊥
+period_not_on stream day f key content e on = subst (IsOn stream day) e on
+
 note_no_job : (note : Note) (job : Job × ℕ) → note_fact note ≡ job_fact job → ⊥
 note_no_job (Details detail) job e = cc
 note_no_job (Event event) job e = cc
 note_no_job (Holiday day) job e = cc
 
+note_no_period : (note : Note) (key : PeriodKey) (content : PeriodContent) → note_fact note ≡ PeriodIs key content → ⊥
+note_no_period (Details detail) key content e = cc
+note_no_period (Event event) key content e = cc
+note_no_period (Holiday day) key content e = cc
+
+job_no_period : (id : List ℕ) (job : JobContent) (count : ℕ) (key : PeriodKey) (content : PeriodContent)
+    → JobIs id job count ≡ PeriodIs key content → ⊥
+job_no_period id job count key content e = cc
+
+period_no_job : (key : PeriodKey) (content : PeriodContent) (job : Job × ℕ) → PeriodIs key content ≡ job_fact job → ⊥
+period_no_job key content job e = cc
+
 pub in_notes_list : (notes : BTreeSet Note) (f : Fact) → f ∈ notes_world notes → (note : Note) × Member note notes.keys × (f ≡ note_fact note)
 in_notes_list notes f h = in_map note_fact notes.keys f (in_list _ f h)
 
--- what is kept is of the days, the notes or the jobs
-pub in_stored : (days : Kept) (notes : BTreeSet Note) (jobs : Jobs) (f : Fact) → f ∈ stored_world days notes jobs
-    → (f ∈ days_world days) ⊎ ((f ∈ notes_world notes) ⊎ (f ∈ jobs_world jobs))
-in_stored days notes jobs f h = elim (in_union (union (days_world days) (notes_world notes)) (jobs_world jobs) f h) [
-  | inl a ↦ elim (in_union (days_world days) (notes_world notes) f a) [ inl b ↦ inl b | inr b ↦ inr (inl b) ]
-  | inr a ↦ inr (inr a)
-]
+-- what is kept is of the days, the notes, the jobs or the accumulations
+pub in_stored : (days : Kept) (notes : BTreeSet Note) (jobs : Jobs) (periods : Periods) (f : Fact)
+    → f ∈ stored_world days notes jobs periods
+    → (f ∈ days_world days) ⊎ ((f ∈ notes_world notes) ⊎ ((f ∈ jobs_world jobs) ⊎ (f ∈ periods_world periods)))
+in_stored days notes jobs periods f h =
+    elim (in_union (union (union (days_world days) (notes_world notes)) (jobs_world jobs)) (periods_world periods) f h) [
+      | inl a ↦ elim (in_union (union (days_world days) (notes_world notes)) (jobs_world jobs) f a) [
+        | inl b ↦ elim (in_union (days_world days) (notes_world notes) f b) [ inl c ↦ inl c | inr c ↦ inr (inl c) ]
+        | inr b ↦ inr (inr (inl b))
+      ]
+      | inr a ↦ inr (inr (inr a))
+    ]
 
-pub days_in_whole : (days : Kept) (notes : BTreeSet Note) (jobs : Jobs) (f : Fact) → f ∈ days_world days
-    → f ∈ stored_world days notes jobs
-days_in_whole days notes jobs f h =
-    union_left (union (days_world days) (notes_world notes)) (jobs_world jobs) f
-    (union_left (days_world days) (notes_world notes) f h)
+-- the days, the notes and the jobs are kept before the accumulations
+before_periods : (days : Kept) (notes : BTreeSet Note) (jobs : Jobs) (periods : Periods) (f : Fact)
+    → f ∈ union (union (days_world days) (notes_world notes)) (jobs_world jobs) → f ∈ stored_world days notes jobs periods
+before_periods days notes jobs periods f h =
+    union_left (union (union (days_world days) (notes_world notes)) (jobs_world jobs)) (periods_world periods) f h
 
-in_whole : (days : Kept) (notes : BTreeSet Note) (jobs : Jobs) (f : Fact) → f ∈ notes_world notes
-    → f ∈ stored_world days notes jobs
-in_whole days notes jobs f h =
-    union_left (union (days_world days) (notes_world notes)) (jobs_world jobs) f
-    (union_right (days_world days) (notes_world notes) f h)
+pub days_in_whole : (days : Kept) (notes : BTreeSet Note) (jobs : Jobs) (periods : Periods) (f : Fact) → f ∈ days_world days
+    → f ∈ stored_world days notes jobs periods
+days_in_whole days notes jobs periods f h =
+    before_periods days notes jobs periods f
+    (union_left (union (days_world days) (notes_world notes)) (jobs_world jobs) f
+    (union_left (days_world days) (notes_world notes) f h))
 
-jobs_in_whole : (days : Kept) (notes : BTreeSet Note) (jobs : Jobs) (f : Fact) → f ∈ jobs_world jobs
-    → f ∈ stored_world days notes jobs
-jobs_in_whole days notes jobs f h = union_right (union (days_world days) (notes_world notes)) (jobs_world jobs) f h
+in_whole : (days : Kept) (notes : BTreeSet Note) (jobs : Jobs) (periods : Periods) (f : Fact) → f ∈ notes_world notes
+    → f ∈ stored_world days notes jobs periods
+in_whole days notes jobs periods f h =
+    before_periods days notes jobs periods f
+    (union_left (union (days_world days) (notes_world notes)) (jobs_world jobs) f
+    (union_right (days_world days) (notes_world notes) f h))
+
+jobs_in_whole : (days : Kept) (notes : BTreeSet Note) (jobs : Jobs) (periods : Periods) (f : Fact) → f ∈ jobs_world jobs
+    → f ∈ stored_world days notes jobs periods
+jobs_in_whole days notes jobs periods f h =
+    before_periods days notes jobs periods f
+    (union_right (union (days_world days) (notes_world notes)) (jobs_world jobs) f h)
+
+pub periods_in_whole : (days : Kept) (notes : BTreeSet Note) (jobs : Jobs) (periods : Periods) (f : Fact)
+    → f ∈ periods_world periods → f ∈ stored_world days notes jobs periods
+periods_in_whole days notes jobs periods f h =
+    union_right (union (union (days_world days) (notes_world notes)) (jobs_world jobs)) (periods_world periods) f h
 
 -- a head or a version that is kept is of the days
-pub of_days : (days : Kept) (notes : BTreeSet Note) (jobs : Jobs) (stream : Stream) (day : ℕ) (f : Fact)
-    → IsOn stream day f → f ∈ stored_world days notes jobs → f ∈ days_world days
-of_days days notes jobs stream day f on h = elim (in_stored days notes jobs f h) [
+pub of_days : (days : Kept) (notes : BTreeSet Note) (jobs : Jobs) (periods : Periods) (stream : Stream) (day : ℕ) (f : Fact)
+    → IsOn stream day f → f ∈ stored_world days notes jobs periods → f ∈ days_world days
+of_days days notes jobs periods stream day f on h = elim (in_stored days notes jobs periods f h) [
   | inl a ↦ a
   | inr b ↦ elim b [
     | inl c ↦ let r = in_notes_list notes f c in absurd (note_not_on stream day r.0 (subst (IsOn stream day) r.2 on))
-    | inr c ↦ let r = in_jobs jobs f c in absurd (job_not_on stream day f r.1 r.3 on)
+    | inr c ↦ elim c [
+      | inl d ↦ let r = in_jobs jobs f d in absurd (job_not_on stream day f r.1 r.3 on)
+      | inr d ↦ let r = in_periods periods f d in absurd (period_not_on stream day f r.0 r.1 r.3 on)
+    ]
   ]
 ]
 
 -- a note that is kept is of the notes
-pub of_notes : (days : Kept) (notes : BTreeSet Note) (jobs : Jobs) (note : Note)
-    → note_fact note ∈ stored_world days notes jobs → note_fact note ∈ notes_world notes
-of_notes days notes jobs note h = elim (in_stored days notes jobs (note_fact note) h) [
+pub of_notes : (days : Kept) (notes : BTreeSet Note) (jobs : Jobs) (periods : Periods) (note : Note)
+    → note_fact note ∈ stored_world days notes jobs periods → note_fact note ∈ notes_world notes
+of_notes days notes jobs periods note h = elim (in_stored days notes jobs periods (note_fact note) h) [
   | inl a ↦
       let r = in_days days (note_fact note) a in
       absurd (note_not_on r.0.1.stream r.0.1.day note (fact_on r.0.1 (note_fact note) r.2))
   | inr b ↦ elim b [
     | inl c ↦ c
-    | inr c ↦ let r = in_jobs jobs (note_fact note) c in absurd (note_no_job note r.1 r.3)
+    | inr c ↦ elim c [
+      | inl d ↦ let r = in_jobs jobs (note_fact note) d in absurd (note_no_job note r.1 r.3)
+      | inr d ↦ let r = in_periods periods (note_fact note) d in absurd (note_no_period note r.0 r.1 r.3)
+    ]
   ]
 ]
 
@@ -99,71 +145,129 @@ no_note_job (Event event) id content count e = cc
 no_note_job (Holiday day) id content count e = cc
 
 -- a job that is kept is of the jobs
-of_jobs : (days : Kept) (notes : BTreeSet Note) (jobs : Jobs) (id : List ℕ) (content : JobContent) (count : ℕ)
-    → JobIs id content count ∈ stored_world days notes jobs → JobIs id content count ∈ jobs_world jobs
-of_jobs days notes jobs id content count h = elim (in_stored days notes jobs (JobIs id content count) h) [
+of_jobs : (days : Kept) (notes : BTreeSet Note) (jobs : Jobs) (periods : Periods) (id : List ℕ) (content : JobContent) (count : ℕ)
+    → JobIs id content count ∈ stored_world days notes jobs periods → JobIs id content count ∈ jobs_world jobs
+of_jobs days notes jobs periods id content count h = elim (in_stored days notes jobs periods (JobIs id content count) h) [
   | inl a ↦ let r = in_days days (JobIs id content count) a in absurd (fact_on r.0.1 (JobIs id content count) r.2)
   | inr b ↦ elim b [
     | inl c ↦ let r = in_notes_list notes (JobIs id content count) c in absurd (no_note_job r.0 id content count r.2)
-    | inr c ↦ c
+    | inr c ↦ elim c [
+      | inl d ↦ d
+      | inr d ↦ let r = in_periods periods (JobIs id content count) d in absurd (job_no_period id content count r.0 r.1 r.3)
+    ]
+  ]
+]
+
+-- an accumulation that is kept is of the accumulations
+pub of_periods : (days : Kept) (notes : BTreeSet Note) (jobs : Jobs) (periods : Periods) (key : PeriodKey) (content : PeriodContent)
+    → PeriodIs key content ∈ stored_world days notes jobs periods → PeriodIs key content ∈ periods_world periods
+of_periods days notes jobs periods key content h = elim (in_stored days notes jobs periods (PeriodIs key content) h) [
+  | inl a ↦ let r = in_days days (PeriodIs key content) a in absurd (fact_on r.0.1 (PeriodIs key content) r.2)
+  | inr b ↦ elim b [
+    | inl c ↦ let r = in_notes_list notes (PeriodIs key content) c in absurd (note_no_period r.0 key content (sym r.2))
+    | inr c ↦ elim c [
+      | inl d ↦ let r = in_jobs jobs (PeriodIs key content) d in absurd (period_no_job key content r.1 r.3)
+      | inr d ↦ d
+    ]
   ]
 ]
 
 pub both_same : (A B C : Type 0) → (B ↔ C) → (A ↔ B) → A ↔ C
 both_same A B C q p = ((λ a. q.0 (p.0 a)), (λ c. p.1 (q.1 c)))
 
-pub detail_same : (days : Kept) (notes : BTreeSet Note) (jobs : Jobs) (detail : Detail)
-    → (DetailIs detail ∈ notes_world notes) ↔ (DetailIs detail ∈ stored_world days notes jobs)
-detail_same days notes jobs detail = (in_whole days notes jobs (DetailIs detail), of_notes days notes jobs (Details detail))
+pub detail_same : (days : Kept) (notes : BTreeSet Note) (jobs : Jobs) (periods : Periods) (detail : Detail)
+    → (DetailIs detail ∈ notes_world notes) ↔ (DetailIs detail ∈ stored_world days notes jobs periods)
+detail_same days notes jobs periods detail = (in_whole days notes jobs periods (DetailIs detail), of_notes days notes jobs periods (Details detail))
 
-pub event_same : (days : Kept) (notes : BTreeSet Note) (jobs : Jobs) (event : EventValue)
-    → (EventIs event ∈ notes_world notes) ↔ (EventIs event ∈ stored_world days notes jobs)
-event_same days notes jobs event = (in_whole days notes jobs (EventIs event), of_notes days notes jobs (Event event))
+pub event_same : (days : Kept) (notes : BTreeSet Note) (jobs : Jobs) (periods : Periods) (event : EventValue)
+    → (EventIs event ∈ notes_world notes) ↔ (EventIs event ∈ stored_world days notes jobs periods)
+event_same days notes jobs periods event = (in_whole days notes jobs periods (EventIs event), of_notes days notes jobs periods (Event event))
 
-pub day_of_all : (days : Kept) (notes : BTreeSet Note) (jobs : Jobs) (book : BookValue) → IsDay (days_world days) book
-    → IsDay (stored_world days notes jobs) book
-day_of_all days notes jobs book is = record {
-  whole = λ f on h. is.whole f on (of_days days notes jobs book.stream book.day f on h);
-  only = λ f h. days_in_whole days notes jobs f (is.only f h);
+pub day_of_all : (days : Kept) (notes : BTreeSet Note) (jobs : Jobs) (periods : Periods) (book : BookValue) → IsDay (days_world days) book
+    → IsDay (stored_world days notes jobs periods) book
+day_of_all days notes jobs periods book is = record {
+  whole = λ f on h. is.whole f on (of_days days notes jobs periods book.stream book.day f on h);
+  only = λ f h. days_in_whole days notes jobs periods f (is.only f h);
 }
 
-pub details_of_all : (days : Kept) (notes : BTreeSet Note) (jobs : Jobs) (stream : Stream) (details : DetailsValue)
-    → IsCurrentDetails (notes_world notes) stream details → IsCurrentDetails (stored_world days notes jobs) stream details
-details_of_all days notes jobs stream details (inl g) = inl (
+pub details_of_all : (days : Kept) (notes : BTreeSet Note) (jobs : Jobs) (periods : Periods) (stream : Stream) (details : DetailsValue)
+    → IsCurrentDetails (notes_world notes) stream details → IsCurrentDetails (stored_world days notes jobs periods) stream details
+details_of_all days notes jobs periods stream details (inl g) = inl (
   g.0,
   record {
-    held = (detail_same days notes jobs _).0 g.1.held;
-    greatest = λ other of_other h. g.1.greatest other of_other ((detail_same days notes jobs _).1 h);
+    held = (detail_same days notes jobs periods _).0 g.1.held;
+    greatest = λ other of_other h. g.1.greatest other of_other ((detail_same days notes jobs periods _).1 h);
   },
 )
-details_of_all days notes jobs stream details (inr n) =
-    inr ((λ moment other h. n.0 moment other ((detail_same days notes jobs _).1 h)), n.1)
+details_of_all days notes jobs periods stream details (inr n) =
+    inr ((λ moment other h. n.0 moment other ((detail_same days notes jobs periods _).1 h)), n.1)
 
-pub events_of_all : (days : Kept) (notes : BTreeSet Note) (jobs : Jobs) (stream : Stream) (day : ℕ) (events : List EventValue)
-    → AreEventsOf (notes_world notes) stream day events → AreEventsOf (stored_world days notes jobs) stream day events
-events_of_all days notes jobs stream day events are = record {
+pub events_of_all : (days : Kept) (notes : BTreeSet Note) (jobs : Jobs) (periods : Periods) (stream : Stream) (day : ℕ) (events : List EventValue)
+    → AreEventsOf (notes_world notes) stream day events → AreEventsOf (stored_world days notes jobs periods) stream day events
+events_of_all days notes jobs periods stream day events are = record {
   each = λ event. (
-    (λ m. let p = (are.each event).0 m in ((event_same days notes jobs event).0 p.0, p.1)),
-    (λ p. (are.each event).1 ((event_same days notes jobs event).1 p.0, p.1)),
+    (λ m. let p = (are.each event).0 m in ((event_same days notes jobs periods event).0 p.0, p.1)),
+    (λ p. (are.each event).1 ((event_same days notes jobs periods event).1 p.0, p.1)),
   );
   apart = are.apart;
 }
 
-holiday_same : (days : Kept) (notes : BTreeSet Note) (jobs : Jobs) (day : ℕ)
-    → (HolidayIs day ∈ notes_world notes) ↔ (HolidayIs day ∈ stored_world days notes jobs)
-holiday_same days notes jobs day = (in_whole days notes jobs (HolidayIs day), of_notes days notes jobs (Holiday day))
+holiday_same : (days : Kept) (notes : BTreeSet Note) (jobs : Jobs) (periods : Periods) (day : ℕ)
+    → (HolidayIs day ∈ notes_world notes) ↔ (HolidayIs day ∈ stored_world days notes jobs periods)
+holiday_same days notes jobs periods day = (in_whole days notes jobs periods (HolidayIs day), of_notes days notes jobs periods (Holiday day))
 
-pub holidays_of_all : (days : Kept) (notes : BTreeSet Note) (jobs : Jobs) (dates : List ℕ)
-    → AreHolidays (notes_world notes) dates → AreHolidays (stored_world days notes jobs) dates
-holidays_of_all days notes jobs dates are = record {
-  each = λ day. both_same _ _ _ (holiday_same days notes jobs day) (are.each day);
+pub holidays_of_all : (days : Kept) (notes : BTreeSet Note) (jobs : Jobs) (periods : Periods) (dates : List ℕ)
+    → AreHolidays (notes_world notes) dates → AreHolidays (stored_world days notes jobs periods) dates
+holidays_of_all days notes jobs periods dates are = record {
+  each = λ day. both_same _ _ _ (holiday_same days notes jobs periods day) (are.each day);
   ascending = are.ascending;
 }
 
-pub job_of_all : (days : Kept) (notes : BTreeSet Note) (jobs : Jobs) (id : List ℕ) (kept : Option (Job × ℕ))
-    → IsJobOf (jobs_world jobs) id kept → IsJobOf (stored_world days notes jobs) id kept
-job_of_all days notes jobs id None is = λ content count h. is content count (of_jobs days notes jobs id content count h)
-job_of_all days notes jobs id (Some job) is = (is.0, jobs_in_whole days notes jobs _ is.1)
+pub job_of_all : (days : Kept) (notes : BTreeSet Note) (jobs : Jobs) (periods : Periods) (id : List ℕ) (kept : Option (Job × ℕ))
+    → IsJobOf (jobs_world jobs) id kept → IsJobOf (stored_world days notes jobs periods) id kept
+job_of_all days notes jobs periods id None is = λ content count h. is content count (of_jobs days notes jobs periods id content count h)
+job_of_all days notes jobs periods id (Some job) is = (is.0, jobs_in_whole days notes jobs periods _ is.1)
+
+period_same : (days : Kept) (notes : BTreeSet Note) (jobs : Jobs) (periods : Periods) (key : PeriodKey) (content : PeriodContent)
+    → (PeriodIs key content ∈ periods_world periods) ↔ (PeriodIs key content ∈ stored_world days notes jobs periods)
+period_same days notes jobs periods key content =
+    (periods_in_whole days notes jobs periods (PeriodIs key content), of_periods days notes jobs periods key content)
+
+pub content_of_all : (days : Kept) (notes : BTreeSet Note) (jobs : Jobs) (periods : Periods) (key : PeriodKey)
+    (kept : Option PeriodContent) → IsContentOf (periods_world periods) key kept
+    → IsContentOf (stored_world days notes jobs periods) key kept
+content_of_all days notes jobs periods key None is = λ content h. is content ((period_same days notes jobs periods key content).1 h)
+content_of_all days notes jobs periods key (Some content) is = (period_same days notes jobs periods key content).0 is
+
+pub periods_of_all : (days : Kept) (notes : BTreeSet Note) (jobs : Jobs) (periods : Periods) (stream : Stream)
+    (found : List Period) → ArePeriodsOf (periods_world periods) stream found
+    → ArePeriodsOf (stored_world days notes jobs periods) stream found
+periods_of_all days notes jobs periods stream found are = record {
+  each = λ period. (
+    (λ m.
+        let p = (are.each period).0 m in ((period_same days notes jobs periods period.key period.content).0 p.0, p.1)),
+    (λ p. (are.each period).1 ((period_same days notes jobs periods period.key period.content).1 p.0, p.1)),
+  );
+  ascending = are.ascending;
+}
+
+-- a day is known by the days alone
+pub days_of_all : (days : Kept) (notes : BTreeSet Note) (jobs : Jobs) (periods : Periods) (stream : Stream) (first last : ℕ)
+    (books : List BookValue) → AreDaysOf (days_world days) stream first last books
+    → AreDaysOf (stored_world days notes jobs periods) stream first last books
+days_of_all days notes jobs periods stream first last books are = record {
+  each = λ i d l. let p = are.each i d l in (p.0, day_of_all days notes jobs periods _ p.1);
+  known = λ day. (
+    (λ m.
+        let p = (are.known day).0 m in
+        (p.0, p.1, (p.2.0, days_in_whole days notes jobs periods (HeadIs p.2.0) p.2.1, p.2.2, p.2.3))),
+    (λ p.
+        let head = p.2.0 in
+        let here = of_days days notes jobs periods head.stream head.day (HeadIs head) (refl, refl) p.2.1 in
+        (are.known day).1 (p.0, p.1, (head, here, p.2.2, p.2.3))),
+  );
+  ascending = are.ascending;
+}
 
 abbrev day_facts : Additions → List Fact
 day_facts more = map HeadIs more.heads.items ++ map version_fact more.versions.items
@@ -174,43 +278,79 @@ other_facts more = map DetailIs more.details.items ++ map EventIs more.events.it
 abbrev job_facts : Additions → List Fact
 job_facts more = map job_fact more.jobs.items
 
-append_assoc : (xs ys zs : List Fact) → xs ++ ys ++ zs ≡ xs ++ (ys ++ zs)
-append_assoc [] ys zs = refl
-append_assoc (x ∷ xs) ys zs = ap (λ l. x ∷ l) (append_assoc xs ys zs)
+abbrev period_facts : Additions → List Fact
+period_facts more = map period_fact more.periods.items
 
-content_split : (more : Additions) → content_facts more ≡ day_facts more ++ other_facts more ++ job_facts more
-content_split more =
+abbrev to_details : Additions → List Fact
+to_details more = day_facts more ++ map DetailIs more.details.items
+
+abbrev to_events : Additions → List Fact
+to_events more = to_details more ++ map EventIs more.events.items
+
+abbrev to_periods : Additions → List Fact
+to_periods more = to_events more ++ period_facts more
+
+abbrev to_holidays : Additions → List Fact
+to_holidays more = to_periods more ++ map HolidayIs more.holidays.items
+
+-- what is added is a head or a version, a note, a job or an accumulation
+in_content : (more : Additions) (f : Fact) → f ∈ content more
+    → Member f (day_facts more) ⊎ (Member f (other_facts more) ⊎ (Member f (job_facts more) ⊎ Member f (period_facts more)))
+in_content more f h =
     let details = map DetailIs more.details.items in
     let events = map EventIs more.events.items in
     let holidays = map HolidayIs more.holidays.items in
-    ap (λ l. l ++ holidays ++ job_facts more) (append_assoc (day_facts more) details events)
-    ∙ ap (λ l. l ++ job_facts more) (append_assoc (day_facts more) (details ++ events) holidays)
-
-in_content : (more : Additions) (f : Fact) → f ∈ content more
-    → Member f (day_facts more) ⊎ (Member f (other_facts more) ⊎ Member f (job_facts more))
-in_content more f h =
-    elim (member_append f (day_facts more ++ other_facts more) (job_facts more)
-    (subst (λ l. Member f l) (content_split more) (in_list _ f h))) [
-      | inl a ↦ elim (member_append f (day_facts more) (other_facts more) a) [ inl b ↦ inl b | inr b ↦ inr (inl b) ]
-      | inr a ↦ inr (inr a)
+    elim (member_append f (to_holidays more) (job_facts more) (in_list _ f h)) [
+      | inr a ↦ inr (inr (inl a))
+      | inl a ↦ elim (member_append f (to_periods more) holidays a) [
+        | inr b ↦ inr (inl (append_right f (details ++ events) holidays b))
+        | inl b ↦ elim (member_append f (to_events more) (period_facts more) b) [
+          | inr c ↦ inr (inr (inr c))
+          | inl c ↦ elim (member_append f (to_details more) events c) [
+            | inr d ↦ inr (inl (append_left f (details ++ events) holidays (append_right f details events d)))
+            | inl d ↦ elim (member_append f (day_facts more) details d) [
+              | inl e ↦ inl e
+              | inr e ↦ inr (inl (append_left f (details ++ events) holidays (append_left f details events e)))
+            ]
+          ]
+        ]
+      ]
     ]
+
+to_holidays_told : (more : Additions) (f : Fact) → Member f (to_holidays more) → Member f (content_facts more)
+to_holidays_told more f m = append_left f (to_holidays more) (job_facts more) m
+
+to_periods_told : (more : Additions) (f : Fact) → Member f (to_periods more) → Member f (content_facts more)
+to_periods_told more f m = to_holidays_told more f (append_left f (to_periods more) (map HolidayIs more.holidays.items) m)
+
+to_details_told : (more : Additions) (f : Fact) → Member f (to_details more) → Member f (content_facts more)
+to_details_told more f m =
+    to_periods_told more f
+    (append_left f (to_events more) (period_facts more) (append_left f (to_details more) (map EventIs more.events.items) m))
 
 day_fact_in : (more : Additions) (f : Fact) → Member f (day_facts more) → f ∈ content more
 day_fact_in more f m =
-    list_in _ f (subst (λ l. Member f l) (sym (content_split more))
-    (append_left f (day_facts more ++ other_facts more) (job_facts more)
-    (append_left f (day_facts more) (other_facts more) m)))
+    list_in _ f (to_details_told more f (append_left f (day_facts more) (map DetailIs more.details.items) m))
 
 other_fact_told : (more : Additions) (f : Fact) → Member f (other_facts more) → Member f (content_facts more)
 other_fact_told more f m =
-    subst (λ l. Member f l) (sym (content_split more))
-    (append_left f (day_facts more ++ other_facts more) (job_facts more)
-    (append_right f (day_facts more) (other_facts more) m))
+    let details = map DetailIs more.details.items in
+    let events = map EventIs more.events.items in
+    let holidays = map HolidayIs more.holidays.items in
+    elim (member_append f (details ++ events) holidays m) [
+      | inl a ↦ elim (member_append f details events a) [
+        | inl b ↦ to_details_told more f (append_right f (day_facts more) details b)
+        | inr b ↦ to_periods_told more f
+            (append_left f (to_events more) (period_facts more) (append_right f (to_details more) events b))
+      ]
+      | inr a ↦ to_holidays_told more f (append_right f (to_periods more) holidays a)
+    ]
 
 job_fact_in : (more : Additions) (f : Fact) → Member f (job_facts more) → f ∈ content more
-job_fact_in more f m =
-    list_in _ f (subst (λ l. Member f l) (sym (content_split more))
-    (append_right f (day_facts more ++ other_facts more) (job_facts more) m))
+job_fact_in more f m = list_in _ f (append_right f (to_holidays more) (job_facts more) m)
+
+period_fact_in : (more : Additions) (f : Fact) → Member f (period_facts more) → f ∈ content more
+period_fact_in more f m = list_in _ f (to_periods_told more f (append_right f (to_events more) (period_facts more) m))
 
 other_not_on : (more : Additions) (stream : Stream) (day : ℕ) (f : Fact) → Member f (other_facts more) → IsOn stream day f → ⊥
 other_not_on more stream day f m on =
@@ -242,22 +382,26 @@ lawful_part w part sub back law = record {
 }
 
 -- the days will be lawful where all will be
-pub lawful_days : (days : Kept) (notes : BTreeSet Note) (jobs : Jobs) (more : Additions)
-    → IsLawful (union (stored_world days notes jobs) (content more))
+pub lawful_days : (days : Kept) (notes : BTreeSet Note) (jobs : Jobs) (periods : Periods) (more : Additions)
+    → IsLawful (union (stored_world days notes jobs periods) (content more))
     → IsLawful (union (days_world days) (set.from_list (map HeadIs more.heads.items ++ map version_fact more.versions.items)))
-lawful_days days notes jobs more law =
-    lawful_part (union (stored_world days notes jobs) (content more)) (union (days_world days) (set.from_list (day_facts more)))
+lawful_days days notes jobs periods more law =
+    lawful_part (union (stored_world days notes jobs periods) (content more)) (union (days_world days) (set.from_list (day_facts more)))
     (λ f h. elim (in_union (days_world days) _ f h) [
-      | inl a ↦ union_left (stored_world days notes jobs) _ f (days_in_whole days notes jobs f a)
-      | inr b ↦ union_right (stored_world days notes jobs) _ f (day_fact_in more f (in_list _ f b))
+      | inl a ↦ union_left (stored_world days notes jobs periods) _ f (days_in_whole days notes jobs periods f a)
+      | inr b ↦ union_right (stored_world days notes jobs periods) _ f (day_fact_in more f (in_list _ f b))
     ])
-    (λ stream day f on h. elim (in_union (stored_world days notes jobs) _ f h) [
-      | inl a ↦ union_left (days_world days) _ f (of_days days notes jobs stream day f on a)
+    (λ stream day f on h. elim (in_union (stored_world days notes jobs periods) _ f h) [
+      | inl a ↦ union_left (days_world days) _ f (of_days days notes jobs periods stream day f on a)
       | inr b ↦ elim (in_content more f b) [
         | inl c ↦ union_right (days_world days) _ f (list_in _ f c)
         | inr c ↦ elim c [
           | inl d ↦ absurd (other_not_on more stream day f d on)
-          | inr d ↦ let r = in_map job_fact more.jobs.items f d in absurd (job_not_on stream day f r.0 r.2 on)
+          | inr d ↦ elim d [
+            | inl e ↦ let r = in_map job_fact more.jobs.items f e in absurd (job_not_on stream day f r.0 r.2 on)
+            | inr e ↦ let r = in_map period_fact more.periods.items f e in
+                absurd (period_not_on stream day f r.0.key r.0.content r.2 on)
+          ]
         ]
       ]
     ])
@@ -276,20 +420,33 @@ lawful_jobs_alone w part sub alone law = record {
 }
 
 -- so the jobs will be lawful where all will be
-pub lawful_jobs : (days : Kept) (notes : BTreeSet Note) (jobs : Jobs) (more : Additions)
-    → IsLawful (union (stored_world days notes jobs) (content more))
+pub lawful_jobs : (days : Kept) (notes : BTreeSet Note) (jobs : Jobs) (periods : Periods) (more : Additions)
+    → IsLawful (union (stored_world days notes jobs periods) (content more))
     → IsLawful (union (jobs_world jobs) (set.from_list (map job_fact more.jobs.items)))
-lawful_jobs days notes jobs more law =
-    lawful_jobs_alone (union (stored_world days notes jobs) (content more)) (union (jobs_world jobs) (set.from_list (job_facts more)))
+lawful_jobs days notes jobs periods more law =
+    lawful_jobs_alone (union (stored_world days notes jobs periods) (content more)) (union (jobs_world jobs) (set.from_list (job_facts more)))
     (λ f h. elim (in_union (jobs_world jobs) _ f h) [
-      | inl a ↦ union_left (stored_world days notes jobs) _ f (jobs_in_whole days notes jobs f a)
-      | inr b ↦ union_right (stored_world days notes jobs) _ f (job_fact_in more f (in_list _ f b))
+      | inl a ↦ union_left (stored_world days notes jobs periods) _ f (jobs_in_whole days notes jobs periods f a)
+      | inr b ↦ union_right (stored_world days notes jobs periods) _ f (job_fact_in more f (in_list _ f b))
     ])
     (λ f h. elim (in_union (jobs_world jobs) _ f h) [
       | inl a ↦ let r = in_jobs jobs f a in (r.1, r.3)
       | inr b ↦ let r = in_map job_fact more.jobs.items f (in_list _ f b) in (r.0, r.2)
     ])
     law
+
+-- the accumulations will agree where all will
+pub periods_agree : (days : Kept) (notes : BTreeSet Note) (jobs : Jobs) (periods : Periods) (more : Additions)
+    → IsLawful (union (stored_world days notes jobs periods) (content more))
+    → Agrees (union (periods_world periods) (set.from_list (map period_fact more.periods.items)))
+periods_agree days notes jobs periods more law =
+    agrees_part (union (stored_world days notes jobs periods) (content more))
+    (union (periods_world periods) (set.from_list (period_facts more)))
+    (λ f h. elim (in_union (periods_world periods) _ f h) [
+      | inl a ↦ union_left (stored_world days notes jobs periods) _ f (periods_in_whole days notes jobs periods f a)
+      | inr b ↦ union_right (stored_world days notes jobs periods) _ f (period_fact_in more f (in_list _ f b))
+    ])
+    law.agrees
 
 apart_left : (xs ys : List Fact) → Apart (xs ++ ys) → Apart xs
 apart_left [] ys a = tt
@@ -299,83 +456,133 @@ apart_right : (xs ys : List Fact) → Apart (xs ++ ys) → Apart ys
 apart_right [] ys a = a
 apart_right (x ∷ xs) ys a = apart_right xs ys a.1
 
+-- without those in the middle
+apart_ends : (xs ms ys : List Fact) → Apart (xs ++ ms ++ ys) → Apart (xs ++ ys)
+apart_ends [] ms ys a = apart_right ms ys a
+apart_ends (x ∷ xs) ms ys a = (
+  (λ m. a.0 (elim (member_append x xs ys m) [
+    | inl n ↦ append_left x (xs ++ ms) ys (append_left x xs ms n)
+    | inr n ↦ append_right x (xs ++ ms) ys n
+  ])),
+  apart_ends xs ms ys a.1,
+)
+
+append_assoc : (xs ys zs : List Fact) → xs ++ ys ++ zs ≡ xs ++ (ys ++ zs)
+append_assoc [] ys zs = refl
+append_assoc (x ∷ xs) ys zs = ap (λ l. x ∷ l) (append_assoc xs ys zs)
+
+-- the days' facts, and then the notes'
+to_others : (more : Additions) → to_events more ++ map HolidayIs more.holidays.items ≡ day_facts more ++ other_facts more
+to_others more =
+    let details = map DetailIs more.details.items in
+    let events = map EventIs more.events.items in
+    let holidays = map HolidayIs more.holidays.items in
+    ap (λ l. l ++ holidays) (append_assoc (day_facts more) details events)
+    ∙ append_assoc (day_facts more) (details ++ events) holidays
+
 pub notes_apart : (w : World) (more : Additions) (noted : List Note) → AreNew w more
     → map note_fact noted ≡ map DetailIs more.details.items ++ map EventIs more.events.items ++ map HolidayIs more.holidays.items
     → Apart (map note_fact noted)
 notes_apart w more noted new e =
-    subst Apart (sym e) (apart_right (day_facts more) (other_facts more)
-    (apart_left (day_facts more ++ other_facts more) (job_facts more) (subst Apart (content_split more) new.apart)))
+    subst Apart (sym e) (apart_right (day_facts more) (other_facts more) (subst Apart (to_others more)
+    (apart_ends (to_events more) (period_facts more) (map HolidayIs more.holidays.items)
+    (apart_left (to_holidays more) (job_facts more) new.apart))))
 
-pub notes_absent : (days : Kept) (notes : BTreeSet Note) (jobs : Jobs) (w : World) (more : Additions) (noted : List Note)
-    → stored_world days notes jobs ≡ w → AreNew w more
+pub notes_absent : (days : Kept) (notes : BTreeSet Note) (jobs : Jobs) (periods : Periods) (w : World) (more : Additions) (noted : List Note)
+    → stored_world days notes jobs periods ≡ w → AreNew w more
     → map note_fact noted ≡ map DetailIs more.details.items ++ map EventIs more.events.items ++ map HolidayIs more.holidays.items
     → (note : Note) → Member note noted → note_fact note ∈ notes_world notes → ⊥
-notes_absent days notes jobs w more noted is new e note m h =
+notes_absent days notes jobs periods w more noted is new e note m h =
     new.absent (note_fact note)
     (other_fact_told more (note_fact note) (subst (λ l. Member (note_fact note) l) e (map_in note_fact noted note m)))
-    (subst (λ v. note_fact note ∈ v) is (in_whole days notes jobs (note_fact note) h))
+    (subst (λ v. note_fact note ∈ v) is (in_whole days notes jobs periods (note_fact note) h))
 
 -- all that is added is kept then
-pub committed : (days now : Kept) (notes noted_now : BTreeSet Note) (jobs jobs_now : Jobs) (more : Additions) (noted : List Note)
+pub committed : (days now : Kept) (notes noted_now : BTreeSet Note) (jobs jobs_now : Jobs) (periods periods_now : Periods)
+    (more : Additions) (noted : List Note)
     → days_world now ≡ union (days_world days) (set.from_list (map HeadIs more.heads.items ++ map version_fact more.versions.items))
     → notes_world noted_now ≡ union (notes_world notes) (set.from_list (map note_fact noted))
     → map note_fact noted ≡ map DetailIs more.details.items ++ map EventIs more.events.items ++ map HolidayIs more.holidays.items
     → jobs_world jobs_now ≡ union (jobs_world jobs) (set.from_list (map job_fact more.jobs.items))
-    → stored_world now noted_now jobs_now ≡ union (stored_world days notes jobs) (content more)
-committed days now notes noted_now jobs jobs_now more noted d n e j = same_by _ _
-    (λ f h. elim (in_stored now noted_now jobs_now f h) [
-      | inl a ↦ elim (in_union (days_world days) _ f (subst (λ w. f ∈ w) d a)) [
-        | inl b ↦ union_left (stored_world days notes jobs) _ f (days_in_whole days notes jobs f b)
-        | inr b ↦ union_right (stored_world days notes jobs) _ f (day_fact_in more f (in_list _ f b))
+    → periods_world periods_now ≡ union (periods_world periods) (set.from_list (map period_fact more.periods.items))
+    → stored_world now noted_now jobs_now periods_now ≡ union (stored_world days notes jobs periods) (content more)
+committed days now notes noted_now jobs jobs_now periods periods_now more noted d n e j p =
+    let w : World = stored_world days notes jobs periods in
+    same_by _ _
+    (λ f h. elim (in_stored now noted_now jobs_now periods_now f h) [
+      | inl a ↦ elim (in_union (days_world days) _ f (subst (λ v. f ∈ v) d a)) [
+        | inl b ↦ union_left w _ f (days_in_whole days notes jobs periods f b)
+        | inr b ↦ union_right w _ f (day_fact_in more f (in_list _ f b))
       ]
       | inr a ↦ elim a [
-        | inl k ↦ elim (in_union (notes_world notes) _ f (subst (λ w. f ∈ w) n k)) [
-          | inl b ↦ union_left (stored_world days notes jobs) _ f (in_whole days notes jobs f b)
-          | inr b ↦ union_right (stored_world days notes jobs) _ f
+        | inl k ↦ elim (in_union (notes_world notes) _ f (subst (λ v. f ∈ v) n k)) [
+          | inl b ↦ union_left w _ f (in_whole days notes jobs periods f b)
+          | inr b ↦ union_right w _ f
               (list_in _ f (other_fact_told more f (subst (λ l. Member f l) e (in_list _ f b))))
         ]
-        | inr k ↦ elim (in_union (jobs_world jobs) _ f (subst (λ w. f ∈ w) j k)) [
-          | inl b ↦ union_left (stored_world days notes jobs) _ f (jobs_in_whole days notes jobs f b)
-          | inr b ↦ union_right (stored_world days notes jobs) _ f (job_fact_in more f (in_list _ f b))
+        | inr k ↦ elim k [
+          | inl l ↦ elim (in_union (jobs_world jobs) _ f (subst (λ v. f ∈ v) j l)) [
+            | inl b ↦ union_left w _ f (jobs_in_whole days notes jobs periods f b)
+            | inr b ↦ union_right w _ f (job_fact_in more f (in_list _ f b))
+          ]
+          | inr l ↦ elim (in_union (periods_world periods) _ f (subst (λ v. f ∈ v) p l)) [
+            | inl b ↦ union_left w _ f (periods_in_whole days notes jobs periods f b)
+            | inr b ↦ union_right w _ f (period_fact_in more f (in_list _ f b))
+          ]
         ]
       ]
     ])
-    (λ f h. elim (in_union (stored_world days notes jobs) _ f h) [
-      | inl a ↦ elim (in_stored days notes jobs f a) [
-        | inl b ↦ days_in_whole now noted_now jobs_now f (subst (λ w. f ∈ w) (sym d) (union_left (days_world days) _ f b))
+    (λ f h. elim (in_union w _ f h) [
+      | inl a ↦ elim (in_stored days notes jobs periods f a) [
+        | inl b ↦ days_in_whole now noted_now jobs_now periods_now f
+            (subst (λ v. f ∈ v) (sym d) (union_left (days_world days) _ f b))
         | inr k ↦ elim k [
-          | inl b ↦ in_whole now noted_now jobs_now f (subst (λ w. f ∈ w) (sym n) (union_left (notes_world notes) _ f b))
-          | inr b ↦ jobs_in_whole now noted_now jobs_now f (subst (λ w. f ∈ w) (sym j) (union_left (jobs_world jobs) _ f b))
+          | inl b ↦ in_whole now noted_now jobs_now periods_now f
+              (subst (λ v. f ∈ v) (sym n) (union_left (notes_world notes) _ f b))
+          | inr l ↦ elim l [
+            | inl b ↦ jobs_in_whole now noted_now jobs_now periods_now f
+                (subst (λ v. f ∈ v) (sym j) (union_left (jobs_world jobs) _ f b))
+            | inr b ↦ periods_in_whole now noted_now jobs_now periods_now f
+                (subst (λ v. f ∈ v) (sym p) (union_left (periods_world periods) _ f b))
+          ]
         ]
       ]
       | inr a ↦ elim (in_content more f a) [
-        | inl b ↦ days_in_whole now noted_now jobs_now f
-            (subst (λ w. f ∈ w) (sym d) (union_right (days_world days) _ f (list_in _ f b)))
+        | inl b ↦ days_in_whole now noted_now jobs_now periods_now f
+            (subst (λ v. f ∈ v) (sym d) (union_right (days_world days) _ f (list_in _ f b)))
         | inr k ↦ elim k [
-          | inl b ↦ in_whole now noted_now jobs_now f
-              (subst (λ w. f ∈ w) (sym n) (union_right (notes_world notes) _ f (list_in _ f (subst (λ l. Member f l) (sym e) b))))
-          | inr b ↦ jobs_in_whole now noted_now jobs_now f
-              (subst (λ w. f ∈ w) (sym j) (union_right (jobs_world jobs) _ f (list_in _ f b)))
+          | inl b ↦ in_whole now noted_now jobs_now periods_now f
+              (subst (λ v. f ∈ v) (sym n) (union_right (notes_world notes) _ f (list_in _ f (subst (λ l. Member f l) (sym e) b))))
+          | inr l ↦ elim l [
+            | inl b ↦ jobs_in_whole now noted_now jobs_now periods_now f
+                (subst (λ v. f ∈ v) (sym j) (union_right (jobs_world jobs) _ f (list_in _ f b)))
+            | inr b ↦ periods_in_whole now noted_now jobs_now periods_now f
+                (subst (λ v. f ∈ v) (sym p) (union_right (periods_world periods) _ f (list_in _ f b)))
+          ]
         ]
       ]
     ])
 
-pub nothing_kept : (days : Kept) (notes : BTreeSet Note) (jobs : Jobs) → days.entries ≡ [] → notes.keys ≡ []
-    → jobs.entries ≡ [] → stored_world days notes jobs ≡ set.empty
-nothing_kept days notes jobs d n j = same_by _ _
-    (λ f h. elim (in_stored days notes jobs f h) [
+pub nothing_kept : (days : Kept) (notes : BTreeSet Note) (jobs : Jobs) (periods : Periods) → days.entries ≡ [] → notes.keys ≡ []
+    → jobs.entries ≡ [] → periods.entries ≡ [] → stored_world days notes jobs periods ≡ set.empty
+nothing_kept days notes jobs periods d n j p = same_by _ _
+    (λ f h. elim (in_stored days notes jobs periods f h) [
       | inl a ↦ let r = in_days days f a in absurd (subst (λ es. Member r.0 es) d r.1)
       | inr a ↦ elim a [
         | inl b ↦ let r = in_notes_list notes f b in absurd (subst (λ ks. Member r.0 ks) n r.1)
-        | inr b ↦ let r = in_jobs jobs f b in absurd (subst (λ es. Member (r.0, Some r.1) es) j r.2)
+        | inr b ↦ elim b [
+          | inl k ↦ let r = in_jobs jobs f k in absurd (subst (λ es. Member (r.0, Some r.1) es) j r.2)
+          | inr k ↦ let r = in_periods periods f k in absurd (subst (λ es. Member (r.0, Some r.1) es) p r.2)
+        ]
       ]
     ])
     (λ f h. absurd (not_in_empty total exact f h))
 
-pub nothing_stored : (days : Kept) (notes : BTreeSet Note) (jobs : Jobs) → days.entries ≡ [] → notes.keys ≡ []
-    → jobs.entries ≡ [] → IsOrdered place_cmp days → IsOrdered id_cmp jobs → IsStored days notes jobs
-nothing_stored days notes jobs d n j o i = record {
-  lawful = subst IsLawful (sym (nothing_kept days notes jobs d n j)) nothing_lawful;
+pub nothing_stored : (days : Kept) (notes : BTreeSet Note) (jobs : Jobs) (periods : Periods) → days.entries ≡ []
+    → notes.keys ≡ [] → jobs.entries ≡ [] → periods.entries ≡ [] → IsOrdered place_cmp days → IsOrdered id_cmp jobs
+    → IsOrdered key_cmp periods → IsStored days notes jobs periods
+nothing_stored days notes jobs periods d n j p o i k = record {
+  lawful = subst IsLawful (sym (nothing_kept days notes jobs periods d n j p)) nothing_lawful;
   theirs = record {
     theirs = λ place book m. absurd (subst (λ es. Member (place, book) es) d m);
     ordered = o;
@@ -384,6 +591,7 @@ nothing_stored days notes jobs d n j o i = record {
     theirs = λ id job m. absurd (subst (λ es. Member (id, Some job) es) j m);
     ordered = i;
   };
+  keys = k;
 }
 
 -- what holds where a call is Ok

@@ -1,5 +1,6 @@
 pub mod Ascending
 pub mod Changed
+pub mod DaysBetween
 pub mod DetailStreams
 pub mod Entries
 pub mod FirstNotes
@@ -7,7 +8,9 @@ pub mod NoteOrder
 pub mod Notes
 pub mod Places
 pub mod Ranges
+pub mod Runs
 pub mod StoredDays
 pub mod StoredJobs
+pub mod StoredPeriods
 pub mod Kept
 pub mod Streams

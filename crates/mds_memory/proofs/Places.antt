@@ -1,5 +1,5 @@
 -- Maps of days by their entries.
-use Rattle.std.proofs.Common.{◌≡◌, List, ◌∷◌, true, false, Option, Some, None, refl, sym, subst}
+use Rattle.std.proofs.Common.{◌≡◌, List, true, false, Option, Some, None, refl, sym, subst}
 use Rattle.std.specs.Prelude.{◌⊎◌, is_some, IfOk, Result, Ok, Err}
 use Rattle.std.specs.BTreeMap.{insert_entry, is_at}
 use Rattle.std.specs.Cmp.{IsTotalOrder}
@@ -7,7 +7,7 @@ use Rattle.std.specs.Cmp.Lexicographic.{slice_cmp}
 use Rattle.std.specs.List.Sorted.{IsStrictlySortedBy}
 use Rattle.std.specs.Map.{keys_of, lookup}
 use Rattle.std.specs.Ordering.{nat_cmp}
-use Rattle.std.specs.declared.cmp.Ordering.TheVariants.{Less, Equal}
+use Rattle.std.specs.declared.cmp.Ordering.TheVariants.{Equal}
 use Rattle.std.proofs.lemmas.Map.Lookups.{exact_bytes, exact_pairs, exact_unsigned}
 use Rattle.mds_names.specs.declared.stream.Stream.{Stream}
 use Rattle.mds_world.specs.declared.facts.StreamDay.{StreamDay}
@@ -71,11 +71,6 @@ module _ {X : Type 0} where
   pub found_in : (es : List (StreamDay × X)) (k : StreamDay) (v : X)
       → lookup (is_at (place_cmp k)) es ≡ Some v → Member (k, v) es
   found_in = entries.found_in place_cmp place_exact place_total
-
-  -- the first of a list in order is before the others
-  pub first_before : (x : StreamDay × X) (es : List (StreamDay × X)) (e : StreamDay × X)
-      → IsStrictlySortedBy place_cmp (keys_of (x ∷ es)) → Member e es → place_cmp x.0 e.0 ≡ Less
-  first_before = entries.first_before place_cmp place_exact place_total
 
   -- a day has one entry
   pub one_entry : (es : List (StreamDay × X)) → IsStrictlySortedBy place_cmp (keys_of es) → (k : StreamDay) (v w : X)

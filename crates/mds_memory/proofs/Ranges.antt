@@ -27,6 +27,8 @@ use Rattle.mds_memory.proofs.Ascending.{Ascends}
 use Rattle.mds_memory.proofs.FirstNotes.{details_from, details_within, events_from, events_within, first_of, holidays_from, holidays_within, stream_total}
 use Rattle.mds_memory.proofs.NoteOrder.{note_cmp, total}
 use Rattle.mds_memory.proofs.Notes.{in_notes, notes_in}
+use Rattle.mds_memory.proofs.Runs as runs
+use Rattle.mds_memory.proofs.Runs.{HasStopped, across_push}
 
 -- the notes from one on
 abbrev pub from : BTreeSet Note → Note → List Note
@@ -49,34 +51,15 @@ ascending notes first o =
     up.filtered (range_contains note_cmp (Included first) Unbounded) note_cmp notes.keys
     (up.from_sorted note_cmp notes.keys o)
 
--- a run stops at the end, or at the first that isn't of the kind
-abbrev pub HasStopped : (Note → Type 0) → List Note → Type 0
-HasStopped P [] = Unit {0}
-HasStopped P (x ∷ rest) = P x → ⊥
-
--- so it has gone through all of the kind
+-- a run that stops at the end, or at the first that isn't of the kind, has gone through all of the kind
 all_found : (P : Note → Type 0) (notes : BTreeSet Note) (first : Note) (seen left : List Note)
     → IsOrdered note_cmp notes → seen ++ left ≡ from notes first → HasStopped P left
     → ((x q : Note) → is_le (note_cmp first x) ≡ true → note_cmp x q ≡ Less → P q → P x)
     → ((q : Note) → P q → is_le (note_cmp first q) ≡ true)
     → (q : Note) → Member q notes.keys → P q → Member q seen
-all_found P notes first seen [] o e stop within least q m h =
-    elim (member_append q seen [] (subst (Member q) (sym e) (in_from notes first q m (least q h)))) [
-      | inl n ↦ n
-      | inr n ↦ absurd n
-    ]
-all_found P notes first seen (x ∷ rest) o e stop within least q m h =
-    elim (member_append q seen (x ∷ rest) (subst (Member q) (sym e) (in_from notes first q m (least q h)))) [
-      | inl n ↦ n
-      | inr n ↦ elim n [
-        | inl i ↦ absurd (stop (subst P i h))
-        | inr k ↦
-            let here : is_le (note_cmp first x) ≡ true =
-            from_first notes first x (subst (Member x) e (append_right x seen (x ∷ rest) (inl refl))) in
-            let a : Ascends note_cmp (seen ++ x ∷ rest) = subst (Ascends note_cmp) (sym e) (ascending notes first o) in
-            absurd (stop (within x q here ((up.back note_cmp seen (x ∷ rest) a).0 q k) h))
-      ]
-    ]
+all_found P notes first seen left o e stop within least q m h =
+    runs.all_found note_cmp P (from notes first) seen left (ascending notes first o) e stop
+    (λ x y n. within x y (from_first notes first x n)) q (in_from notes first q m (least q h)) h
 
 -- ---- the events of a day
 
@@ -147,10 +130,6 @@ pub record IsRun (notes : BTreeSet Note) (stream : Stream) (last : Option (Bor D
   pub seen : List Note
   pub run : seen ++ left ≡ from notes (first_of stream)
   pub is_last : IsLast stream seen last
-
-across_push : (seen : List Note) (x : Note) (rest : List Note) → (seen ++ x ∷ []) ++ rest ≡ seen ++ x ∷ rest
-across_push [] x rest = refl
-across_push (n ∷ seen) x rest = ap (λ ns. n ∷ ns) (across_push seen x rest)
 
 pub one_detail : (notes : BTreeSet Note) (stream : Stream) (last : Option (Bor Detail)) (left rest : List Note)
     (note : Note) (detail : Bor Detail) → IsRun notes stream last left → left ≡ note ∷ rest
@@ -287,10 +266,3 @@ holidays_done notes days left o so stop = record {
   ascending = λ i j d l m. below _ _ (up.pairs nat_cmp days (days_ascend days
       (up.front note_cmp (map Holiday days) left (subst (Ascends note_cmp) (sym so) (ascending notes (Holiday 0) o)))) i j d l m);
 }
-
--- at the end, and at a note of another kind
-pub at_end : (P : Note → Type 0) (left : List Note) → left ≡ [] → HasStopped P left
-at_end P left e = subst (HasStopped P) (sym e) tt
-
-pub at_other : (P : Note → Type 0) (left rest : List Note) (x : Note) → left ≡ x ∷ rest → (P x → ⊥) → HasStopped P left
-at_other P left rest x e n = subst (HasStopped P) (sym e) n

@@ -188,11 +188,10 @@ bare_world book stream day rows e w = w ∙ ap (λ r. book_world (bare stream da
 pub says_nothing : (book : BookValue) (f : Fact) → book_world book ≡ set.empty → Member f (book_facts book) → ⊥
 says_nothing book f e m = not_in_empty total exact f (subst (λ w. f ∈ w) e (list_in (book_facts book) f m))
 
--- what is kept of a day
-pub day_found : (days : Kept) (place : StreamDay) (book : BookValue) → AreOfTheirDays days
-    → lookup (is_at (place_cmp place)) days.entries ≡ Some book → IsDay (days_world days) book
-day_found days place book t e =
-    let m = found_in days.entries place book e in
+-- the book under a place says what is kept of the day
+pub day_at : (days : Kept) (place : StreamDay) (book : BookValue) → AreOfTheirDays days → Member (place, book) days.entries
+    → IsDay (days_world days) book
+day_at days place book t m =
     let at = t.theirs place book m in
     record {
       whole = λ f on h.
@@ -204,6 +203,11 @@ day_found days place book t e =
           list_in _ f (subst (λ b. Member f (book_facts b)) (one_entry days.entries t.ordered place r.0.1 book n m) r.2);
       only = λ f h. days_in days f (place, book) m (in_list _ f h);
     }
+
+-- what is kept of a day
+pub day_found : (days : Kept) (place : StreamDay) (book : BookValue) → AreOfTheirDays days
+    → lookup (is_at (place_cmp place)) days.entries ≡ Some book → IsDay (days_world days) book
+day_found days place book t e = day_at days place book t (found_in days.entries place book e)
 
 pub day_unknown : (days : Kept) (place : StreamDay) (book : BookValue) → AreOfTheirDays days
     → lookup (is_at (place_cmp place)) days.entries ≡ None → (book.stream ≡ place.stream) × (book.day ≡ place.day)

@@ -1,41 +1,38 @@
 -- The known streams of a keeper in memory, ascending.
 use Rattle.std.proofs.Common.{◌≡◌, ◌<◌, ◌≤◌, ◌+◌, ◌-◌, ℕ, zero, suc, List, [], ◌∷◌, ◌++◌, length, refl, sym, ap, ◌∙◌, subst, inl, inr, arith}
-use Rattle.std.specs.Prelude.{◌⊎◌, ◌↔◌, Option, Some, None, true, false, is_some, slice_index_or, take, drop, get_or}
+use Rattle.std.specs.Prelude.{◌⊎◌, ◌↔◌, Bool, Option, Some, None, true, false, is_some, slice_index_or, take, drop, get_or}
 use Rattle.std.specs.BTreeMap.{IsOrdered}
 use Rattle.std.specs.BTreeSet.{BTreeSet}
 use Rattle.std.specs.List.{AllPairs}
-use Rattle.std.specs.List.Sorted.{IsStrictlySortedBy}
 use Rattle.std.specs.Map.{keys_of}
 use Rattle.std.specs.Ordering.{is_gt, ordering_reverse}
 use Rattle.std.specs.declared.cmp.Ordering.{Ordering}
 use Rattle.std.specs.declared.cmp.Ordering.TheVariants.{Less, Equal, Greater}
 use Rattle.std.proofs.lemmas.List.{take_all}
-use Rattle.std.proofs.lemmas.Map.Keys.{sorted_tail}
 use Rattle.mds_quantity.specs.declared.unit.Unit.{Unit as MeasureUnit}
-use Rattle.mds_jobs.specs.declared.job.Job.{Job}
 use Rattle.mds_names.specs.declared.stream.Stream.{Stream}
 use Rattle.mds_world.specs.declared.facts.Head.{Head}
 use Rattle.mds_world.specs.declared.facts.StreamDay.{StreamDay}
-use Rattle.mds_world.specs.Facts.{Fact, PeriodKey, PeriodContent}
-use Rattle.mds_world.specs.Facts.Fact.{HeadIs, PeriodIs}
+use Rattle.mds_world.specs.Facts.{Fact, PeriodContent}
+use Rattle.mds_statements.specs.declared.periods.PeriodKey.{PeriodKey}
+use Rattle.mds_world.specs.Facts.Fact.{HeadIs}
 use Rattle.mds_world.specs.Lists.{Member, append_left, append_right, in_map, member_append}
-use Rattle.mds_world.specs.Sets.{◌∈◌}
 use Rattle.mds_versions.specs.Books.{BookValue, book_facts, head_facts, row_fact}
-use Rattle.mds_versions.specs.Content.{job_fact}
 use Rattle.mds_versions.specs.Queries.{AreKnownStreams, stream_cmp}
-use Rattle.mds_memory.specs.Stored.{AreDetailStreams, AreHeadStreams, AreOfTheirDays, days_world, note_fact, notes_world, place_cmp, stored_world}
+use Rattle.mds_memory.specs.Stored.{AreDetailStreams, AreHeadStreams, AreOfTheirDays, ArePeriodStreams, days_world, key_cmp, notes_world, periods_world, place_cmp, stored_world}
 use Rattle.mds_memory.specs.StoredNotes.{IsAtEnd, PutsLast}
 use Rattle.mds_versions.specs.declared.day_book.Version.{Version}
 use Rattle.mds_memory.specs.declared.stored_notes.Note.{Note}
-use Rattle.mds_memory.specs.declared.stored_notes.Note.TheVariants.{Details, Event, Holiday}
 use Rattle.mds_memory.proofs.Ascending as up
 use Rattle.mds_memory.proofs.Ascending.{Ascends}
 use Rattle.mds_memory.proofs.DetailStreams.{at_last, ends_at, get_member, less_or_tied}
 use Rattle.mds_memory.proofs.FirstNotes.{first_not_gt, less_not_gt}
-use Rattle.mds_memory.proofs.Kept.{days_in_whole, detail_same, in_notes_list, in_stored, of_days}
-use Rattle.mds_memory.proofs.Places.{first_before, stream_exact, stream_total}
+use Rattle.mds_memory.proofs.Kept.{days_in_whole, detail_same, of_days, of_periods, periods_in_whole}
+use Rattle.mds_memory.proofs.Places.{stream_exact, stream_total}
+use Rattle.mds_memory.proofs.Runs.{across_push, entries_ascend, nothing_left}
 use Rattle.mds_memory.proofs.StoredDays.{Kept, days_in, fact_on, in_days}
-use Rattle.mds_memory.proofs.StoredJobs.{Jobs, in_jobs}
+use Rattle.mds_memory.proofs.StoredJobs.{Jobs}
+use Rattle.mds_memory.proofs.StoredPeriods.{Periods, Place, kept_at, periods_in}
 
 -- a stream is put down in its place
 pub record IsPut (x : Stream) (old new : List Stream) : Type 0 where
@@ -68,98 +65,126 @@ put_last x old new a upto (inr p) = record {
   there = subst (Member x) (sym p.1) (append_right x old (x ∷ []) (inl refl));
 }
 
--- a day of the list is of the stream, and has a head
-abbrev pub HasHeadOf : List (StreamDay × BookValue) → Stream → Type 0
-HasHeadOf seen stream = (e : StreamDay × BookValue) × Member e seen × (e.0.stream ≡ stream) × (is_some e.1.head ≡ true)
+-- ---- a run through entries that puts down the streams of those that count
 
-pub record IsHeadRun (days : Kept) (streams : List Stream) (left : List (StreamDay × BookValue)) : Type 0 where
-  pub seen : List (StreamDay × BookValue)
-  pub run : seen ++ left ≡ days.entries
-  pub come : (s : Stream) → Member s streams → HasHeadOf seen s
-  pub there : (s : Stream) → HasHeadOf seen s → Member s streams
-  pub ascends : Ascends stream_cmp streams
+module _ {E : Type 0} (stream_of : E → Stream) (counts : E → Bool) where
+  -- one of the list counts, and is of the stream
+  abbrev pub HasOne : List E → Stream → Type 0
+  HasOne seen stream = (e : E) × Member e seen × (stream_of e ≡ stream) × (counts e ≡ true)
+
+  longer : (seen : List E) (x : E) (s : Stream) → HasOne seen s → HasOne (seen ++ x ∷ []) s
+  longer seen x s h = (h.0, append_left h.0 seen (x ∷ []) h.1, h.2, h.3)
+
+  shorter : (seen : List E) (x : E) (s : Stream) → HasOne (seen ++ x ∷ []) s
+      → HasOne seen s ⊎ ((stream_of x ≡ s) × (counts x ≡ true))
+  shorter seen x s h = elim (member_append h.0 seen (x ∷ []) h.1) [
+    | inl m ↦ inl (h.0, m, h.2, h.3)
+    | inr m ↦ elim m [
+      | inl e ↦ inr (ap stream_of (sym e) ∙ h.2, ap counts (sym e) ∙ h.3)
+      | inr z ↦ absurd z
+    ]
+  ]
+
+  pub record IsStreamRun (all : List E) (streams : List Stream) (left : List E) : Type 0 where
+    pub seen : List E
+    pub run : seen ++ left ≡ all
+    pub come : (s : Stream) → Member s streams → HasOne seen s
+    pub there : (s : Stream) → HasOne seen s → Member s streams
+    pub ascends : Ascends stream_cmp streams
+
+  pub begin : (all left : List E) (streams : List Stream) → streams ≡ [] → left ≡ all → IsStreamRun all streams left
+  begin all left streams none whole = record {
+    seen = [];
+    run = whole;
+    come = λ s m. absurd (subst (Member s) none m);
+    there = λ s h. absurd h.1;
+    ascends = subst (Ascends stream_cmp) (sym none) tt;
+  }
+
+  -- the next one doesn't count
+  pub pass : (all left rest : List E) (streams : List Stream) (x : E) → IsStreamRun all streams left → left ≡ x ∷ rest
+      → false ≡ counts x → IsStreamRun all streams rest
+  pass all left rest streams x so next none = record {
+    seen = so.seen ++ x ∷ [];
+    run = across_push so.seen x rest ∙ ap (λ es. so.seen ++ es) (sym next) ∙ so.run;
+    come = λ s m. longer so.seen x s (so.come s m);
+    there = λ s h. elim (shorter so.seen x s h) [
+      | inl b ↦ so.there s b
+      | inr p ↦ let q = p.1 in cc
+    ];
+    ascends = so.ascends;
+  }
+
+  -- the next one counts
+  pub put : (order : E → E → Ordering)
+      → ((e f : E) → order e f ≡ Less → is_gt (stream_cmp (stream_of e) (stream_of f)) ≡ false)
+      → (all left rest : List E) (old new : List Stream) (x : E) → Ascends order all → IsStreamRun all old left
+      → left ≡ x ∷ rest → true ≡ counts x → PutsLast (stream_of x) old new → IsStreamRun all new rest
+  put order coarse all left rest old new x rise so next some puts =
+      let whole : so.seen ++ x ∷ rest ≡ all = ap (λ es. so.seen ++ es) (sym next) ∙ so.run in
+      let a : Ascends order (so.seen ++ x ∷ rest) = subst (Ascends order) (sym whole) rise in
+      let upto : (s : Stream) → Member s old → is_gt (stream_cmp s (stream_of x)) ≡ false = (λ s m.
+      let h = so.come s m in
+      subst (λ y. is_gt (stream_cmp y (stream_of x)) ≡ false) h.2
+      (coarse h.0 x (up.across order so.seen (x ∷ rest) a h.0 x h.1 (inl refl)))) in
+      let put = put_last (stream_of x) old new so.ascends upto puts in
+      let here : HasOne (so.seen ++ x ∷ []) (stream_of x) =
+      (x, append_right x so.seen (x ∷ []) (inl refl), refl, sym some) in
+      record {
+        seen = so.seen ++ x ∷ [];
+        run = across_push so.seen x rest ∙ whole;
+        come = λ s m. elim (put.only s m) [
+          | inl n ↦ longer so.seen x s (so.come s n)
+          | inr e ↦ subst (HasOne (so.seen ++ x ∷ [])) (sym e) here
+        ];
+        there = λ s h. elim (shorter so.seen x s h) [
+          | inl b ↦ put.kept s (so.there s b)
+          | inr p ↦ subst (λ y. Member y new) p.0 put.there
+        ];
+        ascends = put.ascends;
+      }
+
+  -- at the end just the streams of those that count are put down
+  pub all_put : (all left : List E) (streams : List Stream) → IsStreamRun all streams left → left ≡ []
+      → (s : Stream) → Member s streams ↔ HasOne all s
+  all_put all left streams so e =
+      let whole : so.seen ≡ all = sym (nothing_left so.seen left e) ∙ so.run in
+      λ s. (
+        (λ m. subst (λ es. HasOne es s) whole (so.come s m)),
+        (λ h. so.there s (subst (λ es. HasOne es s) (sym whole) h)),
+      )
+
+-- ---- the streams that have a head
+
+abbrev stream_at : StreamDay × BookValue → Stream
+stream_at e = e.0.stream
+
+abbrev is_known : StreamDay × BookValue → Bool
+is_known e = is_some e.1.head
+
+abbrev pub IsHeadRun : Kept → List Stream → List (StreamDay × BookValue) → Type 0
+IsHeadRun days streams left = IsStreamRun stream_at is_known days.entries streams left
 
 pub heads_begin : (days : Kept) (streams : List Stream) (left : List (StreamDay × BookValue)) → streams ≡ []
     → left ≡ days.entries → IsHeadRun days streams left
-heads_begin days streams left none all = record {
-  seen = [];
-  run = all;
-  come = λ s m. absurd (subst (Member s) none m);
-  there = λ s h. absurd h.1;
-  ascends = subst (Ascends stream_cmp) (sym none) tt;
-}
-
-across_entry : (seen : List (StreamDay × BookValue)) (x : StreamDay × BookValue) (rest : List (StreamDay × BookValue))
-    → (seen ++ x ∷ []) ++ rest ≡ seen ++ x ∷ rest
-across_entry [] x rest = refl
-across_entry (e ∷ seen) x rest = ap (λ es. e ∷ es) (across_entry seen x rest)
-
-longer : (seen : List (StreamDay × BookValue)) (x : StreamDay × BookValue) (s : Stream) → HasHeadOf seen s
-    → HasHeadOf (seen ++ x ∷ []) s
-longer seen x s h = (h.0, append_left h.0 seen (x ∷ []) h.1, h.2, h.3)
-
-shorter : (seen : List (StreamDay × BookValue)) (x : StreamDay × BookValue) (s : Stream) → HasHeadOf (seen ++ x ∷ []) s
-    → HasHeadOf seen s ⊎ ((x.0.stream ≡ s) × (is_some x.1.head ≡ true))
-shorter seen x s h = elim (member_append h.0 seen (x ∷ []) h.1) [
-  | inl m ↦ inl (h.0, m, h.2, h.3)
-  | inr m ↦ elim m [
-    | inl e ↦ inr (ap (λ y. y.0.stream) (sym e) ∙ h.2, ap (λ y. is_some y.1.head) (sym e) ∙ h.3)
-    | inr z ↦ absurd z
-  ]
-]
+heads_begin days streams left none all = begin stream_at is_known days.entries left streams none all
 
 pub without_head : (days : Kept) (streams : List Stream) (left rest : List (StreamDay × BookValue)) (place : StreamDay)
     (book : BookValue) → IsHeadRun days streams left → left ≡ (place, book) ∷ rest → false ≡ is_some book.head
     → IsHeadRun days streams rest
-without_head days streams left rest place book so next none = record {
-  seen = so.seen ++ (place, book) ∷ [];
-  run = across_entry so.seen (place, book) rest ∙ ap (λ es. so.seen ++ es) (sym next) ∙ so.run;
-  come = λ s m. longer so.seen (place, book) s (so.come s m);
-  there = λ s h. elim (shorter so.seen (place, book) s h) [
-    | inl b ↦ so.there s b
-    | inr p ↦ let q = p.1 in cc
-  ];
-  ascends = so.ascends;
-}
-
-abbrev entry_cmp : StreamDay × BookValue → StreamDay × BookValue → Ordering
-entry_cmp e f = place_cmp e.0 f.0
-
-rises : (es : List (StreamDay × BookValue)) → IsStrictlySortedBy place_cmp (keys_of es) → Ascends entry_cmp es
-rises [] s = tt
-rises (x ∷ es) s = ((λ q m. first_before x es q s m), rises es (sorted_tail place_cmp x.0 (keys_of es) s))
+without_head days streams left rest place book so next none =
+    pass stream_at is_known days.entries left rest streams (place, book) so next none
 
 pub with_head : (days : Kept) (old new : List Stream) (left rest : List (StreamDay × BookValue)) (place : StreamDay)
     (book : BookValue) → IsOrdered place_cmp days → IsHeadRun days old left → left ≡ (place, book) ∷ rest
     → true ≡ is_some book.head → PutsLast place.stream old new → IsHeadRun days new rest
 with_head days old new left rest place book o so next some puts =
-    let whole : so.seen ++ (place, book) ∷ rest ≡ days.entries = ap (λ es. so.seen ++ es) (sym next) ∙ so.run in
-    let a : Ascends entry_cmp (so.seen ++ (place, book) ∷ rest) =
-    subst (Ascends entry_cmp) (sym whole) (rises days.entries o) in
-    let upto : (s : Stream) → Member s old → is_gt (stream_cmp s place.stream) ≡ false = (λ s m.
-    let h = so.come s m in
-    let below : place_cmp h.0.0 place ≡ Less =
-    up.across entry_cmp so.seen ((place, book) ∷ rest) a h.0 (place, book) h.1 (inl refl) in
-    subst (λ x. is_gt (stream_cmp x place.stream) ≡ false) h.2
-    (first_not_gt (stream_cmp h.0.0.stream place.stream) _ (less_not_gt _ below))) in
-    let put = put_last place.stream old new so.ascends upto puts in
-    let here : HasHeadOf (so.seen ++ (place, book) ∷ []) place.stream =
-    ((place, book), append_right (place, book) so.seen ((place, book) ∷ []) (inl refl), refl, sym some) in
-    record {
-      seen = so.seen ++ (place, book) ∷ [];
-      run = across_entry so.seen (place, book) rest ∙ whole;
-      come = λ s m. elim (put.only s m) [
-        | inl n ↦ longer so.seen (place, book) s (so.come s n)
-        | inr e ↦ subst (HasHeadOf (so.seen ++ (place, book) ∷ [])) (sym e) here
-      ];
-      there = λ s h. elim (shorter so.seen (place, book) s h) [
-        | inl b ↦ put.kept s (so.there s b)
-        | inr p ↦ subst (λ x. Member x new) p.0 put.there
-      ];
-      ascends = put.ascends;
-    }
+    put stream_at is_known (λ e f. place_cmp e.0 f.0)
+    (λ e f below. first_not_gt (stream_cmp e.0.stream f.0.stream) _ (less_not_gt _ below))
+    days.entries left rest old new (place, book)
+    (entries_ascend place_cmp days.entries (up.from_sorted place_cmp (keys_of days.entries) o)) so next some puts
 
-head_there : (stream : Stream) (day : ℕ) (head : Option (ℕ × MeasureUnit)) → is_some head ≡ true
+pub head_there : (stream : Stream) (day : ℕ) (head : Option (ℕ × MeasureUnit)) → is_some head ≡ true
     → (h : Head) × Member (HeadIs h) (head_facts stream day head) × (h.stream ≡ stream)
 head_there stream day None e = cc
 head_there stream day (Some form) e =
@@ -173,7 +198,7 @@ some_head stream day (Some form) f m = refl
 no_row : (stream : Stream) (day : ℕ) (h : Head) (row : ℕ × Version) → HeadIs h ≡ row_fact stream day row → ⊥
 no_row stream day h row e = cc
 
-has_head : (book : BookValue) (h : Head) → Member (HeadIs h) (book_facts book) → is_some book.head ≡ true
+pub has_head : (book : BookValue) (h : Head) → Member (HeadIs h) (book_facts book) → is_some book.head ≡ true
 has_head book h m = elim (member_append (HeadIs h) (head_facts book.stream book.day book.head) _ m) [
   | inl a ↦ some_head book.stream book.day book.head (HeadIs h) a
   | inr b ↦
@@ -181,36 +206,82 @@ has_head book h m = elim (member_append (HeadIs h) (head_facts book.stream book.
       absurd (no_row book.stream book.day h r.0 r.2)
 ]
 
-nothing_left : (seen left : List (StreamDay × BookValue)) → left ≡ [] → seen ++ left ≡ seen
-nothing_left [] left e = e
-nothing_left (x ∷ seen) left e = ap (λ es. x ∷ es) (nothing_left seen left e)
-
 pub heads_done : (days : Kept) (streams : List Stream) (left : List (StreamDay × BookValue)) → AreOfTheirDays days
     → IsHeadRun days streams left → left ≡ [] → AreHeadStreams (days_world days) streams
 heads_done days streams left t so e =
-    let all : so.seen ≡ days.entries = sym (nothing_left so.seen left e) ∙ so.run in
+    let all = all_put stream_at is_known days.entries left streams so e in
     record {
       each = λ s. (
         (λ m.
-            let h = so.come s m in
-            let in_all : Member h.0 days.entries = subst (λ es. Member h.0 es) all h.1 in
+            let h = (all s).0 m in
             let r = head_there h.0.1.stream h.0.1.day h.0.1.head h.3 in (
               r.0,
-              days_in days (HeadIs r.0) h.0 in_all (append_left (HeadIs r.0) _ _ r.1),
-              r.2 ∙ (t.theirs h.0.0 h.0.1 in_all).0 ∙ h.2,
+              days_in days (HeadIs r.0) h.0 h.1 (append_left (HeadIs r.0) _ _ r.1),
+              r.2 ∙ (t.theirs h.0.0 h.0.1 h.1).0 ∙ h.2,
             )),
         (λ h.
             let d = in_days days (HeadIs h.0) h.1 in
             let on = fact_on d.0.1 (HeadIs h.0) d.2 in
-            so.there s (
+            (all s).1 (
               d.0,
-              subst (λ es. Member d.0 es) (sym all) d.1,
+              d.1,
               sym (t.theirs d.0.0 d.0.1 d.1).0 ∙ sym on.0 ∙ h.2,
               has_head d.0.1 h.0 d.2,
             )),
       );
       ascending = up.pairs stream_cmp streams so.ascends;
     }
+
+-- ---- the streams that have an accumulation
+
+abbrev stream_of_key : Place → Stream
+stream_of_key e = e.0.stream
+
+abbrev is_kept : Place → Bool
+is_kept e = is_some e.1
+
+abbrev pub IsPeriodRun : Periods → List Stream → List Place → Type 0
+IsPeriodRun periods streams left = IsStreamRun stream_of_key is_kept periods.entries streams left
+
+pub periods_begin : (periods : Periods) (streams : List Stream) (left : List Place) → streams ≡ []
+    → left ≡ periods.entries → IsPeriodRun periods streams left
+periods_begin periods streams left none all = begin stream_of_key is_kept periods.entries left streams none all
+
+pub without_content : (periods : Periods) (streams : List Stream) (left rest : List Place) (key : PeriodKey)
+    (kept : Option PeriodContent) → IsPeriodRun periods streams left → left ≡ (key, kept) ∷ rest → false ≡ is_some kept
+    → IsPeriodRun periods streams rest
+without_content periods streams left rest key kept so next none =
+    pass stream_of_key is_kept periods.entries left rest streams (key, kept) so next none
+
+pub with_content : (periods : Periods) (old new : List Stream) (left rest : List Place) (key : PeriodKey)
+    (kept : Option PeriodContent) → IsOrdered key_cmp periods → IsPeriodRun periods old left → left ≡ (key, kept) ∷ rest
+    → true ≡ is_some kept → PutsLast key.stream old new → IsPeriodRun periods new rest
+with_content periods old new left rest key kept o so next some puts =
+    put stream_of_key is_kept (λ e f. key_cmp e.0 f.0)
+    (λ e f below. first_not_gt (stream_cmp e.0.stream f.0.stream) _ (less_not_gt _ below))
+    periods.entries left rest old new (key, kept)
+    (entries_ascend key_cmp periods.entries (up.from_sorted key_cmp (keys_of periods.entries) o)) so next some puts
+
+kept_there : (kept : Option PeriodContent) → is_some kept ≡ true → (content : PeriodContent) × (kept ≡ Some content)
+kept_there None e = cc
+kept_there (Some content) e = (content, refl)
+
+pub period_streams_done : (periods : Periods) (streams : List Stream) (left : List Place) → IsPeriodRun periods streams left
+    → left ≡ [] → ArePeriodStreams (periods_world periods) streams
+period_streams_done periods streams left so e =
+    let all = all_put stream_of_key is_kept periods.entries left streams so e in
+    record {
+      each = λ s. (
+        (λ m.
+            let h = (all s).0 m in
+            let r = kept_there h.0.1 h.3 in
+            (h.0.0, r.0, periods_in periods h.0.0 r.0 (subst (λ k. Member (h.0.0, k) periods.entries) r.1 h.1), h.2)),
+        (λ h. (all s).1 ((h.0, Some h.1), kept_at periods h.0 h.1 h.2, h.3, refl)),
+      );
+      ascending = up.pairs stream_cmp streams so.ascends;
+    }
+
+-- ---- merging
 
 -- Two ascending lists are merged: what is left of each, and what is put down.
 pub record AreMerged (a b left_a left_b out : List Stream) : Type 0 where
@@ -335,14 +406,6 @@ merge_equal a b left_a left_b out new x y rest_a rest_b so ea eb q n =
     (λ s m. elim (subst (Member s) eb m) [ inl e ↦ inl (e ∙ sym same) | inr k ↦ inr k ])
     (λ s m. subst (λ z. stream_cmp z s ≡ Less) (sym same) (ys.0 s m)))
 
-joined : (xs ys : List Stream) → Ascends stream_cmp xs → Ascends stream_cmp ys
-    → ((x y : Stream) → Member x xs → Member y ys → stream_cmp x y ≡ Less) → Ascends stream_cmp (xs ++ ys)
-joined [] ys a b below = b
-joined (x ∷ xs) ys a b below = (
-  (λ q m. elim (member_append q xs ys m) [ inl n ↦ a.0 q n | inr n ↦ below x q (inl refl) n ]),
-  joined xs ys a.1 b (λ p q m n. below p q (inr m) n),
-)
-
 -- just the streams of two lists, ascending
 pub record AreBoth (a b streams : List Stream) : Type 0 where
   pub each : (s : Stream) → Member s streams ↔ (Member s a ⊎ Member s b)
@@ -359,7 +422,7 @@ end_of_a a b left_a left_b out new so none n = subst (AreBoth a b) (sym n) (reco
     ]),
   );
   ascending = up.pairs stream_cmp (out ++ left_b)
-      (joined out left_b so.ascends so.b_ascends (λ x y m k. so.below x y m (inr k)));
+      (up.join stream_cmp out left_b so.ascends so.b_ascends (λ x y m k. so.below x y m (inr k)));
 })
 
 pub end_of_b : (a b left_a left_b out new : List Stream) → AreMerged a b left_a left_b out → left_b ≡ []
@@ -371,42 +434,28 @@ end_of_b a b left_a left_b out new so none n =
       ascending = r.ascending;
     }
 
--- nothing that is kept is a period
-no_period_note : (note : Note) (key : PeriodKey) (content : PeriodContent) → PeriodIs key content ≡ note_fact note → ⊥
-no_period_note (Details detail) key content e = cc
-no_period_note (Event event) key content e = cc
-no_period_note (Holiday day) key content e = cc
-
-no_period_job : (job : Job × ℕ) (key : PeriodKey) (content : PeriodContent) → PeriodIs key content ≡ job_fact job → ⊥
-no_period_job job key content e = cc
-
-no_period : (days : Kept) (notes : BTreeSet Note) (jobs : Jobs) (key : PeriodKey) (content : PeriodContent)
-    → PeriodIs key content ∈ stored_world days notes jobs → ⊥
-no_period days notes jobs key content h = elim (in_stored days notes jobs (PeriodIs key content) h) [
-  | inl a ↦ let r = in_days days (PeriodIs key content) a in fact_on r.0.1 (PeriodIs key content) r.2
-  | inr b ↦ elim b [
-    | inl c ↦ let r = in_notes_list notes (PeriodIs key content) c in no_period_note r.0 key content r.2
-    | inr c ↦ let r = in_jobs jobs (PeriodIs key content) c in no_period_job r.1 key content r.3
-  ]
-]
-
-pub known_streams : (days : Kept) (notes : BTreeSet Note) (jobs : Jobs) (of_days_streams of_details streams : List Stream)
-    → AreHeadStreams (days_world days) of_days_streams → AreDetailStreams (notes_world notes) of_details
-    → ((s : Stream) → Member s streams ↔ (Member s of_days_streams ⊎ Member s of_details))
-    → AllPairs (λ x y. stream_cmp x y ≡ Less) streams → AreKnownStreams (stored_world days notes jobs) streams
-known_streams days notes jobs hs ds streams h d each up = record {
+pub known_streams : (days : Kept) (notes : BTreeSet Note) (jobs : Jobs) (periods : Periods)
+    (of_heads of_details of_keys others streams : List Stream) → AreHeadStreams (days_world days) of_heads
+    → AreDetailStreams (notes_world notes) of_details → ArePeriodStreams (periods_world periods) of_keys
+    → ((s : Stream) → Member s others ↔ (Member s of_details ⊎ Member s of_keys))
+    → ((s : Stream) → Member s streams ↔ (Member s of_heads ⊎ Member s others))
+    → AllPairs (λ x y. stream_cmp x y ≡ Less) streams → AreKnownStreams (stored_world days notes jobs periods) streams
+known_streams days notes jobs periods hs ds ps os streams h d p both each up = record {
   each = λ s. (
     (λ m. elim ((each s).0 m) [
-      | inl n ↦ let r = (h.each s).0 n in inl (r.0, days_in_whole days notes jobs _ r.1, r.2)
-      | inr n ↦ let r = (d.each s).0 n in inr (inl (r.0, (detail_same days notes jobs r.0).0 r.1, r.2))
+      | inl n ↦ let r = (h.each s).0 n in inl (r.0, days_in_whole days notes jobs periods _ r.1, r.2)
+      | inr n ↦ elim ((both s).0 n) [
+        | inl k ↦ let r = (d.each s).0 k in inr (inl (r.0, (detail_same days notes jobs periods r.0).0 r.1, r.2))
+        | inr k ↦ let r = (p.each s).0 k in inr (inr (r.0, r.1, periods_in_whole days notes jobs periods _ r.2, r.3))
+      ]
     ]),
     (λ k. elim k [
       | inl r ↦ (each s).1 (inl ((h.each s).1
-          (r.0, of_days days notes jobs r.0.stream r.0.day (HeadIs r.0) (refl, refl) r.1, r.2)))
-      | inr q ↦ elim q [
-        | inl r ↦ (each s).1 (inr ((d.each s).1 (r.0, (detail_same days notes jobs r.0).1 r.1, r.2)))
-        | inr r ↦ absurd (no_period days notes jobs r.0 r.1 r.2)
-      ]
+          (r.0, of_days days notes jobs periods r.0.stream r.0.day (HeadIs r.0) (refl, refl) r.1, r.2)))
+      | inr q ↦ (each s).1 (inr ((both s).1 (elim q [
+        | inl r ↦ inl ((d.each s).1 (r.0, (detail_same days notes jobs periods r.0).1 r.1, r.2))
+        | inr r ↦ inr ((p.each s).1 (r.0, r.1, of_periods days notes jobs periods r.0 r.1 r.2, r.3))
+      ])))
     ]),
   );
   ascending = up;

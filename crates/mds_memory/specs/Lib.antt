@@ -1,3 +1,4 @@
 pub mod Stored
 pub mod StoredNotes
+pub mod StoredPeriods
 pub mod StoredSteps

@@ -10,17 +10,19 @@ use Rattle.std.specs.declared.cmp.Ordering.TheVariants.{Less}
 use Rattle.mds_jobs.specs.contracts.job_id.JobIdOrd.TheImpl as id_ord
 use Rattle.mds_jobs.specs.declared.job.Job.{Job}
 use Rattle.mds_names.specs.declared.stream.Stream.{Stream}
+use Rattle.mds_statements.specs.declared.periods.Period.{Period}
+use Rattle.mds_statements.specs.declared.periods.PeriodKey.{PeriodKey}
 use Rattle.mds_world.specs.declared.facts.Detail.{Detail}
 use Rattle.mds_world.specs.declared.facts.Head.{Head}
 use Rattle.mds_world.specs.declared.facts.StreamDay.{StreamDay}
-use Rattle.mds_world.specs.Facts.{Fact}
-use Rattle.mds_world.specs.Facts.Fact.{HeadIs, DetailIs, EventIs, HolidayIs}
+use Rattle.mds_world.specs.Facts.{Fact, PeriodContent}
+use Rattle.mds_world.specs.Facts.Fact.{HeadIs, DetailIs, EventIs, PeriodIs, HolidayIs}
 use Rattle.mds_world.specs.Lists.{Member}
 use Rattle.mds_world.specs.Sets.{◌∈◌}
 use Rattle.mds_world.specs.World.{IsLawful, IsOn, World, union}
 use Rattle.mds_versions.specs.Books.{BookValue, book_facts, book_world}
 use Rattle.mds_versions.specs.Content.{job_fact}
-use Rattle.mds_versions.specs.Queries.{stream_cmp}
+use Rattle.mds_versions.specs.Queries.{period_cmp, stream_cmp}
 use Rattle.mds_memory.specs.declared.stored_notes.Note.{Note}
 use Rattle.mds_memory.specs.declared.stored_notes.Note.TheVariants.{Details, Event, Holiday}
 
@@ -43,8 +45,18 @@ kept_facts (Some job) = job_fact job ∷ []
 abbrev pub jobs_world : BTreeMap (List ℕ) (Option (Job × ℕ)) → World
 jobs_world jobs = set.from_list (flat_map (λ entry. kept_facts entry.1) jobs.entries)
 
-abbrev pub stored_world : BTreeMap StreamDay BookValue → BTreeSet Note → BTreeMap (List ℕ) (Option (Job × ℕ)) → World
-stored_world days notes jobs = union (union (days_world days) (notes_world notes)) (jobs_world jobs)
+-- a place without content stands for nothing
+abbrev pub place_facts : PeriodKey → Option PeriodContent → List Fact
+place_facts key None = []
+place_facts key (Some content) = PeriodIs key content ∷ []
+
+abbrev pub periods_world : BTreeMap PeriodKey (Option PeriodContent) → World
+periods_world periods = set.from_list (flat_map (λ entry. place_facts entry.0 entry.1) periods.entries)
+
+abbrev pub stored_world : BTreeMap StreamDay BookValue → BTreeSet Note → BTreeMap (List ℕ) (Option (Job × ℕ))
+    → BTreeMap PeriodKey (Option PeriodContent) → World
+stored_world days notes jobs periods =
+    union (union (union (days_world days) (notes_world notes)) (jobs_world jobs)) (periods_world periods)
 
 -- by stream, and then by date
 abbrev pub place_cmp : StreamDay → StreamDay → Ordering
@@ -65,12 +77,17 @@ pub record AreOfTheirIds (jobs : BTreeMap (List ℕ) (Option (Job × ℕ))) : Ty
   pub theirs : (id : List ℕ) (job : Job × ℕ) → Member (id, Some job) jobs.entries → job.0.id ≡ id
   pub ordered : IsOrdered id_cmp jobs
 
--- what is stored is lawful, each day stands in its place, and each job under its id
+-- by stream, and then as the accumulations of a stream
+abbrev pub key_cmp : PeriodKey → PeriodKey → Ordering
+key_cmp a b = ordering_then (stream_cmp a.stream b.stream) (period_cmp a b)
+
+-- what is stored is lawful, each day stands in its place, each job under its id, and no two accumulations are of one key
 pub record IsStored (days : BTreeMap StreamDay BookValue) (notes : BTreeSet Note)
-    (jobs : BTreeMap (List ℕ) (Option (Job × ℕ))) : Type 0 where
-  pub lawful : IsLawful (stored_world days notes jobs)
+    (jobs : BTreeMap (List ℕ) (Option (Job × ℕ))) (periods : BTreeMap PeriodKey (Option PeriodContent)) : Type 0 where
+  pub lawful : IsLawful (stored_world days notes jobs periods)
   pub theirs : AreOfTheirDays days
   pub ids : AreOfTheirIds jobs
+  pub keys : IsOrdered key_cmp periods
 
 -- a day of which something is added is changed, and a changed day has what was kept of it and what is added
 pub record IsChange (w more : World) (changed : BTreeMap StreamDay BookValue) : Type 0 where
@@ -90,6 +107,12 @@ abbrev pub HasPlaces : BTreeMap (List ℕ) (Option (Job × ℕ)) → List (Job �
 HasPlaces jobs more =
     (job : Job × ℕ) → Member job more → (kept : Option (Job × ℕ)) × Member (job.0.id, kept) jobs.entries
 
+-- each accumulation has a place
+abbrev pub HasKeys : BTreeMap PeriodKey (Option PeriodContent) → List Period → Type 0
+HasKeys periods more =
+    (period : Period) → Member period more
+    → (kept : Option PeriodContent) × Member (period.key, kept) periods.entries
+
 pub record AreHeadStreams (w : World) (streams : List Stream) : Type 0 where
   pub each : (stream : Stream) → Member stream streams ↔ ((head : Head) × (HeadIs head ∈ w) × (head.stream ≡ stream))
   pub ascending : AllPairs (λ a b. stream_cmp a b ≡ Less) streams
@@ -97,4 +120,9 @@ pub record AreHeadStreams (w : World) (streams : List Stream) : Type 0 where
 pub record AreDetailStreams (w : World) (streams : List Stream) : Type 0 where
   pub each : (stream : Stream) → Member stream streams
       ↔ ((detail : Detail) × (DetailIs detail ∈ w) × (detail.stream ≡ stream))
+  pub ascending : AllPairs (λ a b. stream_cmp a b ≡ Less) streams
+
+pub record ArePeriodStreams (w : World) (streams : List Stream) : Type 0 where
+  pub each : (stream : Stream) → Member stream streams
+      ↔ ((key : PeriodKey) × (content : PeriodContent) × (PeriodIs key content ∈ w) × (key.stream ≡ stream))
   pub ascending : AllPairs (λ a b. stream_cmp a b ≡ Less) streams

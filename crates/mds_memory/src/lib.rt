@@ -6,6 +6,7 @@ mod memory;
 mod stored_days;
 mod stored_jobs;
 mod stored_notes;
+mod stored_periods;
 
 pub use laws::a_memory_keeper_is_sound;
 pub use memory::MemoryKeeper;

@@ -1,6 +1,6 @@
 //! A keeper in memory.
 
-ghost use Rattle.std.specs.Prelude.{◌≡◌, ◌↔◌, ◌⊎◌, IfOk, is_some};
+ghost use Rattle.std.specs.Prelude.{◌≡◌, ◌↔◌, ◌⊎◌, IfOk};
 ghost use Rattle.std.specs.FinSet as set;
 ghost use Rattle.std.specs.List.{AllPairs};
 ghost use Rattle.std.specs.declared.cmp.Ordering.TheVariants.{Less};
@@ -10,13 +10,15 @@ ghost use Rattle.mds_world.specs.World.{IsLawful};
 ghost use Rattle.mds_versions.specs.Queries.{stream_cmp};
 ghost use Rattle.mds_memory.specs.Stored.{AreHeadStreams, AreOfTheirDays, days_world};
 
-use crate::stored_days::{changed_days, day_of, make_room, put_days};
+use crate::stored_days::{changed_days, day_of, days_of, has_head, make_room, put_days};
 use crate::stored_jobs::{job_of, make_places, put_jobs};
 use crate::stored_notes::{
     Note, current_details, detail_streams, events_of, has_details, has_event, holidays_of,
     insert_notes, notes_of, push_new,
 };
+use crate::stored_periods::{content_of, make_keys, period_streams, periods_of, put_periods};
 use mds_jobs::{Job, JobId};
+use mds_statements::{Period, PeriodContent, PeriodKey};
 use mds_terms::{Day, Details, Event, Stream};
 use mds_versions::{Additions, DayBook, Keeper, Unavailable};
 use mds_world::{Detail, StreamDay};
@@ -35,6 +37,8 @@ pub struct MemoryKeeper {
     notes: BTreeSet<Note>,
     /// The substitution jobs by their ids. A place without a job stands for nothing.
     jobs: BTreeMap<JobId, Option<(Job, u64)>>,
+    /// The accumulations by their keys. A place without content stands for nothing.
+    periods: BTreeMap<PeriodKey, Option<PeriodContent>>,
 }
 
 impl Model for MemoryKeeper {
@@ -47,9 +51,9 @@ impl Model for MemoryKeeper {
 
     ghost coded = { code coded_fact };
 
-    ghost view = { λ k. stored_world k.days k.notes k.jobs };
+    ghost view = { λ k. stored_world k.days k.notes k.jobs k.periods };
 
-    ghost invariant = { λ k. IsStored k.days k.notes k.jobs };
+    ghost invariant = { λ k. IsStored k.days k.notes k.jobs k.periods };
 }
 
 impl MemoryKeeper {
@@ -63,6 +67,7 @@ impl MemoryKeeper {
             days: BTreeMap::new(alloc),
             notes: BTreeSet::new(alloc),
             jobs: BTreeMap::new(alloc),
+            periods: BTreeMap::new(alloc),
         }
     }
 }
@@ -86,6 +91,10 @@ impl Keeper for MemoryKeeper {
         day_of(self.alloc, &self.days, stream, day).map_err(|_| Unavailable)
     }
 
+    fn days(&mut self, stream: Stream, first: Day, last: Day) -> Result<Vec<DayBook>, Unavailable> {
+        days_of(self.alloc, &self.days, stream, first, last).map_err(|_| Unavailable)
+    }
+
     fn streams(&mut self) -> Result<Vec<Stream>, Unavailable> {
         let Ok(of_days) = head_streams(self.alloc, &self.days) else {
             return Err(Unavailable);
@@ -93,7 +102,13 @@ impl Keeper for MemoryKeeper {
         let Ok(of_details) = detail_streams(self.alloc, &self.notes) else {
             return Err(Unavailable);
         };
-        let Ok(streams) = merged(self.alloc, &of_days, &of_details) else {
+        let Ok(of_periods) = period_streams(self.alloc, &self.periods) else {
+            return Err(Unavailable);
+        };
+        let Ok(others) = merged(self.alloc, &of_details, &of_periods) else {
+            return Err(Unavailable);
+        };
+        let Ok(streams) = merged(self.alloc, &of_days, &others) else {
             return Err(Unavailable);
         };
         Ok(streams)
@@ -115,6 +130,14 @@ impl Keeper for MemoryKeeper {
         has_event(&self.notes, event).map_err(|_| Unavailable)
     }
 
+    fn period(&mut self, stream: Stream) -> Result<Vec<Period>, Unavailable> {
+        periods_of(self.alloc, &self.periods, stream).map_err(|_| Unavailable)
+    }
+
+    fn content(&mut self, key: &PeriodKey) -> Result<Option<PeriodContent>, Unavailable> {
+        content_of(&self.periods, key).map_err(|_| Unavailable)
+    }
+
     fn holidays(&mut self) -> Result<Vec<Day>, Unavailable> {
         holidays_of(self.alloc, &self.notes).map_err(|_| Unavailable)
     }
@@ -130,6 +153,7 @@ impl Keeper for MemoryKeeper {
             versions,
             details,
             events,
+            periods,
             holidays,
             jobs,
         } = additions;
@@ -145,11 +169,15 @@ impl Keeper for MemoryKeeper {
         if make_places(&mut self.jobs, &jobs).is_err() {
             return Err(Unavailable);
         }
+        if make_keys(&mut self.periods, &periods).is_err() {
+            return Err(Unavailable);
+        }
         if insert_notes(&mut self.notes, &notes).is_err() {
             return Err(Unavailable);
         }
         put_days(&mut self.days, changed);
         put_jobs(&mut self.jobs, jobs);
+        put_periods(&mut self.periods, periods);
         Ok(())
     }
 }
@@ -170,13 +198,6 @@ fn head_streams(
         }
     }
     Ok(streams)
-}
-
-/// Whether the day is known.
-fn has_head(book: &DayBook) -> bool
-    ensures { result ≡ is_some book.now.head }
-{
-    book.head().is_some()
 }
 
 /// The streams of two ascending lists, ascending, each once.

@@ -1,12 +1,13 @@
 //! The days that are kept in memory.
 
-ghost use Rattle.std.specs.Prelude.{◌≡◌, ◌++◌, [], IfOk, OnOk, List, Some, None, map};
+ghost use Rattle.std.specs.Prelude.{◌≡◌, ◌++◌, [], IfOk, OnOk, List, Some, None, is_some, map};
 ghost use Rattle.std.specs.FinSet as set;
 ghost use Rattle.mds_world.specs.Facts.{Fact};
 ghost use Rattle.mds_world.specs.Facts.Fact.{HeadIs};
 ghost use Rattle.mds_world.specs.World.{IsLawful, World, union};
 ghost use Rattle.mds_versions.specs.Books.{IsDay, book_world};
 ghost use Rattle.mds_versions.specs.Content.{version_fact};
+ghost use Rattle.mds_versions.specs.Queries.{AreDaysOf};
 ghost use Rattle.mds_memory.specs.Stored.{AreOfTheirDays, HasRoom, IsChange, days_world};
 ghost use Rattle.mds_memory.specs.StoredSteps.{AreBooks, AreChanged, AreLawfulDays, Holds};
 
@@ -34,6 +35,40 @@ pub(crate) fn day_of(
         Some(book) => book.try_clone(alloc),
         None => Ok(unknown_day(alloc, &place)),
     }
+}
+
+/// The known days of a stream from a first to a last one, ascending.
+pub(crate) fn days_of(
+    alloc: Global,
+    days: &BTreeMap<StreamDay, DayBook>,
+    stream: Stream,
+    first: Day,
+    last: Day,
+) -> Result<Vec<DayBook>, AllocError>
+    requires { AreOfTheirDays days.now }
+    ensures { IfOk result (λ books. AreDaysOf (days_world days.now) stream first last books.items) }
+{
+    let mut books = Vec::new(alloc);
+    if first > last {
+        return Ok(books);
+    }
+    let (first, last) = (
+        StreamDay { stream, day: first },
+        StreamDay { stream, day: last },
+    );
+    for (_, book) in days.range(first..=last) {
+        if has_head(book) {
+            books.push(book.try_clone(alloc)?)?;
+        }
+    }
+    Ok(books)
+}
+
+/// Whether the day is known.
+pub(crate) fn has_head(book: &DayBook) -> bool
+    ensures { result ≡ is_some book.now.head }
+{
+    book.head().is_some()
 }
 
 /// A day of which nothing is known.

@@ -35,7 +35,7 @@ fn text_of(alloc: Global, delivery: &Delivery) -> Result<String, AllocError> {
     header.moment.write_to(&mut out)?;
     for name in [&header.sender, &header.receiver] {
         out.push(' ')?;
-        out.push_str(name.as_str())?;
+        out.push_str(name.text())?;
     }
     out.push('\n')?;
     for block in &delivery.blocks {

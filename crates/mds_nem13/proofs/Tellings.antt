@@ -13,7 +13,7 @@ use Rattle.mds_reading.specs.Said.{is_headed}
 use Rattle.mds_reading.proofs.Longer.{split_both}
 use Rattle.mds_nem13.specs.Accumulations.{AreStatedBy, period_of, periods_of}
 use Rattle.mds_nem13.specs.BuilderSteps.{AreTold, GainsLine, IsApart, LastBecomes, is_separator}
-use Rattle.mds_nem13.specs.Contents.{content_in, content_of}
+use Rattle.mds_statements.specs.Contents.{content_in, content_of}
 use Rattle.mds_nem13.specs.Said.{key_in, kept_fields, period_in, with_notes}
 use Rattle.mds_nem13.specs.declared.accumulation.Accumulation.{Accumulation}
 
@@ -67,7 +67,7 @@ content_more old new x xs e h =
 
 -- an accumulation with what a 250 says
 pub same_period : (moment line : ℕ) (text : List ℕ) (a : Accumulation) → a.line ≡ line → a.key.stream.nmi ≡ field text 2
-    → a.key.stream.suffix ≡ field text 5 → string_bytes a.key.register ≡ (key_in moment text).register
+    → a.key.stream.suffix ≡ field text 5 → a.key.register ≡ (key_in moment text).register
     → a.key.start ≡ (key_in moment text).start → a.key.finish ≡ (key_in moment text).finish
     → a.key.update ≡ (key_in moment text).update → content_of (string_bytes a.content) ≡ record { fields = kept_fields text; notes = [] }
     → period_of a ≡ period_in moment line text []

@@ -2,20 +2,14 @@
 use Rattle.std.specs.Prelude.{◌≡◌, List, ◌∷◌, map, string_bytes}
 use Rattle.mds_statements.specs.Statements.{HeaderValue, PeriodStatement, Statement}
 use Rattle.mds_statements.specs.Statements.Statement.{HeaderOf, PeriodOf}
-use Rattle.mds_nem13.specs.Contents.{content_of}
+use Rattle.mds_statements.specs.Contents.{content_of}
 use Rattle.mds_nem13.specs.declared.accumulation.Accumulation.{Accumulation}
 
 -- an accumulation as a 250 with its 550 records
 abbrev pub period_of : Accumulation → PeriodStatement
 period_of a = record {
   line = a.line;
-  key = record {
-    stream = a.key.stream;
-    register = string_bytes a.key.register;
-    start = a.key.start;
-    finish = a.key.finish;
-    update = a.key.update;
-  };
+  key = a.key;
   content = content_of (string_bytes a.content);
 }
 

@@ -1,7 +1,6 @@
 pub mod Accumulations
 pub mod Answers
 pub mod BuilderSteps
-pub mod Contents
 pub mod Faults
 pub mod FileReaderSteps
 pub mod Place

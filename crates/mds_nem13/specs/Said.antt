@@ -10,7 +10,8 @@ use Rattle.mds_quantity.specs.Quantity.{denoted, written}
 use Rattle.mds_quantity.specs.Unit.{unit_of, unit_text}
 use Rattle.mds_records.specs.Layouts.{direction_of, direction_text}
 use Rattle.mds_terms.specs.Parts.{optional}
-use Rattle.mds_statements.specs.Statements.{PeriodKey, PeriodStatement}
+use Rattle.mds_statements.specs.Statements.{PeriodStatement}
+use Rattle.mds_statements.specs.declared.periods.PeriodKey.{PeriodKey}
 use Rattle.mds_reading.specs.Said.{stream_in}
 
 -- The one way in which a field is kept: a quality, a code, a direction, a quantity and a unit as they are written, and nothing

@@ -1,20 +1,6 @@
 //! What a NEM13 file states: accumulations.
 
-use mds_terms::{Moment, Stream};
-
-/// What an accumulation is of: a register, from one read of it to another, as it was updated.
-#[derive(Drop)]
-pub struct PeriodKey {
-    pub stream: Stream,
-    /// The register (RegisterID), which may be empty.
-    pub register: String,
-    /// When the previous read was.
-    pub start: Moment,
-    /// When the current read was.
-    pub finish: Moment,
-    /// When it was updated: the moment of the header, where the record doesn't say.
-    pub update: Moment,
-}
+use mds_statements::PeriodKey;
 
 /// A 250 record with its 550 records.
 #[derive(Drop)]

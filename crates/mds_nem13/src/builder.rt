@@ -4,11 +4,12 @@ ghost use Rattle.std.specs.Prelude.{◌≡◌, ℕ, [], List, OnOk};
 ghost use Rattle.mds_records.specs.Records.{IsAccumulationB2bDetails};
 ghost use Rattle.mds_nem13.specs.Said.{note_in};
 
-use crate::accumulation::{Accumulation, PeriodKey};
+use crate::accumulation::Accumulation;
 use crate::content::{write_fields, write_note};
 use crate::sink::PeriodSink;
 use mds_records::{AccumulationB2bDetailsRecord, AccumulationDataRecord, HeaderRecord};
-use mds_terms::Moment;
+use mds_statements::PeriodKey;
+use mds_terms::{Moment, PrintableString};
 use std::alloc::{AllocError, Global};
 
 /// The accumulations that a file has stated so far.
@@ -54,7 +55,7 @@ impl PeriodSink for AccumulationBuilder {
         moment: Moment,
         period: &AccumulationDataRecord<'_>,
     ) -> Result<(), AllocError> {
-        let register = String::from_str(self.alloc, period.register.text())?;
+        let register = PrintableString::of(self.alloc, &period.register)?;
         let mut content = String::new(self.alloc);
         write_fields(period, &mut content)?;
         let key = PeriodKey {

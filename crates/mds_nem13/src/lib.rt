@@ -11,7 +11,7 @@ mod sink;
 #[cfg(test)]
 mod tests;
 
-pub use accumulation::{Accumulation, PeriodKey};
+pub use accumulation::Accumulation;
 pub use file_reader::FileReader;
 pub use mds_reading::{ReadFault, TakeFault as Nem13Fault};
 pub use reading::{read_lines, read_nem13};

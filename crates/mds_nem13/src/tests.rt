@@ -32,7 +32,7 @@ fn text_of(alloc: Global, accumulations: &[Accumulation]) -> Result<String, Allo
     for accumulation in accumulations {
         let key = &accumulation.key;
         let (nmi, suffix) = (key.stream.nmi, key.stream.suffix);
-        let (nmi, suffix, register) = (nmi.text(), suffix.text(), key.register.as_str());
+        let (nmi, suffix, register) = (nmi.text(), suffix.text(), key.register.text());
         let head = format!(in alloc; "{} {nmi} {suffix} {register}", accumulation.line)?;
         out.push_str(head.as_str())?;
         for moment in [key.start, key.finish, key.update] {
@@ -40,7 +40,7 @@ fn text_of(alloc: Global, accumulations: &[Accumulation]) -> Result<String, Allo
             moment.write_to(&mut out)?;
         }
         out.push('\n')?;
-        out.push_str(accumulation.content.as_str())?;
+        out.push_str(accumulation.content.text())?;
         out.push('\n')?;
     }
     Ok(out)

@@ -4,7 +4,8 @@
 ghost use Rattle.std.specs.Prelude.{◌≡◌};
 ghost use Rattle.std.specs.IoError.{error_kind};
 
-use mds_desk::{Outcome, Status, check};
+use mds_check::check;
+use mds_desk::{Outcome, Status};
 use mds_files::{ask, init};
 use mds_lines::Counted;
 use mds_records::FileKind;
@@ -33,9 +34,11 @@ fn outcome_of_call(rt: &HostRuntime) -> Outcome {
         return Outcome::Unavailable;
     };
     match read_words(rt.alloc(), words.as_slice()) {
-        Ok(Words::Check { input }) => check_input(rt, input),
+        Ok(Words::Check { kind, input }) => check_input(rt, kind, input),
         Ok(Words::Init { store }) => init(rt, store),
-        Ok(Words::Import { store, input }) => ask_input(rt, store, FileCommand::Import, input),
+        Ok(Words::Import { store, kind, input }) => {
+            ask_input(rt, store, FileCommand::Import(kind), input)
+        }
         Ok(Words::Substitute { store, input }) => {
             ask_input(rt, store, FileCommand::Substitute, input)
         }
@@ -63,22 +66,22 @@ fn usage(rt: &HostRuntime, text: &str) -> Outcome {
     }
 }
 
-/// Checks an input, and prints its lines.
-fn check_input(rt: &HostRuntime, input: Input<'_>) -> Outcome {
+/// Checks an input, a file of a kind, and prints its lines.
+fn check_input(rt: &HostRuntime, kind: FileKind, input: Input<'_>) -> Outcome {
     match input {
-        Input::Standard => check_reader(rt, rt.reader()),
+        Input::Standard => check_reader(rt, kind, rt.reader()),
         Input::File(name) => match fs::open(rt, name) {
-            Ok(file) => check_reader(rt, file),
+            Ok(file) => check_reader(rt, kind, file),
             Err(_) => Outcome::NoInput,
         },
     }
 }
 
 /// Checks what a reader gives, and prints its lines.
-fn check_reader(rt: &HostRuntime, reader: impl Read + Drop) -> Outcome {
+fn check_reader(rt: &HostRuntime, kind: FileKind, reader: impl Read + Drop) -> Outcome {
     let mut reader = Counted::new(reader);
     let mut writer = Counted::new(io::writer(rt));
-    Outcome::of_check(check(rt.alloc(), FileKind::Nem12, &mut reader, &mut writer))
+    Outcome::of_check(check(rt.alloc(), kind, &mut reader, &mut writer))
 }
 
 /// Asks a store for what an input says.

@@ -47,6 +47,7 @@ pub data Form : Type 0 where
 -- the name in the headers of a kind of file
 abbrev pub header_name : FileKind → HeaderName
 header_name kind.Nem12 = Nem12
+header_name kind.Nem13 = Nem13
 
 -- the name of a kind of file, in field 2 of its header
 abbrev pub file_name : HeaderName → List ℕ

@@ -11,6 +11,8 @@ use std::fmt;
 pub enum FileKind {
     /// Interval data.
     Nem12,
+    /// Accumulation data.
+    Nem13,
 }
 
 impl FileKind {
@@ -28,6 +30,7 @@ impl FileKind {
     {
         match self {
             FileKind::Nem12 => HeaderName::Nem12,
+            FileKind::Nem13 => HeaderName::Nem13,
         }
     }
 }

@@ -1,6 +1,5 @@
 -- What a file asks for that comes with a command (profile).
 use Rattle.std.specs.Prelude.{◌≡◌, ℕ, List}
-use Rattle.mds_records.specs.declared.file.FileKind.TheVariants.{Nem12}
 use Rattle.mds_jobs.specs.declared.job.Job.{Job}
 use Rattle.mds_json.specs.JobObjects.{IsJobText}
 use Rattle.mds_holidays.specs.Holidays.{DiffersFirst, IsListOf, rows_of}
@@ -13,7 +12,7 @@ use Rattle.mds_requests.specs.declared.requests.RequestFault.TheVariants as faul
 
 -- the request that it says
 abbrev pub Asks : FileCommand → List ℕ → Request → Type 0
-Asks command.Import text (asked.Import kind bytes) = (kind ≡ Nem12) × (bytes.items ≡ text)
+Asks (command.Import kind) text (asked.Import as_kind bytes) = (as_kind ≡ kind) × (bytes.items ≡ text)
 Asks command.Substitute text (asked.Substitute job) = IsJobText text job
 Asks command.Holidays text (asked.Holidays days) = IsListOf (rows_of text) days.items
 Asks what text request = ⊥

@@ -12,8 +12,8 @@ use std::alloc::Global;
 /// A command that takes a file to a store.
 #[derive(Clone, Copy, Debug, PartialEq, Eq)]
 pub enum FileCommand {
-    /// The file is a NEM12 file, which is to be imported.
-    Import,
+    /// The file is one of a kind, which is to be imported.
+    Import(FileKind),
     /// The file is a substitution job in JSON.
     Substitute,
     /// The file is a list of holidays.
@@ -40,10 +40,7 @@ pub fn request_in(
     ensures { MatchResult result (Asks command bytes.items) (AsksNothing command bytes.items) }
 {
     match command {
-        FileCommand::Import => Ok(Request::Import {
-            kind: FileKind::Nem12,
-            bytes,
-        }),
+        FileCommand::Import(kind) => Ok(Request::Import { kind, bytes }),
         FileCommand::Substitute => substitution_in(alloc, &bytes),
         FileCommand::Holidays => holidays_in(alloc, &bytes),
     }

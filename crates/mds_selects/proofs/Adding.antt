@@ -23,6 +23,12 @@ use Rattle.mds_versions.specs.Queries.{stream_cmp}
 use Rattle.mds_selects.specs.Added.{AreAdded, IsAdded, SaysEvent, SaysStream}
 use Rattle.mds_selects.specs.Shown.{AreStreamsIn}
 
+-- what stands at a place of a list is one of it
+pub member_at : {K : Type 0} (ks : List K) (i : ℕ) (d : K) → i < length ks → Member (slice_index_or ks i d) ks
+member_at [] i d l = absurd (omega arith)
+member_at (k ∷ ks) zero d l = inl refl
+member_at (k ∷ ks) (suc i) d l = inr (member_at ks i d (omega arith))
+
 module _ {K : Type 0} (c : K → K → Ordering) where
   -- each stands before those after it
   abbrev Ascends : List K → Type 0
@@ -42,11 +48,6 @@ module _ {K : Type 0} (c : K → K → Ordering) where
   apart : ((k : K) → c k k ≡ Less → ⊥) → (ks : List K) → Ascends ks → Apart ks
   apart strict [] a = tt
   apart strict (k ∷ ks) a = ((λ m. strict k (a.0 k m)), apart strict ks a.1)
-
-  member_at : (ks : List K) (i : ℕ) (d : K) → i < length ks → Member (slice_index_or ks i d) ks
-  member_at [] i d l = absurd (omega arith)
-  member_at (k ∷ ks) zero d l = inl refl
-  member_at (k ∷ ks) (suc i) d l = inr (member_at ks i d (omega arith))
 
   pairs : (ks : List K) → Ascends ks → AllPairs (λ a b. c a b ≡ Less) ks
   pairs [] a i j d l m = absurd (omega arith)

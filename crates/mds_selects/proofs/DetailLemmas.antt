@@ -38,7 +38,7 @@ use Rattle.mds_selects.proofs.TypedLemmas.{AreFor, alike}
 
 -- ---- SQL's order of the columns
 
-counted : (a b : ℕ) → int_cmp (pos a) (pos b) ≡ nat_cmp a b
+pub counted : (a b : ℕ) → int_cmp (pos a) (pos b) ≡ nat_cmp a b
 counted a b = let same : nat_cmp a b ≡ int_cmp (pos a) (pos b) = grind (arith, ints) in sym same
 
 no_less : (most n : ℕ) → most + n < most → ⊥

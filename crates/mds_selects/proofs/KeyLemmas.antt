@@ -25,7 +25,7 @@ abbrev pub tests : ℕ → Row → List Term
 tests at [] = []
 tests at (k ∷ ks) = equals (suc at) at ∷ tests (suc at) ks
 
-truth_of : (b : Bool) → is_true (from_truth (Some b)) ≡ b
+pub truth_of : (b : Bool) → is_true (from_truth (Some b)) ≡ b
 truth_of true = refl
 truth_of false = refl
 
@@ -47,7 +47,7 @@ same_text : IsAntisymmetric (slice_cmp nat_cmp)
 same_text = slice_cmp-IsAntisymmetric nat_cmp-IsAntisymmetric
 
 -- SQL's equality, of a value and a cell of one kind, is equality
-equal_cells : (k v : Value) → IsAlike k v → is_true (binary (Compare Eq Binary) v k) ≡ true → v ≡ k
+pub equal_cells : (k v : Value) → IsAlike k v → is_true (binary (Compare Eq Binary) v k) ≡ true → v ≡ k
 equal_cells Null v of h = absurd of
 equal_cells (Int n) v of h =
     let e = subst (λ x. is_true (binary (Compare Eq Binary) x (Int n)) ≡ true) of h in
@@ -58,7 +58,7 @@ equal_cells (Text t) v of h =
     of ∙ ap Text (same_text _ _ (tied _ (sym (equal_texts (bytes v) t) ∙ e)))
 equal_cells (Blob b) v of h = absurd of
 
-cells_equal : (k v : Value) → IsAlike k v → v ≡ k → is_true (binary (Compare Eq Binary) v k) ≡ true
+pub cells_equal : (k v : Value) → IsAlike k v → v ≡ k → is_true (binary (Compare Eq Binary) v k) ≡ true
 cells_equal Null v of h = absurd of
 cells_equal (Int n) v of h =
     ap (λ x. is_true (binary (Compare Eq Binary) x (Int n))) h ∙ equal_ints n n ∙ ap is_eq (tied_itself int_cmp_total n)

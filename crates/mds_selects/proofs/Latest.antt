@@ -36,11 +36,11 @@ IsDetailOf s (PeriodIs key content) = ⊥
 IsDetailOf s (HolidayIs date) = ⊥
 IsDetailOf s (JobIs id content count) = ⊥
 
-member_at : {X : Type 0} (xs : List X) (x d : X) → Member x xs
+pub place_of : {X : Type 0} (xs : List X) (x d : X) → Member x xs
     → (j : ℕ) × (j < length xs) × (slice_index_or xs j d ≡ x)
-member_at [] x d m = absurd m
-member_at (y ∷ ys) x d (inl e) = (0, omega arith, sym e)
-member_at (y ∷ ys) x d (inr m) = let r = member_at ys x d m in (suc r.0, omega (arith, r.1), r.2)
+place_of [] x d m = absurd m
+place_of (y ∷ ys) x d (inl e) = (0, omega arith, sym e)
+place_of (y ∷ ys) x d (inr m) = let r = place_of ys x d m in (suc r.0, omega (arith, r.1), r.2)
 
 -- a shown row of details
 abbrev shown_at : Row → Detail
@@ -63,7 +63,7 @@ upto_first : (row : Row) (rest : List Row) → AreLatestFirst (row ∷ rest) →
     → IsUpto (shown_at r) (shown_at row)
 upto_first row rest sorted r (inl e) = subst (λ x. IsUpto (shown_at x) (shown_at row)) (sym e) (upto_self (shown_at row))
 upto_first row rest sorted r (inr m) =
-    let at = member_at rest r row m in
+    let at = place_of rest r row m in
     subst (λ x. IsUpto (shown_at x) (shown_at row)) at.2 (sorted 0 (suc at.0) row (omega arith) (omega (arith, at.1)))
 
 module _ (s : Stream) (trees : Trees) (sound : IsSound schema_1 trees) (rows : List Row)

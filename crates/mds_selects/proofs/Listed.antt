@@ -14,7 +14,8 @@ use Rattle.mds_names.specs.declared.stream.Stream.{Stream}
 use Rattle.mds_terms.specs.Event.{EventValue}
 use Rattle.mds_world.specs.declared.facts.Detail.{Detail}
 use Rattle.mds_world.specs.declared.facts.Head.{Head}
-use Rattle.mds_world.specs.Facts.{Fact, PeriodContent, PeriodKey}
+use Rattle.mds_world.specs.Facts.{Fact, PeriodContent}
+use Rattle.mds_statements.specs.declared.periods.PeriodKey.{PeriodKey}
 use Rattle.mds_world.specs.Facts.Fact.{DetailIs, EventIs, HeadIs, HolidayIs, JobIs, PeriodIs, VersionIs}
 use Rattle.mds_world.specs.Lists.{Apart, Member}
 use Rattle.mds_world.specs.Sets.{◌∈◌}
@@ -110,10 +111,10 @@ listed_more rows i row vs new v l is are says more =
     (subst (AreVersionsIn (take i rows ++ row ∷ [])) (sym more) (one_more (take i rows) vs row v are says))
 
 module _ (s : Stream) (day : ℕ) (low : day < 2 ^ 63) (trees : Trees) (sound : IsSound schema_1 trees) where
-  head_on : (r : Row) → Member r (trees 2) → Begins (cells.day_cells s day) r ↔ IsOn s day (head_fact r)
+  pub head_on : (r : Row) → Member r (trees 2) → Begins (cells.day_cells s day) r ↔ IsOn s day (head_fact r)
   head_on r m = ((λ b. on_day s day r b), (λ o. day_on s day r low (head_row trees sound r m) o.0 o.1))
 
-  version_on : (r : Row) → Member r (trees 4) → Begins (cells.day_cells s day) r ↔ IsOn s day (version_fact r)
+  pub version_on : (r : Row) → Member r (trees 4) → Begins (cells.day_cells s day) r ↔ IsOn s day (version_fact r)
   version_on r m = ((λ b. on_day s day r b), (λ o. day_on s day r low (version_row trees sound r m) o.0 o.1))
 
   -- the head of a day
@@ -157,7 +158,7 @@ module _ (s : Stream) (day : ℕ) (low : day < 2 ^ 63) (trees : Trees) (sound : 
       (λ i. record { stream = o.0 i; day = o.1 i; interval = says.2 i; update = says.3 i })
 
   -- the versions of rows of a day are those that the rows tell
-  listed : (rows : List Row) (vs : List (ℕ × Version)) → AreVersionsIn rows vs
+  pub listed : (rows : List Row) (vs : List (ℕ × Version)) → AreVersionsIn rows vs
       → ((f : Fact) → Tells version_fact rows f → IsOn s day f)
       → (f : Fact) → Tells version_fact rows f ↔ Member f (map (row_fact s day) vs)
   listed [] [] are on f = ((λ t. absurd t.1), (λ m. absurd m))
@@ -501,8 +502,8 @@ module _ (trees : Trees) (sound : IsSound schema_1 trees) where
           let it = period_row trees sound n.0 n.1 in (
             column n.0 1 ∷ column n.0 2 ∷ [],
             (sel (column n.0 1 ∷ column n.0 2 ∷ [])).1 (n.0, n.1, refl, refl),
-            it.0 ∙ ap (λ (x : Stream). Text x.nmi) on,
-            it.1 ∙ ap (λ (x : Stream). Text x.suffix) on,
+            it.nmi ∙ ap (λ (x : Stream). Text x.nmi) on,
+            it.suffix ∙ ap (λ (x : Stream). Text x.suffix) on,
           )),
     )
 

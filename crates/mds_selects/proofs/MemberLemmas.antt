@@ -1,5 +1,5 @@
 -- The rows of an answer, by membership.
-use Rattle.std.proofs.Common.{◌≡◌, inl, inr, ℕ, List, [], ◌∷◌, map, Bool, true, false, cond, refl, sym, ap, subst, ◌∙◌}
+use Rattle.std.proofs.Common.{◌≡◌, ◌↔◌, inl, inr, ℕ, List, [], ◌∷◌, map, Bool, true, false, cond, refl, sym, ap, subst, ◌∙◌}
 use Rattle.std.specs.List.{AllByRecursion, filter}
 use Rattle.std.specs.List.Sorted.{IsPermutation}
 use Rattle.std.proofs.lemmas.List.Sorted.{IsPermutation-map, IsPermutation-sym}
@@ -63,43 +63,44 @@ shown_is (at ∷ more) params row = ap (λ xs. column row at ∷ xs) (shown_is m
 abbrev second : Output → Row
 second o = o.1
 
-module _ (tree : ℕ) (places : List ℕ) (order : List (Term × Key)) (db : Trees) (key : Row) (cs : List Column)
-    (of : AreFor cs key) (typed : (row : Row) → Member row (db tree) → AreTyped cs row) where
+module _ (tree : ℕ) (test : List Term) (places : List ℕ) (order : List (Term × Key)) (db : Trees) (params : Row) where
   abbrev show : Row → Output
-  show = shows tree (tests 0 key) (columns_at places) order db key
+  show = shows tree test (columns_at places) order db params
 
   abbrev pass : Row → Bool
-  pass = passes tree (tests 0 key) (columns_at places) order db key
+  pass = passes tree test (columns_at places) order db params
 
-  abbrev Chosen : List Row → Type 0
-  Chosen = Picks tree (tests 0 key) (columns_at places) order db key
+  -- the rows that pass a test, by membership, where the test says what is chosen
+  module _ (Chosen : Row → Type 0) (chosen : (row : Row) → Member row (db tree) → (pass row ≡ true) → Chosen row)
+      (passing : (row : Row) → Member row (db tree) → Chosen row → pass row ≡ true)
+      (rows : List Row) (p : Picks tree test (columns_at places) order db params rows) (x : Row) where
+    selected : Member x rows → (row : Row) × Member row (db tree) × Chosen row × (x ≡ map (column row) places)
+    selected m =
+        let o = in_map second p.ordered x (subst (Member x) p.shown m) in
+        let r = in_map show (filter pass (db tree)) o.0 (moved _ p.ordered p.same o.0 o.1) in
+        let it = filter_in pass (db tree) r.0 r.1 in
+        (r.0, it.0, chosen r.0 it.0 it.1, o.2 ∙ ap second r.2 ∙ shown_is places params r.0)
 
-  selected : (rows : List Row) → Chosen rows → (x : Row) → Member x rows
-      → (row : Row) × Member row (db tree) × Begins key row × (x ≡ map (column row) places)
-  selected rows p x m =
-      let o = in_map second p.ordered x (subst (Member x) p.shown m) in
-      let r = in_map show (filter pass (db tree)) o.0 (moved _ p.ordered p.same o.0 o.1) in
-      let it = filter_in pass (db tree) r.0 r.1 in (
-        r.0,
-        it.0,
-        begins key r.0 (alike cs key r.0 of (typed r.0 it.0)) it.1,
-        o.2 ∙ ap second r.2 ∙ shown_is places key r.0,
-      )
+    has_all : (row : Row) → Member row (db tree) → Chosen row → x ≡ map (column row) places → Member x rows
+    has_all row m chose is =
+        let found = in_filter pass (db tree) row m (passing row m chose) in
+        let mapped = map_in show (filter pass (db tree)) row found in
+        let there = moved p.ordered _ (IsPermutation-sym _ p.ordered p.same) (show row) mapped in
+        let out = map_in second p.ordered (show row) there in
+        let back = sym (is ∙ sym (shown_is places params row)) in
+        subst (Member x) (sym p.shown) (subst (λ y. Member y (map second p.ordered)) back out)
 
-  has_all : (rows : List Row) → Chosen rows → (x row : Row)
-      → Member row (db tree) → Begins key row → x ≡ map (column row) places → Member x rows
-  has_all rows p x row m begin is =
-      let found = in_filter pass (db tree) row m (passes_key key row (alike cs key row of (typed row m)) begin) in
-      let mapped = map_in show (filter pass (db tree)) row found in
-      let there = moved p.ordered _ (IsPermutation-sym _ p.ordered p.same) (show row) mapped in
-      let out = map_in second p.ordered (show row) there in
-      let back = sym (is ∙ sym (shown_is places key row)) in
-      subst (Member x) (sym p.shown) (subst (λ y. Member y (map second p.ordered)) back out)
+    pub selects_by : Member x rows ↔ ((row : Row) × Member row (db tree) × Chosen row × (x ≡ map (column row) places))
+    selects_by = (selected, λ it. has_all it.0 it.1 it.2 it.3)
 
-  -- the rows that pass the test of a key, by membership
-  pub selects : (rows : List Row) → Picks tree (tests 0 key) (columns_at places) order db key rows
-      → Selects tree key places db rows
-  selects rows p x = (selected rows p x, λ it. has_all rows p x it.0 it.1 it.2 it.3)
+-- the rows that pass the test of a key
+pub selects : (tree : ℕ) (places : List ℕ) (order : List (Term × Key)) (db : Trees) (key : Row) (cs : List Column) → AreFor cs key
+    → ((row : Row) → Member row (db tree) → AreTyped cs row)
+    → (rows : List Row) → Picks tree (tests 0 key) (columns_at places) order db key rows → Selects tree key places db rows
+selects tree places order db key cs of typed rows p x =
+    selects_by tree (tests 0 key) places order db key (Begins key)
+    (λ row m passed. begins key row (alike cs key row of (typed row m)) passed)
+    (λ row m begin. passes_key key row (alike cs key row of (typed row m)) begin) rows p x
 
 all_pass : {X : Type 0} (xs : List X) → filter (λ x. true) xs ≡ xs
 all_pass [] = refl

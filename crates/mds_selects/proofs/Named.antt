@@ -8,7 +8,8 @@ use Rattle.mds_terms.specs.Event.{EventValue}
 use Rattle.mds_world.specs.declared.facts.Detail.{Detail}
 use Rattle.mds_world.specs.declared.facts.Head.{Head}
 use Rattle.mds_world.specs.declared.facts.Key.{Key}
-use Rattle.mds_world.specs.Facts.{Fact, JobContent, PeriodKey, PeriodContent}
+use Rattle.mds_world.specs.Facts.{Fact, JobContent, PeriodContent}
+use Rattle.mds_statements.specs.declared.periods.PeriodKey.{PeriodKey}
 use Rattle.mds_world.specs.Facts.Fact.{DetailIs, EventIs, HeadIs, HolidayIs, JobIs, PeriodIs, VersionIs}
 use Rattle.mds_world.specs.Lists.{Member, append_left, append_right, in_map, map_in, member_append}
 use Rattle.mds_world.specs.Members.{in_list, list_in}

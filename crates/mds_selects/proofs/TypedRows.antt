@@ -98,6 +98,14 @@ pub record HasEventCells (r : Row) : Type 0 where
   pub moment : column r 6 ≡ Int (int_at r 6)
   pub reading : column r 7 ≡ Text (text_at r 7)
 
+pub record HasPeriodCells (r : Row) : Type 0 where
+  pub nmi : column r 1 ≡ Text (text_at r 1)
+  pub suffix : column r 2 ≡ Text (text_at r 2)
+  pub register : column r 3 ≡ Text (text_at r 3)
+  pub start : column r 4 ≡ Int (int_at r 4)
+  pub finish : column r 5 ≡ Int (int_at r 5)
+  pub update : column r 6 ≡ Int (int_at r 6)
+
 module _ (db : Trees) (sound : IsSound schema_1 db) (r : Row) where
   pub head_row : Member r (db 2) → HasKeyCells r
   head_row m =
@@ -184,8 +192,7 @@ module _ (db : Trees) (sound : IsSound schema_1 db) (r : Row) where
         reading = texts _ 6 refl;
       }
 
-  -- a row of a period begins with a stream
-  pub period_row : Member r (db 10) → (column r 1 ≡ Text (text_at r 1)) × (column r 2 ≡ Text (text_at r 2))
+  pub period_row : Member r (db 10) → HasPeriodCells r
   period_row m =
       let fits : passes Datatype schema_1 db period_table r ≡ true =
       all_has _ (db 10) r (sound.obeys.rules Datatype).1.1.1.1.1.0 m in
@@ -194,7 +201,17 @@ module _ (db : Trees) (sound : IsSound schema_1 db) (r : Row) where
       let texts : (called : List ℕ) (at : ℕ) → slice_get period_table.columns at ≡ Some (needed called kind.Text)
       → column r (suc at) ≡ Text (text_at r (suc at)) =
       λ called at is. text_typed period_table.name 10 period_table.columns period_key period_key [] called db r at is fits there in
-      (texts _ 0 refl, texts _ 1 refl)
+      let ints : (called : List ℕ) (at : ℕ) → slice_get period_table.columns at ≡ Some (needed called kind.Integer)
+      → column r (suc at) ≡ Int (int_at r (suc at)) =
+      λ called at is. int_typed period_table.name 10 period_table.columns period_key period_key [] called db r at is fits there in
+      record {
+        nmi = texts _ 0 refl;
+        suffix = texts _ 1 refl;
+        register = texts _ 2 refl;
+        start = ints _ 3 refl;
+        finish = ints _ 4 refl;
+        update = ints _ 5 refl;
+      }
 
 -- ---- a row that begins with a key
 

@@ -154,7 +154,7 @@ pub fn versions_of<S: Alter>(
 }
 
 /// The versions of rows, each with its interval.
-fn all_versions(alloc: Global, rows: &[Row]) -> Result<Vec<(u16, Version)>, Unavailable>
+pub fn all_versions(alloc: Global, rows: &[Row]) -> Result<Vec<(u16, Version)>, Unavailable>
     ensures { IfOk result (λ versions. AreVersionsIn rows.now versions.items) }
 {
     let Ok(mut versions) = Vec::with_capacity(alloc, rows.len()) else {

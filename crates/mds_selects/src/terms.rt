@@ -75,7 +75,7 @@ fn suffix_at(row: &Row, at: usize) -> Option<Suffix>
 }
 
 /// The stream of a row that begins with it.
-pub(crate) fn stream_in(row: &Row) -> Option<Stream>
+pub fn stream_in(row: &Row) -> Option<Stream>
     ensures some { IfSome result (λ stream. (column row.now 0 ≡ Text stream.nmi) × (column row.now 1 ≡ Text stream.suffix)) }
     ensures none { IfNone result ((stream : StreamValue) → ¬ BeginsWith row.now stream) }
 {
@@ -94,7 +94,7 @@ pub fn day_at(row: &Row, at: usize) -> Option<Day>
 }
 
 /// The moment in a column.
-fn moment_at(row: &Row, at: usize) -> Option<Moment>
+pub fn moment_at(row: &Row, at: usize) -> Option<Moment>
     ensures some { IfSome result (λ moment. column row.now at ≡ Int (pos moment)) }
     ensures none { IfNone result ((moment : ℕ) → IsMoment moment → column row.now at ≢ number_cell moment) }
 {
@@ -119,7 +119,7 @@ fn unit_at(row: &Row, at: usize) -> Option<Unit>
 }
 
 /// The head that a row is.
-pub(crate) fn head_in(row: &Row) -> Option<Head>
+pub fn head_in(row: &Row) -> Option<Head>
     ensures some { IfSome result (λ head. head_fact (Null ∷ row.now) ≡ HeadIs head) }
     ensures none { IfNone result ((head : HeadValue) → ¬ IsRowOfHead row.now head) }
 {
@@ -152,13 +152,13 @@ fn code_at(row: &Row, at: usize) -> Option<Option<u16>>
     }
 }
 
-/// The note in a column.
-fn note_at<'a>(row: &'a Row, at: usize) -> Option<&'a str>
-    ensures some { IfSome result (λ note. column row.now at ≡ Text note.now) }
-    ensures none { IfNone result ((note : List ℕ) → IsTrue (is_utf8 note) → column row.now at ≢ Text note) }
+/// The text in a column, where it is UTF-8.
+pub fn str_at<'a>(row: &'a Row, at: usize) -> Option<&'a str>
+    ensures some { IfSome result (λ text. column row.now at ≡ Text text.now) }
+    ensures none { IfNone result ((text : List ℕ) → IsTrue (is_utf8 text) → column row.now at ≢ Text text) }
 {
     match str::from_utf8(text_at(row, at)?) {
-        Ok(note) => Some(note),
+        Ok(text) => Some(text),
         Err(_) => None,
     }
 }
@@ -193,13 +193,13 @@ fn reading_ref_in<'a>(row: &'a Row) -> Option<ReadingRef<'a>>
     Some(ReadingRef {
         quality,
         code: code_at(row, 6)?,
-        note: note_at(row, 7)?,
+        note: str_at(row, 7)?,
         value: value_in(quality, int_at(row, 8)?)?,
     })
 }
 
 /// A text of its own. An empty one takes no memory.
-fn copy_of(alloc: Global, text: &str) -> Result<String, Unavailable>
+pub fn copy_of(alloc: Global, text: &str) -> Result<String, Unavailable>
     ensures value { IfOk result (λ copy. string_bytes copy ≡ text.now) }
     ensures only { OnErr result (0 < length text.now) }
 {

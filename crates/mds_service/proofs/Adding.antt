@@ -24,7 +24,7 @@ use Rattle.mds_world.specs.Members.{in_list, in_union, len_list, list_in, same_b
 use Rattle.mds_world.specs.Sets.{◌∈◌, difference_in, in_difference, in_intersection, in_retain, intersection_in, len_union, retain_in, not_in_empty}
 use Rattle.mds_world.specs.World.{IsOn, World, union}
 use Rattle.mds_versions.specs.Books.{book_world}
-use Rattle.mds_versions.specs.Content.{content_facts, job_fact, version_fact}
+use Rattle.mds_versions.specs.Content.{content_facts, job_fact, period_fact, version_fact}
 use Rattle.mds_versions.specs.DayMerges.{DayMergeValue, Settles}
 use Rattle.mds_versions.specs.Queries.{stream_cmp}
 use Rattle.mds_versions.specs.declared.additions.Additions.{Additions}
@@ -60,6 +60,7 @@ pub record IsPart (all rest : List Entry) (a : Additions) (known : ℕ) : Type 0
   pub split : all ≡ done ++ rest
   pub no_details : a.details.items ≡ []
   pub no_events : a.events.items ≡ []
+  pub no_periods : a.periods.items ≡ []
   pub no_holidays : a.holidays.items ≡ []
   pub no_jobs : a.jobs.items ≡ []
   pub within : (f : Fact) → Member f (day_facts a) → (e : Entry) × Member e done × (f ∈ new_of e.1)
@@ -156,6 +157,7 @@ part_more all left rest old new known more sum e p is s count =
       split = p.split ∙ ap (λ l. p.done ++ l) is ∙ append_one p.done e rest;
       no_details = ap (λ v. v.items) s.same_details ∙ p.no_details;
       no_events = ap (λ v. v.items) s.same_events ∙ p.no_events;
+      no_periods = ap (λ v. v.items) s.same_periods ∙ p.no_periods;
       no_holidays = ap (λ v. v.items) s.same_holidays ∙ p.no_holidays;
       no_jobs = ap (λ v. v.items) s.same_jobs ∙ p.no_jobs;
       within = λ f m. elim (in_merge a b c d f (subst (Member f) facts m)) [
@@ -201,18 +203,21 @@ part_start all rest a e none =
     let v = map version_fact a.versions.items in
     let d = map DetailIs a.details.items in
     let t = map EventIs a.events.items in
+    let p = map period_fact a.periods.items in
     let l = map HolidayIs a.holidays.items in
     let j = map job_fact a.jobs.items in
-    let listed = nothing_left (h ++ v ++ d ++ t ++ l) j none in
-    let told = nothing_left (h ++ v ++ d ++ t) l listed in
+    let listed = nothing_left (h ++ v ++ d ++ t ++ p ++ l) j none in
+    let counted = nothing_left (h ++ v ++ d ++ t ++ p) l listed in
+    let told = nothing_left (h ++ v ++ d ++ t) p counted in
     let left = nothing_left (h ++ v ++ d) t told in
     let facts : day_facts a ≡ [] = nothing_left (h ++ v) d left in record {
       done = [];
       split = sym e;
       no_details = nothing_in DetailIs a.details.items (nothing_right (h ++ v) d left);
       no_events = nothing_in EventIs a.events.items (nothing_right (h ++ v ++ d) t told);
-      no_holidays = nothing_in HolidayIs a.holidays.items (nothing_right (h ++ v ++ d ++ t) l listed);
-      no_jobs = nothing_in job_fact a.jobs.items (nothing_right (h ++ v ++ d ++ t ++ l) j none);
+      no_periods = nothing_in period_fact a.periods.items (nothing_right (h ++ v ++ d ++ t) p counted);
+      no_holidays = nothing_in HolidayIs a.holidays.items (nothing_right (h ++ v ++ d ++ t ++ p) l listed);
+      no_jobs = nothing_in job_fact a.jobs.items (nothing_right (h ++ v ++ d ++ t ++ p ++ l) j none);
       within = λ f m. absurd (subst (Member f) facts m);
       whole = λ x m f k. absurd m;
       apart = λ say. subst Apart (sym facts) tt;
@@ -250,12 +255,12 @@ say_apart {R} o (e ∷ es) s on = (
   say_apart o es (sorted_tail R e.0 (keys_of es) s) (λ x m. on x (inr m)),
 )
 
-member_place : {K : Type 0} (x : K) (xs : List K) → Member x xs → (i : ℕ) × (slice_get xs i ≡ Some x)
+pub member_place : {K : Type 0} (x : K) (xs : List K) → Member x xs → (i : ℕ) × (slice_get xs i ≡ Some x)
 member_place x [] m = absurd m
 member_place x (k ∷ xs) (inl e) = (0, ap Some (sym e))
 member_place x (k ∷ xs) (inr m) = let r = member_place x xs m in (suc r.0, r.1)
 
-place_member : {K : Type 0} (x : K) (xs : List K) (i : ℕ) → slice_get xs i ≡ Some x → Member x xs
+pub place_member : {K : Type 0} (x : K) (xs : List K) (i : ℕ) → slice_get xs i ≡ Some x → Member x xs
 place_member x [] i e = cc
 place_member x (k ∷ xs) zero e = inl (sym (some_is k x e))
   where
@@ -304,7 +309,7 @@ sum_len (e ∷ es) s =
     ap (λ n. set.len (known_of e.1) + n) (sum_len es s.1 ∙ ap set.len (sym apart))
     ∙ sym (len_union total exact (known_of e.1) rest)
 
-length_map : {A B : Type 0} (f : A → B) (xs : List A) → length (map f xs) ≡ length xs
+pub length_map : {A B : Type 0} (f : A → B) (xs : List A) → length (map f xs) ≡ length xs
 length_map f [] = refl
 length_map f (x ∷ xs) = ap suc (length_map f xs)
 
@@ -411,6 +416,7 @@ module _ {R : StreamDay → StreamDay → Ordering} (o : IsTotalOrder R) (w fact
       ]) in record {
         no_details = p.no_details;
         no_events = p.no_events;
+        no_periods = p.no_periods;
         no_holidays = p.no_holidays;
         no_jobs = p.no_jobs;
         apart = apart;

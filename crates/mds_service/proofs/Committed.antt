@@ -17,7 +17,7 @@ use Rattle.mds_world.specs.Members.{in_list}
 use Rattle.mds_world.specs.Sets.{◌∈◌}
 use Rattle.mds_world.specs.Stated.{stated}
 use Rattle.mds_world.specs.World.{Agrees, IsLawful, World, union}
-use Rattle.mds_versions.specs.Content.{AreNew, content, content_facts, job_fact, version_fact}
+use Rattle.mds_versions.specs.Content.{AreNew, content, content_facts, job_fact, period_fact, version_fact}
 use Rattle.mds_versions.specs.DayMerges.{IfRefused}
 use Rattle.mds_versions.specs.Merge.{IsRefusal, upto}
 use Rattle.mds_versions.specs.declared.additions.Additions.{Additions}
@@ -93,36 +93,37 @@ module _ (old : World) (days : List DayStatement) (g : Gathered) (base : Additio
     events_are = events_kind g.events.items;
   }
 
-  -- no holiday and no job comes in
+  -- no accumulation, no holiday and no job comes in
   facts_are : (a : Additions) → a.heads ≡ base.heads → a.versions ≡ base.versions → a.details.items ≡ details
-      → a.events.items ≡ events → a.holidays ≡ base.holidays → a.jobs ≡ base.jobs
+      → a.events.items ≡ events → a.periods ≡ base.periods → a.holidays ≡ base.holidays → a.jobs ≡ base.jobs
       → content_facts a ≡ map HeadIs base.heads.items ++ map version_fact base.versions.items
       ++ map DetailIs details ++ map EventIs events
-  facts_are a h v d t l j =
+  facts_are a h v d t p l j =
       let come : List Fact = map HeadIs base.heads.items ++ map version_fact base.versions.items
       ++ map DetailIs details ++ map EventIs events in
       (λ i. map HeadIs (h i).items ++ map version_fact (v i).items ++ map DetailIs (d i) ++ map EventIs (t i)
-      ++ map HolidayIs (l i).items ++ map job_fact (j i).items)
-      ∙ (λ i. come ++ map HolidayIs (x.settled.no_holidays i) ++ map job_fact (x.settled.no_jobs i))
-      ∙ append-nil (come ++ []) ∙ append-nil come
+      ++ map period_fact (p i).items ++ map HolidayIs (l i).items ++ map job_fact (j i).items)
+      ∙ (λ i. come ++ map period_fact (x.settled.no_periods i) ++ map HolidayIs (x.settled.no_holidays i)
+      ++ map job_fact (x.settled.no_jobs i))
+      ∙ append-nil (come ++ [] ++ []) ∙ append-nil (come ++ []) ∙ append-nil come
 
   -- over the World as it is then
   pub are_new : (now : World) (a : Additions) → now ≡ old → a.heads ≡ base.heads → a.versions ≡ base.versions
-      → a.details.items ≡ details → a.events.items ≡ events
+      → a.details.items ≡ details → a.events.items ≡ events → a.periods ≡ base.periods
       → a.holidays ≡ base.holidays → a.jobs ≡ base.jobs → AreNew now a
-  are_new now a e h v d t l j =
-      let all = facts_are a h v d t l j in record {
+  are_new now a e h v d t p l j =
+      let all = facts_are a h v d t p l j in record {
         apart = subst Apart (sym all) (added_apart _ _ _ _ _ _ _ _ is_added);
         absent = λ f m i.
             added_absent _ _ _ _ _ _ _ _ is_added f (subst (Member f) all m) (subst (λ u. f ∈ u) e i);
       }
 
   whole : (now : World) (a : Additions) → now ≡ old → a.heads ≡ base.heads → a.versions ≡ base.versions
-      → a.details.items ≡ details → a.events.items ≡ events
+      → a.details.items ≡ details → a.events.items ≡ events → a.periods ≡ base.periods
       → a.holidays ≡ base.holidays → a.jobs ≡ base.jobs
       → union now (content a) ≡ union old (union (days_world days) (others_world g))
-  whole now a e h v d t l j =
-      (λ i. union (e i) (set.from_list (facts_are a h v d t l j i))) ∙ added_whole _ _ _ _ _ _ _ _ is_added
+  whole now a e h v d t p l j =
+      (λ i. union (e i) (set.from_list (facts_are a h v d t p l j i))) ∙ added_whole _ _ _ _ _ _ _ _ is_added
 
   lawful_whole : IsLawful old → Agrees (union old (days_world days))
       → IsLawful (union old (union (days_world days) (others_world g)))
@@ -130,12 +131,12 @@ module _ (old : World) (days : List DayStatement) (g : Gathered) (base : Additio
       lawful_union old days _ (others g) (of_days days) x.whole lawful agrees
 
   pub lawful_commit : (now : World) (a : Additions) → now ≡ old → a.heads ≡ base.heads
-      → a.versions ≡ base.versions → a.details.items ≡ details → a.events.items ≡ events
+      → a.versions ≡ base.versions → a.details.items ≡ details → a.events.items ≡ events → a.periods ≡ base.periods
       → a.holidays ≡ base.holidays → a.jobs ≡ base.jobs → IsLawful old
       → Agrees (union old (days_world days))
       → IsLawful (union now (content a))
-  lawful_commit now a e h v d t l j lawful agrees =
-      subst IsLawful (sym (whole now a e h v d t l j)) (lawful_whole lawful agrees)
+  lawful_commit now a e h v d t p l j lawful agrees =
+      subst IsLawful (sym (whole now a e h v d t p l j)) (lawful_whole lawful agrees)
 
   added_count : length base.versions.items ≡ added_by old (union (days_world days) (others_world g))
   added_count =
@@ -151,12 +152,12 @@ module _ (old : World) (days : List DayStatement) (g : Gathered) (base : Additio
   pub taken_in : (file : FileKind) (text : List ℕ) (now new : World) (a : Additions) (added : ℕ)
       → fault_in file text ≡ None → stated (stated_in file text) ≡ union (days_world days) (others_world g)
       → now ≡ old → new ≡ union now (content a) → a.heads ≡ base.heads → a.versions ≡ base.versions
-      → a.details.items ≡ details → a.events.items ≡ events
+      → a.details.items ≡ details → a.events.items ≡ events → a.periods ≡ base.periods
       → a.holidays ≡ base.holidays → a.jobs ≡ base.jobs → IsLawful old
       → Agrees (union old (days_world days)) → added ≡ length base.versions.items
       → IsLawful new × ImportStep old file text (told.Imported added known) new
-  taken_in file text now new a added well same e is h v d t l j lawful agrees n =
-      let all : new ≡ union old (union (days_world days) (others_world g)) = is ∙ whole now a e h v d t l j in (
+  taken_in file text now new a added well same e is h v d t p l j lawful agrees n =
+      let all : new ≡ union old (union (days_world days) (others_world g)) = is ∙ whole now a e h v d t p l j in (
         subst IsLawful (sym all) (lawful_whole lawful agrees),
         (
           well,

@@ -12,7 +12,8 @@ use Rattle.mds_world.specs.declared.facts.Head.{Head}
 use Rattle.mds_world.specs.declared.facts.Key.{Key}
 use Rattle.mds_world.specs.declared.facts.StreamDay.{StreamDay}
 use Rattle.mds_world.specs.FactOrder.{exact, total}
-use Rattle.mds_world.specs.Facts.{Fact, PeriodContent, PeriodKey}
+use Rattle.mds_world.specs.Facts.{Fact, PeriodContent}
+use Rattle.mds_statements.specs.declared.periods.PeriodKey.{PeriodKey}
 use Rattle.mds_world.specs.Facts.Fact.{HeadIs, PeriodIs, VersionIs}
 use Rattle.mds_world.specs.Members.{in_union, union_left, union_right}
 use Rattle.mds_world.specs.Sets.{◌∈◌, decided, not_in_empty, same_bool}
@@ -24,7 +25,7 @@ use Rattle.mds_versions.specs.declared.day_merge.Stop.TheVariants.{Refused, Memo
 use Rattle.mds_versions.specs.declared.refusal.Refusal.{Refusal}
 use Rattle.mds_versions.specs.Merge.{Breaks, HasTwoLengths, HasTwoReadings, HasTwoUnits, claim_world}
 use Rattle.mds_versions.specs.declared.refusal.RefusalCode.{RefusalCode}
-use Rattle.mds_versions.specs.declared.refusal.RefusalCode.TheVariants.{LengthConflict, UnitConflict, VersionConflict, JobReused, Protected, StaleUpdate, NoLikeDay, TooLong, NoAnchor, UnknownDay, BadJob}
+use Rattle.mds_versions.specs.declared.refusal.RefusalCode.TheVariants.{LengthConflict, UnitConflict, VersionConflict, JobReused, Protected, StaleUpdate, NoLikeDay, TooLong, NoAnchor, UnknownDay, BadJob, RangeTooWide}
 use Rattle.mds_service.proofs.StatedDays.{day_merge_in, line_on, of_days, on_one_day}
 use Rattle.mds_service.proofs.DayOrder.{IsExact, day_cmp, day_exact}
 use Rattle.mds_versions.specs.declared.claim.Claim.{Claim}
@@ -184,6 +185,7 @@ module _ (w facts one : World) (s : Stream) (d : ℕ) (on : (f : Fact) → f ∈
       breaks_opaque NoAnchor i b = absurd b
       breaks_opaque UnknownDay i b = absurd b
       breaks_opaque BadJob i b = absurd b
+      breaks_opaque RangeTooWide i b = absurd b
 
       -- what breaks a rule in a day's part breaks it in the whole
       breaks_up : (code : RefusalCode) (i : ℕ) → Breaks (union (book_world book) (union said one)) code i

@@ -9,9 +9,15 @@ mod Sifting
 mod TakenIn
 pub mod DayFacts
 pub mod DayOrder
+pub mod FileKinds
 pub mod Gather
 pub mod Gathers
 pub mod Lines
+pub mod PeriodLines
+pub mod PeriodOrder
+pub mod PeriodsAdded
+pub mod PeriodsStated
+pub mod PeriodsTaken
 pub mod Runs
 pub mod StatedDays
 pub mod Steps

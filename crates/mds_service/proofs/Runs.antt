@@ -40,6 +40,7 @@ idle a (asked.Substitute job) b step = step.1
 idle a (asked.Holidays days) b step = step
 idle a (asked.Day stream day) b step = step.1
 idle a (asked.Versions stream day interval) b step = step.1
+idle a (asked.Period stream) b step = step.1
 idle a asked.Streams b step = step.1
 
 leaves_more : (a : World) (rs : List Request) (ss : List Answer) (b v : World) (r : Request) (s : Answer)

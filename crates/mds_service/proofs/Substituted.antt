@@ -9,7 +9,8 @@ use Rattle.mds_names.specs.declared.stream.Stream.{Stream}
 use Rattle.mds_marks.specs.Reading.{ReadingValue}
 use Rattle.mds_world.specs.declared.facts.Head.{Head}
 use Rattle.mds_world.specs.declared.facts.Key.{Key}
-use Rattle.mds_world.specs.Facts.{Fact, JobContent, PeriodKey, PeriodContent}
+use Rattle.mds_world.specs.Facts.{Fact, JobContent, PeriodContent}
+use Rattle.mds_statements.specs.declared.periods.PeriodKey.{PeriodKey}
 use Rattle.mds_world.specs.Facts.Fact.{HeadIs, VersionIs, DetailIs, EventIs, PeriodIs, HolidayIs, JobIs}
 use Rattle.mds_world.specs.Lists.{Apart, Member, append_left, append_right, apart_append, apart_push, member_append}
 use Rattle.mds_world.specs.Members.{in_list, in_union, list_in, same_by, union_left, union_right}
@@ -20,7 +21,7 @@ use Rattle.mds_jobs.specs.Jobs.{IsBad, content_of}
 use Rattle.mds_jobs.specs.declared.job.Job.{Job}
 use Rattle.mds_versions.specs.Books.{BookValue}
 use Rattle.mds_versions.specs.Claims.{BreaksForm, SuitsForm}
-use Rattle.mds_versions.specs.Content.{AreNew, content, content_facts, job_fact}
+use Rattle.mds_versions.specs.Content.{AreNew, content, content_facts, job_fact, period_fact}
 use Rattle.mds_versions.specs.DayMerges.{IfRefused}
 use Rattle.mds_versions.specs.Queries.{IsJobOf}
 use Rattle.mds_versions.specs.declared.day_merge.Stop.{Stop}
@@ -28,7 +29,7 @@ use Rattle.mds_versions.specs.declared.day_merge.Stop.TheVariants.{Refused}
 use Rattle.mds_versions.specs.declared.additions.Additions.{Additions}
 use Rattle.mds_versions.specs.declared.refusal.Refusal.{Refusal}
 use Rattle.mds_versions.specs.declared.refusal.RefusalCode.{RefusalCode}
-use Rattle.mds_versions.specs.declared.refusal.RefusalCode.TheVariants.{LengthConflict, UnitConflict, VersionConflict, JobReused, Protected, StaleUpdate, NoLikeDay, TooLong, NoAnchor, UnknownDay, BadJob}
+use Rattle.mds_versions.specs.declared.refusal.RefusalCode.TheVariants.{LengthConflict, UnitConflict, VersionConflict, JobReused, Protected, StaleUpdate, NoLikeDay, TooLong, NoAnchor, UnknownDay, BadJob, RangeTooWide}
 use Rattle.mds_versions.proofs.BookFacts.{head_in_book, head_of_book}
 use Rattle.mds_versions.proofs.Taken.{from_versions, to_versions}
 use Rattle.mds_fill.specs.Fills.{AreSubstitutes, IsBookOf, IsFillFault, IsFillRefusal, IsTarget, target_count}
@@ -80,6 +81,7 @@ form_fault w job book of good new TooLong breaks = absurd breaks
 form_fault w job book of good new NoAnchor breaks = absurd breaks
 form_fault w job book of good new UnknownDay breaks = absurd breaks
 form_fault w job book of good new BadJob breaks = absurd breaks
+form_fault w job book of good new RangeTooWide breaks = absurd breaks
 
 pub form_refused : (w : World) (job : Job) (book : BookValue) → IsBookOf w job.stream job.day book
     → (IsBad (content_of job) → ⊥) → IsNewJob w job → (code : RefusalCode) → BreaksForm book.head job.length job.unit code
@@ -100,6 +102,7 @@ fill_fault w job good new suits TooLong interval fault = (good, new, suits, faul
 fill_fault w job good new suits NoAnchor interval fault = (good, new, suits, fault)
 fill_fault w job good new suits UnknownDay interval fault = absurd fault
 fill_fault w job good new suits BadJob interval fault = absurd fault
+fill_fault w job good new suits RangeTooWide interval fault = absurd fault
 
 fill_refused : (w : World) (job : Job) → (IsBad (content_of job) → ⊥) → IsNewJob w job → SuitsDay w job
     → (refusal : Refusal) → IsFillRefusal w (content_of job) refusal → IsJobRefusal w job refusal
@@ -396,8 +399,9 @@ module _ (w : World) (job : Job) (good : IsBad (content_of job) → ⊥) (new : 
     facts : content_facts additions ≡ (H ++ V) ++ J ∷ []
     facts =
         (λ i. map HeadIs (put.heads i) ++ put.versions i ++ map DetailIs (put.details i) ++ map EventIs (put.events i)
-        ++ map HolidayIs (put.holidays i) ++ map job_fact (put.jobs i))
-        ∙ ap (λ l. l ++ J ∷ []) (append-nil (((H ++ V) ++ []) ++ []) ∙ append-nil ((H ++ V) ++ []) ∙ append-nil (H ++ V))
+        ++ map period_fact (put.periods i) ++ map HolidayIs (put.holidays i) ++ map job_fact (put.jobs i))
+        ∙ ap (λ l. l ++ J ∷ []) (append-nil ((((H ++ V) ++ []) ++ []) ++ []) ∙ append-nil (((H ++ V) ++ []) ++ [])
+        ∙ append-nil ((H ++ V) ++ []) ∙ append-nil (H ++ V))
 
     is_head : (head : Option (ℕ × MeasureUnit)) (f : Fact) → Member f (map HeadIs (new_heads job (is_some head)))
         → (f ≡ HeadIs (head_of job)) × (head ≡ None)

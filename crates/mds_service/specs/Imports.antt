@@ -56,6 +56,7 @@ IsOfDays facts = (f : Fact) → f ∈ facts → (stream : Stream) × (day : ℕ)
 pub record IsSettled (w facts : World) (additions : Additions) (known : ℕ) : Type 0 where
   pub no_details : additions.details.items ≡ []
   pub no_events : additions.events.items ≡ []
+  pub no_periods : additions.periods.items ≡ []
   pub no_holidays : additions.holidays.items ≡ []
   pub no_jobs : additions.jobs.items ≡ []
   pub apart : Apart (map HeadIs additions.heads.items ++ map version_fact additions.versions.items)

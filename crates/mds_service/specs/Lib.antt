@@ -1,3 +1,4 @@
+pub mod Accumulating
 pub mod Crashes
 pub mod Gathering
 pub mod Holidays

@@ -6,9 +6,11 @@ use Rattle.mds_names.specs.declared.stream.Stream.{Stream}
 use Rattle.mds_marks.specs.Reading.{ReadingValue}
 use Rattle.mds_records.specs.declared.file.FileFault.{FileFault}
 use Rattle.mds_records.specs.declared.file.FileKind.{FileKind}
-use Rattle.mds_records.specs.declared.file.FileKind.TheVariants.{Nem12}
-use Rattle.mds_nem12.specs.Faults.{fault_of}
-use Rattle.mds_nem12.specs.Statements.{statements_of}
+use Rattle.mds_records.specs.declared.file.FileKind.TheVariants.{Nem12, Nem13}
+use Rattle.mds_nem12.specs.Faults.{fault_of as fault_of_nem12}
+use Rattle.mds_nem12.specs.Statements.{statements_of as statements_of_nem12}
+use Rattle.mds_nem13.specs.Faults.{fault_of as fault_of_nem13}
+use Rattle.mds_nem13.specs.Statements.{statements_of as statements_of_nem13}
 use Rattle.mds_statements.specs.Statements.{Statement}
 use Rattle.mds_world.specs.declared.facts.Head.{Head}
 use Rattle.mds_world.specs.Counts.{added_by, known_by}
@@ -19,7 +21,7 @@ use Rattle.mds_world.specs.Sets.{◌∈◌}
 use Rattle.mds_world.specs.Stated.{stated}
 use Rattle.mds_world.specs.World.{Agrees, IsKnownDay, World, union}
 use Rattle.mds_versions.specs.Merge.{IsRefusal, upto}
-use Rattle.mds_versions.specs.Queries.{AreEventsOf, AreKnownStreams}
+use Rattle.mds_versions.specs.Queries.{AreEventsOf, AreKnownStreams, ArePeriodsOf}
 use Rattle.mds_versions.specs.declared.day_book.Version.{Version}
 use Rattle.mds_versions.specs.declared.refusal.Refusal.{Refusal}
 use Rattle.mds_versions.specs.declared.refusal.RefusalCode.TheVariants.{UnknownDay}
@@ -28,6 +30,7 @@ use Rattle.mds_service.specs.declared.request.Request.TheVariants as asked
 use Rattle.mds_service.specs.declared.request.Answer.{Answer}
 use Rattle.mds_service.specs.declared.request.Answer.TheVariants as told
 use Rattle.mds_service.specs.declared.request.DayAnswer.{DayAnswer}
+use Rattle.mds_service.specs.declared.request.PeriodAnswer.{PeriodAnswer}
 use Rattle.mds_service.specs.declared.request.StreamAnswer.{StreamAnswer}
 use Rattle.mds_service.specs.declared.request.VersionsAnswer.{VersionsAnswer}
 use Rattle.mds_service.specs.Holidays.{HolidaysStep}
@@ -35,11 +38,13 @@ use Rattle.mds_service.specs.Substitution.{SubstituteStep}
 
 -- the fault of a file of a kind, if it isn't well formed
 abbrev pub fault_in : FileKind → List ℕ → Option FileFault
-fault_in Nem12 text = fault_of text
+fault_in Nem12 text = fault_of_nem12 text
+fault_in Nem13 text = fault_of_nem13 text
 
 -- what a well formed file of a kind states
 abbrev pub stated_in : FileKind → List ℕ → List Statement
-stated_in Nem12 text = statements_of text
+stated_in Nem12 text = statements_of_nem12 text
+stated_in Nem13 text = statements_of_nem13 text
 
 -- A file that isn't well formed has its first fault. Another is taken in where all that it states agrees with the World
 -- and among itself, and then the World is the union; else it is refused by its first line that breaks a rule.
@@ -104,6 +109,17 @@ TellsVersions w stream day interval (told.Refused refusal) =
 TellsVersions w stream day interval told.Unavailable = Unit {0}
 TellsVersions w stream day interval answer = ⊥
 
+-- All accumulations of a stream, ascending, each once. A stream without any has none.
+pub record IsPeriodAnswer (w : World) (s : Stream) (answer : PeriodAnswer) : Type 0 where
+  pub stream : answer.stream ≡ s
+  pub periods : ArePeriodsOf w s answer.periods.items
+
+-- the answer for the accumulations of a stream
+abbrev pub TellsPeriods : World → Stream → Answer → Type 0
+TellsPeriods w stream (told.Period answer) = IsPeriodAnswer w stream answer
+TellsPeriods w stream told.Unavailable = Unit {0}
+TellsPeriods w stream answer = ⊥
+
 -- The known streams in order, each with its current details.
 pub record AreStreamAnswers (w : World) (answers : List StreamAnswer) : Type 0 where
   pub streams : AreKnownStreams w (map (λ answer. answer.stream) answers)
@@ -123,6 +139,7 @@ Step old (asked.Holidays days) answer new = HolidaysStep old days.items answer n
 Step old (asked.Day stream day) answer new = TellsDay old stream day answer × (new ≡ old)
 Step old (asked.Versions stream day interval) answer new =
     TellsVersions old stream day interval answer × (new ≡ old)
+Step old (asked.Period stream) answer new = TellsPeriods old stream answer × (new ≡ old)
 Step old asked.Streams answer new = TellsStreams old answer × (new ≡ old)
 
 -- A list of requests, one step after the other.

@@ -30,5 +30,6 @@ pub record IsPut (job : Job) (is_known : Bool) (readings : List ReadingValue) (a
       ≡ versions_from job.stream job.day job.update job.first readings
   pub details : additions.details.items ≡ []
   pub events : additions.events.items ≡ []
+  pub periods : additions.periods.items ≡ []
   pub holidays : additions.holidays.items ≡ []
   pub jobs : additions.jobs.items ≡ (job, length readings) ∷ []

@@ -1,18 +1,16 @@
 //! The request to take in a file.
 
-ghost use Rattle.std.specs.Prelude.{◌≡◌, None, Some, Err, IfOk};
-ghost use Rattle.mds_records.specs.declared.file.FileFault.{FileFault};
-ghost use Rattle.mds_statements.specs.Delivered.{delivery_statements};
+ghost use Rattle.mds_records.specs.declared.file.FileKind.TheVariants as kinds;
 ghost use Rattle.mds_service.specs.Crashes.{GoesBy};
-ghost use Rattle.mds_service.specs.Machine.{ImportStep, fault_in, stated_in};
+ghost use Rattle.mds_service.specs.Machine.{ImportStep};
 
+use crate::accumulating::import_nem13;
 use crate::gathering::{Gathered, gather};
 use crate::news::{new_details, new_events};
 use crate::request::Answer;
 use crate::settling::settle;
 use mds_nem12::{Nem12Fault, read_nem12};
 use mds_records::FileKind;
-use mds_statements::Delivery;
 use mds_versions::{Keeper, Stop};
 use std::alloc::Global;
 
@@ -31,7 +29,20 @@ pub(crate) fn import<K: Keeper>(
     ensures step { K.honest keeper.new → GoesBy (K.sound keeper.old) (K.sound keeper.new) (K.world keeper.old)
         (K.world keeper.new) (K.may_leave keeper.old) (K.may_leave keeper.new) (λ w. ImportStep w kind text.now) result }
 {
-    let delivery = match read(alloc, kind, text) {
+    match kind {
+        FileKind::Nem12 => import_nem12(alloc, keeper, text),
+        FileKind::Nem13 => import_nem13(alloc, keeper, text),
+    }
+}
+
+/// Takes in the days, details and events that a NEM12 file states: all of them by one commit, or none.
+fn import_nem12<K: Keeper>(alloc: Global, keeper: &mut K, text: &[u8]) -> Answer
+    ensures outside { K.honest keeper.new → K.honest keeper.old }
+    ensures before { K.sound keeper.new → K.sound keeper.old }
+    ensures step { K.honest keeper.new → GoesBy (K.sound keeper.old) (K.sound keeper.new) (K.world keeper.old)
+        (K.world keeper.new) (K.may_leave keeper.old) (K.may_leave keeper.new) (λ w. ImportStep w kinds.Nem12 text.now) result }
+{
+    let delivery = match read_nem12(alloc, text) {
         Ok(delivery) => delivery,
         Err(Nem12Fault::File(fault)) => return Answer::File(fault),
         Err(Nem12Fault::Memory) => return Answer::Unavailable,
@@ -61,17 +72,5 @@ pub(crate) fn import<K: Keeper>(
     match keeper.commit(additions) {
         Ok(()) => Answer::Imported { added, known },
         Err(_) => Answer::Unavailable,
-    }
-}
-
-/// What a file of a kind states, or why it isn't read.
-fn read(alloc: Global, kind: FileKind, text: &[u8]) -> Result<Delivery, Nem12Fault>
-    ensures done { IfOk result (λ delivery. (fault_in kind text.now ≡ None)
-        × (delivery_statements delivery ≡ stated_in kind text.now)) }
-    ensures fault { (fault : FileFault) → result ≡ Err (Nem12Fault.File fault)
-        → fault_in kind text.now ≡ Some fault }
-{
-    match kind {
-        FileKind::Nem12 => read_nem12(alloc, text),
     }
 }

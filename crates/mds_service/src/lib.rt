@@ -1,6 +1,7 @@
 //! The machine: requests and their answers, over any keeper of a World.
 #![tactic(auto)]
 
+mod accumulating;
 mod gathering;
 mod importing;
 mod listing;
@@ -11,5 +12,5 @@ mod service;
 mod settling;
 mod substituting;
 
-pub use request::{Answer, DayAnswer, Request, StreamAnswer, VersionsAnswer};
+pub use request::{Answer, DayAnswer, PeriodAnswer, Request, StreamAnswer, VersionsAnswer};
 pub use service::{apply, run};

@@ -98,6 +98,7 @@ fn additions_of(alloc: Global, holidays: Vec<Day>) -> Additions
         versions: Vec::new(alloc),
         details: Vec::new(alloc),
         events: Vec::new(alloc),
+        periods: Vec::new(alloc),
         holidays,
         jobs: Vec::new(alloc),
     }

@@ -8,7 +8,7 @@ ghost use Rattle.mds_service.specs.Crashes.{Goes};
 ghost use Rattle.mds_service.specs.Readings.{AreReadings};
 ghost use Rattle.mds_service.specs.declared.request.Request.TheVariants as asked;
 
-use crate::request::{Answer, DayAnswer, StreamAnswer, VersionsAnswer};
+use crate::request::{Answer, DayAnswer, PeriodAnswer, StreamAnswer, VersionsAnswer};
 use mds_marks::{Mark, Quality, Reading, Reason};
 use mds_terms::{Day, Length, Stream};
 use mds_versions::{DayBook, Keeper, Refusal, RefusalCode, Version};
@@ -89,6 +89,19 @@ pub(crate) fn versions<K: Keeper>(
         interval,
         versions,
     })
+}
+
+/// All accumulations of a stream.
+pub(crate) fn period<K: Keeper>(keeper: &mut K, stream: Stream) -> Answer
+    ensures outside { K.honest keeper.new → K.honest keeper.old }
+    ensures before { K.sound keeper.new → K.sound keeper.old }
+    ensures step { K.honest keeper.new → Goes (K.sound keeper.old) (K.sound keeper.new) (K.world keeper.old)
+        (K.world keeper.new) (K.may_leave keeper.old) (K.may_leave keeper.new) (asked.Period stream) result }
+{
+    match keeper.period(copy_of(&stream)) {
+        Ok(periods) => Answer::Period(PeriodAnswer { stream, periods }),
+        Err(_) => Answer::Unavailable,
+    }
 }
 
 /// The known streams with their current details.

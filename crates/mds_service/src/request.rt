@@ -4,6 +4,7 @@ use mds_jobs::Job;
 use mds_marks::Reading;
 use mds_quantity::Unit;
 use mds_records::{FileFault, FileKind};
+use mds_statements::Period;
 use mds_terms::{Day, Details, Event, Length, Moment, Stream};
 use mds_versions::{Refusal, Version};
 
@@ -30,6 +31,10 @@ pub enum Request {
         day: Day,
         interval: u16,
     },
+    /// For all accumulations of a stream.
+    Period {
+        stream: Stream,
+    },
     /// For the known streams.
     Streams,
 }
@@ -37,7 +42,7 @@ pub enum Request {
 /// What the machine answers.
 #[derive(Drop)]
 pub enum Answer {
-    /// The file is taken in: so many of its versions are new, and so many were there.
+    /// The file is taken in: so many of its versions and accumulations are new, and so many were there.
     Imported { added: u64, known: u64 },
     /// The job is done: so many intervals are filled in.
     Substituted { count: u64 },
@@ -47,6 +52,7 @@ pub enum Answer {
     HolidaysAdded { added: u64, known: u64 },
     Day(DayAnswer),
     Versions(VersionsAnswer),
+    Period(PeriodAnswer),
     /// The known streams, in the order of their bytes.
     Streams(Vec<StreamAnswer>),
     /// The file isn't well formed. Nothing is changed.
@@ -80,6 +86,14 @@ pub struct VersionsAnswer {
     pub interval: u16,
     /// By ascending update.
     pub versions: Vec<Version>,
+}
+
+/// All accumulations of a stream, which may have none.
+#[derive(Drop)]
+pub struct PeriodAnswer {
+    pub stream: Stream,
+    /// By register, previous read, current read and update.
+    pub periods: Vec<Period>,
 }
 
 /// A known stream.

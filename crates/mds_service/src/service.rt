@@ -7,7 +7,7 @@ ghost use Rattle.mds_service.specs.Machine.{Run};
 
 use crate::importing::import;
 use crate::listing::list_holidays;
-use crate::queries::{day, streams, versions};
+use crate::queries::{day, period, streams, versions};
 use crate::request::{Answer, Request};
 use crate::substituting::substitute;
 use mds_versions::Keeper;
@@ -35,6 +35,7 @@ pub fn apply<K: Keeper>(alloc: Global, keeper: &mut K, request: &Request) -> Ans
             day: date,
             interval,
         } => versions(alloc, keeper, *stream, *date, *interval),
+        Request::Period { stream } => period(keeper, *stream),
         Request::Streams => streams(alloc, keeper),
     }
 }

@@ -204,6 +204,7 @@ fn additions_of(
         versions,
         details: Vec::new(alloc),
         events: Vec::new(alloc),
+        periods: Vec::new(alloc),
         holidays: Vec::new(alloc),
         jobs,
     })

@@ -1,2 +1,3 @@
 pub mod DaysDelivered
+pub mod OneText
 pub mod OrderlyTests

@@ -1,5 +1,5 @@
 -- What a delivery holds, as the statements of a file in the order of its lines.
-use Rattle.std.specs.Prelude.{ℕ, List, ◌∷◌, map, string_bytes}
+use Rattle.std.specs.Prelude.{ℕ, List, ◌∷◌, map}
 use Rattle.std.specs.List.{flat_map}
 use Rattle.mds_statements.specs.Statements.{DayStatement, HeaderValue, Statement}
 use Rattle.mds_statements.specs.Statements.Statement.{HeaderOf, DetailsOf, DayOf, EventOf}
@@ -9,11 +9,7 @@ use Rattle.mds_statements.specs.declared.delivery.Delivery.{Delivery}
 use Rattle.mds_statements.specs.declared.blocks.Header.{Header}
 
 abbrev pub header_value : Header → HeaderValue
-header_value header = record {
-  moment = header.moment;
-  sender = string_bytes header.sender;
-  receiver = string_bytes header.receiver;
-}
+header_value header = record { moment = header.moment; sender = header.sender; receiver = header.receiver }
 
 -- a day of a block
 abbrev pub day_in : Block → DeliveredDay → DayStatement

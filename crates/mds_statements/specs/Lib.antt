@@ -1,3 +1,4 @@
+pub mod Contents
 pub mod Delivered
 pub mod Orderly
 pub mod OrderlySteps

@@ -7,6 +7,8 @@ use Rattle.mds_names.specs.declared.stream.Stream.{Stream}
 use Rattle.mds_marks.specs.Reading.{ReadingValue}
 use Rattle.mds_terms.specs.Details.{DetailsValue}
 use Rattle.mds_terms.specs.Event.{EventValue}
+pub use Rattle.mds_statements.specs.Contents.{PeriodContent}
+use Rattle.mds_statements.specs.declared.periods.PeriodKey.{PeriodKey}
 
 -- 100: when the file was made, by whom and for whom
 pub record HeaderValue : Type 0 where
@@ -33,19 +35,6 @@ pub record DayStatement : Type 0 where
   pub unit : MeasureUnit
   pub update : ℕ
   pub readings : List ReadingValue
-
--- what an accumulation is of: from one read to another, as it was updated
-pub record PeriodKey : Type 0 where
-  pub stream : Stream
-  pub register : List ℕ
-  pub start : ℕ
-  pub finish : ℕ
-  pub update : ℕ
-
--- its other fields as they are kept, and the four texts of each of its notes
-pub record PeriodContent : Type 0 where
-  pub fields : List (List ℕ)
-  pub notes : List (List (List ℕ))
 
 -- a 250 with its 550 records
 pub record PeriodStatement : Type 0 where

@@ -2,17 +2,17 @@
 
 use mds_marks::Reading;
 use mds_quantity::Unit;
-use mds_terms::{Day, Details, Event, Length, Moment, Stream};
+use mds_terms::{Day, Details, Event, Length, Moment, PrintableString, Stream};
 
 /// The header of a file, its 100 record.
 #[derive(Drop)]
 pub struct Header {
     /// When the file was made.
     pub moment: Moment,
-    /// Who sent it (FromParticipant), printable, or empty.
-    pub sender: String,
-    /// For whom it is (ToParticipant), printable, or empty.
-    pub receiver: String,
+    /// Who sent it (FromParticipant), which may be empty.
+    pub sender: PrintableString,
+    /// For whom it is (ToParticipant), which may be empty.
+    pub receiver: PrintableString,
 }
 
 /// A 200 record, and the days that it governs.

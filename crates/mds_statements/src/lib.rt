@@ -4,6 +4,8 @@
 
 mod blocks;
 mod delivery;
+mod periods;
 
 pub use blocks::{Block, DeliveredDay, Header};
 pub use delivery::Delivery;
+pub use periods::{Period, PeriodContent, PeriodKey};

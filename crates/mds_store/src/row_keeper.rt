@@ -10,10 +10,11 @@ ghost use Rattle.mds_store.specs.Props.{Holds-prop, settles};
 
 use mds_inserts::{commit, job_rows};
 use mds_jobs::{Job, JobId};
-use mds_lists::{holidays_of, job_of};
+use mds_lists::{content_of_period, days_of, holidays_of, job_of, periods_of};
 use mds_selects::{
     current_details, events_of, has_details, has_event, head_of, streams, versions_of,
 };
+use mds_statements::{Period, PeriodContent, PeriodKey};
 use mds_terms::{Day, Details, Event, Stream};
 use mds_versions::{Additions, DayBook, Keeper, Unavailable};
 use mds_world::Detail;
@@ -75,6 +76,11 @@ impl<S: Alter> Keeper for RowKeeper<S> {
         DayBook::new(stream, day, head, versions).ok_or(Unavailable)
     }
 
+    // Two queries, whatever the length of the range.
+    fn days(&mut self, stream: Stream, first: Day, last: Day) -> Result<Vec<DayBook>, Unavailable> {
+        days_of(self.alloc, &mut self.conn, &stream, first, last)
+    }
+
     fn streams(&mut self) -> Result<Vec<Stream>, Unavailable> {
         streams(self.alloc, &mut self.conn)
     }
@@ -93,6 +99,14 @@ impl<S: Alter> Keeper for RowKeeper<S> {
 
     fn has_event(&mut self, event: &Event) -> Result<bool, Unavailable> {
         has_event(&mut self.conn, event)
+    }
+
+    fn period(&mut self, stream: Stream) -> Result<Vec<Period>, Unavailable> {
+        periods_of(self.alloc, &mut self.conn, &stream)
+    }
+
+    fn content(&mut self, key: &PeriodKey) -> Result<Option<PeriodContent>, Unavailable> {
+        content_of_period(self.alloc, &mut self.conn, key)
     }
 
     fn holidays(&mut self) -> Result<Vec<Day>, Unavailable> {

@@ -79,6 +79,20 @@ pub insert_event_plain : IsPlain (understood schema_1 insert_event)
 unfolding understood everything
 insert_event_plain = (refl, refl)
 
+abbrev pub insert_period : List ℕ
+insert_period = codes "INSERT INTO mds_period (nmi, suffix, register, start, finish, moment, body) VALUES (?1, ?2, ?3, ?4, ?5, ?6, ?7)"
+
+abbrev pub period_terms : List Term
+period_terms = lit Null ∷ col 0 0 ∷ col 0 1 ∷ col 0 2 ∷ col 0 3 ∷ col 0 4 ∷ col 0 5 ∷ col 0 6 ∷ []
+
+pub insert_period_is : command_of (understood schema_1 insert_period) ≡ Insert 5 (Values period_terms 8)
+unfolding understood everything
+insert_period_is = refl
+
+pub insert_period_plain : IsPlain (understood schema_1 insert_period)
+unfolding understood everything
+insert_period_plain = (refl, refl)
+
 abbrev pub insert_holiday : List ℕ
 insert_holiday = codes "INSERT INTO mds_holiday (day) VALUES (?1)"
 

@@ -1,5 +1,6 @@
 -- The columns of the row that names a fact (profile), without a rowid.
-use Rattle.std.specs.Prelude.{ℕ, ℤ, pos, negsuc, List, [], ◌∷◌, Option, Some, None, unwrap_or}
+use Rattle.std.specs.Prelude.{ℕ, ℤ, pos, negsuc, List, [], ◌∷◌, map, Option, Some, None, unwrap_or}
+use Rattle.std.specs.List.{join_with_byte}
 use Rattle.sqlite_value.specs.Order.{Row}
 use Rattle.sqlite.specs.declared.types.Value.{Value}
 use Rattle.sqlite.specs.declared.types.Value.TheVariants.{Int, Text}
@@ -8,6 +9,9 @@ use Rattle.mds_names.specs.declared.stream.Stream.{Stream}
 use Rattle.mds_marks.specs.Quality.{quality_text}
 use Rattle.mds_marks.specs.Reading.{ReadingValue}
 use Rattle.mds_terms.specs.Event.{EventValue}
+use Rattle.mds_statements.specs.Contents.{PeriodContent}
+use Rattle.mds_statements.specs.declared.periods.Period.{Period}
+use Rattle.mds_statements.specs.declared.periods.PeriodKey.{PeriodKey}
 use Rattle.mds_world.specs.declared.facts.Detail.{Detail}
 use Rattle.mds_world.specs.declared.facts.Head.{Head}
 use Rattle.mds_world.specs.declared.facts.Key.{Key}
@@ -24,6 +28,10 @@ stream_cells s = Text s.nmi ∷ Text s.suffix ∷ []
 
 abbrev pub day_cells : Stream → ℕ → Row
 day_cells s day = Text s.nmi ∷ Text s.suffix ∷ number_cell day ∷ []
+
+-- a stream, and the first and the last day of a range
+abbrev pub range_cells : Stream → ℕ → ℕ → Row
+range_cells s first last = Text s.nmi ∷ Text s.suffix ∷ number_cell first ∷ number_cell last ∷ []
 
 abbrev pub head_cells : Head → Row
 head_cells h =
@@ -49,6 +57,21 @@ abbrev pub event_cells : EventValue → Row
 event_cells e =
     Text e.nmi ∷ Text e.suffix ∷ number_cell e.day ∷ Text (letter_text e.trans) ∷ Text e.ticket
     ∷ optional_cell e.moment ∷ Text e.reading ∷ []
+
+-- The one text of the content of an accumulation: its fields joined by commas, and behind them each of its notes, whose texts are
+-- joined in the same way, on a line of its own.
+abbrev pub body_text : PeriodContent → List ℕ
+body_text content = join_with_byte 10 (join_with_byte 44 content.fields ∷ map (join_with_byte 44) content.notes)
+
+abbrev pub period_key_cells : PeriodKey → Row
+period_key_cells k =
+    Text k.stream.nmi ∷ Text k.stream.suffix ∷ Text k.register ∷ number_cell k.start ∷ number_cell k.finish
+    ∷ number_cell k.update ∷ []
+
+abbrev pub period_cells : Period → Row
+period_cells p =
+    Text p.key.stream.nmi ∷ Text p.key.stream.suffix ∷ Text p.key.register ∷ number_cell p.key.start
+    ∷ number_cell p.key.finish ∷ number_cell p.key.update ∷ Text (body_text p.content) ∷ []
 
 abbrev pub holiday_cells : ℕ → Row
 holiday_cells day = number_cell day ∷ []

@@ -3,7 +3,6 @@
 use Rattle.std.specs.Prelude.{ℕ, ◌+◌, ◌^◌, ℤ, pos, negsuc, List, [], ◌∷◌, ◌++◌, map, Option, Some, None, unwrap_or, ◌==◌, if◌then◌else◌}
 use Rattle.std.proofs.Common.{suc, zero}
 use Rattle.std.specs.FinSet as set
-use Rattle.std.specs.List.{slice_split}
 use Rattle.sqlite_rules.specs.Edit.{id_in}
 use Rattle.sqlite_trees.specs.Tree.{Trees}
 use Rattle.sqlite_value.specs.Order.{Row, bytes, column}
@@ -12,7 +11,8 @@ use Rattle.mds_marks.specs.Quality.{QualityValue, null, quality_of}
 use Rattle.mds_marks.specs.Reading.{ReadingValue}
 use Rattle.mds_jobs.specs.Bodies.{job_in, parts_of}
 pub use Rattle.mds_jobs.specs.Bodies.{unit_named}
-use Rattle.mds_world.specs.Facts.{Fact, PeriodContent}
+use Rattle.mds_statements.specs.Contents.{content_of}
+use Rattle.mds_world.specs.Facts.{Fact}
 use Rattle.mds_world.specs.Facts.Fact.{DetailIs, EventIs, HeadIs, HolidayIs, JobIs, PeriodIs, VersionIs}
 use Rattle.mds_world.specs.World.{World}
 
@@ -94,11 +94,7 @@ event_fact row = EventIs (record {
   reading = text_at row 7;
 })
 
--- What the lines of an accumulation's body say: the first its fields, and each other the texts of a note.
-abbrev pub content_in : List (List ℕ) → PeriodContent
-content_in [] = record { fields = []; notes = [] }
-content_in (fields ∷ notes) = record { fields = parts_of fields; notes = map parts_of notes }
-
+-- an accumulation's body says its content
 abbrev pub period_fact : Row → Fact
 period_fact row =
     PeriodIs (record {
@@ -108,7 +104,7 @@ period_fact row =
       finish = natural_at row 5;
       update = natural_at row 6;
     })
-    (content_in (slice_split (λ byte. byte == 10) (text_at row 7)))
+    (content_of (text_at row 7))
 
 -- a holiday is its day alone
 abbrev pub holiday_fact : Row → Fact

@@ -13,7 +13,7 @@ use Rattle.mds_versions.specs.declared.additions.Additions.{Additions}
 use Rattle.mds_jobs.specs.Bodies.{IsJobBody}
 use Rattle.mds_jobs.specs.Jobs.{content_of}
 use Rattle.mds_jobs.specs.declared.job.Job.{Job}
-use Rattle.mds_tables.specs.Cells.{detail_cells, event_cells, head_cells, holiday_cells, job_cells, version_cells}
+use Rattle.mds_tables.specs.Cells.{detail_cells, event_cells, head_cells, holiday_cells, job_cells, period_cells, version_cells}
 use Rattle.mds_tables.specs.RowFacts.{int_at, world_in}
 use Rattle.mds_tables.specs.Tables.{schema_1}
 
@@ -72,7 +72,7 @@ pub record Adds (old new : Trees) (additions : Additions) : Type 0 where
   pub versions : Gains 4 (map (λ version. version_cells version.0 version.1) additions.versions.items) old new
   pub details : Gains 6 (map detail_cells additions.details.items) old new
   pub events : Gains 8 (map event_cells additions.events.items) old new
-  pub periods : new 10 ≡ old 10
+  pub periods : Gains 10 (map period_cells additions.periods.items) old new
   pub holidays : Gains 12 (map holiday_cells additions.holidays.items) old new
   pub jobs : (rows : List Row) × AreJobRows additions.jobs.items rows × Gains 14 rows old new
 

@@ -4,10 +4,12 @@ ghost use Rattle.std.specs.Prelude.{◌≡◌, ◌≤◌, [], ◌∷◌, pos, ta
 ghost use Rattle.sqlite.specs.Values.{bound};
 ghost use Rattle.sqlite.specs.declared.types.Value.TheVariants.{Int, Text};
 ghost use Rattle.mds_marks.specs.Quality.{quality_text};
+ghost use Rattle.mds_statements.specs.Contents.{content_of};
 ghost use Rattle.mds_tables.specs.Cells as row;
 
 use mds_jobs::JobId;
 use mds_marks::Reading;
+use mds_statements::{Period, PeriodKey};
 use mds_terms::{Day, Event, Moment, Stream};
 use mds_world::{Detail, Head, Key};
 use sqlite::types::ValueRef;
@@ -30,6 +32,18 @@ pub fn day_cells<'a>(stream: &'a Stream, day: Day) -> [ValueRef<'a>; 3]
         ValueRef::Text(stream.nmi.text().as_bytes()),
         ValueRef::Text(stream.suffix.text().as_bytes()),
         ValueRef::Int(day.number()),
+    ]
+}
+
+/// The columns that name a stream, and the first and the last day of a range.
+pub fn range_cells<'a>(stream: &'a Stream, first: Day, last: Day) -> [ValueRef<'a>; 4]
+    ensures { bound result ≡ row.range_cells stream.now first last }
+{
+    [
+        ValueRef::Text(stream.nmi.text().as_bytes()),
+        ValueRef::Text(stream.suffix.text().as_bytes()),
+        ValueRef::Int(first.number()),
+        ValueRef::Int(last.number()),
     ]
 }
 
@@ -152,6 +166,37 @@ pub fn letter_of(event: &Event) -> ([u8; 1], usize)
         Some(code) => ([code.letter()], 1),
         None => ([0], 0),
     }
+}
+
+/// The columns that name an accumulation.
+pub fn period_key_cells<'a>(key: &'a PeriodKey) -> [ValueRef<'a>; 6]
+    ensures { bound result ≡ row.period_key_cells key.now }
+{
+    [
+        ValueRef::Text(key.stream.nmi.text().as_bytes()),
+        ValueRef::Text(key.stream.suffix.text().as_bytes()),
+        ValueRef::Text(key.register.text().as_bytes()),
+        ValueRef::Int(key.start.seconds()),
+        ValueRef::Int(key.finish.seconds()),
+        ValueRef::Int(key.update.seconds()),
+    ]
+}
+
+/// The columns of an accumulation, of which the body is the text of its content.
+pub fn period_cells<'a>(period: &'a Period) -> [ValueRef<'a>; 7]
+    ensures cells { bound result ≡ row.period_cells period.now }
+    ensures says { content_of (row.body_text period.now.content) ≡ period.now.content }
+{
+    let key = &period.key;
+    [
+        ValueRef::Text(key.stream.nmi.text().as_bytes()),
+        ValueRef::Text(key.stream.suffix.text().as_bytes()),
+        ValueRef::Text(key.register.text().as_bytes()),
+        ValueRef::Int(key.start.seconds()),
+        ValueRef::Int(key.finish.seconds()),
+        ValueRef::Int(key.update.seconds()),
+        ValueRef::Text(period.content.text().as_bytes()),
+    ]
 }
 
 /// The column of a holiday.

@@ -1,5 +1,5 @@
 -- The laws of the orders of details and events, so that they can be members of finite sets.
-use Rattle.std.specs.Prelude.{◌≡◌, true, Some, None, refl}
+use Rattle.std.specs.Prelude.{◌≡◌, ℕ, List, true, Some, None, refl}
 use Rattle.std.proofs.Common.{ap, subst}
 use Rattle.std.specs.Bool.{Decides}
 use Rattle.std.specs.Cmp.{IsTotalOrder, Equal-is, tied_itself, then_total, on_total, nat_cmp_total}
@@ -102,3 +102,7 @@ details_decided = decides details_total details_exact
 -- and whether events do
 pub event_decided : (x y : EventValue) → Decides (eq_by_cmp event_cmp x y) (x ≡ y)
 event_decided = decides event_total event_exact
+
+-- and whether texts are one
+pub text_decided : (x y : List ℕ) → Decides (eq_by_cmp (slice_cmp nat_cmp) x y) (x ≡ y)
+text_decided = decides nat_list_cmp_total text_exact

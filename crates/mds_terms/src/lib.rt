@@ -8,6 +8,7 @@ mod event;
 mod event_ref;
 mod parts;
 mod printable;
+mod printable_string;
 #[cfg(test)]
 mod tests;
 mod trans_code;
@@ -27,4 +28,5 @@ pub use mds_marks::{
 pub use mds_names::{Nmi, Stream, Suffix, names_read_back};
 pub use parts::write_joined;
 pub use printable::PrintableText;
+pub use printable_string::PrintableString;
 pub use trans_code::TransCode;

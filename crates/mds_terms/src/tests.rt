@@ -1,6 +1,6 @@
 use crate::{
-    Details, DetailsRef, Event, EventRef, PrintableText, TransCode, details_read_back,
-    events_read_back,
+    Details, DetailsRef, Event, EventRef, PrintableString, PrintableText, TransCode,
+    details_read_back, events_read_back,
 };
 use std::alloc::{AllocError, Global};
 
@@ -12,7 +12,7 @@ fn begun(alloc: Global, text: &str) -> Result<String, AllocError> {
 }
 
 #[test]
-fn printable_texts(rt: HostRuntime) {
+fn printable_texts(rt: HostRuntime) -> Result<(), AllocError> {
     let long = [b'x'; 241];
     let texts: [(&[u8], bool); 8] = [
         (b"", true),
@@ -30,7 +30,15 @@ fn printable_texts(rt: HostRuntime) {
         if let Some(read) = read {
             assert_eq!(rt; read.text().as_bytes(), text);
         }
+        let own = PrintableString::read(rt.alloc(), text)?;
+        assert_eq!(rt; own.is_some(), is_printable);
+        if let Some(own) = own {
+            assert_eq!(rt; own.text().as_bytes(), text);
+            assert!(rt; own.try_clone()?.is_same(&own));
+            assert_eq!(rt; own.borrowed().text().as_bytes(), text);
+        }
     }
+    Ok(())
 }
 
 #[test]

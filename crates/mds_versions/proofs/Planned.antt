@@ -18,7 +18,7 @@ use Rattle.mds_world.specs.Sets.{◌∈◌, decided, difference_in, in_differenc
 use Rattle.mds_world.specs.Stated.{day_facts}
 use Rattle.mds_world.specs.World.{Agrees, IsLawful, World, union}
 use Rattle.mds_versions.specs.Books.{BookValue, book_world}
-use Rattle.mds_versions.specs.Content.{content, content_facts, job_fact, version_fact}
+use Rattle.mds_versions.specs.Content.{content, content_facts, job_fact, period_fact, version_fact}
 use Rattle.mds_versions.specs.DayMerges.{AreAscending, DayMergeValue, IfRefused, IsPlan, Settles}
 use Rattle.mds_versions.specs.Merge.{Breaks, IsRefusal, claim_facts, claim_world, claims_upto, claims_world}
 use Rattle.mds_versions.specs.declared.additions.Additions.{Additions}
@@ -211,28 +211,32 @@ added_facts d old new known s e =
     let V = map version_fact old.versions.items in
     let D = map DetailIs old.details.items in
     let E = map EventIs old.events.items in
+    let P = map period_fact old.periods.items in
     let L = map HolidayIs old.holidays.items in
     let J = map job_fact old.jobs.items in
-    let e5 : (((H ++ V) ++ D) ++ E) ++ L ≡ [] = nil_left ((((H ++ V) ++ D) ++ E) ++ L) J e in
-    let e4 : ((H ++ V) ++ D) ++ E ≡ [] = nil_left (((H ++ V) ++ D) ++ E) L e5 in
+    let e6 : ((((H ++ V) ++ D) ++ E) ++ P) ++ L ≡ [] = nil_left (((((H ++ V) ++ D) ++ E) ++ P) ++ L) J e in
+    let e5 : (((H ++ V) ++ D) ++ E) ++ P ≡ [] = nil_left ((((H ++ V) ++ D) ++ E) ++ P) L e6 in
+    let e4 : ((H ++ V) ++ D) ++ E ≡ [] = nil_left (((H ++ V) ++ D) ++ E) P e5 in
     let e3 : (H ++ V) ++ D ≡ [] = nil_left ((H ++ V) ++ D) E e4 in
     let e2 : H ++ V ≡ [] = nil_left (H ++ V) D e3 in
     let hs : old.heads.items ≡ [] = nil_map HeadIs old.heads.items (nil_left H V e2) in
     let vs : old.versions.items ≡ [] = nil_map version_fact old.versions.items (nil_right H V e2) in
     let ds : old.details.items ≡ [] = nil_map DetailIs old.details.items (nil_right (H ++ V) D e3) in
     let es : old.events.items ≡ [] = nil_map EventIs old.events.items (nil_right ((H ++ V) ++ D) E e4) in
-    let ls : old.holidays.items ≡ [] = nil_map HolidayIs old.holidays.items (nil_right (((H ++ V) ++ D) ++ E) L e5) in
-    let js : old.jobs.items ≡ [] = nil_map job_fact old.jobs.items (nil_right ((((H ++ V) ++ D) ++ E) ++ L) J e) in
+    let ps : old.periods.items ≡ [] = nil_map period_fact old.periods.items (nil_right (((H ++ V) ++ D) ++ E) P e5) in
+    let ls : old.holidays.items ≡ [] = nil_map HolidayIs old.holidays.items (nil_right ((((H ++ V) ++ D) ++ E) ++ P) L e6) in
+    let js : old.jobs.items ≡ [] = nil_map job_fact old.jobs.items (nil_right (((((H ++ V) ++ D) ++ E) ++ P) ++ L) J e) in
     let h : new.heads.items ≡ s.heads = s.more_heads ∙ ap (λ l. l ++ s.heads) hs in
     let v : new.versions.items ≡ s.versions = s.more_versions ∙ ap (λ l. l ++ s.versions) vs in
     let x : new.details.items ≡ [] = ap (λ k. k.items) s.same_details ∙ ds in
     let y : new.events.items ≡ [] = ap (λ k. k.items) s.same_events ∙ es in
+    let p : new.periods.items ≡ [] = ap (λ k. k.items) s.same_periods ∙ ps in
     let z : new.holidays.items ≡ [] = ap (λ k. k.items) s.same_holidays ∙ ls in
     let w : new.jobs.items ≡ [] = ap (λ k. k.items) s.same_jobs ∙ js in
     let N = map HeadIs s.heads ++ map version_fact s.versions in (
-      (λ i. map HeadIs (h i) ++ map version_fact (v i) ++ map DetailIs (x i) ++ map EventIs (y i) ++ map HolidayIs (z i)
-          ++ map job_fact (w i))
-          ∙ append-nil (((N ++ []) ++ []) ++ []) ∙ append-nil ((N ++ []) ++ []) ∙ append-nil (N ++ []) ∙ append-nil N,
+      (λ i. map HeadIs (h i) ++ map version_fact (v i) ++ map DetailIs (x i) ++ map EventIs (y i) ++ map period_fact (p i)
+          ++ map HolidayIs (z i) ++ map job_fact (w i))
+          ∙ append-nil ((((N ++ []) ++ []) ++ []) ++ []) ∙ append-nil (((N ++ []) ++ []) ++ []) ∙ append-nil ((N ++ []) ++ []) ∙ append-nil (N ++ []) ∙ append-nil N,
       v,
     )
 

@@ -425,15 +425,16 @@ module _ (b : BookValue) (form : Option (ℕ × MeasureUnit)) (claimed : BTreeMa
   pub settles : (v : DayMergeValue) → merge_value b form claimed ≡ v → (old new : Additions) (known : ℕ)
       → new.heads.items ≡ old.heads.items ++ fresh_heads b.stream b.day b.head form
       → (new.versions.items ≡ old.versions.items ++ fresh_all b claimed.entries) × (known ≡ held_all b claimed.entries)
-      → new.details ≡ old.details → new.events ≡ old.events
+      → new.details ≡ old.details → new.events ≡ old.events → new.periods ≡ old.periods
       → new.holidays ≡ old.holidays → new.jobs ≡ old.jobs → Settles v old new known
-  settles v is old new known hs vs ds es ls js = subst (λ x. Settles x old new known) is (record {
+  settles v is old new known hs vs ds es ps ls js = subst (λ x. Settles x old new known) is (record {
     heads = fresh_heads b.stream b.day b.head form;
     versions = picked_all not b claimed.entries;
     more_heads = hs;
     more_versions = vs.0 ∙ ap (λ l. old.versions.items ++ l) (all_picked b claimed.entries);
     same_details = ds;
     same_events = es;
+    same_periods = ps;
     same_holidays = ls;
     same_jobs = js;
     apart = apart;
@@ -445,6 +446,6 @@ module _ (b : BookValue) (form : Option (ℕ × MeasureUnit)) (claimed : BTreeMa
       → AreCounts b claimed.entries held fresh
       → new.heads.items ≡ old.heads.items ++ fresh_heads b.stream b.day b.head form
       → new.versions.items ≡ old.versions.items ++ fresh_all b claimed.entries
-      → new.details ≡ old.details → new.events ≡ old.events
+      → new.details ≡ old.details → new.events ≡ old.events → new.periods ≡ old.periods
       → new.holidays ≡ old.holidays → new.jobs ≡ old.jobs → Settles v old new held
-  settles_end v is old new held fresh c hs vs ds es ls js = settles v is old new held hs (vs, c.held_are) ds es ls js
+  settles_end v is old new held fresh c hs vs ds es ps ls js = settles v is old new held hs (vs, c.held_are) ds es ps ls js

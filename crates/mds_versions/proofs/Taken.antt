@@ -19,7 +19,8 @@ use Rattle.mds_marks.specs.Reading.{ReadingValue}
 use Rattle.mds_world.specs.declared.facts.Head.{Head}
 use Rattle.mds_world.specs.declared.facts.Key.{Key}
 use Rattle.mds_world.specs.FactOrder.{exact, total}
-use Rattle.mds_world.specs.Facts.{Fact, PeriodKey, PeriodContent}
+use Rattle.mds_world.specs.Facts.{Fact, PeriodContent}
+use Rattle.mds_statements.specs.declared.periods.PeriodKey.{PeriodKey}
 use Rattle.mds_world.specs.Facts.Fact.{HeadIs, VersionIs, PeriodIs}
 use Rattle.mds_world.specs.Lists.{Apart, Member, member_append, append_left, in_flat, flat_in, in_map, map_in}
 use Rattle.mds_world.specs.Members.{same_by, in_union, union_left, union_right, in_list, list_in}
@@ -34,7 +35,7 @@ use Rattle.mds_versions.specs.Merge.{Breaks, HasTwoLengths, HasTwoUnits, claim_f
 use Rattle.mds_versions.specs.declared.claim.Claim.{Claim}
 use Rattle.mds_versions.specs.declared.day_book.Version.{Version}
 use Rattle.mds_versions.specs.declared.refusal.RefusalCode.{RefusalCode}
-use Rattle.mds_versions.specs.declared.refusal.RefusalCode.TheVariants.{LengthConflict, UnitConflict, VersionConflict, JobReused, Protected, StaleUpdate, NoLikeDay, TooLong, NoAnchor, UnknownDay, BadJob}
+use Rattle.mds_versions.specs.declared.refusal.RefusalCode.TheVariants.{LengthConflict, UnitConflict, VersionConflict, JobReused, Protected, StaleUpdate, NoLikeDay, TooLong, NoAnchor, UnknownDay, BadJob, RangeTooWide}
 use Rattle.mds_versions.proofs.Rows.{same_some}
 
 nat_tied : (a b : ℕ) → is_eq (nat_cmp a b) ≡ true → a ≡ b
@@ -187,6 +188,7 @@ module _ (b : BookValue) (form : Option (ℕ × MeasureUnit)) (w : World) (c : C
   form_refused NoAnchor q = absurd q
   form_refused UnknownDay q = absurd q
   form_refused BadJob q = absurd q
+  form_refused RangeTooWide q = absurd q
 
   -- two versions with one key have one reading where the claim suits
   one_reading_at : (key : Key) (x y : ReadingValue) → VersionIs key x ∈ union w (claim_world b.stream b.day c)

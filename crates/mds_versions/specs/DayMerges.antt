@@ -47,6 +47,7 @@ pub record Settles (merge : DayMergeValue) (old new : Additions) (known : ℕ) :
   pub more_versions : new.versions.items ≡ old.versions.items ++ versions
   pub same_details : new.details ≡ old.details
   pub same_events : new.events ≡ old.events
+  pub same_periods : new.periods ≡ old.periods
   pub same_holidays : new.holidays ≡ old.holidays
   pub same_jobs : new.jobs ≡ old.jobs
   pub apart : Apart (map HeadIs heads ++ map version_fact versions)

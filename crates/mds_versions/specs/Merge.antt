@@ -9,7 +9,8 @@ use Rattle.mds_statements.specs.Statements.{Statement}
 use Rattle.mds_statements.specs.Statements.Statement.{DayOf, PeriodOf}
 use Rattle.mds_world.specs.declared.facts.Head.{Head}
 use Rattle.mds_world.specs.declared.facts.Key.{Key}
-use Rattle.mds_world.specs.Facts.{Fact, PeriodKey, PeriodContent}
+use Rattle.mds_world.specs.Facts.{Fact, PeriodContent}
+use Rattle.mds_statements.specs.declared.periods.PeriodKey.{PeriodKey}
 use Rattle.mds_world.specs.Facts.Fact.{HeadIs, VersionIs, PeriodIs}
 use Rattle.mds_world.specs.Sets.{◌∈◌}
 use Rattle.mds_world.specs.Stated.{day_facts, stated}

@@ -2,7 +2,7 @@
 use Rattle.std.specs.Prelude.{ℕ, ◌==◌, if◌then◌else◌, List, [], ◌++◌, codes, decimal}
 use Rattle.mds_versions.specs.declared.refusal.Refusal.{Refusal}
 use Rattle.mds_versions.specs.declared.refusal.RefusalCode.{RefusalCode}
-use Rattle.mds_versions.specs.declared.refusal.RefusalCode.TheVariants.{LengthConflict, UnitConflict, VersionConflict, JobReused, Protected, StaleUpdate, NoLikeDay, TooLong, NoAnchor, UnknownDay, BadJob}
+use Rattle.mds_versions.specs.declared.refusal.RefusalCode.TheVariants.{LengthConflict, UnitConflict, VersionConflict, JobReused, Protected, StaleUpdate, NoLikeDay, TooLong, NoAnchor, UnknownDay, BadJob, RangeTooWide}
 
 -- the code of the rule
 abbrev pub code_text : RefusalCode → List ℕ
@@ -17,6 +17,7 @@ code_text TooLong = codes "M8"
 code_text NoAnchor = codes "M9"
 code_text UnknownDay = codes "M10"
 code_text BadJob = codes "M11"
+code_text RangeTooWide = codes "M12"
 
 -- a number behind its name, where it isn't 0
 abbrev pub place_text : List ℕ → ℕ → List ℕ

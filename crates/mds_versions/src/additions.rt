@@ -2,6 +2,7 @@
 
 use mds_jobs::Job;
 use mds_marks::Reading;
+use mds_statements::Period;
 use mds_terms::{Day, Event};
 use mds_world::{Detail, Head, Key};
 use std::alloc::Global;
@@ -14,6 +15,7 @@ pub struct Additions {
     pub versions: Vec<(Key, Reading)>,
     pub details: Vec<Detail>,
     pub events: Vec<Event>,
+    pub periods: Vec<Period>,
     pub holidays: Vec<Day>,
     /// The substitution jobs, each with the count of the readings that it made.
     pub jobs: Vec<(Job, u64)>,
@@ -32,6 +34,7 @@ impl Additions {
             versions: Vec::new(alloc),
             details: Vec::new(alloc),
             events: Vec::new(alloc),
+            periods: Vec::new(alloc),
             holidays: Vec::new(alloc),
             jobs: Vec::new(alloc),
         }

@@ -7,11 +7,12 @@ ghost use Rattle.mds_world.specs.Sets.{◌∈◌};
 ghost use Rattle.mds_world.specs.World.{World, IsLawful, union};
 ghost use Rattle.mds_versions.specs.Books.{IsDay};
 ghost use Rattle.mds_versions.specs.Content.{AreNew, content};
-ghost use Rattle.mds_versions.specs.Queries.{AreEventsOf, AreHolidays, AreKnownStreams, IsJobOf};
+ghost use Rattle.mds_versions.specs.Queries.{AreEventsOf, AreDaysOf, AreHolidays, AreKnownStreams, ArePeriodsOf, IsContentOf, IsJobOf};
 
 use crate::additions::Additions;
 use crate::day_book::DayBook;
 use mds_jobs::{Job, JobId};
+use mds_statements::{Period, PeriodContent, PeriodKey};
 use mds_terms::{Day, Details, Event, Stream};
 use mds_world::Detail;
 
@@ -44,6 +45,16 @@ pub trait Keeper {
         ensures before { sound self.new → sound self.old }
         ensures open { honest self.new → OnOk result (sound self.new) }
         ensures book { sound self.new → IfOk result (IsDay (world self.old)) }
+        ensures same { sound self.new → world self.new ≡ world self.old }
+        ensures crash { honest self.new → (left : World) → may_leave self.new left → may_leave self.old left };
+
+    /// The known days of a stream from a first to a last one, ascending.
+    fn days(&mut self, stream: Stream, first: Day, last: Day) -> Result<Vec<DayBook>, Unavailable>
+        ensures outside { honest self.new → honest self.old }
+        ensures before { sound self.new → sound self.old }
+        ensures open { honest self.new → OnOk result (sound self.new) }
+        ensures days { sound self.new
+            → IfOk result (λ books. AreDaysOf (world self.old) stream first last books.items) }
         ensures same { sound self.new → world self.new ≡ world self.old }
         ensures crash { honest self.new → (left : World) → may_leave self.new left → may_leave self.old left };
 
@@ -90,6 +101,25 @@ pub trait Keeper {
         ensures before { sound self.new → sound self.old }
         ensures open { honest self.new → OnOk result (sound self.new) }
         ensures has { sound self.new → IfOk result (λ has. IsTrue has ↔ (EventIs event.now ∈ world self.old)) }
+        ensures same { sound self.new → world self.new ≡ world self.old }
+        ensures crash { honest self.new → (left : World) → may_leave self.new left → may_leave self.old left };
+
+    /// The accumulations of a stream, by register, previous read, current read and update.
+    fn period(&mut self, stream: Stream) -> Result<Vec<Period>, Unavailable>
+        ensures outside { honest self.new → honest self.old }
+        ensures before { sound self.new → sound self.old }
+        ensures open { honest self.new → OnOk result (sound self.new) }
+        ensures periods { sound self.new
+            → IfOk result (λ periods. ArePeriodsOf (world self.old) stream periods.items) }
+        ensures same { sound self.new → world self.new ≡ world self.old }
+        ensures crash { honest self.new → (left : World) → may_leave self.new left → may_leave self.old left };
+
+    /// What is kept of the accumulation of a key. `None` where there is none.
+    fn content(&mut self, key: &PeriodKey) -> Result<Option<PeriodContent>, Unavailable>
+        ensures outside { honest self.new → honest self.old }
+        ensures before { sound self.new → sound self.old }
+        ensures open { honest self.new → OnOk result (sound self.new) }
+        ensures content { sound self.new → IfOk result (IsContentOf (world self.old) key.now) }
         ensures same { sound self.new → world self.new ≡ world self.old }
         ensures crash { honest self.new → (left : World) → may_leave self.new left → may_leave self.old left };
 

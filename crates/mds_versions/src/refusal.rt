@@ -30,6 +30,8 @@ pub enum RefusalCode {
     UnknownDay,
     /// M11: a substitution job can't be done on any store.
     BadJob,
+    /// M12: a range has more than 400 days, or an export more than eight suffixes.
+    RangeTooWide,
 }
 
 impl RefusalCode {
@@ -49,6 +51,7 @@ impl RefusalCode {
             RefusalCode::NoAnchor => "M9",
             RefusalCode::UnknownDay => "M10",
             RefusalCode::BadJob => "M11",
+            RefusalCode::RangeTooWide => "M12",
         }
     }
 }

@@ -1,5 +1,6 @@
 -- What an answer to words asks for.
 use Rattle.std.specs.Prelude.{ℕ, List, Option, Some, None}
+use Rattle.mds_records.specs.declared.file.FileKind.{FileKind}
 use Rattle.mds_words.specs.declared.words.Input.{Input}
 use Rattle.mds_words.specs.declared.words.Input.TheVariants.{Standard, File}
 use Rattle.mds_words.specs.declared.words.Words.{Words}
@@ -10,10 +11,10 @@ abbrev pub input_value : Input → Option (List ℕ)
 input_value Standard = None
 input_value (File name) = Some name.now
 
--- a check, and of what
-abbrev pub asked_check : Words → Option (Option (List ℕ))
-asked_check (Check input) = Some (input_value input)
+-- a check, of a file of which kind, and of what
+abbrev pub asked_check : Words → Option (FileKind × Option (List ℕ))
+asked_check (Check kind input) = Some (kind, input_value input)
 asked_check (Init store) = None
-asked_check (Import store input) = None
+asked_check (Import store kind input) = None
 asked_check (Substitute store input) = None
 asked_check (Holidays store input) = None

@@ -6,6 +6,7 @@ ghost use Rattle.clap.specs.Values.{kind_of};
 use crate::words::{Input, Words, WordsFault};
 use clap::error::ErrorKind;
 use clap::{Arg, ArgMatches, Command, Error};
+use mds_records::FileKind;
 use std::alloc::{AllocError, Global};
 
 /// Reads the words that follow the program's name by the grammar of its commands.
@@ -40,6 +41,7 @@ fn matched<'a>(alloc: Global, words: &'a [String]) -> Result<Words<'a>, Error> {
         },
         Some((name, found)) if name == "import" => Words::Import {
             store: word(found, "store"),
+            kind: kind(found),
             input: Input::new(word(found, "file")),
         },
         Some((name, found)) if name == "substitute" => Words::Substitute {
@@ -51,9 +53,11 @@ fn matched<'a>(alloc: Global, words: &'a [String]) -> Result<Words<'a>, Error> {
             input: Input::new(word(found, "file")),
         },
         Some((_, found)) => Words::Check {
+            kind: kind(found),
             input: Input::new(word(found, "file")),
         },
         None => Words::Check {
+            kind: FileKind::Nem12,
             input: Input::Standard,
         },
     })
@@ -64,20 +68,33 @@ fn word<'a>(found: &ArgMatches<'a>, id: &str) -> &'a str {
     found.get_str(id).unwrap_or("")
 }
 
+/// The kind of file that is named, where one is.
+fn kind(found: &ArgMatches<'_>) -> FileKind {
+    match found.get_str("kind") {
+        Some("nem13") => FileKind::Nem13,
+        _ => FileKind::Nem12,
+    }
+}
+
+/// The kinds of files, by their names.
+const KINDS: [&str; 2] = ["nem12", "nem13"];
+
 /// What a file is that is checked or imported.
 const MDFF: &str = "A file of the Meter Data File Format; - is standard input";
 
 /// The commands, and what words they take.
 fn grammar<'a>(alloc: Global) -> Result<Command<'a>, AllocError> {
     let check = Command::new(alloc, "check")
-        .about("Checks a NEM12 file, and prints what each of its days adds up to")
+        .about("Checks a file, and prints what each of its days or accumulations comes to")
+        .arg(kinds(alloc))?
         .arg(file(alloc, MDFF))?;
     let init = Command::new(alloc, "init")
         .about("Makes a store in a new file")
         .arg(store(alloc))?;
     let import = Command::new(alloc, "import")
-        .about("Adds what a NEM12 file states to a store")
+        .about("Adds what a file states to a store")
         .arg(store(alloc))?
+        .arg(kinds(alloc))?
         .arg(file(alloc, MDFF))?;
     let substitute = Command::new(alloc, "substitute")
         .about("Fills in readings of a day by a substitution job, and keeps the job")
@@ -107,6 +124,15 @@ fn file<'a>(alloc: Global, help: &'a str) -> Arg<'a> {
         .value_name("FILE")
         .required(true)
         .help(help)
+}
+
+fn kinds<'a>(alloc: Global) -> Arg<'a> {
+    Arg::new(alloc, "kind")
+        .long("kind")
+        .value_name("KIND")
+        .value_parser(KINDS.as_slice())
+        .default_value("nem12")
+        .help("The kind of file: interval data, or accumulations")
 }
 
 fn store<'a>(alloc: Global) -> Arg<'a> {

@@ -1,6 +1,7 @@
 //! What words ask for.
 
 use crate::{Input, Words, WordsFault, read_words};
+use mds_records::FileKind;
 use std::alloc::{AllocError, Global};
 use std::test::Fail;
 
@@ -11,10 +12,15 @@ fn asked(alloc: Global, text: &str) -> Result<String, AllocError> {
         words.push(String::from_str(alloc, word)?)?;
     }
     match read_words(alloc, words.as_slice()) {
-        Ok(Words::Check { input }) => format!(in alloc; "check {}", name_of(input)),
+        Ok(Words::Check { kind, input }) => format!(in alloc;
+            "check {} {}",
+            kind_of(kind),
+            name_of(input)
+        ),
         Ok(Words::Init { store }) => format!(in alloc; "init {store}"),
-        Ok(Words::Import { store, input }) => format!(in alloc;
-            "import {store} {}",
+        Ok(Words::Import { store, kind, input }) => format!(in alloc;
+            "import {store} {} {}",
+            kind_of(kind),
             name_of(input)
         ),
         Ok(Words::Substitute { store, input }) => format!(in alloc;
@@ -30,6 +36,13 @@ fn asked(alloc: Global, text: &str) -> Result<String, AllocError> {
     }
 }
 
+fn kind_of(kind: FileKind) -> &'static str {
+    match kind {
+        FileKind::Nem12 => "12",
+        FileKind::Nem13 => "13",
+    }
+}
+
 fn name_of(input: Input<'_>) -> &str {
     match input {
         Input::Standard => "standard input",
@@ -40,25 +53,34 @@ fn name_of(input: Input<'_>) -> &str {
 #[test]
 fn words_ask(rt: HostRuntime) -> Result<(), Fail> {
     let rows = [
-        ("check week.nem12", "check week.nem12"),
-        ("check -", "check standard input"),
-        ("check -- -", "check standard input"),
-        ("check -- -x", "check -x"),
+        ("check week.nem12", "check 12 week.nem12"),
+        ("check -", "check 12 standard input"),
+        ("check -- -", "check 12 standard input"),
+        ("check -- -x", "check 12 -x"),
+        ("check --kind nem13 a.csv", "check 13 a.csv"),
+        ("check a.csv --kind=nem12", "check 12 a.csv"),
         ("init --store week.db", "init week.db"),
         (
             "import --store week.db week.nem12",
-            "import week.db week.nem12",
+            "import week.db 12 week.nem12",
         ),
         (
             "import week.nem12 --store=week.db",
-            "import week.db week.nem12",
+            "import week.db 12 week.nem12",
         ),
-        ("import --store week.db -", "import week.db standard input"),
+        (
+            "import --store week.db -",
+            "import week.db 12 standard input",
+        ),
         (
             "import --store week.db -- -",
-            "import week.db standard input",
+            "import week.db 12 standard input",
         ),
-        ("import --store week.db -- -x", "import week.db -x"),
+        ("import --store week.db -- -x", "import week.db 12 -x"),
+        (
+            "import --store week.db --kind nem13 -",
+            "import week.db 13 standard input",
+        ),
         (
             "substitute --store week.db job.json",
             "substitute week.db job.json",

@@ -5,6 +5,7 @@ ghost use Rattle.mds_words.specs.Asked.{asked_check, input_value};
 ghost use Rattle.mds_words.specs.Words.{input_of, requested};
 
 use crate::grammar::read_by_grammar;
+use mds_records::FileKind;
 use std::alloc::Global;
 
 /// What is read.
@@ -19,16 +20,31 @@ pub enum Input<'a> {
 /// What the words of a call ask for.
 #[derive(Clone, Copy)]
 pub enum Words<'a> {
-    /// That a file is checked.
-    Check { input: Input<'a> },
+    /// That a file of a kind is checked.
+    Check {
+        kind: FileKind,
+        input: Input<'a>,
+    },
     /// That a store is made in the file of a name.
-    Init { store: &'a str },
-    /// That a file is imported into the store in the file of a name.
-    Import { store: &'a str, input: Input<'a> },
+    Init {
+        store: &'a str,
+    },
+    /// That a file of a kind is imported into the store in the file of a name.
+    Import {
+        store: &'a str,
+        kind: FileKind,
+        input: Input<'a>,
+    },
     /// That the substitution job that a file says is done in the store in the file of a name.
-    Substitute { store: &'a str, input: Input<'a> },
+    Substitute {
+        store: &'a str,
+        input: Input<'a>,
+    },
     /// That the days of a list in a file are listed as holidays in the store in the file of a name.
-    Holidays { store: &'a str, input: Input<'a> },
+    Holidays {
+        store: &'a str,
+        input: Input<'a>,
+    },
 }
 
 /// Why words ask for nothing.
@@ -54,12 +70,15 @@ impl<'a> Input<'a> {
 
 /// What the words that follow the program's name ask for.
 pub fn read_words<'a>(alloc: Global, words: &'a [String]) -> Result<Words<'a>, WordsFault>
-    // Words that plainly ask for a check are understood so.
+    // Words that plainly ask for the check of a NEM12 file are understood so.
     ensures check { IfSome (requested (map string_bytes words.now)) (λ input.
-        IsOkAnd result (λ asked. asked_check asked ≡ Some input)) }
+        IsOkAnd result (λ asked. asked_check asked ≡ Some (FileKind.Nem12, input))) }
 {
     match plain_check(words) {
-        Some(input) => Ok(Words::Check { input }),
+        Some(input) => Ok(Words::Check {
+            kind: FileKind::Nem12,
+            input,
+        }),
         None => read_by_grammar(alloc, words),
     }
 }

@@ -1,6 +1,7 @@
 use Rattle.std.proofs.Common.{◌∙◌}
 use Rattle.mds_memory.specs.StoredNotes.{IsEventNoteOf}
-use Rattle.mds_memory.proofs.Ranges.{at_end, at_other, events_begin, events_done, one_event}
+use Rattle.mds_memory.proofs.Ranges.{events_begin, events_done, one_event}
+use Rattle.mds_memory.proofs.Runs.{at_end, at_other}
 use Rattle.mds_memory.proofs.stored_notes.events_of.Goals as goal
 use Rattle.mds_memory.proofs.stored_notes.events_of.Goals.{in-None, in-Some+in_default}
 

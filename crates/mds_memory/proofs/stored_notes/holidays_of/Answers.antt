@@ -1,6 +1,7 @@
 use Rattle.std.proofs.Common.{◌∙◌}
 use Rattle.mds_memory.specs.StoredNotes.{IsHolidayNote}
-use Rattle.mds_memory.proofs.Ranges.{at_end, at_other, holidays_begin, holidays_done, one_holiday}
+use Rattle.mds_memory.proofs.Ranges.{holidays_begin, holidays_done, one_holiday}
+use Rattle.mds_memory.proofs.Runs.{at_end, at_other}
 use Rattle.mds_memory.proofs.stored_notes.holidays_of.Goals as goal
 use Rattle.mds_memory.proofs.stored_notes.holidays_of.Goals.{in-None, in-Some+in_default}
 

@@ -1,6 +1,7 @@
 use Rattle.std.proofs.Common.{◌∙◌}
 use Rattle.mds_memory.specs.StoredNotes.{HasDetailsOf}
-use Rattle.mds_memory.proofs.Ranges.{at_end, at_other, details_begin, last_none, last_some, one_detail}
+use Rattle.mds_memory.proofs.Ranges.{details_begin, last_none, last_some, one_detail}
+use Rattle.mds_memory.proofs.Runs.{at_end, at_other}
 use Rattle.mds_memory.proofs.stored_notes.last_detail.Goals as goal
 
 pub loop-note-init : goal.loop-note-init

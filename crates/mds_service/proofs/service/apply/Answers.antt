@@ -15,5 +15,8 @@ returns-in-Day-clause-step g c = rw c.in-Day.is c.day.ensures.step
 pub returns-in-Versions-clause-step : goal.returns-in-Versions-clause-step
 returns-in-Versions-clause-step g c = rw c.in-Versions.is c.versions.ensures.step
 
+pub returns-in-Period-clause-step : goal.returns-in-Period-clause-step
+returns-in-Period-clause-step g c = rw c.in-Period.is c.period.ensures.step
+
 pub returns-in-Streams-clause-step : goal.returns-in-Streams-clause-step
 returns-in-Streams-clause-step g c = rw c.in-Streams.is c.streams.ensures.step

@@ -10,4 +10,4 @@ pub returns-clause-book : goal.returns-clause-book
 returns-clause-book c = λ sound.
     let is : IfOk c.map_err.result (IsDay (days_world c.self.inside.days)) = search rules in
     subst (λ w. IfOk c.map_err.result (IsDay w)) c.self.view_is
-    (if_ok_map c.map_err.result _ _ (day_of_all c.self.inside.days c.self.inside.notes c.self.inside.jobs) is)
+    (if_ok_map c.map_err.result _ _ (day_of_all c.self.inside.days c.self.inside.notes c.self.inside.jobs c.self.inside.periods) is)

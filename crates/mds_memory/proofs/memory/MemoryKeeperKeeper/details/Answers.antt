@@ -10,4 +10,4 @@ pub returns-clause-details : goal.returns-clause-details
 returns-clause-details c = λ sound.
     let is : IfOk c.map_err.result (IsCurrentDetails (notes_world c.self.inside.notes) c.args.stream) = search rules in
     subst (λ w. IfOk c.map_err.result (IsCurrentDetails w c.args.stream)) c.self.view_is
-    (if_ok_map c.map_err.result _ _ (details_of_all c.self.inside.days c.self.inside.notes c.self.inside.jobs c.args.stream) is)
+    (if_ok_map c.map_err.result _ _ (details_of_all c.self.inside.days c.self.inside.notes c.self.inside.jobs c.self.inside.periods c.args.stream) is)

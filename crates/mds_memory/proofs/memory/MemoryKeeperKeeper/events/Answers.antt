@@ -10,4 +10,4 @@ pub returns-clause-events : goal.returns-clause-events
 returns-clause-events c = λ sound.
     let is : IfOk c.map_err.result (λ events. AreEventsOf (notes_world c.self.inside.notes) c.args.stream c.args.day events.items) = search rules in
     subst (λ w. IfOk c.map_err.result (λ events. AreEventsOf w c.args.stream c.args.day events.items)) c.self.view_is
-    (if_ok_map c.map_err.result _ _ (λ events. events_of_all c.self.inside.days c.self.inside.notes c.self.inside.jobs c.args.stream c.args.day events.items) is)
+    (if_ok_map c.map_err.result _ _ (λ events. events_of_all c.self.inside.days c.self.inside.notes c.self.inside.jobs c.self.inside.periods c.args.stream c.args.day events.items) is)

@@ -10,4 +10,4 @@ pub returns-clause-job : goal.returns-clause-job
 returns-clause-job c = λ sound.
     let is : IfOk c.map_err.result (IsJobOf (jobs_world c.self.inside.jobs) c.args.id) = search rules in
     subst (λ w. IfOk c.map_err.result (IsJobOf w c.args.id)) c.self.view_is
-    (if_ok_map c.map_err.result _ _ (job_of_all c.self.inside.days c.self.inside.notes c.self.inside.jobs c.args.id) is)
+    (if_ok_map c.map_err.result _ _ (job_of_all c.self.inside.days c.self.inside.notes c.self.inside.jobs c.self.inside.periods c.args.id) is)

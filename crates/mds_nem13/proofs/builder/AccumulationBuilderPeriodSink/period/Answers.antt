@@ -27,7 +27,7 @@ returns c = λ done text told headed s.
     (meter_fields text ++ kept_read text 9 ++ kept_read text 14 ++ amount_fields text)
     (written.bytes ∙ ap (λ t. (t ++ []) ++ joined (kept_fields text)) c.new-content.ensures.bytes) written.apart in
     let same = same_period c.args.moment c.args.line text made refl (nmi_is (field text 2) _ s.nmi) (suffix_is (field text 5) _ s.suffix)
-    (c.in_ok-register.ensures.ok ∙ c.text.ensures.value ∙ s.register)
+    (c.in_ok-register.ensures.value ∙ s.register)
     (sym (ap (λ o. unwrap_or o 0) s.previous.moment_is)) (sym (ap (λ o. unwrap_or o 0) s.current.moment_is))
     (c.unwrap_or.ensures ∙ sym (ap (λ o. unwrap_or (unwrap_or o None) c.args.moment) s.update)) content in
     subst (λ (gathered : List Accumulation). AreTold gathered (done ++ PeriodOf (period_in c.args.moment c.args.line text []) ∷ []))

@@ -1,0 +1,13 @@
+use Rattle.std.proofs.Common.{IfSome, subst, sym}
+use Rattle.mds_check.specs.Report.{IsFaultOf}
+use Rattle.mds_check.proofs.checking.report.Goals as goal
+
+pub returns-in-Nem12-clause-fault : goal.returns-in-Nem12-clause-fault
+returns-in-Nem12-clause-fault g c = λ fault. λ same.
+    subst (λ kind. IfSome (g.R.Source.remaining c.args.reader.now) (λ text. IsFaultOf kind text fault)) (sym c.in-Nem12.is)
+    (c.report_of_days.ensures.fault fault same)
+
+pub returns-in-Nem13-clause-fault : goal.returns-in-Nem13-clause-fault
+returns-in-Nem13-clause-fault g c = λ fault. λ same.
+    subst (λ kind. IfSome (g.R.Source.remaining c.args.reader.now) (λ text. IsFaultOf kind text fault)) (sym c.in-Nem13.is)
+    (c.report_of_periods.ensures.fault fault same)

@@ -1,0 +1,58 @@
+-- What `check` prints of a well formed file (profile): for each 300 record in order the NMI, the suffix, the date, how many
+-- of its intervals have a value, the sum of these values, and the unit; for each 250 record in order the NMI, the suffix, the
+-- moments of the previous and the current read, the quantity, and the unit.
+use Rattle.std.specs.Prelude.{◌≡◌, ℕ, List, [], ◌∷◌, ◌++◌, length, codes, decimal, Some, None, ◌-◌, slice_index_or}
+use Rattle.mds_quantity.specs.Quantity.{written}
+use Rattle.mds_quantity.specs.Unit.{unit_text}
+use Rattle.mds_calendar.specs.Calendar.{day_of, moment_of}
+use Rattle.mds_names.specs.declared.stream.Stream.{Stream}
+use Rattle.mds_records.specs.declared.file.FileFault.{FileFault}
+use Rattle.mds_records.specs.declared.file.FileKind.{FileKind}
+use Rattle.mds_records.specs.declared.file.FileKind.TheVariants.{Nem12, Nem13}
+use Rattle.mds_days.specs.Readings.{amounts, total}
+use Rattle.mds_nem12.specs.Faults.{fault_of}
+use Rattle.mds_nem13.specs.Faults.{fault_of as fault_of_13}
+use Rattle.mds_nem13.specs.Statements.{statements_of as statements_of_13}
+use Rattle.mds_statements.specs.Statements.{DayStatement, PeriodContent, Statement}
+use Rattle.mds_nem12.specs.Statements.{statements_of}
+use Rattle.mds_statements.specs.Statements.Statement.{DayOf, PeriodOf}
+
+-- the line of a day, by the text of its date
+abbrev pub day_line : DayStatement → List ℕ → List ℕ
+day_line day date =
+    day.stream.nmi ++ codes " " ++ day.stream.suffix ++ codes " " ++ date ++ codes " "
+    ++ decimal (length (amounts day.readings)) ++ codes " " ++ written (total (amounts day.readings)) ++ codes " "
+    ++ unit_text day.unit ++ codes "\n"
+
+-- the line of an accumulation, by the texts of its two moments, of its quantity and of its unit
+abbrev pub period_line : Stream → List ℕ → List ℕ → List ℕ → List ℕ → List ℕ
+period_line stream start finish quantity unit =
+    stream.nmi ++ codes " " ++ stream.suffix ++ codes " " ++ start ++ codes " " ++ finish ++ codes " " ++ quantity
+    ++ codes " " ++ unit ++ codes "\n"
+
+-- a field of the 250 of an accumulation, of which the fields 3 to 22 are kept
+abbrev pub kept_field : ℕ → PeriodContent → List ℕ
+kept_field number content = slice_index_or content.fields (number - 3) []
+
+-- the lines of all days and accumulations of statements; a day has one text of its date, and a moment has one
+abbrev pub IsReport : List Statement → List ℕ → Type 0
+IsReport [] text = text ≡ []
+IsReport (DayOf day ∷ statements) text =
+    (date : List ℕ) × (rest : List ℕ) × (day_of date ≡ Some day.date) × (text ≡ day_line day date ++ rest)
+    × IsReport statements rest
+IsReport (PeriodOf period ∷ statements) text =
+    (start : List ℕ) × (finish : List ℕ) × (rest : List ℕ)
+    × (moment_of start ≡ Some period.key.start) × (moment_of finish ≡ Some period.key.finish)
+    × (text ≡ period_line period.key.stream start finish (kept_field 19 period.content) (kept_field 20 period.content) ++ rest)
+    × IsReport statements rest
+IsReport (statement ∷ statements) text = IsReport statements text
+
+-- the text of a file of a kind is well formed, and this is what is printed of it
+abbrev pub IsReportOf : FileKind → List ℕ → List ℕ → Type 0
+IsReportOf Nem12 text report = (fault_of text ≡ None) × IsReport (statements_of text) report
+IsReportOf Nem13 text report = (fault_of_13 text ≡ None) × IsReport (statements_of_13 text) report
+
+-- this is the fault of a file of a kind
+abbrev pub IsFaultOf : FileKind → List ℕ → FileFault → Type 0
+IsFaultOf Nem12 text fault = fault_of text ≡ Some fault
+IsFaultOf Nem13 text fault = fault_of_13 text ≡ Some fault

@@ -1,0 +1,96 @@
+//! `check`: what a file's days add up to, or its first fault.
+
+ghost use Rattle.std.specs.Prelude.{ℕ, IsTrue, ◌↔◌, ◌≢◌, take, if◌then◌else◌, ◌≡◌, ◌≤◌, ◌+◌, ◌-◌, ◌*◌, ◌^◌, ◌<◌, List, length, false, None, Some, Err, IfSome, OnOk, IfOk, IfErr, MatchResult, is_ok, string_bytes};
+ghost use Rattle.std.specs.Io.KnownBytes.{Appends as AppendsKnown, Keeps};
+ghost use Rattle.mds_records.specs.declared.file.FileFault.{FileFault};
+ghost use Rattle.std.specs.List.{concat};
+ghost use Rattle.mds_lines.specs.Lines.{longest_line, most_lines};
+ghost use Rattle.mds_lines.specs.Reads.{Reads, block};
+ghost use Rattle.mds_check.specs.Answer.{is_read_fault, is_write_fault};
+ghost use Rattle.mds_check.specs.Report.{IsFaultOf, IsReportOf};
+
+use crate::period_report::report_of_periods;
+use crate::report::report_of_days;
+use mds_lines::{Sink, Source, write_whole};
+use mds_records::{FileFault, FileKind};
+use std::alloc::Global;
+
+/// Why nothing, or not everything, was printed.
+#[derive(Clone, Copy, Debug, PartialEq, Eq)]
+pub enum CheckFault {
+    /// The file isn't well formed.
+    File(FileFault),
+    /// The reader failed.
+    Read,
+    /// The writer failed. Some front of the text was written.
+    Write,
+    /// There was no memory.
+    Memory,
+}
+
+impl CheckFault {
+    ghost use Rattle.mds_check.specs.declared.checking.CheckFault.{CheckFault as ACheckFault};
+
+    /// A law: faults are equal where they are the same.
+    pub fn one_equality()
+        ensures { (a b : ACheckFault) → IsTrue (⟦<CheckFault as PartialEq>⟧.eq a b) ↔ (a ≡ b) }
+    {}
+}
+
+/// Reads a file, and writes a line for each of its days, `NMI suffix date count total unit`, or of its accumulations,
+/// `NMI suffix previous current quantity unit`. It writes only where the whole file is well formed.
+pub fn check<R: Source, W: Sink>(
+    alloc: Global,
+    kind: FileKind,
+    reader: &mut R,
+    writer: &mut W,
+) -> Result<(), CheckFault>
+    requires reader { R.failures reader.old < 2 ^ 64 - 1 }
+    requires writer { W.failures writer.old < 2 ^ 64 - 1 }
+
+    // The text is well formed, and its lines were written, whole and nothing else.
+    ensures done { OnOk result (IfSome (R.remaining reader.old) (λ text. (report : List ℕ) × IsReportOf kind text report
+        × AppendsKnown (W.contents writer.old) (W.contents writer.new) report)) }
+
+    // The fault is that of the text.
+    ensures fault { (fault : FileFault) → result ≡ Err (CheckFault.File fault)
+        → IfSome (R.remaining reader.old) (λ text. IsFaultOf kind text fault) }
+
+    // A failed write leaves a part of the lines of a well formed text, and any other fault leaves nothing.
+    ensures part { result ≡ Err CheckFault.Write → IfSome (R.remaining reader.old) (λ text.
+        (report : List ℕ) × (n : ℕ) × IsReportOf kind text report × (n < length report)
+        × AppendsKnown (W.contents writer.old) (W.contents writer.new) (take n report)) }
+    ensures nothing { IfErr result (λ fault. fault ≢ CheckFault.Write
+        → Keeps (W.contents writer.old) (W.contents writer.new)) }
+
+    // `Read` is answered just where the reader failed, once, and `Write` just where the writer did.
+    ensures reader { R.failures reader.new ≡ R.failures reader.old + (if is_read_fault result then 1 else 0) }
+    ensures writer { W.failures writer.new ≡ W.failures writer.old + (if is_write_fault result then 1 else 0) }
+
+    // It reads no more of the reader, whatever that gives, than the lines that a file may have, and a block.
+    ensures bounded { (given : List (List ℕ)) × Reads R.gives reader.old given reader.new
+        × (length (concat given) ≤ most_lines * (longest_line + 1) + block) }
+{
+    let text = report(alloc, kind, reader)?;
+    match write_whole(text.as_bytes(), writer) {
+        Ok(()) => Ok(()),
+        Err(_) => Err(CheckFault::Write),
+    }
+}
+
+/// What is to be printed of a file.
+fn report<R: Source>(alloc: Global, kind: FileKind, reader: &mut R) -> Result<String, CheckFault>
+    requires { R.failures reader.old < 2 ^ 64 - 1 }
+    ensures done { IfOk result (λ out. IfSome (R.remaining reader.old) (λ text. IsReportOf kind text (string_bytes out))) }
+    ensures fault { (fault : FileFault) → result ≡ Err (CheckFault.File fault)
+        → IfSome (R.remaining reader.old) (λ text. IsFaultOf kind text fault) }
+    ensures reader { R.failures reader.new ≡ R.failures reader.old + (if is_read_fault result then 1 else 0) }
+    ensures bounded { (given : List (List ℕ)) × Reads R.gives reader.old given reader.new
+        × (length (concat given) ≤ most_lines * (longest_line + 1) + block) }
+    ensures nothing { is_write_fault result ≡ false }
+{
+    match kind {
+        FileKind::Nem12 => report_of_days(alloc, reader),
+        FileKind::Nem13 => report_of_periods(alloc, reader),
+    }
+}

@@ -1,0 +1,16 @@
+pub mod Ascents
+pub mod Bounds
+pub mod Counts
+pub mod InTurn
+pub mod LawfulRows
+pub mod OneText
+pub mod Restored
+pub mod Said
+pub mod Shortest
+pub mod Sound
+pub mod Spelled
+pub mod Stated
+pub mod Stretches
+pub mod TextLines
+pub mod Told
+pub mod Writes

@@ -1,0 +1,9 @@
+use Rattle.std.proofs.Common.{◌≡◌, ◌≤◌, ◌+◌, length, drop}
+use Rattle.mds_export.specs.Orderly.{days_of, most_days}
+use Rattle.mds_export.proofs.selection.are_few.Given as goal
+
+abbrev pub invariant-loop-selected : goal.invariant-loop-selected
+invariant-loop-selected l = record {
+  rest : length (days_of l.streams) ≡ l.count + length (days_of (drop l.selected-index l.streams));
+  few : l.count ≤ most_days;
+}

@@ -1,0 +1,56 @@
+-- What the text of a selection states, by the definitions that files are read by: just what was selected.
+use Rattle.std.specs.Prelude.{◌≡◌, ℕ, if◌then◌else◌, List, [], ◌∷◌, ◌++◌, map, None}
+use Rattle.std.specs.List.{flat_map}
+use Rattle.mds_statements.specs.Statements.{DayStatement, HeaderValue, Statement, StreamStatement}
+use Rattle.mds_statements.specs.Statements.Statement.{HeaderOf, DetailsOf, DayOf, PeriodOf}
+use Rattle.mds_nem12.specs.Faults.{fault_of}
+use Rattle.mds_nem12.specs.Statements.{statements_of}
+use Rattle.mds_export.specs.Placed.{PlacedDay, is_governed, placed_days}
+use Rattle.mds_export.specs.Rows.{IsExport}
+use Rattle.mds_export.specs.declared.selected.SelectedStream.{SelectedStream}
+
+-- a statement, but for the number of its line
+abbrev pub unlined : Statement → Statement
+unlined (DetailsOf stream) = DetailsOf (record stream { line = 0 })
+unlined (DayOf day) = DayOf (record day { line = 0 })
+unlined (PeriodOf period) = PeriodOf (record period { line = 0 })
+unlined statement = statement
+
+-- the head of a day, and a version of each interval under the day's update
+abbrev pub day_selected : PlacedDay → DayStatement
+day_selected placed = record {
+  line = 0;
+  stream = placed.selected.stream;
+  date = placed.day.date;
+  length = placed.day.length;
+  unit = placed.day.unit;
+  update = placed.day.update;
+  readings = placed.day.readings.items;
+}
+
+-- the details of its stream under the moment of the header
+abbrev pub details_selected : ℕ → PlacedDay → StreamStatement
+details_selected moment placed = record {
+  line = 0;
+  stream = placed.selected.stream;
+  length = placed.day.length;
+  unit = placed.day.unit;
+  moment = moment;
+  details = placed.selected.details;
+}
+
+-- what a day states: itself, and where its length or its unit is new the details once more
+abbrev pub day_stated : ℕ → PlacedDay → List Statement
+day_stated moment placed =
+    (if is_governed placed.before placed.day then [] else DetailsOf (details_selected moment placed) ∷ [])
+    ++ DayOf (day_selected placed) ∷ []
+
+-- what a selection states under a header
+abbrev pub selection_stated : HeaderValue → List SelectedStream → List Statement
+selection_stated header streams = HeaderOf header ∷ flat_map (day_stated header.moment) (placed_days streams)
+
+-- a text of the selection that has no fault, and states what was selected and nothing else
+pub record Shows (header : HeaderValue) (streams : List SelectedStream) (text : List ℕ) : Type 0 where
+  pub form : IsExport header streams text
+  pub faultless : fault_of text ≡ None
+  pub stated : map unlined (statements_of text) ≡ selection_stated header streams

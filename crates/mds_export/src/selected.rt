@@ -1,0 +1,24 @@
+//! The parts of a selection: streams, and days of streams.
+
+use mds_quantity::Unit;
+use mds_terms::{Day, Details, Length, Moment, Reading, Stream};
+
+/// A selected day.
+#[derive(Drop)]
+pub struct SelectedDay {
+    pub date: Day,
+    pub length: Length,
+    pub unit: Unit,
+    /// When its readings were updated.
+    pub update: Moment,
+    /// One for each interval, in order.
+    pub readings: Vec<Reading>,
+}
+
+/// A stream, what is known of its meter, and its selected days, of which there may be none.
+#[derive(Drop)]
+pub struct SelectedStream {
+    pub stream: Stream,
+    pub details: Details,
+    pub days: Vec<SelectedDay>,
+}

@@ -1,0 +1,234 @@
+//! The writer of a selection, row by row.
+
+ghost use Rattle.std.specs.Prelude.{◌≡◌, ℕ, List, OnOk, OnErr};
+ghost use Rattle.mds_quantity.specs.Append.{Appends};
+ghost use Rattle.mds_statements.specs.Delivered.{header_value};
+ghost use Rattle.mds_export.specs.Shows.{Shows};
+
+use crate::selected::{SelectedDay, SelectedStream};
+use crate::selection::Selection;
+use mds_rows::{
+    DayRow, DetailsRow, HeaderRow, RunRow, write_day, write_details, write_end, write_header,
+    write_run,
+};
+use mds_statements::Header;
+use mds_terms::{Mark, Reading};
+use std::alloc::AllocError;
+
+/// Appends the text of a selection under a header: the lines of a NEM12 file that read back as what was selected. It takes no
+/// memory but that of the text, fails only for want of it, and then nothing is appended.
+pub fn write_nem12(
+    selection: &Selection,
+    header: &Header,
+    out: &mut Vec<u8>,
+) -> Result<(), AllocError>
+    ensures done { OnOk result ((text : List ℕ) × Shows (header_value header.now) selection.now.streams.items text
+        × Appends out.old.items out.new.items text) }
+    ensures kept { OnErr result (out.new.items ≡ out.old.items) }
+{
+    let start = out.len();
+    let Ok(()) = write_all(&selection.streams, header, out) else {
+        out.truncate(start);
+        return Err(AllocError);
+    };
+    Ok(())
+}
+
+ghost use Rattle.std.specs.Prelude.{◌<◌, ◌≤◌, ◌≢◌, ◌^◌, [], ◌∷◌, None, Some, IfNone, IfSome, map, length, option_map, slice_get};
+ghost use Rattle.std.specs.List.{All};
+ghost use Rattle.mds_runs.specs.declared.cover.Run.{Run};
+ghost use Rattle.mds_rows.specs.Begun.{Begins};
+ghost use Rattle.mds_export.specs.Orderly.{IsWhole, days_of};
+ghost use Rattle.mds_export.specs.Placed.{is_governed, placed_after, placed_days};
+ghost use Rattle.mds_export.specs.Rows.{AreFewest, AreInTurn, day_row, details_rows, marks_of, run_row};
+ghost use Rattle.mds_export.specs.WriterSteps.{AreWritten, HasDayText, IsWritten, IsWrittenExport};
+
+/// Appends the whole text, or after an error something of it.
+fn write_all(
+    streams: &[SelectedStream],
+    header: &Header,
+    out: &mut Vec<u8>,
+) -> Result<(), AllocError>
+    requires { All IsWhole (days_of streams.now) }
+    ensures done { OnOk result ((text : List ℕ) × IsWrittenExport (header_value header.now) streams.now text
+        × Appends out.old.items out.new.items text) }
+    ensures grown { OnErr result (Begins out.old.items out.new.items) }
+{
+    let row = HeaderRow {
+        moment: header.moment,
+        sender: header.sender.borrowed(),
+        receiver: header.receiver.borrowed(),
+    };
+    write_header(&row, out)?;
+    write_streams(streams, out)?;
+    write_end(out)
+}
+
+/// Appends the rows of the days of all streams, or after an error something of that.
+fn write_streams(streams: &[SelectedStream], out: &mut Vec<u8>) -> Result<(), AllocError>
+    requires { All IsWhole (days_of streams.now) }
+    ensures done { OnOk result ((text : List ℕ) × AreWritten (placed_days streams.now) text
+        × Appends out.old.items out.new.items text) }
+    ensures grown { OnErr result (Begins out.old.items out.new.items) }
+{
+    for selected in streams {
+        write_stream(selected, out)?;
+    }
+    Ok(())
+}
+
+/// Appends the rows of the days of a stream, or after an error something of that.
+fn write_stream(selected: &SelectedStream, out: &mut Vec<u8>) -> Result<(), AllocError>
+    requires { All IsWhole selected.now.days.items }
+    ensures done { OnOk result ((text : List ℕ) × AreWritten (placed_after selected.now None selected.now.days.items) text
+        × Appends out.old.items out.new.items text) }
+    ensures grown { OnErr result (Begins out.old.items out.new.items) }
+{
+    let mut before = None;
+    for day in &selected.days {
+        write_placed(selected, before, day, out)?;
+        before = Some(day);
+    }
+    Ok(())
+}
+
+/// Appends the rows of a day after the one before it, or after an error something of that.
+fn write_placed(
+    selected: &SelectedStream,
+    before: Option<&SelectedDay>,
+    day: &SelectedDay,
+    out: &mut Vec<u8>,
+) -> Result<(), AllocError>
+    requires { IsWhole day.now }
+    ensures done { OnOk result ((text : List ℕ) × AreWritten (record {
+      selected = selected.now;
+      before = option_map (λ before. before.now) before.entry;
+      day = day.now;
+    } ∷ []) text × Appends out.old.items out.new.items text) }
+    ensures grown { OnErr result (Begins out.old.items out.new.items) }
+{
+    // A length's law says how few readings a day has.
+    let _ = day.length.minutes();
+    write_new_details(selected, before, day, out)?;
+    write_readings(day, out)
+}
+
+/// Appends the 200 of a day, unless that of the day before governs it, or after an error something of it.
+fn write_new_details(
+    selected: &SelectedStream,
+    before: Option<&SelectedDay>,
+    day: &SelectedDay,
+    out: &mut Vec<u8>,
+) -> Result<(), AllocError>
+    ensures done { OnOk result ((text : List ℕ) × AreInTurn IsWritten (details_rows (record {
+      selected = selected.now;
+      before = option_map (λ before. before.now) before.entry;
+      day = day.now;
+    })) text × Appends out.old.items out.new.items text) }
+    ensures grown { OnErr result (Begins out.old.items out.new.items) }
+{
+    if is_governed(before, day) {
+        return Ok(());
+    }
+    let row = DetailsRow {
+        stream: selected.stream,
+        details: &selected.details,
+        unit: day.unit,
+        length: day.length,
+    };
+    write_details(&row, out)
+}
+
+/// Whether the 200 of the day before governs a day too: that has the same length and the same unit.
+fn is_governed(before: Option<&SelectedDay>, day: &SelectedDay) -> bool
+    ensures { result ≡ is_governed (option_map (λ before. before.now) before.entry) day.now }
+{
+    // The laws of their `==`.
+    let _ = day.length.minutes();
+    let _ = day.unit.text();
+    match before {
+        Some(before) => before.length == day.length && before.unit == day.unit,
+        None => false,
+    }
+}
+
+/// Appends the 300 of a day and its 400s, or after an error something of that.
+fn write_readings(day: &SelectedDay, out: &mut Vec<u8>) -> Result<(), AllocError>
+    requires { length day.now.readings.items < 2 ^ 16 }
+    ensures done { OnOk result ((text : List ℕ) × HasDayText day.now text
+        × Appends out.old.items out.new.items text) }
+    ensures grown { OnErr result (Begins out.old.items out.new.items) }
+{
+    let Some(mark) = one_mark(&day.readings) else {
+        write_values(day, None, out)?;
+        return write_runs(&day.readings, out);
+    };
+    write_values(day, Some(mark), out)
+}
+
+/// Appends the 300 of a day, of one mark or of variable quality, or after an error something of it.
+fn write_values(day: &SelectedDay, mark: Option<&Mark>, out: &mut Vec<u8>) -> Result<(), AllocError>
+    ensures done { OnOk result ((text : List ℕ) × IsWritten (day_row day.now (option_map (λ mark. mark.now) mark.entry)) text
+        × Appends out.old.items out.new.items text) }
+    ensures grown { OnErr result (Begins out.old.items out.new.items) }
+{
+    let row = DayRow {
+        date: day.date,
+        readings: &day.readings,
+        mark,
+        update: day.update,
+    };
+    write_day(&row, out)
+}
+
+/// The mark of all readings, if they have one.
+fn one_mark(readings: &[Reading]) -> Option<&Mark>
+    ensures some { IfSome result (λ mark. AreFewest (marks_of readings.now)
+        (record { first = 1; last = length readings.now; mark = mark.now } ∷ [])) }
+    ensures none { IfNone result ((run : Run) → AreFewest (marks_of readings.now) (run ∷ []) → ⊥) }
+{
+    let first = readings.first()?;
+    if end_of_run(readings, 0) < readings.len() {
+        return None;
+    }
+    Some(first.mark())
+}
+
+/// Appends a 400 for each maximal stretch of readings of one mark, or after an error something of that.
+fn write_runs(readings: &[Reading], out: &mut Vec<u8>) -> Result<(), AllocError>
+    requires { length readings.now < 2 ^ 16 }
+    ensures done { OnOk result ((runs : List Run) × AreFewest (marks_of readings.now) runs
+        × (text : List ℕ) × AreInTurn IsWritten (map run_row runs) text × Appends out.old.items out.new.items text) }
+    ensures grown { OnErr result (Begins out.old.items out.new.items) }
+{
+    let mut start = 0;
+    while start < readings.len() {
+        let end = end_of_run(readings, start);
+        let row = RunRow {
+            first: start as u16 + 1,
+            last: end as u16,
+            mark: readings[start].mark(),
+        };
+        write_run(&row, out)?;
+        start = end;
+    }
+    Ok(())
+}
+
+/// The index of the first reading after this one whose mark isn't the same, or how many readings there are.
+fn end_of_run(readings: &[Reading], start: usize) -> usize
+    requires { start < length readings.now }
+    ensures within { (start < result) × (result ≤ length readings.now) }
+    ensures alike { (k : ℕ) → start ≤ k → k < result
+        → slice_get (marks_of readings.now) k ≡ slice_get (marks_of readings.now) start }
+    ensures differs { result < length readings.now
+        → slice_get (marks_of readings.now) result ≢ slice_get (marks_of readings.now) start }
+{
+    let mark = readings[start].mark();
+    for end in start + 1..readings.len() {
+        if !readings[end].mark().is_same(mark) {
+            return end;
+        }
+    }
+    readings.len()
+}

@@ -1,0 +1,58 @@
+-- What rows that queries show say of accumulations. A row that is shown has all columns of its table, and no rowid before them.
+use Rattle.std.specs.Prelude.{◌≡◌, ◌+◌, ℕ, List, [], ◌∷◌, length, Option, Some, None, IsTrue}
+use Rattle.std.specs.Str.{is_utf8}
+use Rattle.sqlite.specs.declared.types.Value.TheVariants.{Null}
+use Rattle.sqlite_value.specs.Order.{Row}
+use Rattle.mds_statements.specs.Contents.{content_of}
+use Rattle.mds_statements.specs.declared.periods.Period.{Period}
+use Rattle.mds_statements.specs.declared.periods.PeriodKey.{PeriodKey}
+use Rattle.mds_world.specs.Facts.{PeriodContent}
+use Rattle.mds_world.specs.Facts.Fact.{PeriodIs}
+use Rattle.mds_terms.specs.Printable.{is_printable}
+use Rattle.mds_tables.specs.Cells.{body_text, period_cells}
+use Rattle.mds_tables.specs.RowFacts.{natural_at, period_fact, stream_in, text_at}
+use Rattle.mds_selects.specs.Written.{IsMoment, IsStream}
+
+-- a row is that of an accumulation, as the store writes it
+pub record IsRowOfPeriod (row : Row) (period : Period) : Type 0 where
+  pub cells : row ≡ period_cells period
+  pub stream : IsStream period.key.stream
+  pub register : IsTrue (is_printable period.key.register)
+  pub start : IsMoment period.key.start
+  pub finish : IsMoment period.key.finish
+  pub update : IsMoment period.key.update
+  pub body : IsTrue (is_utf8 (body_text period.content))
+
+-- the bytes of its texts
+abbrev pub text_length : Period → ℕ
+text_length period = length period.key.register + length (body_text period.content)
+
+-- the key of a row
+abbrev pub shown_key : Row → PeriodKey
+shown_key row = record {
+  stream = stream_in (Null ∷ row);
+  register = text_at row 2;
+  start = natural_at row 3;
+  finish = natural_at row 4;
+  update = natural_at row 5;
+}
+
+-- the row is the accumulation
+abbrev pub SaysPeriod : Row → Period → Type 0
+SaysPeriod row period = period_fact (Null ∷ row) ≡ PeriodIs period.key period.content
+
+-- each row's accumulation, in the order of the rows
+abbrev pub ArePeriodsIn : List Row → List Period → Type 0
+ArePeriodsIn [] [] = Unit {0}
+ArePeriodsIn (row ∷ rows) (period ∷ periods) = SaysPeriod row period × ArePeriodsIn rows periods
+ArePeriodsIn [] (period ∷ periods) = ⊥
+ArePeriodsIn (row ∷ rows) [] = ⊥
+
+-- a column is a text that says the content
+abbrev pub SaysContent : Row → ℕ → PeriodContent → Type 0
+SaysContent row at content = content_of (text_at row at) ≡ content
+
+-- the content that the body in the one row says
+abbrev pub IsOnlyContent : List Row → Option PeriodContent → Type 0
+IsOnlyContent rows None = rows ≡ []
+IsOnlyContent rows (Some content) = (row : Row) × (rows ≡ row ∷ []) × SaysContent row 0 content

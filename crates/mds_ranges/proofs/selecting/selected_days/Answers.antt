@@ -1,0 +1,19 @@
+use Rattle.mds_ranges.proofs.Selected.{days_selected, never_unknown, taken_more}
+use Rattle.mds_ranges.proofs.selecting.selected_days.Goals as goal
+
+pub loop-book-preserved-in_default : goal.loop-book-preserved-in_default
+loop-book-preserved-in_default c = λ w s first last are.
+    absurd (never_unknown w s first last c.args.books.now c.loop-book.book-index c.book-item.result
+    c.loop-book-test.true c.book-item.is are (rw c.in_default.is at c.in_ok-day.ensures.none))
+
+pub loop-book-preserved : goal.loop-book-preserved
+loop-book-preserved c = λ w s first last are.
+    taken_more w s first last c.args.books.now c.loop-book.book-index c.book-item.result c.loop-book-test.true
+    c.book-item.is are c.in-Some.day c.loop-book.days.items c.push.new.self.items
+    (rw c.in-Some.is at c.in_ok-day.ensures.date) (λ is. rw c.in-Some.is at (c.in_ok-day.ensures.some w is))
+    c.in_ok-push.ensures.items (c.loop-book.invariant w s first last are)
+
+pub returns : goal.returns
+returns c = λ w s first last are.
+    days_selected w s first last c.loop-book.book-index c.args.books.now c.loop-book.days.items c.loop-book-test.false
+    (c.loop-book.invariant w s first last are) are

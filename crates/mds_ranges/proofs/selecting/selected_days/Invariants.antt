@@ -1,0 +1,11 @@
+use Rattle.std.proofs.Common.{ℕ, take}
+use Rattle.mds_names.specs.declared.stream.Stream.{Stream}
+use Rattle.mds_world.specs.World.{World}
+use Rattle.mds_versions.specs.Queries.{AreDaysOf}
+use Rattle.mds_ranges.proofs.Selected.{AreTaken}
+use Rattle.mds_ranges.proofs.selecting.selected_days.Given as goal
+
+abbrev pub invariant-loop-book : goal.invariant-loop-book
+invariant-loop-book l =
+    (w : World) (s : Stream) (first last : ℕ) → AreDaysOf w s first last l.books
+    → AreTaken w s (take l.book-index l.books) l.days.items

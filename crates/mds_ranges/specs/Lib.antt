@@ -1,0 +1,4 @@
+pub mod Ranges
+pub mod RangesSteps
+pub mod Readings
+pub mod Selections

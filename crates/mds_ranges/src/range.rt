@@ -1,0 +1,16 @@
+//! Ranges of days, first day to last day, both included.
+
+ghost use Rattle.std.specs.Prelude.{◌↔◌, IsTrue};
+ghost use Rattle.mds_ranges.specs.Ranges.{IsTooWide};
+
+use mds_terms::Day;
+
+/// A range with more days between its first and its last is too wide.
+const MOST_BETWEEN: i64 = 400;
+
+/// Whether a range has more than 400 days.
+pub fn is_too_wide(first: Day, last: Day) -> bool
+    ensures { IsTrue result ↔ IsTooWide first last }
+{
+    last.number() - first.number() >= MOST_BETWEEN
+}

@@ -1,0 +1,51 @@
+//! The current readings of a day.
+
+ghost use Rattle.std.specs.Prelude.{◌≡◌, IfOk};
+ghost use Rattle.mds_calendar.specs.Length.{count_of};
+ghost use Rattle.mds_world.specs.Current.{IsReading, no_reading as bare_n};
+ghost use Rattle.mds_world.specs.World.{World};
+ghost use Rattle.mds_versions.specs.Books.{IsDay};
+ghost use Rattle.mds_ranges.specs.Readings.{AreReadings};
+
+use mds_terms::{Length, Mark, Quality, Reading, Reason};
+use mds_versions::DayBook;
+use std::alloc::{AllocError, Global};
+
+/// Copies of the current readings of a day of this length, in the order of its intervals.
+pub(crate) fn current_readings(
+    alloc: Global,
+    book: &DayBook,
+    length: Length,
+) -> Result<Vec<Reading>, AllocError>
+    ensures { (w : World) → IsDay w book.now → IfOk result (λ readings. AreReadings
+        w book.now.stream book.now.day (count_of length) readings.items) }
+{
+    let count = length.count();
+    let mut readings = Vec::with_capacity(alloc, count)?;
+    for i in 0..count {
+        readings.push(current_reading(alloc, book, i as u16 + 1)?)?;
+    }
+    Ok(readings)
+}
+
+/// A copy of the current reading of an interval, or bare N where it has no version.
+fn current_reading(alloc: Global, book: &DayBook, interval: u16) -> Result<Reading, AllocError>
+    ensures { (w : World) → IsDay w book.now
+        → IfOk result (IsReading w book.now.stream book.now.day interval) }
+{
+    match book.current(interval) {
+        Some(version) => version.reading.try_clone(),
+        None => Ok(no_reading(alloc)),
+    }
+}
+
+/// Bare N: quality N, without a method, a reason or a value.
+fn no_reading(alloc: Global) -> Reading
+    ensures { result ≡ bare_n }
+{
+    let mark = Mark {
+        quality: Quality::new(b'N', 0).unwrap(),
+        reason: Reason::new(None, String::new(alloc)).unwrap(),
+    };
+    Reading::new(mark, None).unwrap()
+}

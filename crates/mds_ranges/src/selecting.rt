@@ -1,0 +1,174 @@
+//! What an export selects: streams of one NMI with their days in a range.
+
+ghost use Rattle.std.specs.Prelude.{◌≡◌, ◌<◌, ◌≤◌, ℕ, List, [], IfOk, IfNone, IfSome, None, OnOk, length};
+ghost use Rattle.mds_names.specs.declared.stream.Stream.{Stream};
+ghost use Rattle.mds_world.specs.World.{World};
+ghost use Rattle.mds_versions.specs.Books.{IsDay};
+ghost use Rattle.mds_versions.specs.Queries.{AreDaysOf};
+ghost use Rattle.mds_ranges.specs.Ranges.{IsTooWide};
+ghost use Rattle.mds_ranges.specs.Selections.{AreSelectedDays, Ascend, IsSelectedDay, IsSelectedStream, IsSelection};
+
+use crate::readings::current_readings;
+use mds_export::{SelectedDay, SelectedStream, Selection};
+use mds_terms::{Day, Nmi, Stream, Suffix};
+use mds_versions::{DayBook, Keeper, Unavailable};
+use std::alloc::{AllocError, Global};
+
+/// What an export of the days of a range selects: the streams of an NMI with one of these suffixes, also those without a
+/// day, each with its current details and the current readings of its known days.
+pub fn selection_of<K: Keeper>(
+    alloc: Global,
+    keeper: &mut K,
+    nmi: Nmi,
+    suffixes: &[Suffix],
+    first: Day,
+    last: Day,
+) -> Result<Selection, Unavailable>
+    requires narrow { IsTooWide first last → ⊥ }
+    requires few { length suffixes.now ≤ 8 }
+    requires ascend { Ascend suffixes.now }
+    ensures outside { K.honest keeper.new → K.honest keeper.old }
+    ensures before { K.sound keeper.new → K.sound keeper.old }
+    ensures open { K.honest keeper.new → 0 < length suffixes.now → OnOk result (K.sound keeper.new) }
+    ensures selection { K.sound keeper.new → IfOk result
+        (λ selection. IsSelection (K.world keeper.old) nmi suffixes.now first last selection.streams.items) }
+    ensures unasked { length suffixes.now ≡ 0 → IfOk result (λ selection. selection.streams.items ≡ []) }
+    ensures same { K.sound keeper.new → K.world keeper.new ≡ K.world keeper.old }
+    ensures crash { K.honest keeper.new → (left : World) → K.may_leave keeper.new left → K.may_leave keeper.old left }
+{
+    let Ok(streams) = selected_streams(alloc, keeper, nmi, suffixes, first, last) else {
+        return Err(Unavailable);
+    };
+    // It is one where the keeper is sound.
+    match made_of(streams) {
+        Some(selection) => Ok(selection),
+        None => Err(Unavailable),
+    }
+}
+
+/// Streams as a selection. `None` where a range of at most 400 days and at most eight suffixes select no such streams.
+fn made_of(streams: Vec<SelectedStream>) -> Option<Selection>
+    ensures some { IfSome result (λ selection. selection.streams ≡ streams) }
+    ensures none { IfNone result ((w : World) (nmi : List ℕ) (suffixes : List (List ℕ)) (first last : ℕ)
+        → (IsTooWide first last → ⊥) → length suffixes ≤ 8
+        → IsSelection w nmi suffixes first last streams.items → ⊥) }
+{
+    Selection::new(streams)
+}
+
+/// The streams of an NMI with one of these suffixes.
+fn selected_streams<K: Keeper>(
+    alloc: Global,
+    keeper: &mut K,
+    nmi: Nmi,
+    suffixes: &[Suffix],
+    first: Day,
+    last: Day,
+) -> Result<Vec<SelectedStream>, Unavailable>
+    requires { Ascend suffixes.now }
+    ensures outside { K.honest keeper.new → K.honest keeper.old }
+    ensures before { K.sound keeper.new → K.sound keeper.old }
+    ensures open { K.honest keeper.new → 0 < length suffixes.now → OnOk result (K.sound keeper.new) }
+    ensures streams { K.sound keeper.new → IfOk result
+        (λ streams. IsSelection (K.world keeper.old) nmi suffixes.now first last streams.items) }
+    ensures unasked { length suffixes.now ≡ 0 → IfOk result (λ streams. streams.items ≡ []) }
+    ensures same { K.sound keeper.new → K.world keeper.new ≡ K.world keeper.old }
+    ensures crash { K.honest keeper.new → (left : World) → K.may_leave keeper.new left → K.may_leave keeper.old left }
+{
+    let mut streams = Vec::new(alloc);
+    for suffix in suffixes {
+        let stream = Stream {
+            nmi,
+            suffix: *suffix,
+        };
+        let Ok(selected) = selected_stream(alloc, keeper, stream, first, last) else {
+            return Err(Unavailable);
+        };
+        let Ok(()) = streams.push(selected) else {
+            return Err(Unavailable);
+        };
+    }
+    Ok(streams)
+}
+
+/// A stream with its current details and its days in a range.
+fn selected_stream<K: Keeper>(
+    alloc: Global,
+    keeper: &mut K,
+    stream: Stream,
+    first: Day,
+    last: Day,
+) -> Result<SelectedStream, Unavailable>
+    ensures outside { K.honest keeper.new → K.honest keeper.old }
+    ensures before { K.sound keeper.new → K.sound keeper.old }
+    ensures open { K.honest keeper.new → OnOk result (K.sound keeper.new) }
+    ensures name { IfOk result (λ selected. selected.stream ≡ stream) }
+    ensures selected { K.sound keeper.new → IfOk result (IsSelectedStream (K.world keeper.old) first last) }
+    ensures same { K.sound keeper.new → K.world keeper.new ≡ K.world keeper.old }
+    ensures crash { K.honest keeper.new → (left : World) → K.may_leave keeper.new left → K.may_leave keeper.old left }
+{
+    let Ok(details) = keeper.details(copy_of(&stream)) else {
+        return Err(Unavailable);
+    };
+    let Ok(books) = keeper.days(copy_of(&stream), first, last) else {
+        return Err(Unavailable);
+    };
+    let Ok(days) = selected_days(alloc, &books) else {
+        return Err(Unavailable);
+    };
+    Ok(SelectedStream {
+        stream,
+        details,
+        days,
+    })
+}
+
+/// The days of these books, of which each is known.
+fn selected_days(alloc: Global, books: &[DayBook]) -> Result<Vec<SelectedDay>, AllocError>
+    ensures { (w : World) (stream : Stream) (first last : ℕ) → AreDaysOf w stream first last books.now
+        → IfOk result (λ days. AreSelectedDays w stream first last days.items) }
+{
+    let mut days = Vec::new(alloc);
+    for book in books {
+        let Some(day) = selected_day(alloc, book)? else {
+            continue;
+        };
+        days.push(day)?;
+    }
+    Ok(days)
+}
+
+/// A day with its current readings. `None` where it isn't known.
+fn selected_day(alloc: Global, book: &DayBook) -> Result<Option<SelectedDay>, AllocError>
+    ensures some { (w : World) → IsDay w book.now → IfOk result (λ day. IfSome day (IsSelectedDay w book.now.stream)) }
+    ensures date { IfOk result (λ day. IfSome day (λ day. day.date ≡ book.now.day)) }
+    ensures none { IfOk result (λ day. IfNone day (book.now.head ≡ None)) }
+{
+    let Some(form) = book.head() else {
+        return Ok(None);
+    };
+    let (length, unit) = form;
+    // A lawful day that is known has a version.
+    book.is_lawful();
+    let Some(update) = book.latest_update() else {
+        unreachable!();
+    };
+    let readings = current_readings(alloc, book, length)?;
+    Ok(Some(SelectedDay {
+        date: book.day(),
+        length,
+        unit,
+        update,
+        readings,
+    }))
+}
+
+/// The same stream.
+fn copy_of(stream: &Stream) -> Stream
+    ensures { result ≡ stream.now }
+{
+    Stream {
+        nmi: stream.nmi,
+        suffix: stream.suffix,
+    }
+}

@@ -1,0 +1,5 @@
+pub mod BookReadings
+pub mod Found
+pub mod Lasts
+pub mod Rows
+pub mod Tiles

@@ -1,0 +1,4 @@
+pub mod Registers
+pub mod RegistersSteps
+pub mod Stretches
+pub mod StretchesSteps

@@ -1,0 +1,26 @@
+-- The text in which the content of an accumulation is kept (profile): its lines are joined by line feeds, and the texts of a line by
+-- commas.
+use Rattle.std.specs.Prelude.{ℕ, Bool, ◌==◌, List, [], ◌∷◌, map}
+use Rattle.std.specs.List.{slice_split}
+use Rattle.mds_names.specs.Names.{is_comma}
+
+-- the fields of a 250 that its key doesn't hold as they are kept, and the four texts of each of its notes
+pub record PeriodContent : Type 0 where
+  pub fields : List (List ℕ)
+  pub notes : List (List (List ℕ))
+
+abbrev pub is_line_feed : ℕ → Bool
+is_line_feed c = c == 10
+
+-- the texts of a line
+abbrev pub texts_of : List ℕ → List (List ℕ)
+texts_of line = slice_split is_comma line
+
+-- what lines say: the first the fields, and each other the texts of a note
+abbrev pub content_in : List (List ℕ) → PeriodContent
+content_in [] = record { fields = []; notes = [] }
+content_in (fields ∷ notes) = record { fields = texts_of fields; notes = map texts_of notes }
+
+-- the content that a text says
+abbrev pub content_of : List ℕ → PeriodContent
+content_of text = content_in (slice_split is_line_feed text)
