@@ -5,11 +5,13 @@
 //! reads ten million values and prints the time for one, `mds_bench readings` a hundred thousand
 //! days of 48 readings. `mds_bench lines PATH` reads a file's lines alone and prints how fast,
 //! `mds_bench deliver PATH` reads all of it. `mds_bench imports DAYS` takes a file of so many days
-//! into a store in memory.
+//! into a store in memory, and `mds_bench exports STREAMS` exports streams of 400 days from one.
 #![tactic(auto)]
 
+mod exports;
 mod imports;
 
+use crate::exports::time_exports;
 use crate::imports::time_imports;
 use mds_calendar::Day;
 use mds_lines::{Counted, LineBuffer, LineReader};
@@ -70,6 +72,10 @@ fn run(rt: &HostRuntime) -> io::Result<bool> {
             Ok(days) => time_imports(rt, u64::from(days))?,
             Err(_) => return usage(rt),
         },
+        [what, streams] if what.as_str() == "exports" => match streams.as_str().parse::<u32>() {
+            Ok(streams) => time_exports(rt, u64::from(streams))?,
+            Err(_) => return usage(rt),
+        },
         [form, path, size] => match (form_of(form.as_str()), size.as_str().parse::<u32>()) {
             (Some(form), Ok(size)) => make_file(rt, form, path.as_str(), u64::from(size))?,
             _ => return usage(rt),
@@ -97,7 +103,7 @@ fn form_of(name: &str) -> Option<Form> {
 
 fn usage(rt: &HostRuntime) -> io::Result<bool> {
     println!(rt;
-        "usage: mds_bench values | readings | lines PATH | deliver PATH | imports DAYS | FORM PATH MEGABYTES"
+        "usage: mds_bench values | readings | lines PATH | deliver PATH | imports DAYS | exports STREAMS | FORM PATH MEGABYTES"
     )?;
     println!(rt; "FORM: plain, wide, five, mixed, runs, runs_five, block, details or empty")?;
     Ok(false)

@@ -13,7 +13,8 @@ use Rattle.mds_desk.specs.declared.performing.PerformFault.TheVariants.{Memory, 
 use Rattle.mds_desk.specs.declared.outcome.Status.{Status}
 use Rattle.mds_desk.specs.declared.outcome.Status.TheVariants as status
 
--- what is printed of an answer, as a line; no command asks for a day, for versions, for accumulations or for streams yet
+-- What is printed of an answer: a line, or the text that it has. No command asks for a day, for versions, for accumulations or
+-- for streams yet.
 abbrev pub answer_text : Answer → List ℕ
 answer_text (told.Imported added known) =
     codes "added " ++ decimal added ++ codes " known " ++ decimal known ++ codes "\n"
@@ -28,6 +29,9 @@ answer_text (told.Day answer) = []
 answer_text (told.Versions answer) = []
 answer_text (told.Period answer) = []
 answer_text (told.Streams answers) = []
+answer_text (told.Gaps text) = text.items
+answer_text (told.Finals text) = text.items
+answer_text (told.Exported text) = text.items
 
 abbrev pub answer_status : Answer → Status
 answer_status (told.Imported added known) = status.Done
@@ -41,6 +45,9 @@ answer_status (told.Day answer) = status.Done
 answer_status (told.Versions answer) = status.Done
 answer_status (told.Period answer) = status.Done
 answer_status (told.Streams answers) = status.Done
+answer_status (told.Gaps text) = status.Done
+answer_status (told.Finals text) = status.Done
+answer_status (told.Exported text) = status.Done
 
 -- From a World the machine does one step, to a lawful World that is kept where the keeper is sound; and a crash leaves that, or
 -- that with the whole request where the answer was Unavailable.

@@ -1,6 +1,7 @@
 -- What the program prints, and the status that it ends with (profile).
 use Rattle.std.specs.Prelude.{ℕ, List, [], ◌++◌, codes, decimal, Result, Ok, Err}
 use Rattle.mds_records.specs.Printed.{fault_text}
+use Rattle.mds_arguments.specs.Arguments.{argument_name}
 use Rattle.mds_check.specs.declared.checking.CheckFault.{CheckFault}
 use Rattle.mds_check.specs.declared.checking.CheckFault.TheVariants as check
 use Rattle.mds_desk.specs.declared.performing.PerformFault.{PerformFault}
@@ -39,6 +40,7 @@ status_of (outcome.Answered s) = s
 status_of (outcome.Fault fault) = status.Fault
 status_of outcome.BadJob = status.Usage
 status_of (outcome.BadHolidays row) = status.Fault
+status_of (outcome.BadArgument argument) = status.Usage
 status_of outcome.Usage = status.Usage
 status_of outcome.NoText = status.Usage
 status_of outcome.NoInput = status.Unavailable
@@ -54,6 +56,7 @@ outcome_text (outcome.Answered s) = []
 outcome_text (outcome.Fault fault) = fault_text fault ++ codes "\n"
 outcome_text outcome.BadJob = codes "bad job\n"
 outcome_text (outcome.BadHolidays row) = codes "H1 line " ++ decimal row ++ codes "\n"
+outcome_text (outcome.BadArgument argument) = codes "bad argument " ++ argument_name argument ++ codes "\n"
 outcome_text outcome.Usage = []
 outcome_text outcome.NoText = codes "a word is not UTF-8\n"
 outcome_text outcome.NoInput = codes "cannot read file\n"
@@ -72,6 +75,7 @@ after_failed_close outcome.Created = outcome.Created
 after_failed_close (outcome.Fault fault) = outcome.Unavailable
 after_failed_close outcome.BadJob = outcome.Unavailable
 after_failed_close (outcome.BadHolidays row) = outcome.Unavailable
+after_failed_close (outcome.BadArgument argument) = outcome.Unavailable
 after_failed_close outcome.NoText = outcome.Unavailable
 after_failed_close outcome.NoInput = outcome.Unavailable
 after_failed_close outcome.Unavailable = outcome.Unavailable

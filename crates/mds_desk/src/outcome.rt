@@ -4,6 +4,7 @@ ghost use Rattle.std.specs.Prelude.{◌≡◌, ◌↔◌, IsTrue, Some};
 ghost use Rattle.mds_desk.specs.Program.{after_failed_close, of_check, of_request, outcome_text, status_code, status_of};
 
 use crate::performing::PerformFault;
+use mds_arguments::Argument;
 use mds_check::CheckFault;
 use mds_records::FileFault;
 use std::fmt;
@@ -15,7 +16,7 @@ pub enum Status {
     Done,
     /// The file isn't well formed, or what it states or asks for was refused.
     Fault,
-    /// The words ask for nothing that the program does, or the file says no job.
+    /// The words ask for nothing that the program does, one of them isn't what it is to be, or the file says no job.
     Usage,
     /// Something that is needed can't be had: the file, the store, the output or memory.
     Unavailable,
@@ -36,6 +37,8 @@ pub enum Outcome {
     BadJob,
     /// The file is no list of holidays: the row of this number, from 1, is the first that differs (H1).
     BadHolidays(u64),
+    /// An argument isn't what it is to be.
+    BadArgument(Argument),
     /// The words ask for nothing that the program does, and what they may be was printed.
     Usage,
     /// A word isn't text in UTF-8.
@@ -117,6 +120,7 @@ impl Outcome {
             Outcome::Fault(_)
             | Outcome::BadJob
             | Outcome::BadHolidays(_)
+            | Outcome::BadArgument(_)
             | Outcome::NoText
             | Outcome::NoInput
             | Outcome::Unavailable
@@ -132,7 +136,9 @@ impl Outcome {
             Outcome::Done | Outcome::Created => Status::Done,
             Outcome::Answered(status) => status,
             Outcome::Fault(_) | Outcome::BadHolidays(_) => Status::Fault,
-            Outcome::BadJob | Outcome::Usage | Outcome::NoText => Status::Usage,
+            Outcome::BadJob | Outcome::BadArgument(_) | Outcome::Usage | Outcome::NoText => {
+                Status::Usage
+            }
             Outcome::NoInput | Outcome::NoOutput | Outcome::Unavailable | Outcome::OtherSchema =>
                 Status::Unavailable,
         }
@@ -150,6 +156,7 @@ impl fmt::Display for Outcome {
             Outcome::Fault(fault) => write!(f, "{fault}\n"),
             Outcome::BadJob => f.write_str("bad job\n"),
             Outcome::BadHolidays(row) => write!(f, "H1 line {row}\n"),
+            Outcome::BadArgument(argument) => write!(f, "bad argument {}\n", argument.name()),
             Outcome::NoText => f.write_str("a word is not UTF-8\n"),
             Outcome::NoInput => f.write_str("cannot read file\n"),
             Outcome::Unavailable => f.write_str("U1\n"),

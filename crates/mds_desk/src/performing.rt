@@ -7,6 +7,7 @@ ghost use Rattle.mds_world.specs.World.{IsLawful};
 ghost use Rattle.mds_records.specs.Printed.{fault_text};
 ghost use Rattle.mds_versions.specs.Refusals.{place_text, refusal_text};
 ghost use Rattle.mds_desk.specs.Performed.{Does, answer_status, answer_text, is_write_failure};
+ghost use Rattle.mds_desk.specs.Printed.{printed_bytes};
 
 use crate::outcome::Status;
 use arrayvec::ArrayString;
@@ -22,6 +23,45 @@ const LONGEST: usize = 100;
 
 /// A line that is put together on the stack, so that it takes no memory.
 type Line = ArrayString<LONGEST>;
+
+/// What is printed of an answer: a line, or a text that the answer has, which isn't copied.
+#[derive(Drop)]
+enum Printed<'a> {
+    Line(Line),
+    Text(&'a [u8]),
+}
+
+impl<'a> Printed<'a> {
+    fn of(answer: &'a Answer) -> Printed<'a>
+        ensures { printed_bytes result ≡ answer_text answer.now }
+    {
+        match answer {
+            Answer::Imported { added, known } => Printed::Line(added_line(*added, *known)),
+            Answer::Substituted { count } => Printed::Line(count_line("substituted ", *count)),
+            Answer::Known { count } => Printed::Line(count_line("known ", *count)),
+            Answer::HolidaysAdded { added, known } => Printed::Line(added_line(*added, *known)),
+            Answer::Gaps(text) | Answer::Finals(text) | Answer::Exported(text) => {
+                Printed::Text(text)
+            }
+            Answer::File(fault) => Printed::Line(fault_line(fault)),
+            Answer::Refused(refusal) => Printed::Line(refusal_line(refusal)),
+            Answer::Unavailable => Printed::Line(unavailable_line()),
+            Answer::Day(_) | Answer::Versions(_) | Answer::Period(_) | Answer::Streams(_) => {
+                Printed::Text(&[])
+            }
+        }
+    }
+
+    /// Its bytes.
+    fn bytes(&self) -> &[u8]
+        ensures { result.now ≡ printed_bytes self.now }
+    {
+        match self {
+            Printed::Line(line) => line.as_str().as_bytes(),
+            Printed::Text(text) => text,
+        }
+    }
+}
 
 /// Why not everything was printed.
 #[derive(Clone, Copy, Debug, PartialEq, Eq)]
@@ -86,8 +126,8 @@ fn print_answer<W: Sink>(answer: &Answer, writer: &mut W) -> Result<Status, Perf
         × AppendsKnown (W.contents writer.old) (W.contents writer.new) (take n (answer_text answer.now))) }
     ensures writer { W.failures writer.new ≡ W.failures writer.old + (if is_ok result then 0 else 1) }
 {
-    let line = answer_line(answer);
-    match write_whole(line.as_str().as_bytes(), writer) {
+    let printed = Printed::of(answer);
+    match write_whole(printed.bytes(), writer) {
         Ok(()) => Ok(status_of(answer)),
         Err(_) => Err(PerformFault::Write),
     }
@@ -105,26 +145,12 @@ fn status_of(answer: &Answer) -> Status
         | Answer::Day(_)
         | Answer::Versions(_)
         | Answer::Period(_)
-        | Answer::Streams(_) => Status::Done,
+        | Answer::Streams(_)
+        | Answer::Gaps(_)
+        | Answer::Finals(_)
+        | Answer::Exported(_) => Status::Done,
         Answer::File(_) | Answer::Refused(_) => Status::Fault,
         Answer::Unavailable => Status::Unavailable,
-    }
-}
-
-/// The line that is printed of an answer.
-fn answer_line(answer: &Answer) -> Line
-    ensures { result.bytes ≡ answer_text answer.now }
-{
-    match answer {
-        Answer::Imported { added, known } => added_line(*added, *known),
-        Answer::Substituted { count } => count_line("substituted ", *count),
-        Answer::Known { count } => count_line("known ", *count),
-        Answer::HolidaysAdded { added, known } => added_line(*added, *known),
-        Answer::File(fault) => fault_line(fault),
-        Answer::Refused(refusal) => refusal_line(refusal),
-        Answer::Unavailable => unavailable_line(),
-        Answer::Day(_) | Answer::Versions(_) | Answer::Period(_) | Answer::Streams(_) =>
-            Line::new(),
     }
 }
 

@@ -10,5 +10,5 @@ mod tests;
 mod texts;
 
 pub use limits::{file_at_the_limits, first_wrong_at_the_limits};
-pub use rows::{EARLIER, EXAMPLES, FIRST, PERIODS, Row, first_wrong, request_of};
+pub use rows::{EARLIER, EXAMPLES, EXPORTED_DAY, FIRST, PERIODS, Row, first_wrong, request_of};
 pub use texts::text_of;

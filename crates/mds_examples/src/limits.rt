@@ -214,6 +214,36 @@ fn streams_text(alloc: Global) -> Result<String, AllocError> {
     Ok(out)
 }
 
+/// The months that a range of 400 days from 1 January 2024 meets, each with its last day of it.
+const MONTHS: [(u32, u16); 14] = [
+    (202401, 31),
+    (202402, 29),
+    (202403, 31),
+    (202404, 30),
+    (202405, 31),
+    (202406, 30),
+    (202407, 31),
+    (202408, 31),
+    (202409, 30),
+    (202410, 31),
+    (202411, 30),
+    (202412, 31),
+    (202501, 31),
+    (202502, 3),
+];
+
+/// The register of the gaps of that range: its first two days have all readings, and the others aren't known.
+fn gaps_text(alloc: Global) -> Result<String, AllocError> {
+    let mut out = String::from_str(alloc, "nmi,suffix,date,first,last\n")?;
+    for (month, last) in MONTHS {
+        let first = if month == 202401 { 3 } else { 1 };
+        for day in first..=last {
+            write!(out, "NEM1201009,E1,{month}{day:02},0,0\n")?;
+        }
+    }
+    Ok(out)
+}
+
 /// Requests on the file, each with the text of its answer over a keeper that was empty before the first.
 fn requests_at_the_limits(alloc: Global) -> Result<Vec<(Request, String)>, AllocError> {
     let mut requests = Vec::new(alloc);
@@ -236,6 +266,8 @@ fn requests_at_the_limits(alloc: Global) -> Result<Vec<(Request, String)>, Alloc
     let long = request_of(alloc, "day", &[date.as_str()], 0)?;
     let wanted = String::from_str(alloc, "5 kWh 20240103000000 1:A,,,1 288")?;
     requests.push((long, wanted))?;
+    let gaps = request_of(alloc, "gaps", &["20240101", "20250203"], 0)?;
+    requests.push((gaps, gaps_text(alloc)?))?;
     requests.push((Request::Streams, streams_text(alloc)?))?;
     Ok(requests)
 }

@@ -5,11 +5,12 @@ use crate::texts::text_of;
 use mds_jobs::{Job, JobId};
 use mds_records::FileKind;
 use mds_service::{Request, apply};
-use mds_terms::{Day, Stream};
+use mds_statements::Header;
+use mds_terms::{Day, Moment, Nmi, PrintableString, Stream, Suffix};
 use mds_versions::Keeper;
 use std::alloc::{AllocError, Global};
 
-/// A request, and the text of its answer: what it is, dates or the pieces of a file or a job, an interval.
+/// A request, and the text of its answer: what it is; dates, behind them the suffixes of an export, or the pieces of a file or a job; an interval.
 pub type Row = (&'static str, &'static [&'static str], u16, &'static str);
 
 /// The file that the examples begin with: a day of 48 values 1.5.
@@ -62,7 +63,7 @@ const LATER_DAY: &[&str] = &["20240103"];
 const NOTHING: &[&str] = &[];
 
 /// The examples, each a list of requests.
-pub const EXAMPLES: [&[Row]; 16] = [
+pub const EXAMPLES: [&[Row]; 19] = [
     &TAKEN_IN,
     &FIVE_MINUTES,
     &LATEST_UPDATE,
@@ -79,6 +80,9 @@ pub const EXAMPLES: [&[Row]; 16] = [
     &ON_HOLIDAYS,
     &ACCUMULATIONS,
     &DESCENDING,
+    &EXPORTED,
+    &EXPORTED_SUBSTITUTION,
+    &WIDE_RANGES,
 ];
 
 /// A file is taken in, once.
@@ -646,8 +650,140 @@ const DESCENDING: [Row; 4] = [
     ),
 ];
 
+/// What an export of the first file's day is.
+pub const EXPORTED_DAY: &str = "100,NEM12,202401040000,MDP1,RETAILER\r\n\
+    200,NEM1201009,E1,1,E1,N1,01009,kWh,30,\r\n\
+    300,20240101,\
+    1.5,1.5,1.5,1.5,1.5,1.5,1.5,1.5,1.5,1.5,1.5,1.5,1.5,1.5,1.5,1.5,\
+    1.5,1.5,1.5,1.5,1.5,1.5,1.5,1.5,1.5,1.5,1.5,1.5,1.5,1.5,1.5,1.5,\
+    1.5,1.5,1.5,1.5,1.5,1.5,1.5,1.5,1.5,1.5,1.5,1.5,1.5,1.5,1.5,1.5,\
+    A,,,20240102010203,\r\n\
+    900\r\n";
+
+/// An export is a file that states what is current, and nothing of it is new. What isn't known isn't in it.
+const EXPORTED: [Row; 7] = [
+    (
+        "export",
+        &["20240101", "20240101", "E1"],
+        0,
+        "100,NEM12,202401040000,MDP1,RETAILER\r\n900\r\n",
+    ),
+    ("import", FIRST, 0, "added 48 known 0"),
+    ("export", &["20240101", "20240101", "E1"], 0, EXPORTED_DAY),
+    ("import", &[EXPORTED_DAY], 0, "added 0 known 48"),
+    ("import", EARLIER, 0, "added 48 known 0"),
+    (
+        "export",
+        &["20231231", "20240107", "B1", "E1", "E1"],
+        0,
+        EXPORTED_DAY,
+    ),
+    (
+        "export",
+        &["20240102", "20240102", "E1"],
+        0,
+        "100,NEM12,202401040000,MDP1,RETAILER\r\n900\r\n",
+    ),
+];
+
+/// What an export is of a day that a job filled in in part.
+const EXPORTED_FILLED_DAY: &str = "100,NEM12,202401040000,MDP1,RETAILER\r\n\
+    200,NEM1201009,E1,1,E1,N1,01009,kWh,30,\r\n\
+    300,20240122,0,0,0,0,1.000002,1.000002,1.000002,1.000002,\
+    0,0,0,0,0,0,0,0,0,0,0,0,0,0,0,0,0,0,0,0,0,0,0,0,0,0,0,0,0,0,0,0,0,0,0,0,0,0,0,0,\
+    V,,,20240123000000,\r\n\
+    400,1,4,N,,\r\n\
+    400,5,8,F15,76,\r\n\
+    400,9,48,N,,\r\n\
+    900\r\n";
+
+/// The day after the job, and after the export of it is imported.
+const FILLED_DAY: &str = "30 kWh 20240123000000 1:N,,, 5:F15,76,,1.000002 9:N,,, 48";
+
+/// The gaps of that day, and of the next one, which isn't known.
+const GAPS_OF_FILLED_DAY: &str = "nmi,suffix,date,first,last\n\
+    NEM1201009,E1,20240122,1,4\n\
+    NEM1201009,E1,20240122,9,48\n\
+    NEM1201009,E1,20240123,0,0\n";
+
+/// The finals of the two days.
+const FINALS_OF_FILLED_DAY: &str = "nmi,suffix,date,first,last,method,code,text\n\
+    NEM1201009,E1,20240122,5,8,15,76,\n";
+
+/// A day that a job filled in in part has gaps and finals. What its export adds are the readings that weren't there, as null
+/// data: no current reading is another then.
+const EXPORTED_SUBSTITUTION: [Row; 11] = [
+    ("import", LIKE_DAYS, 0, "added 96 known 0"),
+    ("substitute", MEAN, 0, "substituted 4"),
+    ("day", &["20240122"], 0, FILLED_DAY),
+    ("gaps", &["20240122", "20240123"], 0, GAPS_OF_FILLED_DAY),
+    ("finals", &["20240122", "20240123"], 0, FINALS_OF_FILLED_DAY),
+    (
+        "export",
+        &["20240122", "20240122", "E1"],
+        0,
+        EXPORTED_FILLED_DAY,
+    ),
+    ("import", &[EXPORTED_FILLED_DAY], 0, "added 44 known 4"),
+    ("day", &["20240122"], 0, FILLED_DAY),
+    ("gaps", &["20240122", "20240123"], 0, GAPS_OF_FILLED_DAY),
+    ("finals", &["20240122", "20240123"], 0, FINALS_OF_FILLED_DAY),
+    (
+        "export",
+        &["20240122", "20240122", "E1"],
+        0,
+        EXPORTED_FILLED_DAY,
+    ),
+];
+
+/// A range has at most 400 days, and an export at most eight streams, of which each counts once. One that ends before it begins has
+/// no day.
+const WIDE_RANGES: [Row; 11] = [
+    ("import", FIRST, 0, "added 48 known 0"),
+    (
+        "finals",
+        &["20240101", "20250203"],
+        0,
+        "nmi,suffix,date,first,last,method,code,text\n",
+    ),
+    ("finals", &["20240101", "20250204"], 0, "M12 0 0 0"),
+    ("gaps", &["20240101", "20250204"], 0, "M12 0 0 0"),
+    (
+        "gaps",
+        &["20240101", "20240102"],
+        0,
+        "nmi,suffix,date,first,last\nNEM1201009,E1,20240102,0,0\n",
+    ),
+    (
+        "gaps",
+        &["20240102", "20240101"],
+        0,
+        "nmi,suffix,date,first,last\n",
+    ),
+    ("export", &["20240101", "20250203", "E1"], 0, EXPORTED_DAY),
+    ("export", &["20240101", "20250204", "E1"], 0, "M12 0 0 0"),
+    (
+        "export",
+        &[
+            "20240101", "20240101", "E1", "E2", "E3", "E4", "E5", "E6", "E7", "E8", "E1", "E8",
+        ],
+        0,
+        EXPORTED_DAY,
+    ),
+    (
+        "export",
+        &[
+            "20240101", "20240101", "E1", "E2", "E3", "E4", "E5", "E6", "E7", "E8", "E9",
+        ],
+        0,
+        "M12 0 0 0",
+    ),
+    ("day", DAY, 0, "30 kWh 20240102010203 1:A,,,1.5 48"),
+];
+
 /// A request: to import a file of either kind, to do a job (its id, and its body as a store keeps it), to list holidays, for a day of the first
-/// file's stream, for the versions of an interval of a day, for the accumulations of a stream, or for the streams.
+/// file's stream, for the versions of an interval of a day, for the accumulations of a stream, for the gaps or the finals of a range of days, for an
+/// export of a range (the suffixes follow the dates), or for the streams.
 pub fn request_of(
     alloc: Global,
     what: &str,
@@ -671,6 +807,12 @@ pub fn request_of(
     }
     if what == "holidays" {
         return Ok(Request::Holidays(days_of(alloc, text)?));
+    }
+    if what == "gaps" || what == "finals" || what == "export" {
+        return match range_of(alloc, what, text)? {
+            Some(request) => Ok(request),
+            None => Ok(Request::Streams),
+        };
     }
     if what == "period" {
         return Ok(match stream_of(text) {
@@ -701,6 +843,77 @@ fn stream_of(text: &[&str]) -> Option<Stream> {
         [nmi, suffix] => Stream::read(nmi.as_bytes(), suffix.as_bytes()),
         _ => None,
     }
+}
+
+/// A request for a range by its first and its last day, and for an export by suffixes behind them.
+fn range_of(alloc: Global, what: &str, text: &[&str]) -> Result<Option<Request>, AllocError> {
+    let [from, to, suffixes @ ..] = text else {
+        return Ok(None);
+    };
+    let (Some(stream), Some(first), Some(last)) = (
+        Stream::read(b"NEM1201009", b"E1"),
+        Day::read(from.as_bytes()),
+        Day::read(to.as_bytes()),
+    ) else {
+        return Ok(None);
+    };
+    match what {
+        "gaps" => Ok(Some(Request::Gaps {
+            stream,
+            first,
+            last,
+        })),
+        "finals" => Ok(Some(Request::Finals {
+            stream,
+            first,
+            last,
+        })),
+        _ => export_of(alloc, first, last, suffixes),
+    }
+}
+
+/// A request for an export of the first file's meter, in a file of 4 January 2024.
+fn export_of(
+    alloc: Global,
+    first: Day,
+    last: Day,
+    suffixes: &[&str],
+) -> Result<Option<Request>, AllocError> {
+    let (Some(nmi), Some(moment)) = (
+        Nmi::read(b"NEM1201009"),
+        Moment::read_date_time(b"202401040000"),
+    ) else {
+        return Ok(None);
+    };
+    let Some(sender) = PrintableString::read(alloc, b"MDP1")? else {
+        return Ok(None);
+    };
+    let Some(receiver) = PrintableString::read(alloc, b"RETAILER")? else {
+        return Ok(None);
+    };
+    let header = Header {
+        moment,
+        sender,
+        receiver,
+    };
+    let suffixes = suffixes_of(alloc, suffixes)?;
+    Ok(Some(Request::Export {
+        nmi,
+        suffixes,
+        first,
+        last,
+        header,
+    }))
+}
+
+fn suffixes_of(alloc: Global, texts: &[&str]) -> Result<Vec<Suffix>, AllocError> {
+    let mut suffixes = Vec::new(alloc);
+    for text in texts {
+        if let Some(suffix) = Suffix::read(text.as_bytes()) {
+            suffixes.push(suffix)?;
+        }
+    }
+    Ok(suffixes)
 }
 
 /// A job by its id and its body.

@@ -2,8 +2,8 @@
 
 use crate::files::file_of;
 use crate::{
-    EARLIER, EXAMPLES, FIRST, PERIODS, file_at_the_limits, first_wrong, first_wrong_at_the_limits,
-    request_of, text_of,
+    EARLIER, EXAMPLES, EXPORTED_DAY, FIRST, PERIODS, file_at_the_limits, first_wrong,
+    first_wrong_at_the_limits, request_of, text_of,
 };
 use mds_memory::MemoryKeeper;
 use mds_records::FileKind;
@@ -106,11 +106,12 @@ fn the_limits_hold(rt: HostRuntime) -> Result<(), Fail> {
 fn memory_is_wanting(rt: HostRuntime) -> Result<(), Fail> {
     let alloc = rt.alloc();
     let mut keeper = MemoryKeeper::new(alloc);
-    let (Ok(first), Ok(earlier), Ok(periods), Ok(day)) = (
+    let (Ok(first), Ok(earlier), Ok(periods), Ok(day), Ok(export)) = (
         request_of(alloc, "import", FIRST, 0),
         request_of(alloc, "import", EARLIER, 0),
         request_of(alloc, "import13", PERIODS, 0),
         request_of(alloc, "day", &["20240101"], 0),
+        request_of(alloc, "export", &["20240101", "20240101", "E1"], 0),
     ) else {
         return Ok(());
     };
@@ -123,6 +124,7 @@ fn memory_is_wanting(rt: HostRuntime) -> Result<(), Fail> {
             "30 kWh 20240102010203 1:A,,,1.5 48",
             "30 kWh 20240102010203 1:A,,,1.5 48",
         ),
+        (export, EXPORTED_DAY, EXPORTED_DAY),
     ] {
         let one = apply(alloc, &mut keeper, &request);
         let two = apply(alloc, &mut keeper, &request);

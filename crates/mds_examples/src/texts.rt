@@ -3,6 +3,7 @@
 use mds_marks::Reading;
 use mds_service::{Answer, DayAnswer, PeriodAnswer, StreamAnswer, VersionsAnswer};
 use std::alloc::{AllocError, Global};
+use std::str;
 
 /// The text of an answer.
 pub fn text_of(alloc: Global, answer: &Answer) -> Result<String, AllocError> {
@@ -15,6 +16,9 @@ pub fn text_of(alloc: Global, answer: &Answer) -> Result<String, AllocError> {
         Answer::Versions(answer) => versions_text(alloc, answer),
         Answer::Period(answer) => periods_text(alloc, answer),
         Answer::Streams(answers) => streams_text(alloc, answers),
+        Answer::Gaps(text) | Answer::Finals(text) | Answer::Exported(text) => {
+            String::from_str(alloc, str::from_utf8(text).unwrap_or("no text"))
+        }
         Answer::File(fault) => format!(in alloc; "{fault}"),
         Answer::Refused(refusal) => {
             let (line, field, interval) = (refusal.line, refusal.field, refusal.interval);

@@ -7,6 +7,7 @@ use crate::store_file::{StoreFile, StoreKeeper};
 use mds_desk::{Outcome, perform};
 use mds_lines::Counted;
 use mds_requests::{FileCommand, RequestFault, request_in};
+use mds_service::Request;
 use std::io;
 use std::io::{ErrorKind, Read};
 
@@ -18,44 +19,69 @@ pub fn init(rt: &HostRuntime, path: &str) -> Outcome {
     }
 }
 
-/// Asks the store of a path, which isn't made where there is none, for what a reader gives.
+/// Asks the store of a path, which isn't made where there is none, for what a reader gives. That is read before the store is
+/// opened, so that it may come from another command on the same store; a fault of the store is told first all the same.
 pub fn ask<R: Read + Drop>(
     rt: &HostRuntime,
     path: &str,
     command: FileCommand,
     reader: R,
 ) -> Outcome {
+    let bytes = read_whole(rt, reader);
     match StoreFile::open(rt, path) {
         Ok(store) => {
             let mut store = store;
-            let outcome = ask_keeper(rt, store.keeper(), command, reader);
+            let outcome = ask_keeper(rt, store.keeper(), command, bytes);
             store.close(rt, outcome)
         }
         Err(outcome) => outcome,
     }
 }
 
-/// Asks a keeper for what a reader gives. What can't be read to its end asks for nothing.
-fn ask_keeper<R: Read + Drop>(
-    rt: &HostRuntime,
-    keeper: &mut StoreKeeper,
-    command: FileCommand,
-    reader: R,
-) -> Outcome {
+/// Puts a request to the store of a path, which isn't made where there is none.
+pub fn query(rt: &HostRuntime, path: &str, request: &Request) -> Outcome {
+    match StoreFile::open(rt, path) {
+        Ok(store) => {
+            let mut store = store;
+            let outcome = perform_request(rt, store.keeper(), request);
+            store.close(rt, outcome)
+        }
+        Err(outcome) => outcome,
+    }
+}
+
+/// All that a reader gives, or what a call comes to where it can't be read to its end.
+fn read_whole<R: Read + Drop>(rt: &HostRuntime, reader: R) -> Result<Vec<u8>, Outcome> {
     let mut reader = reader;
     let mut bytes = Vec::new(rt.alloc());
     match reader.read_to_end(&mut bytes) {
-        Ok(_) => (),
-        Err(error) if error.kind() == ErrorKind::OutOfMemory => return Outcome::Unavailable,
-        Err(_) => return Outcome::NoInput,
+        Ok(_) => Ok(bytes),
+        Err(error) if error.kind() == ErrorKind::OutOfMemory => Err(Outcome::Unavailable),
+        Err(_) => Err(Outcome::NoInput),
     }
+}
+
+/// Asks a keeper for what was read. What couldn't be read asks for nothing.
+fn ask_keeper(
+    rt: &HostRuntime,
+    keeper: &mut StoreKeeper,
+    command: FileCommand,
+    bytes: Result<Vec<u8>, Outcome>,
+) -> Outcome {
+    let bytes = match bytes {
+        Ok(bytes) => bytes,
+        Err(outcome) => return outcome,
+    };
     match request_in(rt.alloc(), command, bytes) {
-        Ok(request) => {
-            let mut writer = Counted::new(io::writer(rt));
-            Outcome::of_request(perform(rt.alloc(), keeper, &request, &mut writer))
-        }
+        Ok(request) => perform_request(rt, keeper, &request),
         Err(fault) => of_request_fault(fault),
     }
+}
+
+/// Does a request over a keeper, and prints its answer.
+fn perform_request(rt: &HostRuntime, keeper: &mut StoreKeeper, request: &Request) -> Outcome {
+    let mut writer = Counted::new(io::writer(rt));
+    Outcome::of_request(perform(rt.alloc(), keeper, request, &mut writer))
 }
 
 /// What a file comes to that asks for nothing.

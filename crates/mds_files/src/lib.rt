@@ -5,4 +5,4 @@ mod commands;
 mod place;
 mod store_file;
 
-pub use commands::{ask, init};
+pub use commands::{ask, init, query};

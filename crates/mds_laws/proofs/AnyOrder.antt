@@ -67,7 +67,7 @@ no_refusal w kind text refusal agrees is =
     breaks_none (union w (upto refusal.line xs)) refusal.code refusal.interval part is.breaks
 
 -- a file that agrees is taken in
-file_taken : (old : World) (kind : FileKind) (bytes : Vec ℕ Global) (answer : Answer) (new : World)
+pub file_taken : (old : World) (kind : FileKind) (bytes : Vec ℕ Global) (answer : Answer) (new : World)
     → fault_in kind bytes.items ≡ None → Agrees (union old (stated (stated_in kind bytes.items)))
     → ImportStep old kind bytes.items answer new → IsGiven answer
     → IsImported answer × (new ≡ union old (stated (stated_in kind bytes.items)))
@@ -84,6 +84,9 @@ file_taken old kind bytes (told.Day answer) new well agrees step given = absurd 
 file_taken old kind bytes (told.Versions answer) new well agrees step given = absurd step
 file_taken old kind bytes (told.Period answer) new well agrees step given = absurd step
 file_taken old kind bytes (told.Streams answers) new well agrees step given = absurd step
+file_taken old kind bytes (told.Gaps text) new well agrees step given = absurd step
+file_taken old kind bytes (told.Finals text) new well agrees step given = absurd step
+file_taken old kind bytes (told.Exported text) new well agrees step given = absurd step
 
 taken : (old : World) (request : Request) (answer : Answer) (new : World) → IsWellFormed request
     → Agrees (union old (facts_in request)) → Step old request answer new → IsGiven answer
@@ -96,6 +99,9 @@ taken old (asked.Day stream day) answer new well agrees step given = absurd well
 taken old (asked.Versions stream day interval) answer new well agrees step given = absurd well
 taken old (asked.Period stream) answer new well agrees step given = absurd well
 taken old asked.Streams answer new well agrees step given = absurd well
+taken old (asked.Gaps stream first last) answer new well agrees step given = absurd well
+taken old (asked.Finals stream first last) answer new well agrees step given = absurd well
+taken old (asked.Export nmi suffixes first last header) answer new well agrees step given = absurd well
 
 all_taken : (old new : World) (files : List Request) (answers : List Answer) → All IsWellFormed files
     → Agrees (union old (together (map facts_in files))) → Run old files answers new → All IsGiven answers
@@ -156,6 +162,9 @@ facts_of_request (asked.Day stream day) = refl
 facts_of_request (asked.Versions stream day interval) = refl
 facts_of_request (asked.Period stream) = refl
 facts_of_request asked.Streams = refl
+facts_of_request (asked.Gaps stream first last) = refl
+facts_of_request (asked.Finals stream first last) = refl
+facts_of_request (asked.Export nmi suffixes first last header) = refl
 
 facts_of_requests : (requests : List Request) → map facts_in requests ≡ map stated (map statements_in requests)
 facts_of_requests [] = refl

@@ -123,6 +123,9 @@ module _ (w : World) (kind : FileKind) (bytes : Vec ℕ Global) (job : Job)
   file_alike (told.Versions answer) m step = absurd step
   file_alike (told.Period answer) m step = absurd step
   file_alike (told.Streams answers) m step = absurd step
+  file_alike (told.Gaps text) m step = absurd step
+  file_alike (told.Finals text) m step = absurd step
+  file_alike (told.Exported text) m step = absurd step
 
   module _ (readings : List ReadingValue) (are : AreSubstitutes w (content_of job) readings) (suits : SuitsDay w job) where
     abbrev put : World
@@ -175,6 +178,9 @@ module _ (w : World) (kind : FileKind) (bytes : Vec ℕ Global) (job : Job)
     file_over (told.Versions answer) m step = absurd step
     file_over (told.Period answer) m step = absurd step
     file_over (told.Streams answers) m step = absurd step
+    file_over (told.Gaps text) m step = absurd step
+    file_over (told.Finals text) m step = absurd step
+    file_over (told.Exported text) m step = absurd step
 
     -- and under it
     file_back : (answer : Answer) (v : World) → ImportStep (union w put) kind bytes.items answer v
@@ -200,6 +206,9 @@ module _ (w : World) (kind : FileKind) (bytes : Vec ℕ Global) (job : Job)
     file_back (told.Versions answer) v step = absurd step
     file_back (told.Period answer) v step = absurd step
     file_back (told.Streams answers) v step = absurd step
+    file_back (told.Gaps text) v step = absurd step
+    file_back (told.Finals text) v step = absurd step
+    file_back (told.Exported text) v step = absurd step
 
 -- ---- a job over a World that is the same to it
 
@@ -221,6 +230,9 @@ job_idle w m job s (told.Day answer) new none step = absurd step
 job_idle w m job s (told.Versions answer) new none step = absurd step
 job_idle w m job s (told.Period answer) new none step = absurd step
 job_idle w m job s (told.Streams answers) new none step = absurd step
+job_idle w m job s (told.Gaps text) new none step = absurd step
+job_idle w m job s (told.Finals text) new none step = absurd step
+job_idle w m job s (told.Exported text) new none step = absurd step
 job_idle w m job s (told.File fault) new none step = absurd step
 
 -- ---- both, in either order
@@ -292,6 +304,9 @@ module _ (old new : World) (kind : FileKind) (bytes : Vec ℕ Global) (job : Job
   either (told.Versions answer) = idle_either (told.Versions answer) tt
   either (told.Period answer) = idle_either (told.Period answer) tt
   either (told.Streams answers) = idle_either (told.Streams answers) tt
+  either (told.Gaps text) = idle_either (told.Gaps text) tt
+  either (told.Finals text) = idle_either (told.Finals text) tt
+  either (told.Exported text) = idle_either (told.Exported text) tt
   either (told.File fault) = idle_either (told.File fault) tt
 
 pub may_change_places : (old new : World) (kind : FileKind) (bytes : Vec ℕ Global) (job : Job) (of_file of_job : Answer)

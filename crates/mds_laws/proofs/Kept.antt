@@ -8,6 +8,7 @@ use Rattle.std.specs.List.{sum_by}
 use Rattle.std.proofs.lemmas.List.Sums.{sum_by-cons}
 use Rattle.mds_marks.specs.Reading.{ReadingValue}
 use Rattle.mds_records.specs.declared.file.FileKind.{FileKind}
+use Rattle.mds_statements.specs.Delivered.{header_value}
 use Rattle.mds_world.specs.declared.facts.Key.{Key}
 use Rattle.mds_world.specs.Counts.{added_by, countable, counted, is_counted}
 use Rattle.mds_world.specs.FactOrder.{exact, fact_cmp, total}
@@ -28,7 +29,8 @@ use Rattle.mds_service.specs.declared.request.Request.TheVariants as asked
 use Rattle.mds_service.specs.declared.request.Answer.{Answer}
 use Rattle.mds_service.specs.declared.request.Answer.TheVariants as told
 use Rattle.mds_service.specs.Holidays.{HolidaysStep, holidays_world}
-use Rattle.mds_service.specs.Machine.{ImportStep, Run, Step, stated_in}
+use Rattle.mds_service.specs.Machine.{ImportStep, Run, Step, TellsDay, TellsPeriods, TellsStreams, TellsVersions, stated_in}
+use Rattle.mds_service.specs.RangeAnswers.{TellsExport, TellsFinals, TellsGaps}
 use Rattle.mds_service.specs.Substitution.{SubstituteStep, head_of, job_world}
 use Rattle.mds_service.proofs.Substituted.{lawful_with_job}
 use Rattle.mds_laws.specs.Kept.{AreUnaltered, CameBy, ComesBy, IsOfJob, came_in}
@@ -197,6 +199,25 @@ grows_job old job count new step = record {
 
 -- ---- any request
 
+-- an answer that is none of those that something came in by
+quiet : (Tells : Answer → Type 0) (answer : Answer)
+    → ((added known : ℕ) → Tells (told.Imported added known) → ⊥) → ((count : ℕ) → Tells (told.Substituted count) → ⊥)
+    → Tells answer → came_in answer ≡ 0
+quiet Tells (told.Imported added known) file job tells = absurd (file added known tells)
+quiet Tells (told.Substituted count) file job tells = absurd (job count tells)
+quiet Tells (told.Known count) file job tells = refl
+quiet Tells (told.HolidaysAdded added known) file job tells = refl
+quiet Tells (told.Day answer) file job tells = refl
+quiet Tells (told.Versions answer) file job tells = refl
+quiet Tells (told.Period answer) file job tells = refl
+quiet Tells (told.Streams answers) file job tells = refl
+quiet Tells (told.Gaps text) file job tells = refl
+quiet Tells (told.Finals text) file job tells = refl
+quiet Tells (told.Exported text) file job tells = refl
+quiet Tells (told.File fault) file job tells = refl
+quiet Tells (told.Refused refusal) file job tells = refl
+quiet Tells told.Unavailable file job tells = refl
+
 pub grows : (old : World) (request : Request) (answer : Answer) (new : World) → Step old request answer new
     → Grows old request answer new
 grows old (asked.Import kind bytes) (told.Imported added known) new step = grows_file old kind bytes added known new step
@@ -210,6 +231,9 @@ grows old (asked.Import kind bytes) (told.Day answer) new step = absurd step
 grows old (asked.Import kind bytes) (told.Versions answer) new step = absurd step
 grows old (asked.Import kind bytes) (told.Period answer) new step = absurd step
 grows old (asked.Import kind bytes) (told.Streams answers) new step = absurd step
+grows old (asked.Import kind bytes) (told.Gaps text) new step = absurd step
+grows old (asked.Import kind bytes) (told.Finals text) new step = absurd step
+grows old (asked.Import kind bytes) (told.Exported text) new step = absurd step
 grows old (asked.Substitute job) (told.Substituted count) new step = grows_job old job count new step
 grows old (asked.Substitute job) (told.Known count) new step = idle _ _ _ _ refl step.2
 grows old (asked.Substitute job) (told.Refused refusal) new step = idle _ _ _ _ refl step.1
@@ -220,6 +244,9 @@ grows old (asked.Substitute job) (told.Day answer) new step = absurd step
 grows old (asked.Substitute job) (told.Versions answer) new step = absurd step
 grows old (asked.Substitute job) (told.Period answer) new step = absurd step
 grows old (asked.Substitute job) (told.Streams answers) new step = absurd step
+grows old (asked.Substitute job) (told.Gaps text) new step = absurd step
+grows old (asked.Substitute job) (told.Finals text) new step = absurd step
+grows old (asked.Substitute job) (told.Exported text) new step = absurd step
 grows old (asked.Substitute job) (told.File fault) new step = absurd step
 grows old (asked.Holidays days) (told.HolidaysAdded added known) new step = grows_holidays old days added known new step
 grows old (asked.Holidays days) told.Unavailable new step = idle _ _ _ _ refl step
@@ -230,52 +257,25 @@ grows old (asked.Holidays days) (told.Day answer) new step = absurd step
 grows old (asked.Holidays days) (told.Versions answer) new step = absurd step
 grows old (asked.Holidays days) (told.Period answer) new step = absurd step
 grows old (asked.Holidays days) (told.Streams answers) new step = absurd step
+grows old (asked.Holidays days) (told.Gaps text) new step = absurd step
+grows old (asked.Holidays days) (told.Finals text) new step = absurd step
+grows old (asked.Holidays days) (told.Exported text) new step = absurd step
 grows old (asked.Holidays days) (told.File fault) new step = absurd step
 grows old (asked.Holidays days) (told.Refused refusal) new step = absurd step
-grows old (asked.Day stream day) (told.Day answer) new step = idle _ _ _ _ refl step.1
-grows old (asked.Day stream day) (told.Refused refusal) new step = idle _ _ _ _ refl step.1
-grows old (asked.Day stream day) told.Unavailable new step = idle _ _ _ _ refl step.1
-grows old (asked.Day stream day) (told.Imported added known) new step = absurd step.0
-grows old (asked.Day stream day) (told.Substituted count) new step = absurd step.0
-grows old (asked.Day stream day) (told.Known count) new step = absurd step.0
-grows old (asked.Day stream day) (told.HolidaysAdded added known) new step = absurd step.0
-grows old (asked.Day stream day) (told.Versions answer) new step = absurd step.0
-grows old (asked.Day stream day) (told.Period answer) new step = absurd step.0
-grows old (asked.Day stream day) (told.Streams answers) new step = absurd step.0
-grows old (asked.Day stream day) (told.File fault) new step = absurd step.0
-grows old (asked.Versions stream day interval) (told.Versions answer) new step = idle _ _ _ _ refl step.1
-grows old (asked.Versions stream day interval) (told.Refused refusal) new step = idle _ _ _ _ refl step.1
-grows old (asked.Versions stream day interval) told.Unavailable new step = idle _ _ _ _ refl step.1
-grows old (asked.Versions stream day interval) (told.Imported added known) new step = absurd step.0
-grows old (asked.Versions stream day interval) (told.Substituted count) new step = absurd step.0
-grows old (asked.Versions stream day interval) (told.Known count) new step = absurd step.0
-grows old (asked.Versions stream day interval) (told.HolidaysAdded added known) new step = absurd step.0
-grows old (asked.Versions stream day interval) (told.Day answer) new step = absurd step.0
-grows old (asked.Versions stream day interval) (told.Period answer) new step = absurd step.0
-grows old (asked.Versions stream day interval) (told.Streams answers) new step = absurd step.0
-grows old (asked.Versions stream day interval) (told.File fault) new step = absurd step.0
-grows old (asked.Period stream) (told.Period answer) new step = idle _ _ _ _ refl step.1
-grows old (asked.Period stream) told.Unavailable new step = idle _ _ _ _ refl step.1
-grows old (asked.Period stream) (told.Imported added known) new step = absurd step.0
-grows old (asked.Period stream) (told.Substituted count) new step = absurd step.0
-grows old (asked.Period stream) (told.Known count) new step = absurd step.0
-grows old (asked.Period stream) (told.HolidaysAdded added known) new step = absurd step.0
-grows old (asked.Period stream) (told.Day answer) new step = absurd step.0
-grows old (asked.Period stream) (told.Versions answer) new step = absurd step.0
-grows old (asked.Period stream) (told.Streams answers) new step = absurd step.0
-grows old (asked.Period stream) (told.File fault) new step = absurd step.0
-grows old (asked.Period stream) (told.Refused refusal) new step = absurd step.0
-grows old asked.Streams (told.Streams answers) new step = idle _ _ _ _ refl step.1
-grows old asked.Streams told.Unavailable new step = idle _ _ _ _ refl step.1
-grows old asked.Streams (told.Imported added known) new step = absurd step.0
-grows old asked.Streams (told.Substituted count) new step = absurd step.0
-grows old asked.Streams (told.Known count) new step = absurd step.0
-grows old asked.Streams (told.HolidaysAdded added known) new step = absurd step.0
-grows old asked.Streams (told.Day answer) new step = absurd step.0
-grows old asked.Streams (told.Versions answer) new step = absurd step.0
-grows old asked.Streams (told.Period answer) new step = absurd step.0
-grows old asked.Streams (told.File fault) new step = absurd step.0
-grows old asked.Streams (told.Refused refusal) new step = absurd step.0
+grows old (asked.Day stream day) answer new step =
+    idle _ _ _ _ (quiet (TellsDay old stream day) answer (λ _ _ h. h) (λ _ h. h) step.0) step.1
+grows old (asked.Versions stream day interval) answer new step =
+    idle _ _ _ _ (quiet (TellsVersions old stream day interval) answer (λ _ _ h. h) (λ _ h. h) step.0) step.1
+grows old (asked.Period stream) answer new step =
+    idle _ _ _ _ (quiet (TellsPeriods old stream) answer (λ _ _ h. h) (λ _ h. h) step.0) step.1
+grows old asked.Streams answer new step =
+    idle _ _ _ _ (quiet (TellsStreams old) answer (λ _ _ h. h) (λ _ h. h) step.0) step.1
+grows old (asked.Gaps stream first last) answer new step =
+    idle _ _ _ _ (quiet (TellsGaps old stream first last) answer (λ _ _ h. h) (λ _ h. h) step.0) step.1
+grows old (asked.Finals stream first last) answer new step =
+    idle _ _ _ _ (quiet (TellsFinals old stream first last) answer (λ _ _ h. h) (λ _ h. h) step.0) step.1
+grows old (asked.Export nmi suffixes first last header) answer new step =
+    idle _ _ _ _ (quiet (TellsExport old nmi suffixes.items first last (header_value header)) answer (λ _ _ h. h) (λ _ h. h) step.0) step.1
 
 -- ---- a run
 

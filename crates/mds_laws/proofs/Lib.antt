@@ -6,5 +6,12 @@ pub mod Lawful
 pub mod Members
 pub mod Origins
 pub mod Parts
+pub mod Returned
+pub mod ReturnedCounts
+pub mod ReturnedDays
+pub mod ReturnedDetails
+pub mod ReturnedFacts
+pub mod ReturnedReadings
+pub mod ReturnedWorlds
 pub mod PutBeside
 pub mod Seen

@@ -60,6 +60,9 @@ module _ (old new : World) (requests : List Request) (answers : List Answer) (be
   by_file (asked.Import kind bytes) (told.Versions answer) step by = absurd by
   by_file (asked.Import kind bytes) (told.Period answer) step by = absurd by
   by_file (asked.Import kind bytes) (told.Streams answers) step by = absurd by
+  by_file (asked.Import kind bytes) (told.Gaps text) step by = absurd by
+  by_file (asked.Import kind bytes) (told.Finals text) step by = absurd by
+  by_file (asked.Import kind bytes) (told.Exported text) step by = absurd by
   by_file (asked.Import kind bytes) (told.File fault) step by = absurd by
   by_file (asked.Import kind bytes) (told.Refused refusal) step by = absurd by
   by_file (asked.Import kind bytes) told.Unavailable step by = absurd by
@@ -71,6 +74,9 @@ module _ (old new : World) (requests : List Request) (answers : List Answer) (be
   by_file (asked.Substitute job) (told.Versions answer) step by = absurd by
   by_file (asked.Substitute job) (told.Period answer) step by = absurd by
   by_file (asked.Substitute job) (told.Streams answers) step by = absurd by
+  by_file (asked.Substitute job) (told.Gaps text) step by = absurd by
+  by_file (asked.Substitute job) (told.Finals text) step by = absurd by
+  by_file (asked.Substitute job) (told.Exported text) step by = absurd by
   by_file (asked.Substitute job) (told.File fault) step by = absurd by
   by_file (asked.Substitute job) (told.Refused refusal) step by = absurd by
   by_file (asked.Substitute job) told.Unavailable step by = absurd by
@@ -79,6 +85,9 @@ module _ (old new : World) (requests : List Request) (answers : List Answer) (be
   by_file (asked.Versions stream day interval) answer step by = absurd by
   by_file (asked.Period stream) answer step by = absurd by
   by_file asked.Streams answer step by = absurd by
+  by_file (asked.Gaps stream first last) answer step by = absurd by
+  by_file (asked.Finals stream first last) answer step by = absurd by
+  by_file (asked.Export nmi suffixes first last header) answer step by = absurd by
 
 pub each_period_came_by_file : (old new : World) (requests : List Request) (answers : List Answer) (key : PeriodKey)
     (content : PeriodContent) → Run old requests answers new → PeriodIs key content ∈ new → (PeriodIs key content ∈ old → ⊥)

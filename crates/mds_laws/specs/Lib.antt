@@ -1,3 +1,4 @@
 pub mod AnyOrder
 pub mod Exchange
 pub mod Kept
+pub mod Returns

@@ -2,6 +2,7 @@
 
 ghost use Rattle.mds_laws.specs.AnyOrder.{EachIsTakenIn, PartsEndAsTheWhole, PartsStateTheWhole, SameFactsEndAlike};
 ghost use Rattle.mds_laws.specs.Exchange.{MayChangePlaces};
+ghost use Rattle.mds_laws.specs.Returns.{ReturnsToAnEmptyStore, ReturnsToItsStore};
 ghost use Rattle.mds_laws.specs.Kept.{AnswersTellHowMany, EachCameByOne, EachPeriodCameByFile, LawStays, NothingIsAltered, NothingIsMissing};
 
 /// What was taken in stays and stays as it is, the answers tell how many versions and accumulations
@@ -29,4 +30,11 @@ pub fn files_come_in_any_order()
 /// is kept in the end may be the same, whichever comes first.
 pub fn a_job_and_a_file_change_places()
     ensures { MayChangePlaces }
+{}
+
+/// The text of an export is a file that an empty store takes in, and then has what was selected; and that the store which it
+/// came from takes in without that anything current changes.
+pub fn an_export_comes_back()
+    ensures empty { ReturnsToAnEmptyStore }
+    ensures home { ReturnsToItsStore }
 {}

@@ -5,4 +5,6 @@
 
 mod laws;
 
-pub use laws::{a_job_and_a_file_change_places, files_come_in_any_order, nothing_is_lost};
+pub use laws::{
+    a_job_and_a_file_change_places, an_export_comes_back, files_come_in_any_order, nothing_is_lost,
+};

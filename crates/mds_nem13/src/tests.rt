@@ -40,7 +40,7 @@ fn text_of(alloc: Global, accumulations: &[Accumulation]) -> Result<String, Allo
             moment.write_to(&mut out)?;
         }
         out.push('\n')?;
-        out.push_str(accumulation.content.text())?;
+        out.push_str(accumulation.content.as_str())?;
         out.push('\n')?;
     }
     Ok(out)

@@ -4,12 +4,16 @@
 ghost use Rattle.std.specs.Prelude.{◌≡◌};
 ghost use Rattle.std.specs.IoError.{error_kind};
 
+use mds_arguments::{
+    Argument, ArgumentsFault, ExportArguments, RangeArguments, read_export, read_finals, read_gaps,
+};
 use mds_check::check;
 use mds_desk::{Outcome, Status};
-use mds_files::{ask, init};
+use mds_files::{ask, init, query};
 use mds_lines::Counted;
 use mds_records::FileKind;
 use mds_requests::FileCommand;
+use mds_service::Request;
 use mds_words::{Input, Words, WordsFault, read_words};
 use std::io::{ErrorKind, Read};
 use std::{env, fs, io};
@@ -34,17 +38,73 @@ fn outcome_of_call(rt: &HostRuntime) -> Outcome {
         return Outcome::Unavailable;
     };
     match read_words(rt.alloc(), words.as_slice()) {
-        Ok(Words::Check { kind, input }) => check_input(rt, kind, input),
-        Ok(Words::Init { store }) => init(rt, store),
-        Ok(Words::Import { store, kind, input }) => {
-            ask_input(rt, store, FileCommand::Import(kind), input)
-        }
-        Ok(Words::Substitute { store, input }) => {
-            ask_input(rt, store, FileCommand::Substitute, input)
-        }
-        Ok(Words::Holidays { store, input }) => ask_input(rt, store, FileCommand::Holidays, input),
+        Ok(words) => outcome_of_words(rt, words),
         Err(WordsFault::Memory) => Outcome::Unavailable,
         Err(WordsFault::Text(text)) => usage(rt, text.as_str()),
+    }
+}
+
+/// Does what words ask for.
+fn outcome_of_words(rt: &HostRuntime, words: Words<'_>) -> Outcome {
+    match words {
+        Words::Check { kind, input } => check_input(rt, kind, input),
+        Words::Init { store } => init(rt, store),
+        Words::Import { store, kind, input } => {
+            ask_input(rt, store, FileCommand::Import(kind), input)
+        }
+        Words::Substitute { store, input } => ask_input(rt, store, FileCommand::Substitute, input),
+        Words::Holidays { store, input } => ask_input(rt, store, FileCommand::Holidays, input),
+        Words::Gaps {
+            store,
+            nmi,
+            suffix,
+            from,
+            to,
+        } => {
+            let arguments = RangeArguments {
+                nmi,
+                suffix,
+                from,
+                to,
+            };
+            query_range(rt, store, read_gaps(&arguments))
+        }
+        Words::Finals {
+            store,
+            nmi,
+            suffix,
+            from,
+            to,
+        } => {
+            let arguments = RangeArguments {
+                nmi,
+                suffix,
+                from,
+                to,
+            };
+            query_range(rt, store, read_finals(&arguments))
+        }
+        Words::Export {
+            store,
+            nmi,
+            from,
+            to,
+            moment,
+            sender,
+            receiver,
+            suffixes,
+        } => {
+            let arguments = ExportArguments {
+                nmi,
+                from,
+                to,
+                moment,
+                sender,
+                receiver,
+                suffixes,
+            };
+            export(rt, store, &arguments)
+        }
     }
 }
 
@@ -92,5 +152,22 @@ fn ask_input(rt: &HostRuntime, store: &str, command: FileCommand, input: Input<'
             Ok(file) => ask(rt, store, command, file),
             Err(_) => Outcome::NoInput,
         },
+    }
+}
+
+/// Asks a store for a register of a range, where the arguments ask for one.
+fn query_range(rt: &HostRuntime, store: &str, request: Result<Request, Argument>) -> Outcome {
+    match request {
+        Ok(request) => query(rt, store, &request),
+        Err(argument) => Outcome::BadArgument(argument),
+    }
+}
+
+/// Asks a store for an export, where the arguments ask for one.
+fn export(rt: &HostRuntime, store: &str, arguments: &ExportArguments<'_>) -> Outcome {
+    match read_export(rt.alloc(), arguments) {
+        Ok(request) => query(rt, store, &request),
+        Err(ArgumentsFault::Bad(argument)) => Outcome::BadArgument(argument),
+        Err(ArgumentsFault::Memory) => Outcome::Unavailable,
     }
 }

@@ -55,7 +55,7 @@ pub no_reading_in : (w : World) (book : BookValue) (i : ℕ) → IsDay w book
     → HasNoVersion (book_world book) book.stream book.day i → HasNoVersion w book.stream book.day i
 no_reading_in w book i day none = λ u q h. none u q (day.whole _ (refl, refl) h)
 
-latest_in : (w : World) (book : BookValue) (u : ℕ) → IsDay w book → IsLatest (book_world book) book.stream book.day u
+pub latest_in : (w : World) (book : BookValue) (u : ℕ) → IsDay w book → IsLatest (book_world book) book.stream book.day u
     → IsLatest w book.stream book.day u
 latest_in w book u day latest = record {
   held = (latest.held.0, latest.held.1, current_in w book latest.held.0 u latest.held.1 day latest.held.2);

@@ -1,5 +1,5 @@
 pub mod DayFacts
-pub mod KeysInOrder
+pub mod InOrder
 pub mod Pairs
 pub mod Ranged
 pub mod Selected

@@ -25,6 +25,9 @@ module _ {X : Type 0} where
   pub pairs_none : (R : X → X → Type 0) → AllPairs R []
   pairs_none R = λ i j d less within. absurd (omega (arith, within))
 
+  pub pairs_one : (R : X → X → Type 0) (x : X) → AllPairs R (x ∷ [])
+  pairs_one R x = λ i j d less within. absurd (omega (arith, less, within))
+
   -- each of the one list stands before each of the other
   pub pairs_append : (R : X → X → Type 0) (xs ys : List X) → AllPairs R xs → AllPairs R ys
       → ((x y : X) → Member x xs → Member y ys → R x y) → AllPairs R (xs ++ ys)

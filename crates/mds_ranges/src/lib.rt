@@ -8,6 +8,7 @@ mod selecting;
 mod suffixes;
 
 pub use range::is_too_wide;
+pub use readings::current_readings;
 pub use registers::{finals_of, gaps_of};
 pub use selecting::selection_of;
-pub use suffixes::{distinct, has_many};
+pub use suffixes::{Suffixes, distinct};

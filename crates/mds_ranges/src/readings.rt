@@ -11,8 +11,9 @@ use mds_terms::{Length, Mark, Quality, Reading, Reason};
 use mds_versions::DayBook;
 use std::alloc::{AllocError, Global};
 
-/// Copies of the current readings of a day of this length, in the order of its intervals.
-pub(crate) fn current_readings(
+/// The current readings of a day with intervals of this length: one for each interval of the day, in their order. Each is
+/// a copy of the interval's reading of the greatest update; where it has none, bare N, which is quality N without a value.
+pub fn current_readings(
     alloc: Global,
     book: &DayBook,
     length: Length,

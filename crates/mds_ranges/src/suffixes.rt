@@ -1,40 +1,106 @@
 //! The suffixes that an export is asked for.
 
-ghost use Rattle.std.specs.Prelude.{◌↔◌, ◌<◌, ◌≤◌, ℕ, List, IfOk, IsTrue, length};
-ghost use Rattle.std.specs.Bool.{MatchBool};
-ghost use Rattle.std.specs.BTreeSet.{IsFromIterResult};
+ghost use Rattle.std.specs.Prelude.{◌≡◌, ◌↔◌, ◌≤◌, ℕ, List, IfNone, IfSome, IsTrue, length};
 ghost use Rattle.mds_ranges.specs.Selections.{AreDistinct, HasManySuffixes};
+ghost use Rattle.mds_ranges.specs.SuffixesSteps.{IsAfter, IsBefore, IsNext};
 
 use mds_terms::Suffix;
-use std::alloc::{AllocError, Global};
-use std::collections::BTreeSet;
+use std::marker::Model;
+use std::ops::DerefSlice;
 
 /// The most distinct suffixes of an export.
 const MOST_SUFFIXES: usize = 8;
 
-/// The distinct ones of these suffixes, in the order of their bytes.
-pub fn distinct(alloc: Global, suffixes: &[Suffix]) -> Result<Vec<Suffix>, AllocError>
-    ensures { IfOk result (λ distinct. AreDistinct suffixes.now distinct.items) }
-{
-    let in_order = in_order(alloc, suffixes)?;
-    match in_order.into_iter().collect(alloc) {
-        Ok(distinct) => Ok(distinct),
-        Err(error) => Err(error),
+/// At most eight suffixes, which lie in the value itself.
+#[derive(Drop)]
+pub struct Suffixes {
+    places: [Suffix; MOST_SUFFIXES],
+    count: usize,
+}
+
+impl Model for Suffixes {
+    ghost use Rattle.std.specs.Prelude.{◌≡◌, ◌≤◌, ℕ, List, length, take};
+
+    ghost Value = { List (List ℕ) };
+
+    ghost view = { λ suffixes. take suffixes.count suffixes.places };
+
+    ghost invariant = { λ suffixes. (suffixes.count ≤ 8) × (length suffixes.places ≡ 8) };
+}
+
+impl DerefSlice for Suffixes {
+    type Elem = Suffix;
+
+    ghost deref_gives = { λ suffixes items. items ≡ suffixes };
+
+    fn deref(&self) -> &[Suffix] {
+        &self.places[..self.count]
     }
 }
 
-/// Whether there are more than eight, of the distinct ones of suffixes.
-pub fn has_many(distinct: &[Suffix]) -> bool
-    ensures count { MatchBool result (8 < length distinct.now) (length distinct.now ≤ 8) }
-    ensures many { (suffixes : List (List ℕ)) → AreDistinct suffixes distinct.now
-        → IsTrue result ↔ HasManySuffixes suffixes }
+/// The distinct ones of these suffixes, in the order of their bytes. `None` where there are more than eight. It takes no
+/// memory.
+pub fn distinct(suffixes: &[Suffix]) -> Option<Suffixes>
+    ensures some { IfSome result (AreDistinct suffixes.now) }
+    ensures few { IfSome result (λ distinct. length distinct ≤ 8) }
+    ensures none { IfNone result (HasManySuffixes suffixes.now) }
 {
-    distinct.len() > MOST_SUFFIXES
+    // Each is the first after the one before it, so that none has to be moved.
+    let mut places = [blank(); MOST_SUFFIXES];
+    let mut count = 0;
+    let mut last = None;
+    while let Some(next) = next_after(&last, suffixes) {
+        if count == MOST_SUFFIXES {
+            return None;
+        }
+        places[count] = next;
+        count += 1;
+        last = Some(next);
+    }
+    Some(Suffixes { places, count })
 }
 
-/// The suffixes in their order, each once.
-fn in_order(alloc: Global, suffixes: &[Suffix]) -> Result<BTreeSet<Suffix>, AllocError>
-    ensures { IfOk result (IsFromIterResult ⟦<Suffix as Ord>⟧.cmp suffixes.now) }
+/// The first of these suffixes that is after the last one, if there is one.
+fn next_after(last: &Option<Suffix>, suffixes: &[Suffix]) -> Option<Suffix>
+    ensures { IsNext last.now suffixes.now result }
 {
-    suffixes.iter().copied().collect(alloc)
+    let mut next = None;
+    for suffix in suffixes {
+        if is_between(last, suffix, &next) {
+            next = Some(*suffix);
+        }
+    }
+    next
+}
+
+/// Whether a suffix is after one and before another, as far as there are these.
+fn is_between(first: &Option<Suffix>, suffix: &Suffix, last: &Option<Suffix>) -> bool
+    ensures { IsTrue result ↔ (IsAfter first.now suffix.now × IfSome last.now (IsBefore suffix.now)) }
+{
+    is_after(first, suffix) && is_before(suffix, last)
+}
+
+/// Whether a suffix is after another, if there is one.
+fn is_after(first: &Option<Suffix>, suffix: &Suffix) -> bool
+    ensures { IsTrue result ↔ IsAfter first.now suffix.now }
+{
+    match first {
+        Some(first) => first.cmp(suffix).is_lt(),
+        None => true,
+    }
+}
+
+/// Whether a suffix is before another, if there is one.
+fn is_before(suffix: &Suffix, last: &Option<Suffix>) -> bool
+    ensures { IsTrue result ↔ IfSome last.now (IsBefore suffix.now) }
+{
+    match last {
+        Some(last) => suffix.cmp(last).is_lt(),
+        None => true,
+    }
+}
+
+/// A suffix for places that are unused.
+fn blank() -> Suffix {
+    Suffix::read(b"E1").unwrap()
 }

@@ -23,11 +23,12 @@ use Rattle.mds_versions.proofs.BookPlaces.{place_of}
 use Rattle.mds_versions.specs.BookRows.{AreVersionsOf}
 use Rattle.mds_versions.specs.Queries.{AreEventsOf, AreKnownStreams}
 use Rattle.mds_versions.specs.declared.day_book.Version.{Version}
+use Rattle.mds_ranges.proofs.DayFacts.{latest_in, unknown_here}
+use Rattle.mds_ranges.specs.Readings.{AreReadings}
 use Rattle.mds_service.specs.declared.request.DayAnswer.{DayAnswer}
 use Rattle.mds_service.specs.declared.request.StreamAnswer.{StreamAnswer}
 use Rattle.mds_service.specs.declared.request.VersionsAnswer.{VersionsAnswer}
 use Rattle.mds_service.specs.Machine.{AreStreamAnswers, HasInterval, IsDayAnswer, IsVersionsAnswer}
-use Rattle.mds_service.specs.Readings.{AreReadings}
 
 -- what holds of a book's stream and day holds of those that it was asked for
 at : (P : Stream → ℕ → Type 0) (book : BookValue) (s : Stream) (d : ℕ) → book.stream ≡ s → book.day ≡ d
@@ -38,16 +39,9 @@ back : (P : Stream → ℕ → Type 0) (book : BookValue) (s : Stream) (d : ℕ)
     → P s d → P book.stream book.day
 back P book s d e f h = subst (λ n. P book.stream n) (sym f) (subst (λ t. P t d) (sym e) h)
 
--- a known day's book has a head
-known_here : (w : World) (book : BookValue) → IsDay w book → book.head ≡ None → IsKnownDay w book.stream book.day → ⊥
-known_here w book day none known =
-    let h = head_of_book book known.0 (day.whole (HeadIs known.0) (known.2, known.3) known.1) in
-    let e : ◌≡◌ {A = Option (ℕ × MeasureUnit)} None (Some (known.0.length, known.0.unit)) = sym none ∙ h.2 in
-    cc
-
 pub unknown_day : (w : World) (book : BookValue) (s : Stream) (d : ℕ) → book.stream ≡ s → book.day ≡ d → IsDay w book
     → book.head ≡ None → IsKnownDay w s d → ⊥
-unknown_day w book s d e f day none = at (λ t n. IsKnownDay w t n → ⊥) book s d e f (known_here w book day none)
+unknown_day w book s d e f day none = at (λ t n. IsKnownDay w t n → ⊥) book s d e f (unknown_here w book day none)
 
 pub no_interval : (w : World) (s : Stream) (d i : ℕ) → (IsKnownDay w s d → ⊥) → HasInterval w s d i → ⊥
 no_interval w s d i unknown has = unknown (has.0, has.1, has.2, has.3)
@@ -67,45 +61,11 @@ pub interval_of : (w : World) (book : BookValue) (s : Stream) (d : ℕ) (form : 
 interval_of w book s d form i e f day some =
     at (λ t n. HasInterval w t n i → (1 ≤ i) × (i ≤ count_of form.0)) book s d e f (interval_here w book form i day some)
 
--- a lawful book with a head has a version
-pub has_version : (book : BookValue) (form : ℕ × MeasureUnit) → IsLawful (book_world book) → book.head ≡ Some form
-    → ((interval : ℕ) → HasNoVersion (book_world book) book.stream book.day interval) → ⊥
-has_version book form lawful some none =
-    let row = row_of_head book lawful form some in
-    none row.0.0 row.0.1.update row.0.1.reading (row_in_book book row.0 row.1)
-
--- what is current in the book is current in the World, and the other way
-current_in : (w : World) (book : BookValue) (i u : ℕ) (r : ReadingValue) → IsDay w book
-    → IsCurrent (book_world book) book.stream book.day i u r → IsCurrent w book.stream book.day i u r
-current_in w book i u r day current = record {
-  held = day.only _ current.held;
-  greatest = λ other of_other h. current.greatest other of_other (day.whole _ (refl, refl) h);
-}
-
-current_out : (w : World) (book : BookValue) (i u : ℕ) (r : ReadingValue) → IsDay w book
-    → IsCurrent w book.stream book.day i u r → IsCurrent (book_world book) book.stream book.day i u r
-current_out w book i u r day current = record {
-  held = day.whole _ (refl, refl) current.held;
-  greatest = λ other of_other h. current.greatest other of_other (day.only _ h);
-}
-
-reading_in : (w : World) (book : BookValue) (i : ℕ) (r : ReadingValue) → IsDay w book
-    → IsReading (book_world book) book.stream book.day i r → IsReading w book.stream book.day i r
-reading_in w book i r day (inl (u, current)) = inl (u, current_in w book i u r day current)
-reading_in w book i r day (inr (none, e)) = inr ((λ u q h. none u q (day.whole _ (refl, refl) h)), e)
-
-latest_in : (w : World) (book : BookValue) (u : ℕ) → IsDay w book → IsLatest (book_world book) book.stream book.day u
-    → IsLatest w book.stream book.day u
-latest_in w book u day latest = record {
-  held = (latest.held.0, latest.held.1, current_in w book latest.held.0 u latest.held.1 day latest.held.2);
-  greatest = λ i other r current. latest.greatest i other r (current_out w book i other r day current);
-}
-
 -- the answer to a query of a known day
 pub day_answer : (w : World) (book : BookValue) (s : Stream) (d : ℕ) (answer : DayAnswer) → book.stream ≡ s
     → book.day ≡ d → IsDay w book → book.head ≡ Some (answer.length, answer.unit)
     → IsLatest (book_world book) book.stream book.day answer.update
-    → AreReadings (book_world book) book.stream book.day (count_of answer.length) answer.readings.items
+    → AreReadings w book.stream book.day (count_of answer.length) answer.readings.items
     → AreEventsOf w s d answer.events.items → answer.stream ≡ s → answer.day ≡ d → IsDayAnswer w s d answer
 day_answer w book s d answer e f day some latest readings events is_s is_d = record {
   stream = is_s;
@@ -114,8 +74,7 @@ day_answer w book s d answer e f day some latest readings events is_s is_d = rec
       (day.only _ (head_in_book book (answer.length, answer.unit) some));
   update = at (λ t n. IsLatest w t n answer.update) book s d e f (latest_in w book answer.update day latest);
   count = readings.count_is;
-  readings = λ i r h. at (λ t n. IsReading w t n (i + 1) r) book s d e f
-      (reading_in w book (i + 1) r day (readings.each i r h));
+  readings = λ i r h. at (λ t n. IsReading w t n (i + 1) r) book s d e f (readings.each i r h);
   events = events;
 }
 
@@ -177,29 +136,6 @@ versions_answer w book s d i form rows answer e f day some low high versions ite
   );
   ascending = subst (AllPairs (λ a b. a.update < b.update)) (sym items) (ascending_in rows versions.ascending);
 }
-
--- one more reading
-pub readings_more : (w : World) (s : Stream) (d i : ℕ) (xs ys : List ReadingValue) (r : ReadingValue)
-    → ys ≡ xs ++ r ∷ [] → AreReadings w s d i xs → IsReading w s d (i + 1) r → AreReadings w s d (i + 1) ys
-readings_more w s d i xs ys r e readings is =
-    let more : length ys ≡ i + 1 = ap length e ∙ length-append xs (r ∷ []) ∙ omega (arith, readings.count_is) in
-    record {
-      count_is = more;
-      each = λ k q h.
-          let value = get_or_from_slice_get ys k q q h in
-          let within = slice_get_within ys k q h in
-          elim (cases_lt k (length xs)) [
-            | inl a ↦
-                readings.each k q (slice_get-get_or xs k q a
-                ∙ ap (λ z. Some z) (sym (get_or_append_left xs (r ∷ []) q k a) ∙ sym (ap (λ l. get_or l k q) e) ∙ value))
-            | inr b ↦
-                let last : k ≡ length xs = omega (arith, readings.count_is) in
-                let at_i : i ≡ k = omega (arith, readings.count_is) in
-                let same : r ≡ q = sym (get_or-append_seam xs r [] q) ∙ sym (ap (λ n. get_or (xs ++ r ∷ []) n q) last)
-                ∙ sym (ap (λ l. get_or l k q) e) ∙ value in
-                subst (λ n. IsReading w s d (n + 1) q) at_i (subst (IsReading w s d (i + 1)) same is)
-          ];
-    }
 
 -- what a keeper says of its World later is said of the one before
 pub events_then : (v w : World) (s t : Stream) (d : ℕ) (events : List EventValue) → v ≡ w → s ≡ t

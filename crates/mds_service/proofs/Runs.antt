@@ -42,6 +42,9 @@ idle a (asked.Day stream day) b step = step.1
 idle a (asked.Versions stream day interval) b step = step.1
 idle a (asked.Period stream) b step = step.1
 idle a asked.Streams b step = step.1
+idle a (asked.Gaps stream first last) b step = step.1
+idle a (asked.Finals stream first last) b step = step.1
+idle a (asked.Export nmi suffixes first last header) b step = step.1
 
 leaves_more : (a : World) (rs : List Request) (ss : List Answer) (b v : World) (r : Request) (s : Answer)
     (before : Type 0) (left : World) → Run a rs ss b → Step b r s v → (before → MayLeave b rs ss left)

@@ -11,6 +11,7 @@ use Rattle.mds_nem12.specs.Faults.{fault_of as fault_of_nem12}
 use Rattle.mds_nem12.specs.Statements.{statements_of as statements_of_nem12}
 use Rattle.mds_nem13.specs.Faults.{fault_of as fault_of_nem13}
 use Rattle.mds_nem13.specs.Statements.{statements_of as statements_of_nem13}
+use Rattle.mds_statements.specs.Delivered.{header_value}
 use Rattle.mds_statements.specs.Statements.{Statement}
 use Rattle.mds_world.specs.declared.facts.Head.{Head}
 use Rattle.mds_world.specs.Counts.{added_by, known_by}
@@ -34,6 +35,7 @@ use Rattle.mds_service.specs.declared.request.PeriodAnswer.{PeriodAnswer}
 use Rattle.mds_service.specs.declared.request.StreamAnswer.{StreamAnswer}
 use Rattle.mds_service.specs.declared.request.VersionsAnswer.{VersionsAnswer}
 use Rattle.mds_service.specs.Holidays.{HolidaysStep}
+use Rattle.mds_service.specs.RangeAnswers.{TellsExport, TellsFinals, TellsGaps}
 use Rattle.mds_service.specs.Substitution.{SubstituteStep}
 
 -- the fault of a file of a kind, if it isn't well formed
@@ -141,6 +143,10 @@ Step old (asked.Versions stream day interval) answer new =
     TellsVersions old stream day interval answer × (new ≡ old)
 Step old (asked.Period stream) answer new = TellsPeriods old stream answer × (new ≡ old)
 Step old asked.Streams answer new = TellsStreams old answer × (new ≡ old)
+Step old (asked.Gaps stream first last) answer new = TellsGaps old stream first last answer × (new ≡ old)
+Step old (asked.Finals stream first last) answer new = TellsFinals old stream first last answer × (new ≡ old)
+Step old (asked.Export nmi suffixes first last header) answer new =
+    TellsExport old nmi suffixes.items first last (header_value header) answer × (new ≡ old)
 
 -- A list of requests, one step after the other.
 abbrev pub Run : World → List Request → List Answer → World → Type 0

@@ -7,6 +7,7 @@ mod importing;
 mod listing;
 mod news;
 mod queries;
+mod ranges;
 mod request;
 mod service;
 mod settling;

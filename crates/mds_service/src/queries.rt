@@ -2,16 +2,13 @@
 
 ghost use Rattle.std.specs.Prelude.{◌≡◌, ◌↔◌, ◌<◌, ◌≤◌, IfOk, IsTrue, OnErr, length as size, map};
 ghost use Rattle.mds_calendar.specs.Length.{count_of};
-ghost use Rattle.mds_world.specs.Current.{IsReading, no_reading as bare_n};
-ghost use Rattle.mds_versions.specs.Books.{book_world};
 ghost use Rattle.mds_service.specs.Crashes.{Goes};
-ghost use Rattle.mds_service.specs.Readings.{AreReadings};
 ghost use Rattle.mds_service.specs.declared.request.Request.TheVariants as asked;
 
 use crate::request::{Answer, DayAnswer, PeriodAnswer, StreamAnswer, VersionsAnswer};
-use mds_marks::{Mark, Quality, Reading, Reason};
+use mds_ranges::current_readings;
 use mds_terms::{Day, Length, Stream};
-use mds_versions::{DayBook, Keeper, Refusal, RefusalCode, Version};
+use mds_versions::{Keeper, Refusal, RefusalCode, Version};
 use std::alloc::{AllocError, Global};
 
 /// The refusal of a day that isn't known, or of an interval that it doesn't have.
@@ -130,44 +127,6 @@ pub(crate) fn streams<K: Keeper>(alloc: Global, keeper: &mut K) -> Answer
         };
     }
     Answer::Streams(answers)
-}
-
-/// Copies of the current readings of a day of this length, in the order of its intervals.
-fn current_readings(
-    alloc: Global,
-    book: &DayBook,
-    length: Length,
-) -> Result<Vec<Reading>, AllocError>
-    ensures { IfOk result (λ readings. AreReadings
-        (book_world book.now) book.now.stream book.now.day (count_of length) readings.items) }
-{
-    let count = length.count();
-    let mut readings = Vec::with_capacity(alloc, count)?;
-    for i in 0..count {
-        readings.push(current_reading(alloc, book, i as u16 + 1)?)?;
-    }
-    Ok(readings)
-}
-
-/// A copy of the current reading of an interval, or bare N where it has no version.
-fn current_reading(alloc: Global, book: &DayBook, interval: u16) -> Result<Reading, AllocError>
-    ensures { IfOk result (IsReading (book_world book.now) book.now.stream book.now.day interval) }
-{
-    match book.current(interval) {
-        Some(version) => version.reading.try_clone(),
-        None => Ok(no_reading(alloc)),
-    }
-}
-
-/// Bare N: quality N, without a method, a reason or a value.
-fn no_reading(alloc: Global) -> Reading
-    ensures { result ≡ bare_n }
-{
-    let mark = Mark {
-        quality: Quality::new(b'N', 0).unwrap(),
-        reason: Reason::new(None, String::new(alloc)).unwrap(),
-    };
-    Reading::new(mark, None).unwrap()
 }
 
 /// Copies of versions, without the number of their interval.

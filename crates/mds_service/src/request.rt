@@ -4,8 +4,8 @@ use mds_jobs::Job;
 use mds_marks::Reading;
 use mds_quantity::Unit;
 use mds_records::{FileFault, FileKind};
-use mds_statements::Period;
-use mds_terms::{Day, Details, Event, Length, Moment, Stream};
+use mds_statements::{Header, Period};
+use mds_terms::{Day, Details, Event, Length, Moment, Nmi, Stream, Suffix};
 use mds_versions::{Refusal, Version};
 
 /// What the machine is asked. Nothing is asked of a request: the bytes of an import may be any.
@@ -37,6 +37,27 @@ pub enum Request {
     },
     /// For the known streams.
     Streams,
+    /// For the register of a stream's gaps in a range of days, first to last.
+    Gaps {
+        stream: Stream,
+        first: Day,
+        last: Day,
+    },
+    /// For the register of a stream's finals in a range of days, first to last.
+    Finals {
+        stream: Stream,
+        first: Day,
+        last: Day,
+    },
+    /// For the current readings of streams of one NMI in a range of days, first to last, as a NEM12 file of this header. A
+    /// suffix that stands twice counts once.
+    Export {
+        nmi: Nmi,
+        suffixes: Vec<Suffix>,
+        first: Day,
+        last: Day,
+        header: Header,
+    },
 }
 
 /// What the machine answers.
@@ -55,6 +76,12 @@ pub enum Answer {
     Period(PeriodAnswer),
     /// The known streams, in the order of their bytes.
     Streams(Vec<StreamAnswer>),
+    /// The register of gaps, a CSV text.
+    Gaps(Vec<u8>),
+    /// The register of finals, a CSV text.
+    Finals(Vec<u8>),
+    /// The NEM12 file.
+    Exported(Vec<u8>),
     /// The file isn't well formed. Nothing is changed.
     File(FileFault),
     /// A rule is broken. Nothing is changed.

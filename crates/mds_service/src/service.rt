@@ -8,6 +8,7 @@ ghost use Rattle.mds_service.specs.Machine.{Run};
 use crate::importing::import;
 use crate::listing::list_holidays;
 use crate::queries::{day, period, streams, versions};
+use crate::ranges::{export, finals, gaps};
 use crate::request::{Answer, Request};
 use crate::substituting::substitute;
 use mds_versions::Keeper;
@@ -37,6 +38,23 @@ pub fn apply<K: Keeper>(alloc: Global, keeper: &mut K, request: &Request) -> Ans
         } => versions(alloc, keeper, *stream, *date, *interval),
         Request::Period { stream } => period(keeper, *stream),
         Request::Streams => streams(alloc, keeper),
+        Request::Gaps {
+            stream,
+            first,
+            last,
+        } => gaps(alloc, keeper, *stream, *first, *last),
+        Request::Finals {
+            stream,
+            first,
+            last,
+        } => finals(alloc, keeper, *stream, *first, *last),
+        Request::Export {
+            nmi,
+            suffixes,
+            first,
+            last,
+            header,
+        } => export(alloc, keeper, *nmi, suffixes, *first, *last, header),
     }
 }
 

@@ -4,7 +4,7 @@ use Rattle.mds_records.specs.declared.file.FileKind.{FileKind}
 use Rattle.mds_words.specs.declared.words.Input.{Input}
 use Rattle.mds_words.specs.declared.words.Input.TheVariants.{Standard, File}
 use Rattle.mds_words.specs.declared.words.Words.{Words}
-use Rattle.mds_words.specs.declared.words.Words.TheVariants.{Check, Init, Import, Substitute, Holidays}
+use Rattle.mds_words.specs.declared.words.Words.TheVariants.{Check, Init, Import, Substitute, Holidays, Gaps, Finals, Export}
 
 -- standard input, or the file of a name
 abbrev pub input_value : Input → Option (List ℕ)
@@ -18,3 +18,6 @@ asked_check (Init store) = None
 asked_check (Import store kind input) = None
 asked_check (Substitute store input) = None
 asked_check (Holidays store input) = None
+asked_check (Gaps store nmi suffix from to) = None
+asked_check (Finals store nmi suffix from to) = None
+asked_check (Export store nmi from to moment sender receiver suffixes) = None

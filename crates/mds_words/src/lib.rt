@@ -1,6 +1,7 @@
 //! The words of a call: what they ask for, or what is to be printed where they ask for nothing.
 #![tactic(auto)]
 
+mod commands;
 mod grammar;
 #[cfg(test)]
 mod tests;

@@ -31,6 +31,45 @@ fn asked(alloc: Global, text: &str) -> Result<String, AllocError> {
             "holidays {store} {}",
             name_of(input)
         ),
+        Ok(
+            Words::Gaps {
+                store,
+                nmi,
+                suffix,
+                from,
+                to,
+            },
+        ) => format!(in alloc; "gaps {store}|{nmi}|{suffix}|{from}|{to}"),
+        Ok(
+            Words::Finals {
+                store,
+                nmi,
+                suffix,
+                from,
+                to,
+            },
+        ) => format!(in alloc; "finals {store}|{nmi}|{suffix}|{from}|{to}"),
+        Ok(
+            Words::Export {
+                store,
+                nmi,
+                from,
+                to,
+                moment,
+                sender,
+                receiver,
+                suffixes,
+            },
+        ) => {
+            let mut text = format!(in alloc;
+                "export {store}|{nmi}|{from}|{to}|{moment}|{sender}|{receiver}"
+            )?;
+            for suffix in suffixes {
+                text.push('|')?;
+                text.push_str(suffix)?;
+            }
+            Ok(text)
+        }
         Err(WordsFault::Memory) => String::from_str(alloc, "memory"),
         Err(WordsFault::Text(text)) => Ok(text),
     }
@@ -93,6 +132,82 @@ fn words_ask(rt: HostRuntime) -> Result<(), Fail> {
     for (words, wanted) in rows {
         let asked = asked(rt.alloc(), words)?;
         assert_eq!(rt; asked.as_str(), wanted);
+    }
+    Ok(())
+}
+
+#[test]
+fn words_ask_for_ranges(rt: HostRuntime) -> Result<(), Fail> {
+    let rows = [
+        (
+            "gaps --store week.db NEM1201009 E1 20240101 20240107",
+            "gaps week.db|NEM1201009|E1|20240101|20240107",
+        ),
+        (
+            "gaps NEM1201009 E1 --store=week.db 20240101 20240107",
+            "gaps week.db|NEM1201009|E1|20240101|20240107",
+        ),
+        (
+            "gaps --store week.db -- -n -s -f -t",
+            "gaps week.db|-n|-s|-f|-t",
+        ),
+        (
+            "gaps --store week.db NEM1201009  x ",
+            "gaps week.db|NEM1201009||x|",
+        ),
+        (
+            "finals --store week.db NEM1201009 B1 20240101 20240107",
+            "finals week.db|NEM1201009|B1|20240101|20240107",
+        ),
+        (
+            "finals NEM1201009 B1 20240101 20240107 --store=week.db",
+            "finals week.db|NEM1201009|B1|20240101|20240107",
+        ),
+        (
+            "export --store week.db NEM1201009 20240101 20240107 202401080000 MDP1 RETAILER E1",
+            "export week.db|NEM1201009|20240101|20240107|202401080000|MDP1|RETAILER|E1",
+        ),
+        (
+            "export NEM1201009 20240101 20240107 202401080000   E1 E2 E1 --store=week.db",
+            "export week.db|NEM1201009|20240101|20240107|202401080000|||E1|E2|E1",
+        ),
+        (
+            "export NEM1201009 20240101 20240107 202401080000 MDP1 RETAILER E1 --store week.db B1",
+            "export week.db|NEM1201009|20240101|20240107|202401080000|MDP1|RETAILER|E1|B1",
+        ),
+        (
+            "export --store week.db -- NEM1201009 20240101 20240107 202401080000 -a --b E1 --",
+            "export week.db|NEM1201009|20240101|20240107|202401080000|-a|--b|E1|--",
+        ),
+    ];
+    for (words, wanted) in rows {
+        let asked = asked(rt.alloc(), words)?;
+        assert_eq!(rt; asked.as_str(), wanted);
+    }
+    Ok(())
+}
+
+/// A word that is missing, or one too many, is named.
+#[test]
+fn words_are_wanting(rt: HostRuntime) -> Result<(), Fail> {
+    let rows = [
+        ("gaps NEM1201009 E1 20240101 20240107", "--store <PATH>"),
+        ("gaps --store week.db NEM1201009 E1 20240101", "<TO>"),
+        ("gaps --store week.db a b c d e", "unexpected argument 'e'"),
+        ("finals --store week.db", "<NMI>"),
+        ("finals --store week.db NEM1201009 E1 20240101", "<TO>"),
+        (
+            "export --store week.db NEM1201009 20240101 20240107 202401080000 MDP1 RETAILER",
+            "<SUFFIX>...",
+        ),
+        (
+            "export NEM1201009 20240101 20240107 202401080000 MDP1 RETAILER E1",
+            "--store <PATH>",
+        ),
+    ];
+    for (words, wanted) in rows {
+        let asked = asked(rt.alloc(), words)?;
+        assert!(rt; asked.contains(wanted), "{asked}");
     }
     Ok(())
 }

@@ -17,8 +17,8 @@ pub enum Input<'a> {
     File(&'a str),
 }
 
-/// What the words of a call ask for.
-#[derive(Clone, Copy)]
+/// What the words of a call ask for. What a query's words spell isn't judged here.
+#[derive(Drop)]
 pub enum Words<'a> {
     /// That a file of a kind is checked.
     Check {
@@ -44,6 +44,33 @@ pub enum Words<'a> {
     Holidays {
         store: &'a str,
         input: Input<'a>,
+    },
+    /// The gaps of a stream in a range of days, from the store in the file of a name.
+    Gaps {
+        store: &'a str,
+        nmi: &'a str,
+        suffix: &'a str,
+        from: &'a str,
+        to: &'a str,
+    },
+    /// The finals of a stream in a range of days, from the store in the file of a name.
+    Finals {
+        store: &'a str,
+        nmi: &'a str,
+        suffix: &'a str,
+        from: &'a str,
+        to: &'a str,
+    },
+    /// An export of some streams of a meter in a range of days, from the store in the file of a name.
+    Export {
+        store: &'a str,
+        nmi: &'a str,
+        from: &'a str,
+        to: &'a str,
+        moment: &'a str,
+        sender: &'a str,
+        receiver: &'a str,
+        suffixes: Vec<&'a str>,
     },
 }
 

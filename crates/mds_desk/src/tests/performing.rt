@@ -1,7 +1,8 @@
-//! Imports over the keeper in memory, with what is printed of their answers.
+//! Requests over the keeper in memory, with what is printed of their answers.
 
 use super::{Failing, file_of};
 use crate::{PerformFault, Status, perform};
+use mds_arguments::{ExportArguments, RangeArguments, read_export, read_finals, read_gaps};
 use mds_lines::Counted;
 use mds_memory::MemoryKeeper;
 use mds_records::FileKind;
@@ -67,6 +68,62 @@ fn answers_are_printed(rt: HostRuntime) -> Result<(), Fail> {
         let answer = performed(alloc, &mut keeper, &request, &mut out);
         assert_eq!(rt; out.as_slice(), wanted);
         assert_eq!(rt; answer, (Ok(status), 0));
+    }
+    Ok(())
+}
+
+/// What is printed of a range of two days, of which the first has all its readings and the second isn't known.
+const GAPS: &[u8] = b"nmi,suffix,date,first,last\nNEM1201009,E1,20240102,0,0\n";
+
+const FINALS: &[u8] = b"nmi,suffix,date,first,last,method,code,text\n";
+
+/// An export of the first day, as `file_of` reads it.
+const EXPORT: &[u8] = b"100,NEM12,202401040000,MDP1,RETAILER\r\n\
+    200,NEM1201009,E1,1,E1,N1,01009,kWh,30,\r\n\
+    300,20240101*1.5*,A,,,20240102010203,\r\n\
+    900\r\n";
+
+/// A range of the first file's stream.
+fn range_to<'a>(to: &'a str) -> RangeArguments<'a> {
+    RangeArguments {
+        nmi: "NEM1201009",
+        suffix: "E1",
+        from: "20240101",
+        to,
+    }
+}
+
+/// Texts are printed as they are, and nothing else.
+#[test]
+fn texts_are_printed(rt: HostRuntime) -> Result<(), Fail> {
+    let alloc = rt.alloc();
+    let mut keeper = MemoryKeeper::new(alloc);
+    let export = ExportArguments {
+        nmi: "NEM1201009",
+        from: "20240101",
+        to: "20240102",
+        moment: "202401040000",
+        sender: "MDP1",
+        receiver: "RETAILER",
+        suffixes: ["E1"].to_vec(alloc)?,
+    };
+    let exported = file_of(alloc, EXPORT)?;
+    let rows: [(Request, &[u8], Status); 5] = [
+        (import_of(alloc, FIRST)?, ADDED, Status::Done),
+        (read_gaps(&range_to("20240102"))?, GAPS, Status::Done),
+        (read_finals(&range_to("20240102"))?, FINALS, Status::Done),
+        (
+            read_export(alloc, &export)?,
+            exported.as_slice(),
+            Status::Done,
+        ),
+        (read_gaps(&range_to("20250204"))?, b"M12\n", Status::Fault),
+    ];
+    for (request, wanted, status) in &rows {
+        let mut out = Vec::new(alloc);
+        let answer = performed(alloc, &mut keeper, request, &mut out);
+        assert_eq!(rt; out.as_slice(), *wanted);
+        assert_eq!(rt; answer, (Ok(*status), 0));
     }
     Ok(())
 }

@@ -1,0 +1,252 @@
+-- What an export of a lawful World states comes back to it.
+use Rattle.std.specs.Prelude.{◌≡◌, ◌≤◌, ℕ, ◌+◌, List, length, get_or, refl}
+use Rattle.std.proofs.Common.{sym, ap, ◌∙◌, subst, inl, inr, arith, zero, suc}
+use Rattle.std.proofs.lemmas.Bool.{cases_lt}
+use Rattle.std.proofs.lemmas.Option.{slice_get-get_or, slice_get_within}
+use Rattle.mds_calendar.specs.Length.{count_of}
+use Rattle.mds_names.specs.declared.stream.Stream.{Stream}
+use Rattle.mds_marks.specs.Reading.{ReadingValue}
+use Rattle.mds_statements.specs.Statements.{HeaderValue}
+use Rattle.mds_world.specs.declared.facts.Detail.{Detail}
+use Rattle.mds_world.specs.declared.facts.Head.{Head}
+use Rattle.mds_world.specs.declared.facts.Key.{Key}
+use Rattle.mds_world.specs.Current.{HasNoVersion, IsCurrentDetails, IsLatest, IsReading, no_reading}
+use Rattle.mds_world.specs.Facts.Fact.{HeadIs, VersionIs}
+use Rattle.mds_world.specs.Lists.{Member, in_map, map_in}
+use Rattle.mds_world.specs.Sets.{◌∈◌}
+use Rattle.mds_world.specs.Stated.{stated}
+use Rattle.mds_world.specs.World.{HasHead, IsKnownDay, IsLawful, World}
+use Rattle.mds_export.specs.Shows.{selection_stated}
+use Rattle.mds_export.specs.declared.selected.SelectedDay.{SelectedDay}
+use Rattle.mds_export.specs.declared.selected.SelectedStream.{SelectedStream}
+use Rattle.mds_ranges.proofs.Pairs.{all_member}
+use Rattle.mds_ranges.specs.Selections.{IsSelectedDay, IsSelectedStream, IsSelection}
+use Rattle.mds_laws.proofs.ReturnedCounts.{intervals_counted}
+use Rattle.mds_laws.proofs.ReturnedDetails.{details_alone, same_details, same_details_home}
+use Rattle.mds_laws.proofs.ReturnedFacts.{IsChosen, detail_stated, detail_whence, head_of, head_stated, head_whence, key_of, no_period, version_stated, version_whence}
+use Rattle.mds_laws.proofs.ReturnedReadings.{ComesFrom, agrees_alone, agrees_home, current_alone, key_at, same_day_home, same_readings}
+use Rattle.mds_laws.specs.Returns.{HasSameDetails, IsAskedFor, IsSameDay}
+use Rattle.mds_laws.proofs.ReturnedWorlds.{ComesBackAlone, ComesBackHome}
+
+module _ (w : World) (nmi : List ℕ) (suffixes : List (List ℕ)) (first last : ℕ) (header : HeaderValue)
+    (streams : List SelectedStream) (lawful : IsLawful w) (is : IsSelection w nmi suffixes first last streams) where
+  -- each stream is selected
+  stream_is : (selected : SelectedStream) → Member selected streams → IsSelectedStream w first last selected
+  stream_is selected m = all_member (IsSelectedStream w first last) streams selected is.each m
+
+  -- and so is each of its days
+  day_is : (selected : SelectedStream) (day : SelectedDay) → IsChosen streams selected day
+      → IsSelectedDay w selected.stream day
+  day_is selected day chosen =
+      all_member (IsSelectedDay w selected.stream) selected.days.items day (stream_is selected chosen.0).days.each chosen.1
+
+  -- a version of a day that is selected is of one of its intervals
+  headed : (key : Key) (reading : ReadingValue) → VersionIs key reading ∈ stated (selection_stated header streams)
+      → HasHead (stated (selection_stated header streams)) key
+  headed key reading h =
+      let v = version_whence header streams key reading h in
+      let selected : SelectedStream = v.0 in
+      let day : SelectedDay = v.1 in
+      let k : ℕ = v.2 in
+      let chosen : IsChosen streams selected day = v.3 in
+      let same : key ≡ key_of selected day (k + 1) = v.5 in
+      let at : key.interval ≡ k + 1 = ap (λ (x : Key). x.interval) same in
+      let within = slice_get_within day.readings.items k reading v.4 in
+      let size = (day_is selected day chosen).readings.count_is in (
+        head_of selected day,
+        head_stated header streams selected day chosen,
+        sym (ap (λ (x : Key). x.stream) same),
+        sym (ap (λ (x : Key). x.day) same),
+        omega (arith, at),
+        omega (arith, at, within, size),
+      )
+
+  -- what is stated comes from the World
+  comes_from : ComesFrom w (stated (selection_stated header streams)) header.moment
+  comes_from = record {
+    heads = λ head h.
+        let v = head_whence header streams head h in
+        subst (λ x. HeadIs x ∈ w) (sym v.3) (day_is v.0 v.1 v.2).head;
+    latest = λ key reading h.
+        let v = version_whence header streams key reading h in
+        subst (λ (x : Key). IsLatest w x.stream x.day x.update) (sym v.5) (day_is v.0 v.1 v.3).update;
+    readings = λ key reading h.
+        let v = version_whence header streams key reading h in
+        subst (λ (x : Key). IsReading w x.stream x.day x.interval reading) (sym v.5)
+        ((day_is v.0 v.1 v.3).readings.each v.2 reading v.4);
+    headed = headed;
+    moments = λ detail h.
+        let v = detail_whence header streams detail h in ap (λ (x : Detail). x.moment) v.2;
+    details = λ detail h.
+        let v = detail_whence header streams detail h in
+        subst (λ (x : Detail). IsCurrentDetails w x.stream x.details) (sym v.2) (stream_is v.0 v.1).details;
+    periods = no_period header streams;
+  }
+
+  -- ---- days that were asked for
+
+  -- a selected day was asked for
+  asked : (selected : SelectedStream) (day : SelectedDay) → IsChosen streams selected day
+      → IsAskedFor w nmi suffixes first last selected.stream day.date
+  asked selected day chosen =
+      let named = (is.named selected.stream).0 (map_in (λ (x : SelectedStream). x.stream) streams selected chosen.0) in
+      let known = ((stream_is selected chosen.0).days.known day.date).0
+      (map_in (λ (x : SelectedDay). x.date) selected.days.items day chosen.1) in
+      (named.0, named.1, known.0, known.1, known.2)
+
+  -- and a day that was asked for is selected
+  chosen_of : (stream : Stream) (day : ℕ) → IsAskedFor w nmi suffixes first last stream day
+      → (selected : SelectedStream) × (chosen : SelectedDay) × IsChosen streams selected chosen
+      × (selected.stream ≡ stream) × (chosen.date ≡ day)
+  chosen_of stream day (named, among, low, high, known) =
+      let s = in_map (λ (x : SelectedStream). x.stream) streams stream ((is.named stream).1 (named, among)) in
+      let there : IsKnownDay w s.0.stream day = subst (λ z. IsKnownDay w z day) s.2 known in
+      let d = in_map (λ (x : SelectedDay). x.date) s.0.days.items day
+      (((stream_is s.0 s.1).days.known day).1 (low, high, there)) in
+      (s.0, d.0, (s.1, d.1), sym s.2, sym d.2)
+
+  -- a day that is known in what is stated was asked for
+  known_back : (stream : Stream) (day : ℕ) → IsKnownDay (stated (selection_stated header streams)) stream day
+      → IsAskedFor w nmi suffixes first last stream day
+  known_back stream day (head, h, s, d) =
+      let v = head_whence header streams head h in
+      let a = asked v.0 v.1 v.2 in
+      let one : v.0.stream ≡ stream = sym (ap (λ (x : Head). x.stream) v.3) ∙ s in
+      let two : v.1.date ≡ day = sym (ap (λ (x : Head). x.day) v.3) ∙ d in
+      subst (λ z. IsAskedFor w nmi suffixes first last stream z) two
+      (subst (λ z. IsAskedFor w nmi suffixes first last z v.1.date) one a)
+
+  -- and one that was asked for is known there
+  asked_back : (stream : Stream) (day : ℕ) → IsAskedFor w nmi suffixes first last stream day
+      → IsKnownDay (stated (selection_stated header streams)) stream day
+  asked_back stream day a =
+      let c = chosen_of stream day a in
+      (head_of c.0 c.1, head_stated header streams c.0 c.1 c.2, c.3, c.4)
+
+  -- an interval of a selected day is within its readings, where it has a version
+  within : (selected : SelectedStream) (day : SelectedDay) → IsChosen streams selected day → (interval update : ℕ)
+      (reading : ReadingValue) → VersionIs (key_at selected.stream day.date interval update) reading ∈ w
+      → (1 ≤ interval) × (interval ≤ length day.readings.items)
+  within selected day chosen interval update reading h =
+      let key : Key = key_at selected.stream day.date interval update in
+      let headed = lawful.headed key reading h in
+      let d = day_is selected day chosen in
+      let same : headed.0 ≡ head_of selected day =
+      lawful.agrees.one_head headed.0 (head_of selected day) headed.1 d.head headed.2 headed.3 in
+      let size = d.readings.count_is in
+      let most : count_of headed.0.length ≡ count_of day.length = ap (λ (x : Head). count_of x.length) same in
+      let low = headed.4 in
+      let high = headed.5 in
+      (low, omega (arith, high, most, size))
+
+  -- so none outside of them has one, in the World
+  none_there : (selected : SelectedStream) (day : SelectedDay) → IsChosen streams selected day → (interval : ℕ)
+      → ((1 ≤ interval) → (interval ≤ length day.readings.items) → ⊥)
+      → HasNoVersion w selected.stream day.date interval
+  none_there selected day chosen interval out = λ u r h.
+      let n = within selected day chosen interval u r h in out n.0 n.1
+
+  -- and in what is stated
+  none_back : (selected : SelectedStream) (day : SelectedDay) → IsChosen streams selected day → (interval : ℕ)
+      → ((1 ≤ interval) → (interval ≤ length day.readings.items) → ⊥)
+      → HasNoVersion (stated (selection_stated header streams)) selected.stream day.date interval
+  none_back selected day chosen interval out = λ u r h.
+      let key : Key = key_at selected.stream day.date interval u in
+      let headed = headed key r h in
+      let d = day_is selected day chosen in
+      let same : headed.0 ≡ head_of selected day =
+      lawful.agrees.one_head headed.0 (head_of selected day) (comes_from.heads headed.0 headed.1) d.head headed.2 headed.3 in
+      let size = d.readings.count_is in
+      let most : count_of headed.0.length ≡ count_of day.length = ap (λ (x : Head). count_of x.length) same in
+      let low = headed.4 in
+      let high = headed.5 in
+      out low (omega (arith, high, most, size))
+
+  -- each interval of a selected day has one reading there and in what is stated
+  reading_both : (selected : SelectedStream) (day : SelectedDay) → IsChosen streams selected day → (interval : ℕ)
+      → (q : ReadingValue) × IsReading w selected.stream day.date interval q
+      × IsReading (stated (selection_stated header streams)) selected.stream day.date interval q
+  reading_both selected day chosen zero = (
+    no_reading,
+    inr (none_there selected day chosen zero (λ low high. absurd (omega (arith, low))), refl),
+    inr (none_back selected day chosen zero (λ low high. absurd (omega (arith, low))), refl),
+  )
+  reading_both selected day chosen (suc k) = elim (cases_lt k (length day.readings.items)) [
+    | inl less ↦
+        let q : ReadingValue = get_or day.readings.items k no_reading in
+        let at = slice_get-get_or day.readings.items k no_reading less in
+        let z : k + 1 ≡ suc k = omega arith in (
+          q,
+          subst (λ n. IsReading w selected.stream day.date n q) z ((day_is selected day chosen).readings.each k q at),
+          subst (λ n. IsReading (stated (selection_stated header streams)) selected.stream day.date n q) z
+              (current_alone w (stated (selection_stated header streams)) header.moment lawful comes_from
+              (key_of selected day (k + 1)) q (version_stated header streams selected day chosen k q at)),
+        )
+    | inr more ↦ (
+      no_reading,
+      inr (none_there selected day chosen (suc k) (λ low high. absurd (omega (arith, more, high))), refl),
+      inr (none_back selected day chosen (suc k) (λ low high. absurd (omega (arith, more, high))), refl),
+    )
+  ]
+
+  -- a selected day is the same in what is stated
+  day_alone : (selected : SelectedStream) (day : SelectedDay) → IsChosen streams selected day
+      → IsSameDay w (stated (selection_stated header streams)) selected.stream day.date
+  day_alone selected day chosen = record {
+    head = λ head s d. (
+      (λ h. subst (λ x. HeadIs x ∈ stated (selection_stated header streams))
+          (sym (lawful.agrees.one_head head (head_of selected day) h (day_is selected day chosen).head s d))
+          (head_stated header streams selected day chosen)),
+      comes_from.heads head,
+    );
+    readings = λ interval r.
+        let q = reading_both selected day chosen interval in
+        same_readings w (stated (selection_stated header streams)) selected.stream day.date interval q.0 lawful.agrees
+        (agrees_alone w (stated (selection_stated header streams)) header.moment lawful comes_from) q.1 q.2 r;
+  }
+
+  -- and its stream has the same details
+  details_same : (selected : SelectedStream) (day : SelectedDay) → IsChosen streams selected day
+      → HasSameDetails w (stated (selection_stated header streams)) selected.stream
+  details_same selected day chosen =
+      same_details w (stated (selection_stated header streams)) selected.stream selected.details
+      (stream_is selected chosen.0).details
+      (details_alone w (stated (selection_stated header streams)) header.moment comes_from selected.stream
+      (header.moment, selected.details) (detail_stated header streams selected day chosen))
+
+  -- so it is with each day that was asked for
+  both_same : (stream : Stream) (day : ℕ) → IsAskedFor w nmi suffixes first last stream day
+      → IsSameDay w (stated (selection_stated header streams)) stream day
+      × HasSameDetails w (stated (selection_stated header streams)) stream
+  both_same stream day a =
+      let c = chosen_of stream day a in (
+        subst (λ z. IsSameDay w (stated (selection_stated header streams)) stream z) c.4
+            (subst (λ z. IsSameDay w (stated (selection_stated header streams)) z c.1.date) c.3 (day_alone c.0 c.1 c.2)),
+        subst (λ z. HasSameDetails w (stated (selection_stated header streams)) z) c.3 (details_same c.0 c.1 c.2),
+      )
+
+-- ---- the law
+
+-- what an export states, taken in by a store that has nothing
+pub comes_back_alone : ComesBackAlone
+comes_back_alone w nmi suffixes first last header streams lawful is =
+    let from = comes_from w nmi suffixes first last header streams lawful is in (
+      agrees_alone w (stated (selection_stated header streams)) header.moment lawful from,
+      (λ stream day. (
+        known_back w nmi suffixes first last header streams lawful is stream day,
+        asked_back w nmi suffixes first last header streams lawful is stream day,
+      )),
+      both_same w nmi suffixes first last header streams lawful is,
+    )
+
+-- and by the one that it came from
+pub comes_back_home : ComesBackHome
+comes_back_home w nmi suffixes first last header streams lawful is =
+    let from = comes_from w nmi suffixes first last header streams lawful is in
+    let back = stated (selection_stated header streams) in (
+      agrees_home w back header.moment lawful from,
+      same_day_home w back header.moment lawful from,
+      same_details_home w back header.moment from,
+      intervals_counted w header streams is.ascending
+          (λ s m. (stream_is w nmi suffixes first last header streams lawful is s m).days.ascending),
+    )

@@ -1,0 +1,290 @@
+-- Readings and heads that come back to their World.
+use Rattle.std.specs.Prelude.{◌≡◌, ◌↔◌, ◌⊎◌, ℕ, ◌≤◌, List, [], ◌∷◌, true, refl}
+use Rattle.std.proofs.Common.{sym, ap, ◌∙◌, subst, inl, inr, arith}
+use Rattle.std.proofs.Math.Nat.{le_antisymm}
+use Rattle.std.specs.FinSet as set
+use Rattle.std.specs.Ordering.{eq_by_cmp}
+use Rattle.mds_names.specs.declared.stream.Stream.{Stream}
+use Rattle.mds_marks.specs.Reading.{ReadingValue}
+use Rattle.mds_statements.specs.Statements.{PeriodContent}
+use Rattle.mds_statements.specs.declared.periods.PeriodKey.{PeriodKey}
+use Rattle.std.specs.Cmp.{Equal-is, tied_itself}
+use Rattle.mds_world.specs.declared.facts.Detail.{Detail}
+use Rattle.mds_world.specs.declared.facts.Head.{Head}
+use Rattle.mds_world.specs.declared.facts.Key.{Key}
+use Rattle.mds_world.specs.Current.{HasNoVersion, IsCurrentDetails, IsLatest, IsReading, no_reading}
+use Rattle.mds_world.specs.FactOrder.{exact, fact_cmp, total}
+use Rattle.mds_world.specs.Facts.{Fact}
+use Rattle.mds_world.specs.Facts.Fact.{HeadIs, VersionIs, DetailIs, EventIs, PeriodIs, HolidayIs, JobIs}
+use Rattle.mds_world.specs.Lists.{Member}
+use Rattle.mds_world.specs.Members.{in_list, in_union, list_in, union_left, union_right}
+use Rattle.mds_world.specs.Sets.{◌∈◌, decided}
+use Rattle.mds_world.specs.World.{Agrees, HasHead, IsLawful, World, union}
+use Rattle.mds_world.proofs.Worlds.{one_reading}
+use Rattle.mds_laws.specs.Returns.{IsSameDay}
+
+-- where a version stands
+abbrev pub key_at : Stream → ℕ → ℕ → ℕ → Key
+key_at stream day interval update = record { stream = stream; day = day; interval = interval; update = update }
+
+-- Facts that come back to a World: heads that it has, current readings under the latest update of their day, and current
+-- details, all under one moment.
+pub record ComesFrom (w back : World) (moment : ℕ) : Type 0 where
+  pub heads : (head : Head) → HeadIs head ∈ back → HeadIs head ∈ w
+  pub latest : (key : Key) (reading : ReadingValue) → VersionIs key reading ∈ back
+      → IsLatest w key.stream key.day key.update
+  pub readings : (key : Key) (reading : ReadingValue) → VersionIs key reading ∈ back
+      → IsReading w key.stream key.day key.interval reading
+  pub headed : (key : Key) (reading : ReadingValue) → VersionIs key reading ∈ back → HasHead back key
+  pub moments : (detail : Detail) → DetailIs detail ∈ back → detail.moment ≡ moment
+  pub details : (detail : Detail) → DetailIs detail ∈ back → IsCurrentDetails w detail.stream detail.details
+  pub periods : (key : PeriodKey) (content : PeriodContent) → PeriodIs key content ∈ back → ⊥
+
+-- a day has one latest update
+pub one_latest : (w : World) (stream : Stream) (day u v : ℕ) → IsLatest w stream day u → IsLatest w stream day v → u ≡ v
+one_latest w stream day u v a b =
+    le_antisymm (b.greatest a.held.0 u a.held.1 a.held.2) (a.greatest b.held.0 v b.held.1 b.held.2)
+
+-- an interval has one reading
+pub one_value : (w : World) (stream : Stream) (day interval : ℕ) (r q : ReadingValue) → Agrees w
+    → IsReading w stream day interval r → IsReading w stream day interval q → r ≡ q
+one_value w stream day interval r q agrees (inl (u, a)) (inl (v, b)) =
+    (one_reading w stream day interval u v r q agrees a b).1
+one_value w stream day interval r q agrees (inl (u, a)) (inr (none, e)) = absurd (none u r a.held)
+one_value w stream day interval r q agrees (inr (none, e)) (inl (v, b)) = absurd (none v q b.held)
+one_value w stream day interval r q agrees (inr (none, e)) (inr (never, f)) = e ∙ sym f
+
+-- the same reading in two Worlds
+pub same_readings : (a b : World) (stream : Stream) (day interval : ℕ) (q : ReadingValue) → Agrees a → Agrees b
+    → IsReading a stream day interval q → IsReading b stream day interval q → (r : ReadingValue)
+    → IsReading a stream day interval r ↔ IsReading b stream day interval r
+same_readings a b stream day interval q one other x y r = (
+  (λ h. subst (IsReading b stream day interval) (one_value a stream day interval q r one x h) y),
+  (λ h. subst (IsReading a stream day interval) (one_value b stream day interval q r other y h) x),
+)
+
+-- a version of a day is no later than the latest current one
+pub version_before : (w : World) (stream : Stream) (day interval update other : ℕ) (r q : ReadingValue)
+    → IsLatest w stream day update → IsReading w stream day interval r
+    → VersionIs (key_at stream day interval other) q ∈ w → other ≤ update
+version_before w stream day interval update other r q latest (inl (v, c)) h =
+    let a = c.greatest other q h in
+    let b = latest.greatest interval v r c in
+    omega (arith, a, b)
+version_before w stream day interval update other r q latest (inr (none, e)) h = absurd (none other q h)
+
+-- and one of that update is the current one
+version_same : (w : World) (stream : Stream) (day interval update : ℕ) (r q : ReadingValue) → Agrees w
+    → IsLatest w stream day update → IsReading w stream day interval r
+    → VersionIs (key_at stream day interval update) q ∈ w → q ≡ r
+version_same w stream day interval update r q agrees latest (inl (v, c)) h =
+    let e : v ≡ update = le_antisymm (latest.greatest interval v r c) (c.greatest update q h) in
+    agrees.one_reading (key_at stream day interval update) q r h
+    (subst (λ u. VersionIs (key_at stream day interval u) r ∈ w) e c.held)
+version_same w stream day interval update r q agrees latest (inr (none, e)) h = absurd (none update q h)
+
+-- ---- whether there is a version
+
+-- the members of a World are those of its list
+of_items : (w : World) (f : Fact) → f ∈ w → Member f (set.items w)
+of_items w f h =
+    in_list (set.items w) f (set.contains-from_list total (set.items w) f ∙ sym (set.contains-items w f) ∙ h)
+
+-- both ways
+items_of : (w : World) (f : Fact) → Member f (set.items w) → f ∈ w
+items_of w f m =
+    set.contains-items w f ∙ sym (set.contains-from_list total (set.items w) f) ∙ list_in (set.items w) f m
+
+-- two facts are one, or not
+same_fact : (f g : Fact) → (f ≡ g) ⊎ (f ≡ g → ⊥)
+same_fact f g = elim (decided (eq_by_cmp fact_cmp f g)) [
+  | inl a ↦ inl (exact f g ((Equal-is (fact_cmp f g)).0 a))
+  | inr b ↦ inr (λ e.
+      b (subst (λ z. eq_by_cmp fact_cmp f z ≡ true) e ((Equal-is (fact_cmp f f)).1 (tied_itself total f))))
+]
+
+-- a fact that is of a kind, or isn't
+abbrev Sorts : {K : Type 0} → (K → Fact) → Type 0
+Sorts {K} made = (f : Fact) → ((k : K) × (f ≡ made k)) ⊎ ((k : K) → f ≡ made k → ⊥)
+
+-- a list has a fact of the kind, or has none
+found_in : {K : Type 0} (made : K → Fact) → Sorts made → (facts : List Fact)
+    → ((k : K) × Member (made k) facts) ⊎ ((k : K) → Member (made k) facts → ⊥)
+found_in made sorts [] = inr (λ k m. m)
+found_in made sorts (f ∷ facts) = elim (sorts f) [
+  | inl a ↦ inl (a.0, inl (sym a.1))
+  | inr b ↦ elim (found_in made sorts facts) [
+    | inl c ↦ inl (c.0, inr c.1)
+    | inr d ↦ inr (λ k m. elim m [ inl e ↦ b k (sym e) | inr n ↦ d k n ])
+  ]
+]
+
+-- and so does a World
+pub found : {K : Type 0} (made : K → Fact) → Sorts made → (w : World)
+    → ((k : K) × (made k ∈ w)) ⊎ ((k : K) → made k ∈ w → ⊥)
+found made sorts w = elim (found_in made sorts (set.items w)) [
+  | inl a ↦ inl (a.0, items_of w (made a.0) a.1)
+  | inr b ↦ inr (λ k h. b k (of_items w (made k) h))
+]
+
+-- a kind that its facts can be read back by sorts all facts
+pub sorts_by : {K : Type 0} (made : K → Fact) (read : Fact → K) → ((k : K) → read (made k) ≡ k) → Sorts made
+sorts_by made read again f = elim (same_fact f (made (read f))) [
+  | inl a ↦ inl (read f, a)
+  | inr b ↦ inr (λ k e. b (e ∙ ap made (sym (again k) ∙ ap read (sym e))))
+]
+
+-- a World has a version of an interval, or has none
+version_or_none : (w : World) (stream : Stream) (day interval : ℕ)
+    → ((p : ℕ × ReadingValue) × (VersionIs (key_at stream day interval p.0) p.1 ∈ w))
+    ⊎ ((p : ℕ × ReadingValue) → VersionIs (key_at stream day interval p.0) p.1 ∈ w → ⊥)
+version_or_none w stream day interval =
+    found (λ (p : ℕ × ReadingValue). VersionIs (key_at stream day interval p.0) p.1)
+    (sorts_by (λ (p : ℕ × ReadingValue). VersionIs (key_at stream day interval p.0) p.1) version_in (λ p. refl)) w
+  where
+    version_in : Fact → ℕ × ReadingValue
+    version_in (VersionIs key reading) = (key.update, reading)
+    version_in (HeadIs head) = (0, no_reading)
+    version_in (DetailIs detail) = (0, no_reading)
+    version_in (EventIs event) = (0, no_reading)
+    version_in (PeriodIs key content) = (0, no_reading)
+    version_in (HolidayIs day) = (0, no_reading)
+    version_in (JobIs id content count) = (0, no_reading)
+
+-- ---- what comes back agrees
+
+module _ (w back : World) (moment : ℕ) (lawful : IsLawful w) (from : ComesFrom w back moment) where
+  -- it agrees by itself
+  pub agrees_alone : Agrees back
+  agrees_alone = record {
+    one_head = λ a b h k s d. lawful.agrees.one_head a b (from.heads a h) (from.heads b k) s d;
+    one_reading = λ key a b h k.
+        one_value w key.stream key.day key.interval a b lawful.agrees (from.readings key a h) (from.readings key b k);
+    one_content = λ key a b h k. absurd (from.periods key a h);
+  }
+
+  -- an old version and one that comes back have the same reading
+  old_and_back : (key : Key) (a b : ReadingValue) → VersionIs key a ∈ w → VersionIs key b ∈ back → a ≡ b
+  old_and_back key a b h k =
+      version_same w key.stream key.day key.interval key.update b a lawful.agrees (from.latest key b k)
+      (from.readings key b k) h
+
+  -- and together with what was there
+  pub agrees_home : Agrees (union w back)
+  agrees_home = record {
+    one_head = λ a b h k s d. lawful.agrees.one_head a b (head_home a h) (head_home b k) s d;
+    one_reading = λ key a b h k. elim (in_union w back (VersionIs key a) h) [
+      | inl x ↦ elim (in_union w back (VersionIs key b) k) [
+        | inl y ↦ lawful.agrees.one_reading key a b x y
+        | inr y ↦ old_and_back key a b x y
+      ]
+      | inr x ↦ elim (in_union w back (VersionIs key b) k) [
+        | inl y ↦ sym (old_and_back key b a y x)
+        | inr y ↦ one_value w key.stream key.day key.interval a b lawful.agrees (from.readings key a x) (from.readings key b y)
+      ]
+    ];
+    one_content = λ key a b h k. lawful.agrees.one_content key a b (period_home key a h) (period_home key b k);
+  }
+    where
+      head_home : (head : Head) → HeadIs head ∈ union w back → HeadIs head ∈ w
+      head_home head h = elim (in_union w back (HeadIs head) h) [ inl a ↦ a | inr b ↦ from.heads head b ]
+
+      period_home : (key : PeriodKey) (content : PeriodContent) → PeriodIs key content ∈ union w back
+          → PeriodIs key content ∈ w
+      period_home key content h = elim (in_union w back (PeriodIs key content) h) [
+        | inl a ↦ a
+        | inr b ↦ absurd (from.periods key content b)
+      ]
+
+  -- ---- what is current
+
+  -- what comes back is current where it is alone
+  pub current_alone : (key : Key) (reading : ReadingValue) → VersionIs key reading ∈ back
+      → IsReading back key.stream key.day key.interval reading
+  current_alone key reading h = inl (
+    key.update,
+    record {
+      held = h;
+      greatest = λ other q k.
+          let k_at : Key = key_at key.stream key.day key.interval other in
+          let e = one_latest w key.stream key.day other key.update (from.latest k_at q k) (from.latest key reading h) in
+          omega (arith, e);
+    },
+  )
+
+  -- and beside what was there
+  pub current_home : (key : Key) (reading : ReadingValue) → VersionIs key reading ∈ back
+      → IsReading (union w back) key.stream key.day key.interval reading
+  current_home key reading h = inl (
+    key.update,
+    record {
+      held = union_right w back (VersionIs key reading) h;
+      greatest = λ other q k.
+          let k_at : Key = key_at key.stream key.day key.interval other in
+          elim (in_union w back (VersionIs k_at q) k) [
+            | inl a ↦
+                version_before w key.stream key.day key.interval key.update other reading q (from.latest key reading h)
+                (from.readings key reading h) a
+            | inr b ↦
+                let e = one_latest w key.stream key.day other key.update (from.latest k_at q b)
+                (from.latest key reading h) in
+                omega (arith, e)
+          ];
+    },
+  )
+
+  -- an interval of which nothing comes back keeps its reading
+  kept_in : (stream : Stream) (day interval : ℕ) (r : ReadingValue) → HasNoVersion back stream day interval
+      → IsReading w stream day interval r → IsReading (union w back) stream day interval r
+  kept_in stream day interval r none (inl (u, c)) = inl (
+    u,
+    record {
+      held = union_left w back (VersionIs (key_at stream day interval u) r) c.held;
+      greatest = λ other q h. elim (in_union w back (VersionIs (key_at stream day interval other) q) h) [
+        | inl a ↦ c.greatest other q a
+        | inr b ↦ absurd (none other q b)
+      ];
+    },
+  )
+  kept_in stream day interval r none (inr (never, e)) = inr (
+    (λ u q h. elim (in_union w back (VersionIs (key_at stream day interval u) q) h) [
+      | inl a ↦ never u q a
+      | inr b ↦ none u q b
+    ]),
+    e,
+  )
+
+  -- and has no other
+  kept_out : (stream : Stream) (day interval : ℕ) (r : ReadingValue) → HasNoVersion back stream day interval
+      → IsReading (union w back) stream day interval r → IsReading w stream day interval r
+  kept_out stream day interval r none (inl (u, c)) = inl (
+    u,
+    record {
+      held = elim (in_union w back (VersionIs (key_at stream day interval u) r) c.held) [
+        | inl a ↦ a
+        | inr b ↦ absurd (none u r b)
+      ];
+      greatest = λ other q h.
+          c.greatest other q (union_left w back (VersionIs (key_at stream day interval other) q) h);
+    },
+  )
+  kept_out stream day interval r none (inr (never, e)) =
+      inr ((λ u q h. never u q (union_left w back (VersionIs (key_at stream day interval u) q) h)), e)
+
+  -- each day keeps its head and its readings
+  pub same_day_home : (stream : Stream) (day : ℕ) → IsSameDay w (union w back) stream day
+  same_day_home stream day = record {
+    head = λ head s d. (
+      union_left w back (HeadIs head),
+      (λ h. elim (in_union w back (HeadIs head) h) [ inl a ↦ a | inr b ↦ from.heads head b ]),
+    );
+    readings = λ interval r. elim (version_or_none back stream day interval) [
+      | inl v ↦
+          let key : Key = key_at stream day interval v.0.0 in
+          same_readings w (union w back) stream day interval v.0.1 lawful.agrees agrees_home
+          (from.readings key v.0.1 v.1) (current_home key v.0.1 v.1) r
+      | inr none ↦
+          let never : HasNoVersion back stream day interval = λ u q h. none (u, q) h in
+          (kept_in stream day interval r never, kept_out stream day interval r never)
+    ];
+  }

@@ -1,0 +1,71 @@
+-- An export comes back (profile): a store without anything and the one that it came from take it in, and what was exported is
+-- as it was.
+use Rattle.std.specs.Prelude.{◌≡◌, ◌↔◌, ℕ, ◌+◌, ◌≤◌, List, length}
+use Rattle.std.specs.FinSet as set
+use Rattle.std.specs.List.{sum_by}
+use Rattle.std.specs.declared.alloc.Global.{Global}
+use Rattle.std.specs.declared.vec.Vec.{Vec}
+use Rattle.mds_names.specs.declared.stream.Stream.{Stream}
+use Rattle.mds_marks.specs.Reading.{ReadingValue}
+use Rattle.mds_terms.specs.Details.{DetailsValue}
+use Rattle.mds_records.specs.declared.file.FileKind.TheVariants.{Nem12}
+use Rattle.mds_statements.specs.Statements.{Statement, days_of}
+use Rattle.mds_statements.specs.declared.blocks.Header.{Header}
+use Rattle.mds_world.specs.declared.facts.Head.{Head}
+use Rattle.mds_world.specs.Current.{IsCurrentDetails, IsReading}
+use Rattle.mds_world.specs.Facts.Fact.{HeadIs}
+use Rattle.mds_world.specs.Lists.{Member}
+use Rattle.mds_world.specs.Sets.{◌∈◌}
+use Rattle.mds_world.specs.World.{IsKnownDay, IsLawful, World}
+use Rattle.mds_service.specs.declared.request.Request.TheVariants as asked
+use Rattle.mds_service.specs.declared.request.Answer.{Answer}
+use Rattle.mds_service.specs.declared.request.Answer.TheVariants as told
+use Rattle.mds_service.specs.Machine.{Step, stated_in}
+use Rattle.mds_laws.specs.AnyOrder.{IsGiven, IsImported}
+
+-- a known day of the range, of a stream that was asked for
+abbrev pub IsAskedFor : World → List ℕ → List (List ℕ) → ℕ → ℕ → Stream → ℕ → Type 0
+IsAskedFor w nmi suffixes first last stream day =
+    (stream.nmi ≡ nmi) × Member stream.suffix suffixes × (first ≤ day) × (day ≤ last) × IsKnownDay w stream day
+
+-- A day has the same head in both, and each of its intervals the same current reading.
+pub record IsSameDay (a b : World) (stream : Stream) (day : ℕ) : Type 0 where
+  pub head : (head : Head) → head.stream ≡ stream → head.day ≡ day → (HeadIs head ∈ a) ↔ (HeadIs head ∈ b)
+  pub readings : (interval : ℕ) (reading : ReadingValue)
+      → IsReading a stream day interval reading ↔ IsReading b stream day interval reading
+
+-- a stream has the same current details in both
+abbrev pub HasSameDetails : World → World → Stream → Type 0
+HasSameDetails a b stream =
+    (details : DetailsValue) → IsCurrentDetails a stream details ↔ IsCurrentDetails b stream details
+
+-- the number of intervals of the days that are stated
+abbrev pub intervals_in : List Statement → ℕ
+intervals_in statements = sum_by (λ day. length day.readings) (days_of statements)
+
+-- A store without anything takes in an export of a lawful World, where it has an answer. It knows then just the days that were
+-- asked for, each with the same head and the same current readings, and their streams have the same current details.
+abbrev pub ReturnsToAnEmptyStore : Type 0
+ReturnsToAnEmptyStore =
+    (w same filled : World) (nmi : List ℕ) (suffixes : Vec (List ℕ) Global) (first last : ℕ) (header : Header)
+    (text : Vec ℕ Global) (answer : Answer)
+    → IsLawful w → Step w (asked.Export nmi suffixes first last header) (told.Exported text) same
+    → Step set.empty (asked.Import Nem12 text) answer filled → IsGiven answer
+    → IsImported answer
+    × ((stream : Stream) (day : ℕ)
+    → IsKnownDay filled stream day ↔ IsAskedFor w nmi suffixes.items first last stream day)
+    × ((stream : Stream) (day : ℕ) → IsAskedFor w nmi suffixes.items first last stream day
+    → IsSameDay w filled stream day × HasSameDetails w filled stream)
+
+-- The store that it came from takes it in, where it has an answer: each day has the head and the current readings, and each
+-- stream the current details, that it had, and what is added and what is known are its intervals.
+abbrev pub ReturnsToItsStore : Type 0
+ReturnsToItsStore =
+    (w same returned : World) (nmi : List ℕ) (suffixes : Vec (List ℕ) Global) (first last : ℕ) (header : Header)
+    (text : Vec ℕ Global) (answer : Answer)
+    → IsLawful w → Step w (asked.Export nmi suffixes first last header) (told.Exported text) same
+    → Step same (asked.Import Nem12 text) answer returned → IsGiven answer
+    → (added known : ℕ) × (answer ≡ told.Imported added known)
+    × (added + known ≡ intervals_in (stated_in Nem12 text.items))
+    × ((stream : Stream) (day : ℕ) → IsSameDay w returned stream day)
+    × ((stream : Stream) → HasSameDetails w returned stream)
