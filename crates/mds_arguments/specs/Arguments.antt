@@ -1,15 +1,16 @@
 -- What the arguments of a query ask for (profile).
-use Rattle.std.specs.Prelude.{◌≡◌, ℕ, List, [], ◌∷◌, map, codes, Bool, if◌then◌else◌, Option, Some, None, is_some}
+use Rattle.std.specs.Prelude.{◌≡◌, ℕ, ◌&&◌, nat_le, List, [], ◌∷◌, length, map, codes, Bool, if◌then◌else◌, Option, Some, None, is_some}
+use Rattle.std.specs.Char.{is_ascii_digit}
 use Rattle.std.specs.List.{list_all}
+use Rattle.std.specs.Str.Parse.{digits_value}
 use Rattle.mds_calendar.specs.Calendar.{date_time_of, day_of}
 use Rattle.mds_names.specs.Names.{nmi_of, suffix_of}
+use Rattle.mds_names.specs.declared.stream.Stream.{Stream}
 use Rattle.mds_terms.specs.Printable.{is_printable}
 use Rattle.mds_service.specs.declared.request.Request.{Request}
 use Rattle.mds_service.specs.declared.request.Request.TheVariants as asked
 use Rattle.mds_arguments.specs.declared.arguments.Argument.{Argument}
-use Rattle.mds_arguments.specs.declared.arguments.Argument.TheVariants.{Nmi, Suffix, From, To, Moment, Sender, Receiver}
-use Rattle.mds_arguments.specs.declared.arguments.ExportArguments.{ExportArguments}
-use Rattle.mds_arguments.specs.declared.arguments.RangeArguments.{RangeArguments}
+use Rattle.mds_arguments.specs.declared.arguments.Argument.TheVariants.{Nmi, Suffix, Date, Interval, From, To, Moment, Sender, Receiver}
 use Rattle.mds_arguments.specs.declared.reading.ArgumentsFault.{ArgumentsFault}
 use Rattle.mds_arguments.specs.declared.reading.ArgumentsFault.TheVariants as fault
 
@@ -17,65 +18,98 @@ use Rattle.mds_arguments.specs.declared.reading.ArgumentsFault.TheVariants as fa
 abbrev pub argument_name : Argument → List ℕ
 argument_name Nmi = codes "NMI"
 argument_name Suffix = codes "SUFFIX"
+argument_name Date = codes "DATE"
+argument_name Interval = codes "INTERVAL"
 argument_name From = codes "FROM"
 argument_name To = codes "TO"
 argument_name Moment = codes "MOMENT"
 argument_name Sender = codes "SENDER"
 argument_name Receiver = codes "RECEIVER"
 
+-- the number of an interval that a text is: one to four digits
+abbrev pub interval_of : List ℕ → Option ℕ
+interval_of text =
+    if nat_le 1 (length text) && nat_le (length text) 4 && list_all is_ascii_digit text
+    then Some (digits_value 10 text) else None
+
 -- the first that isn't what it is to be
 abbrev pub first_bad : List (Argument × Bool) → Option Argument
 first_bad [] = None
 first_bad ((argument, good) ∷ rest) = if good then first_bad rest else Some argument
 
--- which of the arguments of a range are what they are to be, in the order of the command's words
-abbrev pub range_tests : RangeArguments → List (Argument × Bool)
-range_tests words =
-    (Nmi, is_some (nmi_of words.nmi.now)) ∷ (Suffix, is_some (suffix_of words.suffix.now))
-    ∷ (From, is_some (day_of words.from.now)) ∷ (To, is_some (day_of words.to.now)) ∷ []
+-- Which texts are what they are to be, in the order of a command's words: those of a stream,
+abbrev pub stream_tests : (nmi suffix : List ℕ) → List (Argument × Bool)
+stream_tests nmi suffix = (Nmi, is_some (nmi_of nmi)) ∷ (Suffix, is_some (suffix_of suffix)) ∷ []
 
--- and of those of an export
-abbrev pub export_tests : ExportArguments → List (Argument × Bool)
-export_tests words =
-    (Nmi, is_some (nmi_of words.nmi.now)) ∷ (From, is_some (day_of words.from.now))
-    ∷ (To, is_some (day_of words.to.now)) ∷ (Moment, is_some (date_time_of words.moment.now))
-    ∷ (Sender, is_printable words.sender.now) ∷ (Receiver, is_printable words.receiver.now)
-    ∷ (Suffix, list_all (λ suffix. is_some (suffix_of suffix.now)) words.suffixes.items) ∷ []
+-- of a day,
+abbrev pub day_tests : (nmi suffix date : List ℕ) → List (Argument × Bool)
+day_tests nmi suffix date =
+    (Nmi, is_some (nmi_of nmi)) ∷ (Suffix, is_some (suffix_of suffix)) ∷ (Date, is_some (day_of date)) ∷ []
 
--- the first bad one of a range
-abbrev pub IsFirstBadOfRange : RangeArguments → Argument → Type 0
-IsFirstBadOfRange words argument = first_bad (range_tests words) ≡ Some argument
+-- of an interval,
+abbrev pub interval_tests : (nmi suffix date interval : List ℕ) → List (Argument × Bool)
+interval_tests nmi suffix date interval =
+    (Nmi, is_some (nmi_of nmi)) ∷ (Suffix, is_some (suffix_of suffix)) ∷ (Date, is_some (day_of date))
+    ∷ (Interval, is_some (interval_of interval)) ∷ []
+
+-- of a range,
+abbrev pub range_tests : (nmi suffix from to : List ℕ) → List (Argument × Bool)
+range_tests nmi suffix from to =
+    (Nmi, is_some (nmi_of nmi)) ∷ (Suffix, is_some (suffix_of suffix)) ∷ (From, is_some (day_of from))
+    ∷ (To, is_some (day_of to)) ∷ []
 
 -- and of an export
-abbrev pub IsFirstBadOfExport : ExportArguments → Argument → Type 0
-IsFirstBadOfExport words argument = first_bad (export_tests words) ≡ Some argument
+abbrev pub export_tests : (nmi from to moment sender receiver : List ℕ) → List (List ℕ) → List (Argument × Bool)
+export_tests nmi from to moment sender receiver suffixes =
+    (Nmi, is_some (nmi_of nmi)) ∷ (From, is_some (day_of from)) ∷ (To, is_some (day_of to))
+    ∷ (Moment, is_some (date_time_of moment)) ∷ (Sender, is_printable sender) ∷ (Receiver, is_printable receiver)
+    ∷ (Suffix, list_all (λ suffix. is_some (suffix_of suffix)) suffixes) ∷ []
+
+-- the first bad one of them
+abbrev pub IsFirstBad : List (Argument × Bool) → Argument → Type 0
+IsFirstBad tests argument = first_bad tests ≡ Some argument
 
 -- Why they ask for no export. Of want of memory nothing is said.
-abbrev pub AskNothing : ExportArguments → ArgumentsFault → Type 0
-AskNothing words (fault.Bad argument) = IsFirstBadOfExport words argument
-AskNothing words fault.Memory = Unit {0}
+abbrev pub IsExportFault : List (Argument × Bool) → ArgumentsFault → Type 0
+IsExportFault tests (fault.Bad argument) = IsFirstBad tests argument
+IsExportFault tests fault.Memory = Unit {0}
 
--- they spell the stream and the range
-abbrev pub SpellRange : RangeArguments → List ℕ → List ℕ → ℕ → ℕ → Type 0
-SpellRange words nmi suffix first last =
-    (nmi_of words.nmi.now ≡ Some nmi) × (suffix_of words.suffix.now ≡ Some suffix)
-    × (day_of words.from.now ≡ Some first) × (day_of words.to.now ≡ Some last)
+-- texts spell a stream
+abbrev pub SpellStream : (nmi suffix : List ℕ) → Stream → Type 0
+SpellStream nmi suffix stream = (nmi_of nmi ≡ Some stream.nmi) × (suffix_of suffix ≡ Some stream.suffix)
 
--- the request that they ask for: for gaps
-abbrev pub AskForGaps : RangeArguments → Request → Type 0
-AskForGaps words (asked.Gaps stream first last) = SpellRange words stream.nmi stream.suffix first last
-AskForGaps words request = ⊥
+-- The request that texts ask for: for a stream's accumulations,
+abbrev pub AskForPeriods : (nmi suffix : List ℕ) → Request → Type 0
+AskForPeriods nmi suffix (asked.Period stream) = SpellStream nmi suffix stream
+AskForPeriods nmi suffix request = ⊥
 
--- for finals
-abbrev pub AskForFinals : RangeArguments → Request → Type 0
-AskForFinals words (asked.Finals stream first last) = SpellRange words stream.nmi stream.suffix first last
-AskForFinals words request = ⊥
+-- for a day,
+abbrev pub AskForDay : (nmi suffix date : List ℕ) → Request → Type 0
+AskForDay nmi suffix date (asked.Day stream day) = SpellStream nmi suffix stream × (day_of date ≡ Some day)
+AskForDay nmi suffix date request = ⊥
 
--- for an export, of the streams in the order of the words
-abbrev pub AskForExport : ExportArguments → Request → Type 0
-AskForExport words (asked.Export nmi suffixes first last header) =
-    (nmi_of words.nmi.now ≡ Some nmi) × (day_of words.from.now ≡ Some first) × (day_of words.to.now ≡ Some last)
-    × (date_time_of words.moment.now ≡ Some header.moment) × (header.sender ≡ words.sender.now)
-    × (header.receiver ≡ words.receiver.now)
-    × (map (λ suffix. suffix_of suffix.now) words.suffixes.items ≡ map (λ suffix. Some suffix) suffixes.items)
-AskForExport words request = ⊥
+-- for the versions of an interval,
+abbrev pub AskForVersions : (nmi suffix date interval : List ℕ) → Request → Type 0
+AskForVersions nmi suffix date interval (asked.Versions stream day number) =
+    SpellStream nmi suffix stream × (day_of date ≡ Some day) × (interval_of interval ≡ Some number)
+AskForVersions nmi suffix date interval request = ⊥
+
+-- for gaps,
+abbrev pub AskForGaps : (nmi suffix from to : List ℕ) → Request → Type 0
+AskForGaps nmi suffix from to (asked.Gaps stream first last) =
+    SpellStream nmi suffix stream × (day_of from ≡ Some first) × (day_of to ≡ Some last)
+AskForGaps nmi suffix from to request = ⊥
+
+-- for finals,
+abbrev pub AskForFinals : (nmi suffix from to : List ℕ) → Request → Type 0
+AskForFinals nmi suffix from to (asked.Finals stream first last) =
+    SpellStream nmi suffix stream × (day_of from ≡ Some first) × (day_of to ≡ Some last)
+AskForFinals nmi suffix from to request = ⊥
+
+-- for an export, of the streams in the order of the texts
+abbrev pub AskForExport : (nmi from to moment sender receiver : List ℕ) → List (List ℕ) → Request → Type 0
+AskForExport nmi from to moment sender receiver suffixes (asked.Export meter streams first last header) =
+    (nmi_of nmi ≡ Some meter) × (day_of from ≡ Some first) × (day_of to ≡ Some last)
+    × (date_time_of moment ≡ Some header.moment) × (header.sender ≡ sender) × (header.receiver ≡ receiver)
+    × (map suffix_of suffixes ≡ map (λ stream. Some stream) streams.items)
+AskForExport nmi from to moment sender receiver suffixes request = ⊥

@@ -10,6 +10,10 @@ pub enum Argument {
     Nmi,
     /// One of its streams: two capital letters and digits.
     Suffix,
+    /// A day, CCYYMMDD.
+    Date,
+    /// An interval of a day, from 1: one to four digits.
+    Interval,
     /// The first day of a range, CCYYMMDD.
     From,
     /// The last day of a range, CCYYMMDD.
@@ -25,22 +29,22 @@ pub enum Argument {
 /// What asks for a register of a stream in a range of days.
 #[derive(Clone, Copy)]
 pub struct RangeArguments<'a> {
-    pub nmi: &'a str,
-    pub suffix: &'a str,
-    pub from: &'a str,
-    pub to: &'a str,
+    pub nmi: &'a [u8],
+    pub suffix: &'a [u8],
+    pub from: &'a [u8],
+    pub to: &'a [u8],
 }
 
 /// What asks for an export.
 #[derive(Drop)]
 pub struct ExportArguments<'a> {
-    pub nmi: &'a str,
-    pub from: &'a str,
-    pub to: &'a str,
-    pub moment: &'a str,
-    pub sender: &'a str,
-    pub receiver: &'a str,
-    pub suffixes: Vec<&'a str>,
+    pub nmi: &'a [u8],
+    pub from: &'a [u8],
+    pub to: &'a [u8],
+    pub moment: &'a [u8],
+    pub sender: &'a [u8],
+    pub receiver: &'a [u8],
+    pub suffixes: Vec<&'a [u8]>,
 }
 
 impl Argument {
@@ -58,6 +62,8 @@ impl Argument {
         match self {
             Argument::Nmi => "NMI",
             Argument::Suffix => "SUFFIX",
+            Argument::Date => "DATE",
+            Argument::Interval => "INTERVAL",
             Argument::From => "FROM",
             Argument::To => "TO",
             Argument::Moment => "MOMENT",

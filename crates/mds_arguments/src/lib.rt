@@ -1,4 +1,4 @@
-//! The arguments of a query over a range of days, as texts, and the request that they ask for.
+//! The arguments of a query, as texts, and the request that they ask for.
 #![tactic(auto)]
 
 mod arguments;
@@ -7,4 +7,6 @@ mod reading;
 mod tests;
 
 pub use arguments::{Argument, ExportArguments, RangeArguments};
-pub use reading::{ArgumentsFault, read_export, read_finals, read_gaps};
+pub use reading::{
+    ArgumentsFault, read_day, read_export, read_finals, read_gaps, read_periods, read_versions,
+};

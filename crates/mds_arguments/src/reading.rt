@@ -1,9 +1,12 @@
 //! The requests that arguments ask for.
 
-ghost use Rattle.std.specs.Prelude.{◌≡◌, false, map, IfOk, MatchOption, MatchResult, Some, is_some};
+ghost use Rattle.std.specs.Prelude.{◌≡◌, ◌≤◌, false, if◌then◌else◌, length, map, IfOk, MatchOption, MatchResult, Some, None, is_some};
+ghost use Rattle.std.specs.Char.{is_ascii_digit};
 ghost use Rattle.std.specs.List.{list_all};
+ghost use Rattle.std.specs.Str.Parse.{digits_value};
+ghost use Rattle.mds_calendar.specs.Calendar.{day_of};
 ghost use Rattle.mds_names.specs.Names.{suffix_of};
-ghost use Rattle.mds_arguments.specs.Arguments.{AskForExport, AskForFinals, AskForGaps, AskNothing, IsFirstBadOfRange, SpellRange};
+ghost use Rattle.mds_arguments.specs.Arguments.{AskForDay, AskForExport, AskForFinals, AskForGaps, AskForPeriods, AskForVersions, IsExportFault, IsFirstBad, SpellStream, day_tests, export_tests, interval_of, interval_tests, range_tests, stream_tests};
 
 use crate::arguments::{Argument, ExportArguments, RangeArguments};
 use mds_service::Request;
@@ -20,9 +23,62 @@ pub enum ArgumentsFault {
     Memory,
 }
 
+/// The request for the accumulations of a stream.
+pub fn read_periods(nmi: &[u8], suffix: &[u8]) -> Result<Request, Argument>
+    ensures { MatchResult result (AskForPeriods nmi.now suffix.now) (IsFirstBad (stream_tests nmi.now suffix.now)) }
+{
+    match read_stream(nmi, suffix) {
+        Ok(stream) => Ok(Request::Period { stream }),
+        Err(argument) => Err(argument),
+    }
+}
+
+/// The request for a day of a stream.
+pub fn read_day(nmi: &[u8], suffix: &[u8], date: &[u8]) -> Result<Request, Argument>
+    ensures { MatchResult result (AskForDay nmi.now suffix.now date.now)
+        (IsFirstBad (day_tests nmi.now suffix.now date.now)) }
+{
+    match read_stream(nmi, suffix) {
+        Ok(stream) => match Day::read(date) {
+            Some(day) => Ok(Request::Day { stream, day }),
+            None => Err(Argument::Date),
+        },
+        Err(argument) => Err(argument),
+    }
+}
+
+/// The request for the versions of an interval of a stream's day.
+pub fn read_versions(
+    nmi: &[u8],
+    suffix: &[u8],
+    date: &[u8],
+    interval: &[u8],
+) -> Result<Request, Argument>
+    ensures { MatchResult result (AskForVersions nmi.now suffix.now date.now interval.now)
+        (IsFirstBad (interval_tests nmi.now suffix.now date.now interval.now)) }
+{
+    let stream = match read_stream(nmi, suffix) {
+        Ok(stream) => stream,
+        Err(argument) => return Err(argument),
+    };
+    let Some(day) = Day::read(date) else {
+        return Err(Argument::Date);
+    };
+    let Some(interval) = read_interval(interval) else {
+        return Err(Argument::Interval);
+    };
+    Ok(Request::Versions {
+        stream,
+        day,
+        interval,
+    })
+}
+
 /// The request for the gaps of a range.
 pub fn read_gaps(arguments: &RangeArguments<'_>) -> Result<Request, Argument>
-    ensures { MatchResult result (AskForGaps arguments.now) (IsFirstBadOfRange arguments.now) }
+    ensures { MatchResult result
+        (AskForGaps arguments.now.nmi.now arguments.now.suffix.now arguments.now.from.now arguments.now.to.now)
+        (IsFirstBad (range_tests arguments.now.nmi.now arguments.now.suffix.now arguments.now.from.now arguments.now.to.now)) }
 {
     match read_range(arguments) {
         Ok(range) => Ok(Request::Gaps {
@@ -36,7 +92,9 @@ pub fn read_gaps(arguments: &RangeArguments<'_>) -> Result<Request, Argument>
 
 /// The request for the finals of a range.
 pub fn read_finals(arguments: &RangeArguments<'_>) -> Result<Request, Argument>
-    ensures { MatchResult result (AskForFinals arguments.now) (IsFirstBadOfRange arguments.now) }
+    ensures { MatchResult result
+        (AskForFinals arguments.now.nmi.now arguments.now.suffix.now arguments.now.from.now arguments.now.to.now)
+        (IsFirstBad (range_tests arguments.now.nmi.now arguments.now.suffix.now arguments.now.from.now arguments.now.to.now)) }
 {
     match read_range(arguments) {
         Ok(range) => Ok(Request::Finals {
@@ -48,6 +106,47 @@ pub fn read_finals(arguments: &RangeArguments<'_>) -> Result<Request, Argument>
     }
 }
 
+/// The stream that texts spell.
+fn read_stream(nmi: &[u8], suffix: &[u8]) -> Result<Stream, Argument>
+    ensures { MatchResult result (SpellStream nmi.now suffix.now) (IsFirstBad (stream_tests nmi.now suffix.now)) }
+{
+    let Some(_) = Nmi::read(nmi) else {
+        return Err(Argument::Nmi);
+    };
+    match Stream::read(nmi, suffix) {
+        Some(stream) => Ok(stream),
+        None => Err(Argument::Suffix),
+    }
+}
+
+/// The most digits of an interval's number.
+const MOST_DIGITS: usize = 4;
+
+/// The number of an interval, of one to four digits.
+fn read_interval(text: &[u8]) -> Option<u16>
+    ensures { result ≡ interval_of text.now }
+{
+    if text.is_empty() || text.len() > MOST_DIGITS {
+        return None;
+    }
+    read_digits(text)
+}
+
+/// The number that at most four digits say, or `None` where some byte is no digit.
+fn read_digits(text: &[u8]) -> Option<u16>
+    requires { length text.now ≤ 4 }
+    ensures { result ≡ (if list_all is_ascii_digit text.now then Some (digits_value 10 text.now) else None) }
+{
+    let mut number = 0;
+    for byte in text {
+        if !byte.is_ascii_digit() {
+            return None;
+        }
+        number = number * 10 + u16::from(*byte - b'0');
+    }
+    Some(number)
+}
+
 /// A range of days of a stream.
 #[derive(Clone, Copy)]
 struct StreamRange {
@@ -56,22 +155,21 @@ struct StreamRange {
     last: Day,
 }
 
-/// The range that words spell.
+/// The range that texts spell.
 fn read_range(words: &RangeArguments<'_>) -> Result<StreamRange, Argument>
     ensures { MatchResult result
-        (λ range. SpellRange words.now range.stream.nmi range.stream.suffix range.first range.last)
-        (IsFirstBadOfRange words.now) }
+        (λ range. SpellStream words.now.nmi.now words.now.suffix.now range.stream
+        × (day_of words.now.from.now ≡ Some range.first) × (day_of words.now.to.now ≡ Some range.last))
+        (IsFirstBad (range_tests words.now.nmi.now words.now.suffix.now words.now.from.now words.now.to.now)) }
 {
-    let Some(_) = Nmi::read(words.nmi.as_bytes()) else {
-        return Err(Argument::Nmi);
+    let stream = match read_stream(words.nmi, words.suffix) {
+        Ok(stream) => stream,
+        Err(argument) => return Err(argument),
     };
-    let Some(stream) = Stream::read(words.nmi.as_bytes(), words.suffix.as_bytes()) else {
-        return Err(Argument::Suffix);
-    };
-    let Some(first) = Day::read(words.from.as_bytes()) else {
+    let Some(first) = Day::read(words.from) else {
         return Err(Argument::From);
     };
-    let Some(last) = Day::read(words.to.as_bytes()) else {
+    let Some(last) = Day::read(words.to) else {
         return Err(Argument::To);
     };
     Ok(StreamRange {
@@ -86,26 +184,31 @@ pub fn read_export(
     alloc: Global,
     arguments: &ExportArguments<'_>,
 ) -> Result<Request, ArgumentsFault>
-    ensures { MatchResult result (AskForExport arguments.now) (AskNothing arguments.now) }
+    ensures { MatchResult result
+        (AskForExport arguments.now.nmi.now arguments.now.from.now arguments.now.to.now arguments.now.moment.now
+        arguments.now.sender.now arguments.now.receiver.now (map (λ suffix. suffix.now) arguments.now.suffixes.items))
+        (IsExportFault (export_tests arguments.now.nmi.now arguments.now.from.now arguments.now.to.now
+        arguments.now.moment.now arguments.now.sender.now arguments.now.receiver.now
+        (map (λ suffix. suffix.now) arguments.now.suffixes.items))) }
 {
-    let Some(nmi) = Nmi::read(arguments.nmi.as_bytes()) else {
+    let Some(nmi) = Nmi::read(arguments.nmi) else {
         return Err(ArgumentsFault::Bad(Argument::Nmi));
     };
-    let Some(first) = Day::read(arguments.from.as_bytes()) else {
+    let Some(first) = Day::read(arguments.from) else {
         return Err(ArgumentsFault::Bad(Argument::From));
     };
-    let Some(last) = Day::read(arguments.to.as_bytes()) else {
+    let Some(last) = Day::read(arguments.to) else {
         return Err(ArgumentsFault::Bad(Argument::To));
     };
-    let Some(moment) = Moment::read_date_time(arguments.moment.as_bytes()) else {
+    let Some(moment) = Moment::read_date_time(arguments.moment) else {
         return Err(ArgumentsFault::Bad(Argument::Moment));
     };
-    let sender = match PrintableString::read(alloc, arguments.sender.as_bytes()) {
+    let sender = match PrintableString::read(alloc, arguments.sender) {
         Ok(Some(sender)) => sender,
         Ok(None) => return Err(ArgumentsFault::Bad(Argument::Sender)),
         Err(_) => return Err(ArgumentsFault::Memory),
     };
-    let receiver = match PrintableString::read(alloc, arguments.receiver.as_bytes()) {
+    let receiver = match PrintableString::read(alloc, arguments.receiver) {
         Ok(Some(receiver)) => receiver,
         Ok(None) => return Err(ArgumentsFault::Bad(Argument::Receiver)),
         Err(_) => return Err(ArgumentsFault::Memory),
@@ -130,14 +233,14 @@ pub fn read_export(
 }
 
 /// The suffixes that texts are, or `None` where one of them is none.
-fn read_suffixes(alloc: Global, texts: &[&str]) -> Result<Option<Vec<Suffix>>, AllocError>
+fn read_suffixes(alloc: Global, texts: &[&[u8]]) -> Result<Option<Vec<Suffix>>, AllocError>
     ensures { IfOk result (λ found. MatchOption found
-        (list_all (λ text. is_some (suffix_of text.now)) texts.now ≡ false)
-        (λ suffixes. map (λ text. suffix_of text.now) texts.now ≡ map (λ suffix. Some suffix) suffixes.items)) }
+        (list_all (λ text. is_some (suffix_of text)) (map (λ text. text.now) texts.now) ≡ false)
+        (λ suffixes. map suffix_of (map (λ text. text.now) texts.now) ≡ map (λ suffix. Some suffix) suffixes.items)) }
 {
     let mut suffixes = Vec::new(alloc);
     for text in texts {
-        let Some(suffix) = Suffix::read(text.as_bytes()) else {
+        let Some(suffix) = Suffix::read(text) else {
             return Ok(None);
         };
         suffixes.push(suffix)?;

@@ -1,24 +1,24 @@
 //! What arguments ask for.
 
 use crate::{
-    Argument, ArgumentsFault, ExportArguments, RangeArguments, read_export, read_finals, read_gaps,
+    Argument, ArgumentsFault, ExportArguments, RangeArguments, read_day, read_export, read_finals,
+    read_gaps, read_periods, read_versions,
 };
 use mds_service::Request;
 use mds_terms::{Day, Stream, Suffix};
 use std::alloc::{AllocError, Global};
 use std::test::Fail;
 
-/// A request for a range, in short: what it is for, the stream, and the first and the last day.
-fn range_text(
+/// A request about a stream, in short: what it is for, the stream, and days.
+fn stream_text(
     alloc: Global,
     what: &str,
     stream: &Stream,
-    first: &Day,
-    last: &Day,
+    days: &[Day],
 ) -> Result<String, AllocError> {
     let mut text = String::from_str(alloc, what)?;
     stream.write_to(&mut text)?;
-    for day in [first, last] {
+    for day in days {
         text.push(' ')?;
         day.write_to(&mut text)?;
     }
@@ -28,16 +28,27 @@ fn range_text(
 /// A request, in short.
 fn text_of(alloc: Global, request: &Request) -> Result<String, AllocError> {
     match request {
+        Request::Period { stream } => stream_text(alloc, "periods ", stream, &[]),
+        Request::Day { stream, day } => stream_text(alloc, "day ", stream, &[*day]),
+        Request::Versions {
+            stream,
+            day,
+            interval,
+        } => {
+            let mut text = stream_text(alloc, "versions ", stream, &[*day])?;
+            write!(text, " {interval}")?;
+            Ok(text)
+        }
         Request::Gaps {
             stream,
             first,
             last,
-        } => range_text(alloc, "gaps ", stream, first, last),
+        } => stream_text(alloc, "gaps ", stream, &[*first, *last]),
         Request::Finals {
             stream,
             first,
             last,
-        } => range_text(alloc, "finals ", stream, first, last),
+        } => stream_text(alloc, "finals ", stream, &[*first, *last]),
         Request::Export {
             nmi,
             suffixes,
@@ -74,51 +85,46 @@ fn push_suffixes(text: &mut String, suffixes: &[Suffix]) -> Result<(), AllocErro
     Ok(())
 }
 
-fn bad_text(alloc: Global, argument: Argument) -> Result<String, AllocError> {
-    format!(in alloc; "bad {}", argument.name())
+/// What arguments ask for, in short: a request, or the first that is bad.
+fn found_text(alloc: Global, found: Result<Request, Argument>) -> Result<String, AllocError> {
+    match found {
+        Ok(request) => text_of(alloc, &request),
+        Err(argument) => format!(in alloc; "bad {}", argument.name()),
+    }
 }
 
-/// What words ask for: `gaps` or `finals` with the four words of a range, or `export` with those of an export.
+/// What words ask for: the first says what they are to be, and the others are its arguments.
 fn asked(alloc: Global, words: &str) -> Result<String, AllocError> {
+    let (what, words) = words.split_once(' ').unwrap_or((words, ""));
     let mut texts = Vec::new(alloc);
     for text in words.split(' ') {
-        texts.push(text)?;
+        texts.push(text.as_bytes())?;
     }
     match texts.as_slice() {
-        ["gaps", nmi, suffix, from, to] => {
+        [nmi, suffix] => found_text(alloc, read_periods(nmi, suffix)),
+        [nmi, suffix, date] => found_text(alloc, read_day(nmi, suffix, date)),
+        [nmi, suffix, from, to] if what == "gaps" => {
             let arguments = RangeArguments {
                 nmi,
                 suffix,
                 from,
                 to,
             };
-            match read_gaps(&arguments) {
-                Ok(request) => text_of(alloc, &request),
-                Err(argument) => bad_text(alloc, argument),
-            }
+            found_text(alloc, read_gaps(&arguments))
         }
-        ["finals", nmi, suffix, from, to] => {
+        [nmi, suffix, from, to] if what == "finals" => {
             let arguments = RangeArguments {
                 nmi,
                 suffix,
                 from,
                 to,
             };
-            match read_finals(&arguments) {
-                Ok(request) => text_of(alloc, &request),
-                Err(argument) => bad_text(alloc, argument),
-            }
+            found_text(alloc, read_finals(&arguments))
         }
-        [
-            "export",
-            nmi,
-            from,
-            to,
-            moment,
-            sender,
-            receiver,
-            suffixes @ ..,
-        ] => {
+        [nmi, suffix, date, interval] => {
+            found_text(alloc, read_versions(nmi, suffix, date, interval))
+        }
+        [nmi, from, to, moment, sender, receiver, suffixes @ ..] => {
             let arguments = ExportArguments {
                 nmi,
                 from,
@@ -130,7 +136,7 @@ fn asked(alloc: Global, words: &str) -> Result<String, AllocError> {
             };
             match read_export(alloc, &arguments) {
                 Ok(request) => text_of(alloc, &request),
-                Err(ArgumentsFault::Bad(argument)) => bad_text(alloc, argument),
+                Err(ArgumentsFault::Bad(argument)) => found_text(alloc, Err(argument)),
                 Err(ArgumentsFault::Memory) => Err(AllocError),
             }
         }
@@ -149,6 +155,55 @@ fn first_wrong<'a>(
         }
     }
     Ok(None)
+}
+
+#[test]
+fn streams_and_days_are_asked_for(rt: HostRuntime) -> Result<(), Fail> {
+    let rows = [
+        ("periods NEM1201009 E1", "periods NEM1201009,E1"),
+        ("periods nem1201009 e1", "bad NMI"),
+        ("periods NEM1201009 E", "bad SUFFIX"),
+        ("day NEM1201009 E1 20240229", "day NEM1201009,E1 20240229"),
+        ("day NEM120100 E 2024", "bad NMI"),
+        ("day NEM1201009 E 2024", "bad SUFFIX"),
+        ("day NEM1201009 E1 2024", "bad DATE"),
+        ("day NEM1201009 E1 20230229", "bad DATE"),
+        ("day NEM1201009 E1 ", "bad DATE"),
+    ];
+    assert_eq!(rt; first_wrong(rt.alloc(), &rows)?, None);
+    Ok(())
+}
+
+#[test]
+fn versions_are_asked_for(rt: HostRuntime) -> Result<(), Fail> {
+    let rows = [
+        (
+            "versions NEM1201009 E1 20240101 48",
+            "versions NEM1201009,E1 20240101 48",
+        ),
+        (
+            "versions NEM1201009 E1 20240101 0",
+            "versions NEM1201009,E1 20240101 0",
+        ),
+        (
+            "versions NEM1201009 E1 20240101 0001",
+            "versions NEM1201009,E1 20240101 1",
+        ),
+        (
+            "versions NEM1201009 E1 20240101 9999",
+            "versions NEM1201009,E1 20240101 9999",
+        ),
+        ("versions NEM1201009 E1 20240101 10000", "bad INTERVAL"),
+        ("versions NEM1201009 E1 20240101 00001", "bad INTERVAL"),
+        ("versions NEM1201009 E1 20240101 ", "bad INTERVAL"),
+        ("versions NEM1201009 E1 20240101 +1", "bad INTERVAL"),
+        ("versions NEM1201009 E1 20240101 1a", "bad INTERVAL"),
+        ("versions NEM1201009 E1 2024 1a", "bad DATE"),
+        ("versions NEM1201009 E 2024 1a", "bad SUFFIX"),
+        ("versions NEM120100 E 2024 1a", "bad NMI"),
+    ];
+    assert_eq!(rt; first_wrong(rt.alloc(), &rows)?, None);
+    Ok(())
 }
 
 #[test]
@@ -217,16 +272,16 @@ fn exports_are_asked_for(rt: HostRuntime) -> Result<(), Fail> {
 #[test]
 fn memory_is_wanting(rt: HostRuntime) -> Result<(), Fail> {
     let alloc = rt.alloc();
-    let Ok(suffixes) = ["E1", "B1"].to_vec(alloc) else {
+    let Ok(suffixes) = ["E1".as_bytes(), "B1".as_bytes()].to_vec(alloc) else {
         return Ok(());
     };
     let arguments = ExportArguments {
-        nmi: "NEM1201009",
-        from: "20240101",
-        to: "20240107",
-        moment: "202401080000",
-        sender: "MDP1",
-        receiver: "RETAILER",
+        nmi: b"NEM1201009",
+        from: b"20240101",
+        to: b"20240107",
+        moment: b"202401080000",
+        sender: b"MDP1",
+        receiver: b"RETAILER",
         suffixes,
     };
     let mut has_memory = false;

@@ -61,12 +61,7 @@ fn outcome_of_words(rt: &HostRuntime, words: Words<'_>) -> Outcome {
             from,
             to,
         } => {
-            let arguments = RangeArguments {
-                nmi,
-                suffix,
-                from,
-                to,
-            };
+            let arguments = range(nmi, suffix, from, to);
             query_range(rt, store, read_gaps(&arguments))
         }
         Words::Finals {
@@ -76,12 +71,7 @@ fn outcome_of_words(rt: &HostRuntime, words: Words<'_>) -> Outcome {
             from,
             to,
         } => {
-            let arguments = RangeArguments {
-                nmi,
-                suffix,
-                from,
-                to,
-            };
+            let arguments = range(nmi, suffix, from, to);
             query_range(rt, store, read_finals(&arguments))
         }
         Words::Export {
@@ -94,17 +84,34 @@ fn outcome_of_words(rt: &HostRuntime, words: Words<'_>) -> Outcome {
             receiver,
             suffixes,
         } => {
+            let suffixes: Result<Vec<&[u8]>, _> = suffixes
+                .iter()
+                .map(|suffix| suffix.as_bytes())
+                .collect(rt.alloc());
+            let Ok(suffixes) = suffixes else {
+                return Outcome::Unavailable;
+            };
             let arguments = ExportArguments {
-                nmi,
-                from,
-                to,
-                moment,
-                sender,
-                receiver,
+                nmi: nmi.as_bytes(),
+                from: from.as_bytes(),
+                to: to.as_bytes(),
+                moment: moment.as_bytes(),
+                sender: sender.as_bytes(),
+                receiver: receiver.as_bytes(),
                 suffixes,
             };
             export(rt, store, &arguments)
         }
+    }
+}
+
+/// The arguments of a range.
+fn range<'a>(nmi: &'a str, suffix: &'a str, from: &'a str, to: &'a str) -> RangeArguments<'a> {
+    RangeArguments {
+        nmi: nmi.as_bytes(),
+        suffix: suffix.as_bytes(),
+        from: from.as_bytes(),
+        to: to.as_bytes(),
     }
 }
 

@@ -1,24 +1,21 @@
 -- What a day's book says of its World, and the answers that are made of it.
-use Rattle.std.proofs.Common.{◌≡◌, ℕ, ◌+◌, ◌<◌, ◌≤◌, List, [], ◌∷◌, ◌++◌, map, length, take, get_or, Option, Some, None, refl, sym, ap, ◌∙◌, subst, inl, inr, arith}
+use Rattle.std.proofs.Common.{◌≡◌, ℕ, ◌+◌, ◌<◌, ◌≤◌, List, [], ◌∷◌, ◌++◌, map, length, take, get_or, Option, Some, None, refl, sym, ap, ◌∙◌, subst, arith}
 use Rattle.std.specs.List.{All, AllPairs}
-use Rattle.std.proofs.lemmas.Bool.{cases_lt}
-use Rattle.std.proofs.lemmas.List.{take_more, map-append, get_or-map, get_or_append_left, length-map, length-append, take_all}
+use Rattle.std.proofs.lemmas.List.{take_more, map-append, get_or-map, length-map, take_all}
 use Rattle.std.proofs.lemmas.List.Elements.{All-push}
-use Rattle.std.proofs.lemmas.Option.{slice_get-get_or, get_or_from_slice_get, slice_get_within}
-use Rattle.std.proofs.Math.Seq.{get_or-append_seam}
 use Rattle.mds_calendar.specs.Length.{count_of}
 use Rattle.mds_quantity.specs.declared.unit.Unit.{Unit as MeasureUnit}
 use Rattle.mds_names.specs.declared.stream.Stream.{Stream}
-use Rattle.mds_marks.specs.Reading.{ReadingValue}
 use Rattle.mds_terms.specs.Details.{DetailsValue}
-use Rattle.mds_terms.specs.Event.{EventValue}
-use Rattle.mds_world.specs.Current.{HasNoVersion, IsCurrentDetails, IsLatest, IsReading}
+use Rattle.std.specs.declared.cmp.Ordering.TheVariants.{Less}
+use Rattle.mds_terms.specs.Event.{EventValue, event_cmp}
+use Rattle.mds_world.specs.Current.{IsCurrentDetails, IsLatest, IsReading}
 use Rattle.mds_world.specs.Facts.Fact.{HeadIs, VersionIs}
 use Rattle.mds_world.specs.Lists.{Member, in_map, map_in}
 use Rattle.mds_world.specs.Sets.{◌∈◌}
-use Rattle.mds_world.specs.World.{IsCurrent, IsKnownDay, IsLawful, World}
+use Rattle.mds_world.specs.World.{IsKnownDay, World}
 use Rattle.mds_versions.specs.Books.{BookValue, IsDay, book_world}
-use Rattle.mds_versions.proofs.BookFacts.{head_in_book, head_of_book, row_in_book, row_of_head}
+use Rattle.mds_versions.proofs.BookFacts.{head_in_book, head_of_book}
 use Rattle.mds_versions.proofs.BookPlaces.{place_of}
 use Rattle.mds_versions.specs.BookRows.{AreVersionsOf}
 use Rattle.mds_versions.specs.Queries.{AreEventsOf, AreKnownStreams}
@@ -66,8 +63,9 @@ pub day_answer : (w : World) (book : BookValue) (s : Stream) (d : ℕ) (answer :
     → book.day ≡ d → IsDay w book → book.head ≡ Some (answer.length, answer.unit)
     → IsLatest (book_world book) book.stream book.day answer.update
     → AreReadings w book.stream book.day (count_of answer.length) answer.readings.items
-    → AreEventsOf w s d answer.events.items → answer.stream ≡ s → answer.day ≡ d → IsDayAnswer w s d answer
-day_answer w book s d answer e f day some latest readings events is_s is_d = record {
+    → AreEventsOf w s d answer.events.items → AllPairs (λ a b. event_cmp a b ≡ Less) answer.events.items
+    → answer.stream ≡ s → answer.day ≡ d → IsDayAnswer w s d answer
+day_answer w book s d answer e f day some latest readings events up is_s is_d = record {
   stream = is_s;
   day = is_d;
   head = at (λ t n. HeadIs (record { stream = t; day = n; length = answer.length; unit = answer.unit }) ∈ w) book s d e f
@@ -76,6 +74,7 @@ day_answer w book s d answer e f day some latest readings events is_s is_d = rec
   count = readings.count_is;
   readings = λ i r h. at (λ t n. IsReading w t n (i + 1) r) book s d e f (readings.each i r h);
   events = events;
+  ascending = up;
 }
 
 -- the answer to a query of an interval

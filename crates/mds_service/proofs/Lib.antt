@@ -9,6 +9,7 @@ mod Sifting
 mod TakenIn
 pub mod DayFacts
 pub mod DayOrder
+pub mod EventOrder
 pub mod Exported
 pub mod FileKinds
 pub mod Gather

@@ -10,7 +10,7 @@ use Rattle.mds_service.specs.Crashes.{IsCut, IsOneCut, Leaves, MayLeave}
 use Rattle.mds_service.specs.Machine.{Run, Step}
 
 -- a run goes on by one step
-run_more : (a : World) (rs : List Request) (ss : List Answer) (b : World) (r : Request) (s : Answer) (c : World)
+pub run_more : (a : World) (rs : List Request) (ss : List Answer) (b : World) (r : Request) (s : Answer) (c : World)
     → Run a rs ss b → Step b r s c → Run a (rs ++ r ∷ []) (ss ++ s ∷ []) c
 run_more a [] [] b r s c run step = (c, subst (λ w. Step w r s c) run step, refl)
 run_more a [] (y ∷ ss) b r s c run step = absurd run
@@ -46,7 +46,8 @@ idle a (asked.Gaps stream first last) b step = step.1
 idle a (asked.Finals stream first last) b step = step.1
 idle a (asked.Export nmi suffixes first last header) b step = step.1
 
-leaves_more : (a : World) (rs : List Request) (ss : List Answer) (b v : World) (r : Request) (s : Answer)
+-- and so does what a crash may leave of it
+pub leaves_more : (a : World) (rs : List Request) (ss : List Answer) (b v : World) (r : Request) (s : Answer)
     (before : Type 0) (left : World) → Run a rs ss b → Step b r s v → (before → MayLeave b rs ss left)
     → Leaves before b v r s left → MayLeave v (rs ++ r ∷ []) (ss ++ s ∷ []) left
 leaves_more a rs ss b v r s before left run step could (inl is) = inl is

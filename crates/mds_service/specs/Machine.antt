@@ -1,9 +1,11 @@
 -- The machine: what each request does to the World, and which answer it has (profile).
 use Rattle.std.specs.Prelude.{◌≡◌, ◌↔◌, ℕ, ◌+◌, ◌<◌, ◌≤◌, List, [], ◌∷◌, length, map, slice_get, Option, Some, None}
 use Rattle.std.specs.List.{All, AllPairs}
+use Rattle.std.specs.declared.cmp.Ordering.TheVariants.{Less}
 use Rattle.mds_calendar.specs.Length.{count_of}
 use Rattle.mds_names.specs.declared.stream.Stream.{Stream}
 use Rattle.mds_marks.specs.Reading.{ReadingValue}
+use Rattle.mds_terms.specs.Event.{event_cmp}
 use Rattle.mds_records.specs.declared.file.FileFault.{FileFault}
 use Rattle.mds_records.specs.declared.file.FileKind.{FileKind}
 use Rattle.mds_records.specs.declared.file.FileKind.TheVariants.{Nem12, Nem13}
@@ -69,7 +71,7 @@ IsUnknownDay refusal =
     (refusal.code ≡ UnknownDay) × (refusal.line ≡ 0) × (refusal.field ≡ 0) × (refusal.interval ≡ 0)
 
 -- A known day: its length and unit, the greatest update among its current readings, the current reading of each interval
--- in order, and its events.
+-- in order, and its events in order.
 pub record IsDayAnswer (w : World) (s : Stream) (d : ℕ) (answer : DayAnswer) : Type 0 where
   pub stream : answer.stream ≡ s
   pub day : answer.day ≡ d
@@ -79,6 +81,7 @@ pub record IsDayAnswer (w : World) (s : Stream) (d : ℕ) (answer : DayAnswer) :
   pub readings : (i : ℕ) (reading : ReadingValue) → slice_get answer.readings.items i ≡ Some reading
       → IsReading w s d (i + 1) reading
   pub events : AreEventsOf w s d answer.events.items
+  pub ascending : AllPairs (λ a b. event_cmp a b ≡ Less) answer.events.items
 
 -- the answer for a day
 abbrev pub TellsDay : World → Stream → ℕ → Answer → Type 0

@@ -1,13 +1,17 @@
 //! Queries. None changes what is kept.
 
 ghost use Rattle.std.specs.Prelude.{◌≡◌, ◌↔◌, ◌<◌, ◌≤◌, IfOk, IsTrue, OnErr, length as size, map};
+ghost use Rattle.std.specs.List.{AllPairs};
+ghost use Rattle.std.specs.declared.cmp.Ordering.TheVariants.{Less};
 ghost use Rattle.mds_calendar.specs.Length.{count_of};
+ghost use Rattle.mds_terms.specs.Event.{EventValue, event_cmp};
+ghost use Rattle.mds_world.specs.Lists.{Apart, Member};
 ghost use Rattle.mds_service.specs.Crashes.{Goes};
 ghost use Rattle.mds_service.specs.declared.request.Request.TheVariants as asked;
 
 use crate::request::{Answer, DayAnswer, PeriodAnswer, StreamAnswer, VersionsAnswer};
 use mds_ranges::current_readings;
-use mds_terms::{Day, Length, Stream};
+use mds_terms::{Day, Event, Length, Stream};
 use mds_versions::{Keeper, Refusal, RefusalCode, Version};
 use std::alloc::{AllocError, Global};
 
@@ -41,9 +45,10 @@ pub(crate) fn day<K: Keeper>(alloc: Global, keeper: &mut K, stream: Stream, date
     let Ok(readings) = current_readings(alloc, &book, length) else {
         return Answer::Unavailable;
     };
-    let Ok(events) = keeper.events(copy_of(&stream), date) else {
+    let Ok(mut events) = keeper.events(copy_of(&stream), date) else {
         return Answer::Unavailable;
     };
+    put_in_order(&mut events);
     Answer::Day(DayAnswer {
         stream,
         day: date,
@@ -53,6 +58,14 @@ pub(crate) fn day<K: Keeper>(alloc: Global, keeper: &mut K, stream: Stream, date
         readings,
         events,
     })
+}
+
+/// Puts events in the order of their texts.
+fn put_in_order(events: &mut Vec<Event>)
+    ensures same { (event : EventValue) → Member event events.new.items ↔ Member event events.old.items }
+    ensures ascending { Apart events.old.items → AllPairs (λ a b. event_cmp a b ≡ Less) events.new.items }
+{
+    events.sort_unstable();
 }
 
 /// All versions of an interval.

@@ -101,7 +101,7 @@ pub struct DayAnswer {
     pub update: Moment,
     /// The current reading of each interval, in order; bare N where there is none.
     pub readings: Vec<Reading>,
-    /// The events of the day, each once.
+    /// The events of the day, each once, in the order of their texts.
     pub events: Vec<Event>,
 }
 

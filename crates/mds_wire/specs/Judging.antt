@@ -1,7 +1,7 @@
 -- What a head means: the answer of the first check that stands, or the route and the length of the body (RFC 9112,
 -- sections 3.2, 6.1 and 6.3; RFC 9110, sections 8.6 and 15.5). That a target is UTF-8 is `httparse`'s: another begins
 -- no head.
-use Rattle.std.specs.Prelude.{ℕ, Bool, true, false, ◌==◌, ◌&&◌, not, nat_lt, List, [], ◌∷◌, length, map, take, Option, Some, None, if◌then◌else◌, codes, bytes_eq, slice_index_or}
+use Rattle.std.specs.Prelude.{ℕ, Bool, true, false, ◌==◌, ◌&&◌, not, nat_lt, List, [], ◌∷◌, length, map, take, drop, ◌+◌, Option, Some, None, if◌then◌else◌, codes, bytes_eq, slice_index_or}
 use Rattle.std.specs.List.{list_all, position_or_len}
 use Rattle.std.specs.Char.{is_ascii_digit}
 use Rattle.std.specs.Str.{str_eq_ignore_ascii_case}
@@ -59,9 +59,17 @@ is_host_fault minor [] = minor == 1
 is_host_fault minor (value ∷ []) = false
 is_host_fault minor (value ∷ other ∷ values) = true
 
--- the path ends before the first question mark
+-- where the first question mark stands, or the length
+abbrev pub mark_place : List ℕ → ℕ
+mark_place target = position_or_len (λ byte. byte == 63) target
+
+-- the path ends before it
 abbrev pub path_of : List ℕ → List ℕ
-path_of target = take (position_or_len (λ byte. byte == 63) target) target
+path_of target = take (mark_place target) target
+
+-- and the query is what follows it
+abbrev pub query_of : List ℕ → List ℕ
+query_of target = drop (mark_place target + 1) target
 
 -- one Content-Length field, of digits alone
 abbrev pub judge_length : Route → List (List ℕ) → Judged

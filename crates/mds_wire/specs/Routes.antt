@@ -1,5 +1,5 @@
 -- The routes, their methods, and the paths that they are for (profile).
-use Rattle.std.specs.Prelude.{ℕ, Bool, ◌==◌, ◌&&◌, nat_lt, List, [], ◌∷◌, drop, Option, if◌then◌else◌, codes, find, length, slice_index_or}
+use Rattle.std.specs.Prelude.{ℕ, zero, suc, ◌+◌, Bool, ◌==◌, ◌&&◌, nat_lt, List, [], ◌∷◌, drop, take, Option, if◌then◌else◌, codes, find, length, slice_index_or}
 use Rattle.std.specs.List.{position_or_len}
 use Rattle.mds_wire.specs.declared.route.Method.{Method}
 use Rattle.mds_wire.specs.declared.route.Method.TheVariants.{Get, Post}
@@ -15,6 +15,11 @@ star = 42
 -- how many bytes stand before the next slash
 abbrev pub part_length : List ℕ → ℕ
 part_length path = position_or_len (λ byte. byte == slash) path
+
+-- the part of a path of this number: what stands between slashes; that before the first one, nothing, has the number 0
+unfoldable pub part : ℕ → List ℕ → List ℕ
+part zero path = take (part_length path) path
+part (suc n) path = part n (drop (part_length path + 1) path)
 
 -- a path is of a pattern: a star stands for one or more bytes up to the next slash or the end, any other byte for
 -- itself

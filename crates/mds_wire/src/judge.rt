@@ -11,6 +11,7 @@ ghost use Rattle.mds_wire.specs.JudgeSteps.{IsValues};
 
 use crate::answer::Status;
 use crate::route::{Method, Route};
+use crate::target::path_of;
 use httparse::spans::{HeaderSpan, RequestSpans};
 
 /// What a head means.
@@ -103,17 +104,6 @@ fn begins_with_slash(target: &[u8]) -> bool
     ensures { result ≡ (slice_index_or target.now 0 0 == 47) }
 {
     !target.is_empty() && target[0] == b'/'
-}
-
-/// A target's path.
-fn path_of(target: &[u8]) -> &[u8]
-    ensures { result.now ≡ path_of target.now }
-{
-    let end = target
-        .iter()
-        .position(|b| *b == b'?')
-        .unwrap_or(target.len());
-    &target[..end]
 }
 
 /// What the values of the `Content-Length` fields mean.

@@ -9,11 +9,13 @@ mod judge;
 mod laws;
 mod route;
 mod serve;
+mod target;
 
 pub use answer::{Kind, Status};
 pub use laws::laws_of;
 pub use route::{Method, Route};
 pub use serve::{Handler, Unavailable, WireFault, serve_one};
+pub use target::{part, path_of, query_of};
 
 #[cfg(test)]
 mod tests;

@@ -91,7 +91,7 @@ impl Route {
 }
 
 /// How many bytes stand before the next slash.
-fn part_length(path: &[u8]) -> usize
+pub(crate) fn part_length(path: &[u8]) -> usize
     ensures value { result ≡ part_length path.now }
     ensures within { result ≤ length path.now }
 {

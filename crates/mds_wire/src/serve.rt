@@ -42,13 +42,13 @@ pub trait Handler {
         alloc: Global,
         route: Route,
         target: &[u8],
-        body: &[u8],
+        body: Vec<u8>,
         answer: &mut Vec<u8>,
     ) -> Result<(Status, Kind), Unavailable>
         requires empty { answer.old.items ≡ [] }
         requires room { short_answer ≤ vec_capacity answer.old }
         ensures step { IfOk result (λ told.
-            step self.old route target.now body.now told.0 told.1 answer.new.items self.new) }
+            step self.old route target.now body.items told.0 told.1 answer.new.items self.new) }
         ensures same { OnErr result (same self.old self.new) };
 }
 
@@ -167,7 +167,7 @@ fn perform<H: Handler, R: Source>(
             let front = front_of(&bytes[spans.len..], size);
             match read_body(alloc, front, size, reader) {
                 Ok(body) => {
-                    match handler.handle(alloc, route, spans.path.of(bytes), &body, answer) {
+                    match handler.handle(alloc, route, spans.path.of(bytes), body, answer) {
                         Ok((status, kind)) => Ok(Reply::Told(status, kind)),
                         Err(_) => Ok(Reply::Refused(Status::Unavailable, false)),
                     }

@@ -3,6 +3,7 @@
 
 mod counter;
 mod heads;
+mod targets;
 
 use crate::{Status, WireFault, serve_one};
 use counter::Counter;

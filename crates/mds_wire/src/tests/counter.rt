@@ -23,7 +23,7 @@ impl Handler for Counter {
         _alloc: Global,
         route: Route,
         _target: &[u8],
-        body: &[u8],
+        body: Vec<u8>,
         answer: &mut Vec<u8>,
     ) -> Result<(Status, Kind), Unavailable> {
         let Ok((status, kind, count)) = tell(route, body.len(), answer) else {

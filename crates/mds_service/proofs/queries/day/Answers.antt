@@ -2,6 +2,7 @@ use Rattle.std.proofs.Common.{refl, sym, ◌∙◌}
 use Rattle.mds_service.specs.declared.request.Request.TheVariants as asked
 use Rattle.mds_ranges.proofs.DayFacts.{has_version}
 use Rattle.mds_service.proofs.DayFacts.{events_then, unknown_day, day_answer}
+use Rattle.mds_service.proofs.EventOrder.{events_in_order}
 use Rattle.mds_service.proofs.Steps.{failed, shown}
 use Rattle.mds_service.proofs.queries.day.Goals as goal
 
@@ -47,11 +48,13 @@ returns-clause-step g c honest =
     let e = c.in-Ok-events.ensures in
     let sound = e.open honest in
     let then = e.before sound in
+    let events = events_then _ _ _ _ _ _ (d.same then) c.copy_of-2.ensures (e.events sound) in
+    let up = c.put_in_order.ensures.ascending events.apart in
     shown _ _ _ _ _ _ (asked.Day c.args.stream c.args.date) _ (d.before then) (
       day_answer _ c.in-Ok.book _ _ _ (d.of_day.0 ∙ c.copy_of.ensures) d.of_day.1 (d.book then)
           (sym c.head.ensures ∙ c.in-Some.is) c.in-Some-latest_update.ensures.some
           (c.in-Ok-current_readings.ensures _ (d.book then))
-          (events_then _ _ _ _ _ _ (d.same then) c.copy_of-2.ensures (e.events sound)) refl refl,
+          (events_in_order _ _ _ _ _ c.put_in_order.ensures.same up events) up refl refl,
       refl,
     )
     (λ sound. d.before (e.before sound)) (λ sound. e.same sound ∙ d.same (e.before sound))

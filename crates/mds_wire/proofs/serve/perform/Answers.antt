@@ -26,13 +26,13 @@ returns-in-Ok-handle-clause-does g c =
           judged
           (subst (λ (xs : List ℕ). length xs + length r.bytes ≡ c.in-Wanted.size) front r.is.1)
           c.of-in-Ok.ensures
-          (c.deref.ensures.value ∙ r.is.0 ∙ ap (λ xs. xs ++ r.bytes) front)
+          (r.is.0 ∙ ap (λ xs. xs ++ r.bytes) front)
           refl
           c.in-Ok-handle.ensures.step;
     }
 
-pub returns-in-Ok-clause-does : goal.returns-in-Ok-clause-does
-returns-in-Ok-clause-does g c =
+pub returns-in-Err-clause-does : goal.returns-in-Err-clause-does
+returns-in-Err-clause-does g c =
     let r = c.in-Ok.ensures.read in
     let judged = sym c.in-Wanted.is ∙ c.judge_head.ensures.value in
     let front = c.front_of-front.ensures.value ∙ ap (take c.in-Wanted.size) (take_rest c.args.bytes.now c.args.read.spans.len) in
@@ -69,8 +69,8 @@ returns-in-Err-Closed-clause-does g c =
       is = (refl, r.is.0, unfinished_body c.args.bytes.now c.args.fields.now c.args.read.spans c.requires.whole c.in-Wanted.route c.in-Wanted.size _ judged front r.bytes r.is.1);
     }
 
-pub returns-clause-does : goal.returns-clause-does
-returns-clause-does g c =
+pub returns-in-Err-Read-clause-does : goal.returns-in-Err-Read-clause-does
+returns-in-Err-Read-clause-does g c =
     let r = rw c.in-Err-Read.field-0-is at c.in-Err-Read.ensures.read in
     let judged = sym c.in-Wanted.is ∙ c.judge_head.ensures.value in
     let front = c.front_of-front.ensures.value ∙ ap (take c.in-Wanted.size) (take_rest c.args.bytes.now c.args.read.spans.len) in

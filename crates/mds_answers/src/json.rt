@@ -1,0 +1,66 @@
+//! The JSON text of an answer.
+
+ghost use Rattle.std.specs.Prelude.{◌≡◌, ◌+◌, ◌≤◌, ◌++◌, ℕ, List, true, false, codes, is_ok, IfOk, OnOk, OnErr, vec_capacity, vec_len};
+ghost use Rattle.serde_json.specs.View.{view};
+ghost use Rattle.serde_json.specs.Written.{compact_text};
+ghost use Rattle.mds_quantity.specs.Append.{Appends};
+ghost use Rattle.mds_service.specs.declared.request.Answer.{Answer as AnAnswer};
+ghost use Rattle.mds_answers.specs.Json.{IsData, IsJson, has_list, has_text, refused, short_json};
+
+use crate::days::{day_value, versions_value};
+use crate::periods::periods_value;
+use crate::short::{holidays_line, line_of};
+use crate::streams::streams_value;
+use mds_service::Answer;
+use mds_terms::{one_day_text, one_moment_text};
+use serde_json::Value;
+use std::alloc::{AllocError, Global};
+
+/// Appends the JSON text of an answer: compact, keys in the order of their bytes, numbers whole. After want of memory nothing is
+/// appended. The text of an answer without a list fits in 160 bytes, and takes no memory where there is room for them.
+pub fn answer_json(alloc: Global, answer: &Answer, out: &mut Vec<u8>) -> Result<(), AllocError>
+    requires { has_text answer.now ≡ false }
+    ensures done { OnOk result ((text : List ℕ) × IsJson answer.now text × Appends out.old.items out.new.items text) }
+    ensures kept { OnErr result (out.new.items ≡ out.old.items) }
+    ensures short { has_list answer.now ≡ false → vec_len out.old + short_json ≤ vec_capacity out.old → is_ok result ≡ true }
+{
+    match line_of(answer) {
+        Some(line) => out.extend_from_slice(line.as_str().as_bytes()),
+        None => {
+            let text = value_of(alloc, answer)?.to_vec(alloc)?;
+            out.extend_from_slice(&text)
+        }
+    }
+}
+
+/// The value that tells an answer with a list.
+fn value_of(alloc: Global, answer: &Answer) -> Result<Value, AllocError>
+    requires { has_list answer.now ≡ true }
+    ensures { IfOk result (λ value. IsData answer.now (view value)) }
+{
+    match answer {
+        Answer::Day(answer) => day_value(alloc, answer),
+        Answer::Versions(answer) => versions_value(alloc, answer),
+        Answer::Period(answer) => periods_value(alloc, answer),
+        Answer::Streams(answers) => streams_value(alloc, answers),
+        _ => unreachable!(),
+    }
+}
+
+/// Appends the JSON text of a list of holidays that differs from a row on, counted from 1: it is told as the line. Where there
+/// is room for 160 bytes it takes no memory.
+pub fn holidays_json(row: u64, out: &mut Vec<u8>) -> Result<(), AllocError>
+    ensures done { OnOk result (Appends out.old.items out.new.items (compact_text (refused (codes "H1") 0 0 row))) }
+    ensures kept { OnErr result (out.new.items ≡ out.old.items) }
+    ensures short { vec_len out.old + short_json ≤ vec_capacity out.old → is_ok result ≡ true }
+{
+    out.extend_from_slice(holidays_line(row).as_str().as_bytes())
+}
+
+/// A law: an answer has one JSON text.
+pub fn one_json()
+    ensures { (answer : AnAnswer) (a b : List ℕ) → IsJson answer a → IsJson answer b → a ≡ b }
+{
+    one_day_text();
+    one_moment_text();
+}

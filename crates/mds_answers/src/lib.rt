@@ -1,0 +1,13 @@
+//! What the machine answers, as JSON texts.
+#![tactic(auto)]
+
+mod days;
+mod json;
+mod periods;
+mod short;
+mod streams;
+#[cfg(test)]
+mod tests;
+mod told;
+
+pub use json::{answer_json, holidays_json, one_json};

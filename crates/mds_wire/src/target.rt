@@ -1,0 +1,55 @@
+//! The parts of a target (RFC 9112, section 3.2.1).
+
+ghost use Rattle.std.specs.Prelude.{◌≡◌, ◌≤◌, ◌+◌, length, drop};
+ghost use Rattle.mds_wire.specs.Judging.{mark_place, path_of, query_of};
+ghost use Rattle.mds_wire.specs.Routes.{part};
+
+use crate::route::part_length;
+
+/// Where the first question mark stands, or how long the target is.
+fn mark_place(target: &[u8]) -> usize
+    ensures value { result ≡ mark_place target.now }
+    ensures within { result ≤ length target.now }
+{
+    target
+        .iter()
+        .position(|b| *b == b'?')
+        .unwrap_or(target.len())
+}
+
+/// A target's path: what stands before the first question mark.
+pub fn path_of(target: &[u8]) -> &[u8]
+    ensures { result.now ≡ path_of target.now }
+{
+    &target[..mark_place(target)]
+}
+
+/// What stands behind the byte at a place: nothing, at the end.
+fn behind(text: &[u8], place: usize) -> &[u8]
+    requires { place ≤ length text.now }
+    ensures { result.now ≡ drop (place + 1) text.now }
+{
+    if place == text.len() {
+        return &text[place..];
+    }
+    &text[place + 1..]
+}
+
+/// A target's query: what stands behind the first question mark, or nothing.
+pub fn query_of(target: &[u8]) -> &[u8]
+    ensures { result.now ≡ query_of target.now }
+{
+    behind(target, mark_place(target))
+}
+
+/// What stands between two slashes of a path: the part of this number, where nothing stands before the first slash and has
+/// the number 0.
+pub fn part(path: &[u8], number: usize) -> &[u8]
+    ensures { result.now ≡ part number path.now }
+{
+    let mut rest = path;
+    for _ in 0..number {
+        rest = behind(rest, part_length(rest));
+    }
+    &rest[..part_length(rest)]
+}
