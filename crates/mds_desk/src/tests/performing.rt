@@ -84,11 +84,11 @@ const EXPORT: &[u8] = b"100,NEM12,202401040000,MDP1,RETAILER\r\n\
     900\r\n";
 
 /// A range of the first file's stream.
-fn range_to<'a>(to: &'a str) -> RangeArguments<'a> {
+fn range_to<'a>(to: &'a [u8]) -> RangeArguments<'a> {
     RangeArguments {
-        nmi: "NEM1201009",
-        suffix: "E1",
-        from: "20240101",
+        nmi: b"NEM1201009",
+        suffix: b"E1",
+        from: b"20240101",
         to,
     }
 }
@@ -99,25 +99,25 @@ fn texts_are_printed(rt: HostRuntime) -> Result<(), Fail> {
     let alloc = rt.alloc();
     let mut keeper = MemoryKeeper::new(alloc);
     let export = ExportArguments {
-        nmi: "NEM1201009",
-        from: "20240101",
-        to: "20240102",
-        moment: "202401040000",
-        sender: "MDP1",
-        receiver: "RETAILER",
-        suffixes: ["E1"].to_vec(alloc)?,
+        nmi: b"NEM1201009",
+        from: b"20240101",
+        to: b"20240102",
+        moment: b"202401040000",
+        sender: b"MDP1",
+        receiver: b"RETAILER",
+        suffixes: [b"E1".as_slice()].to_vec(alloc)?,
     };
     let exported = file_of(alloc, EXPORT)?;
     let rows: [(Request, &[u8], Status); 5] = [
         (import_of(alloc, FIRST)?, ADDED, Status::Done),
-        (read_gaps(&range_to("20240102"))?, GAPS, Status::Done),
-        (read_finals(&range_to("20240102"))?, FINALS, Status::Done),
+        (read_gaps(&range_to(b"20240102"))?, GAPS, Status::Done),
+        (read_finals(&range_to(b"20240102"))?, FINALS, Status::Done),
         (
             read_export(alloc, &export)?,
             exported.as_slice(),
             Status::Done,
         ),
-        (read_gaps(&range_to("20250204"))?, b"M12\n", Status::Fault),
+        (read_gaps(&range_to(b"20250204"))?, b"M12\n", Status::Fault),
     ];
     for (request, wanted, status) in &rows {
         let mut out = Vec::new(alloc);
