@@ -17,6 +17,7 @@ bin/mdstore: $(SOURCES)
 test:
 	rt ci
 	tests/program crates/mdstore/out/mdstore
+	tests/service crates/mdstore/out/mdstore
 
 bench: bin/mdstore
 	bench/run

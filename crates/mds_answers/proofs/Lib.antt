@@ -5,3 +5,4 @@ pub mod Lists
 pub mod OneText
 pub mod ShortTexts
 pub mod Texts
+pub mod Unavailable

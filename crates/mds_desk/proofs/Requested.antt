@@ -1,12 +1,13 @@
 -- One request of a list of one.
 use Rattle.std.specs.Prelude.{◌≡◌, ◌<◌, ◌≤◌, List, [], ◌∷◌, length, Result, Ok, Err, IfErr, IfOk}
-use Rattle.std.proofs.Common.{sym, ap, subst, get_or, arith}
+use Rattle.std.proofs.Common.{inl, inr, sym, ap, subst, get_or, arith}
 use Rattle.mds_world.specs.World.{IsLawful, World}
 use Rattle.mds_service.specs.declared.request.Answer.{Answer}
 use Rattle.mds_service.specs.declared.request.Request.{Request}
 use Rattle.mds_service.specs.Crashes.{MayLeave}
 use Rattle.mds_service.specs.Machine.{Run, Step}
-use Rattle.mds_desk.specs.Performed.{Does}
+use Rattle.mds_answers.proofs.Unavailable.{may_be_unavailable_of}
+use Rattle.mds_desk.specs.Performed.{Does, IsToldAs}
 
 -- a run of one request is its step
 pub did : (old : World) (requests : List Request) (answers : List Answer) (request : Request) (answer : Answer)
@@ -25,9 +26,23 @@ did old requests answers request answer is_sound new may_leave asked told ran =
           (subst (λ ss. MayLeave ran.0 requests ss left) told (ran.4 left may)),
     )
 
+-- an answer with a list may be told as Unavailable, as if the store had been that
+pub told_as : (old : World) (request : Request) (answer other : Answer) (is_sound : Type 0) (new : World)
+    (may_leave : World → Type 0) → IsToldAs answer other → Does old request answer is_sound new may_leave
+    → Does old request other is_sound new may_leave
+told_as old request answer other is_sound new may_leave (inl same) does =
+    subst (λ a. Does old request a is_sound new may_leave) (sym same) does
+told_as old request answer other is_sound new may_leave (inr wanting) does =
+    subst (λ a. Does old request a is_sound new may_leave) (sym wanting.1)
+    (may_be_unavailable_of old request answer is_sound new may_leave wanting.0 does)
+
 pub if_done : {X E : Type 0} (r : Result X E) (P Q : X → Type 0) → ((x : X) → P x → Q x) → IfOk r P → IfOk r Q
 if_done (Ok x) P Q f p = f x p
 if_done (Err e) P Q f p = tt
+
+pub if_not_done : {X E : Type 0} (r : Result X E) (P Q : E → Type 0) → ((e : E) → P e → Q e) → IfErr r P → IfErr r Q
+if_not_done (Ok x) P Q f p = tt
+if_not_done (Err e) P Q f p = f e p
 
 pub if_failed : {X E : Type 0} (r : Result X E) (fault : E) (P : E → Type 0) → r ≡ Err fault → IfErr r P → P fault
 if_failed (Ok x) fault P failed p = absurd cc

@@ -1,5 +1,5 @@
 -- What a command prints of an answer, and the status that it ends with (profile).
-use Rattle.std.specs.Prelude.{◌≡◌, ℕ, List, [], ◌∷◌, ◌++◌, codes, decimal, Bool, true, false, Result, Ok, Err}
+use Rattle.std.specs.Prelude.{◌≡◌, ◌⊎◌, ℕ, List, [], ◌∷◌, ◌++◌, codes, decimal, Bool, true, false, Result, Ok, Err}
 use Rattle.mds_records.specs.Printed.{fault_text}
 use Rattle.mds_versions.specs.Refusals.{refusal_text}
 use Rattle.mds_world.specs.World.{IsLawful, World}
@@ -8,30 +8,38 @@ use Rattle.mds_service.specs.declared.request.Answer.{Answer}
 use Rattle.mds_service.specs.declared.request.Answer.TheVariants as told
 use Rattle.mds_service.specs.Crashes.{MayLeave}
 use Rattle.mds_service.specs.Machine.{Step}
+use Rattle.mds_answers.specs.Json.{IsJson, has_list}
 use Rattle.mds_desk.specs.declared.performing.PerformFault.{PerformFault}
 use Rattle.mds_desk.specs.declared.performing.PerformFault.TheVariants.{Memory, Write}
 use Rattle.mds_desk.specs.declared.outcome.Status.{Status}
 use Rattle.mds_desk.specs.declared.outcome.Status.TheVariants as status
 
--- What is printed of an answer: a line, or the text that it has. No command asks for a day, for versions, for accumulations or
--- for streams yet.
-abbrev pub answer_text : Answer → List ℕ
-answer_text (told.Imported added known) =
-    codes "added " ++ decimal added ++ codes " known " ++ decimal known ++ codes "\n"
-answer_text (told.Substituted count) = codes "substituted " ++ decimal count ++ codes "\n"
-answer_text (told.Known count) = codes "known " ++ decimal count ++ codes "\n"
-answer_text (told.HolidaysAdded added known) =
-    codes "added " ++ decimal added ++ codes " known " ++ decimal known ++ codes "\n"
-answer_text (told.File fault) = fault_text fault ++ codes "\n"
-answer_text (told.Refused refusal) = refusal_text refusal ++ codes "\n"
-answer_text told.Unavailable = codes "U1\n"
-answer_text (told.Day answer) = []
-answer_text (told.Versions answer) = []
-answer_text (told.Period answer) = []
-answer_text (told.Streams answers) = []
-answer_text (told.Gaps text) = text.items
-answer_text (told.Finals text) = text.items
-answer_text (told.Exported text) = text.items
+-- the JSON text of an answer, as a line
+abbrev pub IsJsonLine : Answer → List ℕ → Type 0
+IsJsonLine answer text = (json : List ℕ) × IsJson answer json × (text ≡ json ++ codes "\n")
+
+-- what is printed of an answer: a line, the text that it has, or its JSON text as a line
+abbrev pub IsAnswerText : Answer → List ℕ → Type 0
+IsAnswerText (told.Imported added known) text =
+    text ≡ codes "added " ++ decimal added ++ codes " known " ++ decimal known ++ codes "\n"
+IsAnswerText (told.Substituted count) text = text ≡ codes "substituted " ++ decimal count ++ codes "\n"
+IsAnswerText (told.Known count) text = text ≡ codes "known " ++ decimal count ++ codes "\n"
+IsAnswerText (told.HolidaysAdded added known) text =
+    text ≡ codes "added " ++ decimal added ++ codes " known " ++ decimal known ++ codes "\n"
+IsAnswerText (told.File fault) text = text ≡ fault_text fault ++ codes "\n"
+IsAnswerText (told.Refused refusal) text = text ≡ refusal_text refusal ++ codes "\n"
+IsAnswerText told.Unavailable text = text ≡ codes "U1\n"
+IsAnswerText (told.Day answer) text = IsJsonLine (told.Day answer) text
+IsAnswerText (told.Versions answer) text = IsJsonLine (told.Versions answer) text
+IsAnswerText (told.Period answer) text = IsJsonLine (told.Period answer) text
+IsAnswerText (told.Streams answers) text = IsJsonLine (told.Streams answers) text
+IsAnswerText (told.Gaps text) printed = printed ≡ text.items
+IsAnswerText (told.Finals text) printed = printed ≡ text.items
+IsAnswerText (told.Exported text) printed = printed ≡ text.items
+
+-- An answer is told as it is, or one with a list as Unavailable, where there is no memory for its text.
+abbrev pub IsToldAs : Answer → Answer → Type 0
+IsToldAs answer other = (other ≡ answer) ⊎ ((has_list answer ≡ true) × (other ≡ told.Unavailable))
 
 abbrev pub answer_status : Answer → Status
 answer_status (told.Imported added known) = status.Done

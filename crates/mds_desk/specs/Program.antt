@@ -45,6 +45,7 @@ status_of outcome.Usage = status.Usage
 status_of outcome.NoText = status.Usage
 status_of outcome.NoInput = status.Unavailable
 status_of outcome.NoOutput = status.Unavailable
+status_of outcome.NoPort = status.Unavailable
 status_of outcome.Unavailable = status.Unavailable
 status_of outcome.OtherSchema = status.Unavailable
 
@@ -61,6 +62,7 @@ outcome_text outcome.Usage = []
 outcome_text outcome.NoText = codes "a word is not UTF-8\n"
 outcome_text outcome.NoInput = codes "cannot read file\n"
 outcome_text outcome.NoOutput = []
+outcome_text outcome.NoPort = codes "cannot listen\n"
 outcome_text outcome.Unavailable = codes "U1\n"
 outcome_text outcome.OtherSchema = codes "U3\n"
 
@@ -78,5 +80,6 @@ after_failed_close (outcome.BadHolidays row) = outcome.Unavailable
 after_failed_close (outcome.BadArgument argument) = outcome.Unavailable
 after_failed_close outcome.NoText = outcome.Unavailable
 after_failed_close outcome.NoInput = outcome.Unavailable
+after_failed_close outcome.NoPort = outcome.Unavailable
 after_failed_close outcome.Unavailable = outcome.Unavailable
 after_failed_close outcome.OtherSchema = outcome.Unavailable

@@ -47,6 +47,8 @@ pub enum Outcome {
     NoInput,
     /// What is to be printed can't be.
     NoOutput,
+    /// It can't listen to the port.
+    NoPort,
     /// There is no memory, or the store can't be had (U1).
     Unavailable,
     /// The database isn't a store of this schema, or not an empty one to make a store in (U3).
@@ -123,6 +125,7 @@ impl Outcome {
             | Outcome::BadArgument(_)
             | Outcome::NoText
             | Outcome::NoInput
+            | Outcome::NoPort
             | Outcome::Unavailable
             | Outcome::OtherSchema => Outcome::Unavailable,
         }
@@ -139,8 +142,11 @@ impl Outcome {
             Outcome::BadJob | Outcome::BadArgument(_) | Outcome::Usage | Outcome::NoText => {
                 Status::Usage
             }
-            Outcome::NoInput | Outcome::NoOutput | Outcome::Unavailable | Outcome::OtherSchema =>
-                Status::Unavailable,
+            Outcome::NoInput
+            | Outcome::NoOutput
+            | Outcome::NoPort
+            | Outcome::Unavailable
+            | Outcome::OtherSchema => Status::Unavailable,
         }
     }
 }
@@ -159,6 +165,7 @@ impl fmt::Display for Outcome {
             Outcome::BadArgument(argument) => write!(f, "bad argument {}\n", argument.name()),
             Outcome::NoText => f.write_str("a word is not UTF-8\n"),
             Outcome::NoInput => f.write_str("cannot read file\n"),
+            Outcome::NoPort => f.write_str("cannot listen\n"),
             Outcome::Unavailable => f.write_str("U1\n"),
             Outcome::OtherSchema => f.write_str("U3\n"),
         }

@@ -1,22 +1,24 @@
 //! One request over a store, for whoever asked by a command.
 
-ghost use Rattle.std.specs.Prelude.{◌≡◌, ◌+◌, ◌-◌, ◌<◌, ◌≤◌, ◌^◌, ◌++◌, ℕ, Err, IfErr, IfOk, if◌then◌else◌, is_ok, codes, decimal, length, take};
+ghost use Rattle.std.specs.Prelude.{◌≡◌, ◌+◌, ◌-◌, ◌<◌, ◌≤◌, ◌^◌, ◌++◌, ℕ, List, true, Err, OnErr, IfErr, IfOk, if◌then◌else◌, is_ok, codes, decimal, length, take};
 ghost use Rattle.std.specs.Io.KnownBytes.{Appends as AppendsKnown, Keeps};
 ghost use Rattle.mds_service.specs.declared.request.Answer.{Answer as AnAnswer};
 ghost use Rattle.mds_world.specs.World.{IsLawful};
 ghost use Rattle.mds_records.specs.Printed.{fault_text};
 ghost use Rattle.mds_versions.specs.Refusals.{place_text, refusal_text};
-ghost use Rattle.mds_desk.specs.Performed.{Does, answer_status, answer_text, is_write_failure};
+ghost use Rattle.mds_answers.specs.Json.{has_list};
+ghost use Rattle.mds_desk.specs.Performed.{Does, IsAnswerText, IsJsonLine, IsToldAs, answer_status, is_write_failure};
 ghost use Rattle.mds_desk.specs.Printed.{printed_bytes};
 
 use crate::outcome::Status;
 use arrayvec::ArrayString;
 use itoa::Buffer;
+use mds_answers::answer_json;
 use mds_lines::{Sink, write_whole};
 use mds_records::FileFault;
 use mds_service::{Answer, Request, run};
 use mds_versions::{Keeper, Refusal};
-use std::alloc::Global;
+use std::alloc::{AllocError, Global};
 
 /// Room for a line. The longest is a refusal's, of at most 87 bytes.
 const LONGEST: usize = 100;
@@ -24,18 +26,21 @@ const LONGEST: usize = 100;
 /// A line that is put together on the stack, so that it takes no memory.
 type Line = ArrayString<LONGEST>;
 
-/// What is printed of an answer: a line, or a text that the answer has, which isn't copied.
+/// What is printed of an answer: a line, a text that the answer has, which isn't copied, or its JSON text as a line.
 #[derive(Drop)]
 enum Printed<'a> {
     Line(Line),
     Text(&'a [u8]),
+    Json(Vec<u8>),
 }
 
 impl<'a> Printed<'a> {
-    fn of(answer: &'a Answer) -> Printed<'a>
-        ensures { printed_bytes result ≡ answer_text answer.now }
+    /// What is printed of an answer. It takes memory for a JSON text alone, and fails just where there is none for it.
+    fn of(alloc: Global, answer: &'a Answer) -> Result<Printed<'a>, AllocError>
+        ensures text { IfOk result (λ printed. IsAnswerText answer.now (printed_bytes printed)) }
+        ensures memory { OnErr result (has_list answer.now ≡ true) }
     {
-        match answer {
+        Ok(match answer {
             Answer::Imported { added, known } => Printed::Line(added_line(*added, *known)),
             Answer::Substituted { count } => Printed::Line(count_line("substituted ", *count)),
             Answer::Known { count } => Printed::Line(count_line("known ", *count)),
@@ -47,9 +52,9 @@ impl<'a> Printed<'a> {
             Answer::Refused(refusal) => Printed::Line(refusal_line(refusal)),
             Answer::Unavailable => Printed::Line(unavailable_line()),
             Answer::Day(_) | Answer::Versions(_) | Answer::Period(_) | Answer::Streams(_) => {
-                Printed::Text(&[])
+                Printed::Json(json_line(alloc, answer)?)
             }
-        }
+        })
     }
 
     /// Its bytes.
@@ -59,6 +64,7 @@ impl<'a> Printed<'a> {
         match self {
             Printed::Line(line) => line.as_str().as_bytes(),
             Printed::Text(text) => text,
+            Printed::Json(text) => text,
         }
     }
 }
@@ -89,15 +95,15 @@ pub fn perform<K: Keeper, W: Sink>(
     ensures done { IfOk result (λ status. K.honest keeper.new → K.sound keeper.old → IsLawful (K.world keeper.old)
         → (answer : AnAnswer)
         × Does (K.world keeper.old) request.now answer (K.sound keeper.new) (K.world keeper.new) (K.may_leave keeper.new)
-        × (status ≡ answer_status answer)
-        × AppendsKnown (W.contents writer.old) (W.contents writer.new) (answer_text answer)) }
+        × (status ≡ answer_status answer) × (text : List ℕ) × IsAnswerText answer text
+        × AppendsKnown (W.contents writer.old) (W.contents writer.new) text) }
 
     // Where the writer fails the step was done all the same, and a part of its answer was printed.
     ensures part { result ≡ Err PerformFault.Write → K.honest keeper.new → K.sound keeper.old
         → IsLawful (K.world keeper.old) → (answer : AnAnswer)
         × Does (K.world keeper.old) request.now answer (K.sound keeper.new) (K.world keeper.new) (K.may_leave keeper.new)
-        × (n : ℕ) × (n < length (answer_text answer))
-        × AppendsKnown (W.contents writer.old) (W.contents writer.new) (take n (answer_text answer)) }
+        × (text : List ℕ) × IsAnswerText answer text × (n : ℕ) × (n < length text)
+        × AppendsKnown (W.contents writer.old) (W.contents writer.new) (take n text) }
 
     // Without memory nothing was done or written.
     ensures memory { result ≡ Err PerformFault.Memory → (keeper.new ≡ keeper.old)
@@ -112,23 +118,47 @@ pub fn perform<K: Keeper, W: Sink>(
     let [answer] = answers.as_slice() else {
         unreachable!();
     };
-    print_answer(answer, writer)
+    print_answer(alloc, answer, writer)
 }
 
-/// Writes what a command prints of an answer, and answers the status to end with. It takes no
-/// memory, since the request is done by now.
-fn print_answer<W: Sink>(answer: &Answer, writer: &mut W) -> Result<Status, PerformFault>
+/// Writes what a command prints of an answer, and answers the status to end with. It takes no memory but for the JSON text of a
+/// query's answer: where there is none, the answer is told as unavailable.
+fn print_answer<W: Sink>(
+    alloc: Global,
+    answer: &Answer,
+    writer: &mut W,
+) -> Result<Status, PerformFault>
     requires { W.failures writer.old < 2 ^ 64 - 1 }
-    ensures done { IfOk result (λ status. (status ≡ answer_status answer.now)
-        × AppendsKnown (W.contents writer.old) (W.contents writer.new) (answer_text answer.now)) }
+    ensures done { IfOk result (λ status. (told : AnAnswer) × (text : List ℕ) × IsToldAs answer.now told
+        × IsAnswerText told text × (status ≡ answer_status told)
+        × AppendsKnown (W.contents writer.old) (W.contents writer.new) text) }
     ensures part { IfErr result (λ fault. (fault ≡ PerformFault.Write)
-        × (n : ℕ) × (n < length (answer_text answer.now))
-        × AppendsKnown (W.contents writer.old) (W.contents writer.new) (take n (answer_text answer.now))) }
+        × (told : AnAnswer) × (text : List ℕ) × IsToldAs answer.now told × IsAnswerText told text
+        × (n : ℕ) × (n < length text)
+        × AppendsKnown (W.contents writer.old) (W.contents writer.new) (take n text)) }
     ensures writer { W.failures writer.new ≡ W.failures writer.old + (if is_ok result then 0 else 1) }
 {
-    let printed = Printed::of(answer);
-    match write_whole(printed.bytes(), writer) {
-        Ok(()) => Ok(status_of(answer)),
+    match Printed::of(alloc, answer) {
+        Ok(printed) => print_text(printed.bytes(), status_of(answer), writer),
+        Err(_) => print_text(
+            unavailable_line().as_str().as_bytes(),
+            Status::Unavailable,
+            writer,
+        ),
+    }
+}
+
+/// Writes a text, and answers a status.
+fn print_text<W: Sink>(text: &[u8], status: Status, writer: &mut W) -> Result<Status, PerformFault>
+    requires { W.failures writer.old < 2 ^ 64 - 1 }
+    ensures done { IfOk result (λ answered. (answered ≡ status)
+        × AppendsKnown (W.contents writer.old) (W.contents writer.new) text.now) }
+    ensures part { IfErr result (λ fault. (fault ≡ PerformFault.Write) × (n : ℕ) × (n < length text.now)
+        × AppendsKnown (W.contents writer.old) (W.contents writer.new) (take n text.now)) }
+    ensures writer { W.failures writer.new ≡ W.failures writer.old + (if is_ok result then 0 else 1) }
+{
+    match write_whole(text, writer) {
+        Ok(()) => Ok(status),
         Err(_) => Err(PerformFault::Write),
     }
 }
@@ -197,6 +227,17 @@ fn refusal_line(refusal: &Refusal) -> Line
     push_place(&mut line, " interval ", u64::from(refusal.interval));
     line.push_str("\n");
     line
+}
+
+/// The JSON text of an answer with a list, as a line.
+fn json_line(alloc: Global, answer: &Answer) -> Result<Vec<u8>, AllocError>
+    requires { has_list answer.now ≡ true }
+    ensures { IfOk result (λ line. IsJsonLine answer.now line.items) }
+{
+    let mut line = Vec::new(alloc);
+    answer_json(alloc, answer, &mut line)?;
+    line.push(b'\n')?;
+    Ok(line)
 }
 
 fn unavailable_line() -> Line

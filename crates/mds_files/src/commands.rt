@@ -1,15 +1,12 @@
 //! The commands on a store in a file.
 
-ghost use Rattle.std.specs.Prelude.{◌≡◌};
-ghost use Rattle.mds_files.specs.Refusals.{of_request_fault};
-
-use crate::store_file::{StoreFile, StoreKeeper};
-use mds_desk::{Outcome, perform};
-use mds_lines::Counted;
-use mds_requests::{FileCommand, RequestFault, request_in};
+use crate::asking::read_whole;
+use crate::store_file::StoreFile;
+use mds_desk::Outcome;
+use mds_requests::FileCommand;
+use mds_server::listen;
 use mds_service::Request;
-use std::io;
-use std::io::{ErrorKind, Read};
+use std::io::Read;
 
 /// Makes a store in the file of a path.
 pub fn init(rt: &HostRuntime, path: &str) -> Outcome {
@@ -31,7 +28,7 @@ pub fn ask<R: Read + Drop>(
     match StoreFile::open(rt, path) {
         Ok(store) => {
             let mut store = store;
-            let outcome = ask_keeper(rt, store.keeper(), command, bytes);
+            let outcome = store.ask(rt, command, bytes);
             store.close(rt, outcome)
         }
         Err(outcome) => outcome,
@@ -43,54 +40,20 @@ pub fn query(rt: &HostRuntime, path: &str, request: &Request) -> Outcome {
     match StoreFile::open(rt, path) {
         Ok(store) => {
             let mut store = store;
-            let outcome = perform_request(rt, store.keeper(), request);
+            let outcome = store.perform(rt, request);
             store.close(rt, outcome)
         }
         Err(outcome) => outcome,
     }
 }
 
-/// All that a reader gives, or what a call comes to where it can't be read to its end.
-fn read_whole<R: Read + Drop>(rt: &HostRuntime, reader: R) -> Result<Vec<u8>, Outcome> {
-    let mut reader = reader;
-    let mut bytes = Vec::new(rt.alloc());
-    match reader.read_to_end(&mut bytes) {
-        Ok(_) => Ok(bytes),
-        Err(error) if error.kind() == ErrorKind::OutOfMemory => Err(Outcome::Unavailable),
-        Err(_) => Err(Outcome::NoInput),
-    }
-}
-
-/// Asks a keeper for what was read. What couldn't be read asks for nothing.
-fn ask_keeper(
-    rt: &HostRuntime,
-    keeper: &mut StoreKeeper,
-    command: FileCommand,
-    bytes: Result<Vec<u8>, Outcome>,
-) -> Outcome {
-    let bytes = match bytes {
-        Ok(bytes) => bytes,
-        Err(outcome) => return outcome,
-    };
-    match request_in(rt.alloc(), command, bytes) {
-        Ok(request) => perform_request(rt, keeper, &request),
-        Err(fault) => of_request_fault(fault),
-    }
-}
-
-/// Does a request over a keeper, and prints its answer.
-fn perform_request(rt: &HostRuntime, keeper: &mut StoreKeeper, request: &Request) -> Outcome {
-    let mut writer = Counted::new(io::writer(rt));
-    Outcome::of_request(perform(rt.alloc(), keeper, request, &mut writer))
-}
-
-/// What a file comes to that asks for nothing.
-fn of_request_fault(fault: RequestFault) -> Outcome
-    ensures { result ≡ of_request_fault fault }
-{
-    match fault {
-        RequestFault::BadJob => Outcome::BadJob,
-        RequestFault::BadHolidays(row) => Outcome::BadHolidays(row),
-        RequestFault::Memory => Outcome::Unavailable,
+/// Serves so many connections to a port of 127.0.0.1, one after the other, from the store of a path.
+pub fn serve(rt: &HostRuntime, path: &str, port: u16, count: u32) -> Outcome {
+    match StoreFile::open(rt, path) {
+        Ok(store) => match listen(rt, port) {
+            Ok(listener) => store.serve(rt, &listener, count),
+            Err(_) => store.close(rt, Outcome::NoPort),
+        },
+        Err(outcome) => outcome,
     }
 }

@@ -3,10 +3,16 @@
 ghost use Rattle.std.specs.Prelude.{◌≡◌};
 ghost use Rattle.mds_files.specs.Refusals.{of_store};
 
+use crate::asking::{ask_keeper, perform_request};
 use crate::place::{Place, Standing};
 use mds_desk::Outcome;
+use mds_http::StoreHandler;
+use mds_requests::FileCommand;
+use mds_server::serve_connections;
+use mds_service::Request;
 use mds_store::{RowKeeper, StoreFault, adopt, create};
 use sqlite::{Connection, Error, ErrorCode, FileFrom, FileStore, Files, Wary};
+use std::net::TcpListener;
 
 /// A torn write may leave anything on the disk, so each commit syncs twice.
 type StoreConnection = Connection<FileStore<FileFrom<Wary>>>;
@@ -18,7 +24,7 @@ pub(crate) type StoreKeeper = RowKeeper<FileStore<FileFrom<Wary>>>;
 pub(crate) type LockedFiles = Files<FileFrom<Wary>>;
 
 /// An open store.
-pub(crate) struct StoreFile {
+pub struct StoreFile {
     keeper: StoreKeeper,
     place: Place,
 }
@@ -47,7 +53,7 @@ impl StoreFile {
     }
 
     /// Opens the store of a path, which isn't made where there is none.
-    pub(crate) fn open(rt: &HostRuntime, path: &str) -> Result<StoreFile, Outcome> {
+    pub fn open(rt: &HostRuntime, path: &str) -> Result<StoreFile, Outcome> {
         let Ok(place) = Place::of_file(rt, path) else {
             return Err(Outcome::Unavailable);
         };
@@ -65,13 +71,32 @@ impl StoreFile {
         }
     }
 
-    /// Who keeps it.
-    pub(crate) fn keeper(&mut self) -> &mut StoreKeeper {
-        &mut self.keeper
+    /// Asks it for what was read. What couldn't be read asks for nothing.
+    pub fn ask(
+        &mut self,
+        rt: &HostRuntime,
+        command: FileCommand,
+        bytes: Result<Vec<u8>, Outcome>,
+    ) -> Outcome {
+        ask_keeper(rt, &mut self.keeper, command, bytes)
+    }
+
+    /// Puts a request to it.
+    pub(crate) fn perform(&mut self, rt: &HostRuntime, request: &Request) -> Outcome {
+        perform_request(rt, &mut self.keeper, request)
+    }
+
+    /// Serves so many connections from it, one after the other, and closes it.
+    pub(crate) fn serve(self, rt: &HostRuntime, listener: &TcpListener, count: u32) -> Outcome {
+        let StoreFile { keeper, place } = self;
+        let mut handler = StoreHandler { keeper };
+        serve_connections(rt, &mut handler, listener, count);
+        let StoreHandler { keeper } = handler;
+        close(rt, &place, keeper.into_connection(), Outcome::Done)
     }
 
     /// Closes it after something was done, and says what the run comes to.
-    pub(crate) fn close(self, rt: &HostRuntime, outcome: Outcome) -> Outcome {
+    pub fn close(self, rt: &HostRuntime, outcome: Outcome) -> Outcome {
         let StoreFile { keeper, place } = self;
         close(rt, &place, keeper.into_connection(), outcome)
     }

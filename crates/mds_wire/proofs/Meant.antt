@@ -1,5 +1,8 @@
 -- What a head and what came behind it mean.
-use Rattle.std.proofs.Common.{◌≡◌, ℕ, ◌+◌, ◌-◌, ◌<◌, ◌≤◌, ◌⊎◌, inl, inr, Bool, true, false, ltb, List, [], ◌∷◌, ◌++◌, length, take, drop, refl, sym, ◌∙◌, ap, subst, arith, length-append, bytes_eq, codes}
+use Rattle.std.proofs.Common.{◌≡◌, ◌≢◌, ℕ, ◌+◌, ◌-◌, ◌<◌, ◌≤◌, ◌⊎◌, inl, inr, Bool, true, false, ltb, not, nat_lt, ◌==◌, ◌&&◌, if◌then◌else◌, Option, Some, None, List, [], ◌∷◌, ◌++◌, length, take, drop, refl, sym, ◌∙◌, ap, subst, arith, length-append, bytes_eq, codes, slice_index_or}
+use Rattle.std.specs.Char.{is_ascii_digit}
+use Rattle.std.specs.List.{list_all}
+use Rattle.std.specs.Str.Parse.{digits_value}
 use Rattle.std.proofs.lemmas.List.{append-nil, take_all, take-append-le, length-take-le}
 use Rattle.std.proofs.lemmas.Bool.Decides.{nat_tests}
 use Rattle.httparse.specs.Grammar.{RequestHead, ReadsRequest, HasNoRequest}
@@ -8,12 +11,16 @@ use Rattle.httparse.specs.declared.spans.HeaderSpan.{HeaderSpan}
 use Rattle.httparse.specs.declared.spans.RequestSpans.{RequestSpans}
 use Rattle.httparse.proofs.GrammarLemmas.{ReadsRequest-append, request_unique}
 use Rattle.mds_wire.specs.Heads.{IsWhole, IsNoHead, most_fields, longest_head}
-use Rattle.mds_wire.specs.Judging.{judge, parts_of, parts_at}
+use Rattle.mds_wire.specs.Judging.{Parts, is_host_fault, judge, judge_body, judge_length, judge_route, longest_body, parts_of, parts_at, path_of, values_in}
+use Rattle.mds_wire.specs.Laws.{OnlySteps}
+use Rattle.mds_wire.specs.Routes.{method_of, method_text, route_of, slash}
+use Rattle.mds_wire.specs.declared.route.Method.{Method}
+use Rattle.mds_wire.specs.declared.route.Method.TheVariants.{Get, Post}
 use Rattle.mds_wire.specs.declared.judge.Judged.{Judged}
 use Rattle.mds_wire.specs.declared.judge.Judged.TheVariants.{Refused, Wanted}
 use Rattle.mds_wire.specs.declared.route.Route.{Route}
 use Rattle.mds_wire.specs.declared.answer.Status.{Status}
-use Rattle.mds_wire.specs.declared.answer.Status.TheVariants.{Unavailable, BadRequest, FieldsTooLarge}
+use Rattle.mds_wire.specs.declared.answer.Status.TheVariants.{Success, Unavailable, BadRequest, FieldsTooLarge, ContentTooLarge}
 use Rattle.mds_wire.specs.Meaning.{Answer, Beginning, no_head, overlong, whole, BeginsSo, AnswersBeginning, StepOf, AnswersJudged, Means, Awaits, in_body, refused}
 use Rattle.mds_wire.specs.Serving.{IsUnfinished}
 
@@ -77,6 +84,39 @@ unfinished_body bytes fields r w route size front is front_is more lt =
     let count = size - (length front + length more) in
     (count, omega arith, awaits_body bytes fields r w route size front is front_is more count (omega arith) (omega arith))
 
+-- a head isn't refused by 200
+abbrev NoSuccess : Judged → Type 0
+NoSuccess (Refused status) = status ≢ Success
+NoSuccess (Wanted route size) = Unit {0}
+
+either : (b : Bool) (x y : Judged) → NoSuccess x → NoSuccess y → NoSuccess (if b then x else y)
+either true x y p q = p
+either false x y p q = q
+
+length_refuses : (route : Route) (lengths : List (List ℕ)) → NoSuccess (judge_length route lengths)
+length_refuses route [] = λ e. cc
+length_refuses route (value ∷ []) =
+    either (not (nat_lt 0 (length value) && list_all is_ascii_digit value)) _ _ (λ e. cc)
+    (either (nat_lt longest_body (digits_value 10 value)) (Refused ContentTooLarge) _ (λ e. cc) tt)
+length_refuses route (value ∷ other ∷ values) = λ e. cc
+
+body_refuses : (method : Method) (route : Route) (lengths : List (List ℕ)) → NoSuccess (judge_body method route lengths)
+body_refuses Get route lengths = tt
+body_refuses Post route lengths = length_refuses route lengths
+
+route_refuses : (parts : Parts) (route : Option Route) → NoSuccess (judge_route parts route)
+route_refuses parts None = λ e. cc
+route_refuses parts (Some route) =
+    either (not (bytes_eq parts.method (method_text (method_of route)))) _ _ (λ e. cc)
+    (body_refuses (method_of route) route (values_in (codes "content-length") parts.fields))
+
+judge_refuses : (parts : Parts) → NoSuccess (judge parts)
+judge_refuses parts =
+    either (is_host_fault parts.minor (values_in (codes "host") parts.fields)) _ _ (λ e. cc)
+    (either (nat_lt 0 (length (values_in (codes "transfer-encoding") parts.fields))) _ _ (λ e. cc)
+    (either (not (slice_index_or parts.target 0 0 == slash)) _ _ (λ e. cc)
+    (route_refuses parts (route_of (path_of parts.target)))))
+
 module _ {S : Type 0} (Step : StepOf S) (Same : S → S → Type 0) where
   means_judged : (bytes more : List ℕ) (fields : List HeaderSpan) (r : RequestSpans) (w : IsWhole bytes fields r) (judged : Judged) (old new : S) (answer : Answer)
       → judged ≡ judge (parts_at bytes fields r)
@@ -135,3 +175,37 @@ module _ {S : Type 0} (Step : StepOf S) (Same : S → S → Type 0) where
   pub headless_means : (bytes : List ℕ) (old new : S) (answer : Answer) → HasNoRequest bytes → Means Step Same bytes old answer new
       → (((answer ≡ refused BadRequest false) × IsNoHead bytes) ⊎ ((answer ≡ refused FieldsTooLarge false) × (length bytes ≡ longest_head))) × (new ≡ old)
   headless_means bytes old new answer none m = headless bytes m.beginning old new answer none m.begins m.answers
+
+  -- Nothing is changed but by a step of a whole request.
+  abbrev IsStepOrNone : List ℕ → S → Answer → S → Type 0
+  IsStepOrNone bytes old answer new =
+      ((head : RequestHead) × (rest : List ℕ) × (route : Route) × (size : ℕ) × ReadsRequest bytes head rest
+      × (length head.fields ≤ most_fields) × (judge (parts_of head) ≡ Wanted route size) × (size ≤ length rest)
+      × (answer.is_head ≡ false)
+      × Step old route head.target (take size rest) answer.status answer.kind answer.body new)
+      ⊎ ((answer.status ≢ Success) × ((new ≡ old) ⊎ Same old new))
+
+  -- what is refused isn't told 200
+  no_success : (answer : Answer) (status : Status) (is_head : Bool) → answer ≡ refused status is_head → status ≢ Success
+      → answer.status ≢ Success
+  no_success answer status is_head is other e = other (sym (ap (λ (a : Answer). a.status) is) ∙ e)
+
+  step_or_none : (bytes rest : List ℕ) (head : RequestHead) (judged : Judged) (old new : S) (answer : Answer)
+      → ReadsRequest bytes head rest → length head.fields ≤ most_fields → judge (parts_of head) ≡ judged → NoSuccess judged
+      → AnswersJudged Step Same judged head rest old answer new → IsStepOrNone bytes old answer new
+  step_or_none bytes rest head (Refused status) old new answer reads few is other a =
+      inr (no_success answer status (bytes_eq head.method (codes "HEAD")) a.0 other, inl a.1)
+  step_or_none bytes rest head (Wanted route size) old new answer reads few is other (inl step) =
+      inl (head, rest, route, size, reads, few, is, step.0, step.1, step.2)
+  step_or_none bytes rest head (Wanted route size) old new answer reads few is other (inr none) =
+      inr (no_success answer Unavailable false none.0 (λ e. cc), none.1)
+
+  begun : (bytes : List ℕ) (b : Beginning) (old new : S) (answer : Answer) → BeginsSo bytes b
+      → AnswersBeginning Step Same b old answer new → IsStepOrNone bytes old answer new
+  begun bytes no_head old new answer is a = inr (no_success answer BadRequest false a.0 (λ e. cc), inl a.1)
+  begun bytes overlong old new answer is a = inr (no_success answer FieldsTooLarge false a.0 (λ e. cc), inl a.1)
+  begun bytes (whole head rest) old new answer is a =
+      step_or_none bytes rest head (judge (parts_of head)) old new answer is.0 is.1 refl (judge_refuses (parts_of head)) a
+
+  pub only_steps : OnlySteps Step Same
+  only_steps bytes old new answer m = begun bytes m.beginning old new answer m.begins m.answers

@@ -1,10 +1,21 @@
 -- What follows of what bytes mean.
-use Rattle.std.specs.Prelude.{◌≡◌, ℕ, ◌≤◌, ◌⊎◌, List, length, false}
+use Rattle.std.specs.Prelude.{◌≡◌, ◌≢◌, ℕ, ◌≤◌, ◌⊎◌, List, length, take, false}
 use Rattle.httparse.specs.Grammar.{RequestHead, ReadsRequest, HasNoRequest}
 use Rattle.mds_wire.specs.Heads.{longest_head, most_fields, IsNoHead}
 use Rattle.mds_wire.specs.Judging.{judge, parts_of}
-use Rattle.mds_wire.specs.declared.answer.Status.TheVariants.{BadRequest, FieldsTooLarge}
+use Rattle.mds_wire.specs.declared.answer.Status.{Status}
+use Rattle.mds_wire.specs.declared.answer.Status.TheVariants.{Success, BadRequest, FieldsTooLarge}
+use Rattle.mds_wire.specs.declared.judge.Judged.TheVariants.{Refused, Wanted}
+use Rattle.mds_wire.specs.declared.route.Route.{Route}
 use Rattle.mds_wire.specs.Meaning.{Answer, StepOf, Means, AnswersJudged, refused}
+
+-- a head that is in order, of a route and a body of this size
+abbrev pub IsHeadOf : RequestHead → Route → ℕ → Type 0
+IsHeadOf head route size = judge (parts_of head) ≡ Wanted route size
+
+-- a head that is refused so
+abbrev pub IsRefusedHead : RequestHead → Status → Type 0
+IsRefusedHead head status = judge (parts_of head) ≡ Refused status
 
 module _ {S : Type 0} (Step : StepOf S) (Same : S → S → Type 0) where
   -- Bytes that begin with a head of at most 64 fields mean what it says, and nothing else.
@@ -19,3 +30,13 @@ module _ {S : Type 0} (Step : StepOf S) (Same : S → S → Type 0) where
       → Means Step Same bytes old answer new
       → (((answer ≡ refused BadRequest false) × IsNoHead bytes)
       ⊎ ((answer ≡ refused FieldsTooLarge false) × (length bytes ≡ longest_head))) × (new ≡ old)
+
+  -- Whatever bytes mean is one step, of a whole request with its target and its body; or nothing is changed, and the answer
+  -- isn't 200.
+  abbrev pub OnlySteps : Type 0
+  OnlySteps = (bytes : List ℕ) (old new : S) (answer : Answer) → Means Step Same bytes old answer new
+      → ((head : RequestHead) × (rest : List ℕ) × (route : Route) × (size : ℕ) × ReadsRequest bytes head rest
+      × (length head.fields ≤ most_fields) × IsHeadOf head route size × (size ≤ length rest)
+      × (answer.is_head ≡ false)
+      × Step old route head.target (take size rest) answer.status answer.kind answer.body new)
+      ⊎ ((answer.status ≢ Success) × ((new ≡ old) ⊎ Same old new))

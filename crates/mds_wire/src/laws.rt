@@ -1,11 +1,13 @@
 //! What follows of what bytes mean.
 
-ghost use Rattle.mds_wire.specs.Laws.{HeadDecides, Headless};
+ghost use Rattle.mds_wire.specs.Laws.{HeadDecides, Headless, OnlySteps};
 
 use crate::serve::Handler;
 
-/// Two laws of what bytes mean: a head decides it, and bytes without one are answered 400 or 431 and change nothing.
+/// Laws of what bytes mean: a head decides it, bytes without one are answered 400 or 431 and change nothing, and nothing is
+/// changed but by a step of a whole request.
 pub fn laws_of<H: Handler>()
     ensures head { HeadDecides H.step H.same }
     ensures headless { Headless H.step H.same }
+    ensures steps { OnlySteps H.step H.same }
 {}

@@ -1,2 +1,4 @@
 pub mod Asked
-pub mod Words
+pub mod Grammar
+pub mod Commands
+pub mod Refused

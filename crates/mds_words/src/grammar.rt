@@ -1,9 +1,14 @@
 //! The words of a call, as `clap` reads them.
 
-ghost use Rattle.std.specs.Prelude.{◌≡◌};
-ghost use Rattle.clap.specs.Values.{kind_of};
+ghost use Rattle.std.specs.Prelude.{◌≡◌, ◌^◌, List, Some, true, codes, map, string_bytes, IfErr, IfOk};
+ghost use Rattle.std.specs.Borrow.{Bor};
+ghost use Rattle.clap.specs.Walk.{texts};
+ghost use Rattle.clap.specs.Words.{App, Text, found_of, kind_of, rows_of, takes};
+ghost use Rattle.mds_words.specs.Asked.{Asks, IsAskedBy, input_of, input_value, kind_of_name, number_of, value_of, values_of};
+ghost use Rattle.mds_words.specs.Commands.{has_command};
+ghost use Rattle.mds_words.specs.Grammar.{IsMdstore, mdstore_app};
 
-use crate::commands::grammar;
+use crate::commands::{grammar, kinds};
 use crate::words::{Input, Words, WordsFault};
 use clap::error::ErrorKind;
 use clap::{ArgMatches, Error};
@@ -14,15 +19,20 @@ use std::alloc::{AllocError, Global};
 pub(crate) fn read_by_grammar<'a>(
     alloc: Global,
     words: &'a [String],
-) -> Result<Words<'a>, WordsFault> {
-    match matched(alloc, words) {
+) -> Result<Words<'a>, WordsFault>
+    ensures asked { IfOk result (λ asked. (app : App) × IsMdstore app
+        × IsAskedBy app (map string_bytes words.now) asked) }
+    ensures passes { IfErr result (λ fault. (app : App) × IsMdstore app
+        × (takes app (map string_bytes words.now) ≡ true → fault ≡ WordsFault.Memory)) }
+{
+    match matched(alloc, kinds(), words) {
         Ok(words) => Ok(words),
-        Err(error) => Err(fault_of(alloc, &error)),
+        Err(error) => Err(words_fault(alloc, &error)),
     }
 }
 
 /// What an error of `clap` comes to. Its text says what is wrong with the words, or is the help that they ask for.
-fn fault_of(alloc: Global, error: &Error) -> WordsFault
+fn words_fault(alloc: Global, error: &Error) -> WordsFault
     ensures memory { kind_of error.now ≡ ErrorKind.OutOfMemory → result ≡ WordsFault.Memory }
 {
     if error.kind() == ErrorKind::OutOfMemory {
@@ -34,51 +44,78 @@ fn fault_of(alloc: Global, error: &Error) -> WordsFault
     }
 }
 
-fn matched<'a>(alloc: Global, words: &'a [String]) -> Result<Words<'a>, Error> {
-    let matches = grammar(alloc)?.try_get_matches_from(words)?;
-    match matches.subcommand() {
-        Some((name, found)) => Ok(asked(alloc, name, found)?),
-        None => Ok(Words::Check {
-            kind: FileKind::Nem12,
-            input: Input::Standard,
-        }),
-    }
+/// What the words ask for, or what `clap` says of them. The names of the kinds of files lie at `kinds`.
+fn matched<'a>(alloc: Global, kinds: &'a [&'a str], words: &'a [String]) -> Result<Words<'a>, Error>
+    ensures asked { IfOk result (IsAskedBy (mdstore_app kinds.entry) (map string_bytes words.now)) }
+    ensures passes { IfErr result (λ error.
+        takes (mdstore_app kinds.entry) (map string_bytes words.now) ≡ true
+        → kind_of error ≡ ErrorKind.OutOfMemory) }
+{
+    let matches = grammar(alloc, kinds)?.try_get_matches_from(words)?;
+    // The grammar asks for a command, so that there is one.
+    let (name, found) = matches.subcommand().unwrap();
+    Ok(asked(alloc, name, found)?)
 }
 
 /// What is asked for by the name of a command and the arguments that were found behind it.
-fn asked<'a>(alloc: Global, name: &str, found: &ArgMatches<'a>) -> Result<Words<'a>, AllocError> {
-    Ok(match name {
-        "init" => Words::Init {
+fn asked<'a>(alloc: Global, name: &str, found: &ArgMatches<'a>) -> Result<Words<'a>, AllocError>
+    ensures { IfOk result (λ words. (kinds : Bor (List (Bor Text)))
+        → has_command (mdstore_app kinds) name.now ≡ true
+        → Asks (Some (name.now, rows_of (found_of found.now))) words) }
+{
+    match name {
+        "init" => Ok(Words::Init {
             store: word(found, "store"),
-        },
-        "import" => Words::Import {
+        }),
+        "import" => Ok(Words::Import {
             store: word(found, "store"),
             kind: kind(found),
-            input: Input::new(word(found, "file")),
-        },
-        "substitute" => Words::Substitute {
+            inputs: inputs(alloc, found)?,
+        }),
+        "substitute" => Ok(Words::Substitute {
             store: word(found, "store"),
             input: Input::new(word(found, "file")),
-        },
-        "holidays" => Words::Holidays {
+        }),
+        "holidays" => Ok(Words::Holidays {
             store: word(found, "store"),
             input: Input::new(word(found, "file")),
-        },
-        "gaps" => Words::Gaps {
+        }),
+        "streams" => Ok(Words::Streams {
+            store: word(found, "store"),
+        }),
+        "day" => Ok(Words::Day {
+            store: word(found, "store"),
+            nmi: word(found, "nmi"),
+            suffix: word(found, "suffix"),
+            date: word(found, "date"),
+        }),
+        "versions" => Ok(Words::Versions {
+            store: word(found, "store"),
+            nmi: word(found, "nmi"),
+            suffix: word(found, "suffix"),
+            date: word(found, "date"),
+            interval: word(found, "interval"),
+        }),
+        "periods" => Ok(Words::Periods {
+            store: word(found, "store"),
+            nmi: word(found, "nmi"),
+            suffix: word(found, "suffix"),
+        }),
+        "gaps" => Ok(Words::Gaps {
             store: word(found, "store"),
             nmi: word(found, "nmi"),
             suffix: word(found, "suffix"),
             from: word(found, "from"),
             to: word(found, "to"),
-        },
-        "finals" => Words::Finals {
+        }),
+        "finals" => Ok(Words::Finals {
             store: word(found, "store"),
             nmi: word(found, "nmi"),
             suffix: word(found, "suffix"),
             from: word(found, "from"),
             to: word(found, "to"),
-        },
-        "export" => Words::Export {
+        }),
+        "export" => Ok(Words::Export {
             store: word(found, "store"),
             nmi: word(found, "nmi"),
             from: word(found, "from"),
@@ -87,16 +124,23 @@ fn asked<'a>(alloc: Global, name: &str, found: &ArgMatches<'a>) -> Result<Words<
             sender: word(found, "sender"),
             receiver: word(found, "receiver"),
             suffixes: all_words(alloc, found, "suffixes")?,
-        },
-        _ => Words::Check {
+        }),
+        "serve" => Ok(Words::Serve {
+            store: word(found, "store"),
+            port: port(found),
+            count: count(found),
+        }),
+        _ => Ok(Words::Check {
             kind: kind(found),
             input: Input::new(word(found, "file")),
-        },
-    })
+        }),
+    }
 }
 
-/// The word of an argument, which is there, since it is required.
-fn word<'a>(found: &ArgMatches<'a>, id: &str) -> &'a str {
+/// The word of an argument, which is there, since it is required or has a default.
+fn word<'a>(found: &ArgMatches<'a>, id: &str) -> &'a str
+    ensures { result.now ≡ value_of id.now (rows_of (found_of found.now)) }
+{
     found.get_str(id).unwrap_or("")
 }
 
@@ -105,17 +149,48 @@ fn all_words<'a>(
     alloc: Global,
     found: &ArgMatches<'a>,
     id: &str,
-) -> Result<Vec<&'a str>, AllocError> {
+) -> Result<Vec<&'a str>, AllocError>
+    ensures { IfOk result (λ words. texts words.items ≡ values_of id.now (rows_of (found_of found.now))) }
+{
     match found.get_strs(id) {
         Some(words) => words.to_vec(alloc),
         None => Ok(Vec::new(alloc)),
     }
 }
 
-/// The kind of file that is named, where one is.
-fn kind(found: &ArgMatches<'_>) -> FileKind {
-    match found.get_str("kind") {
-        Some("nem13") => FileKind::Nem13,
+/// The files of an argument that takes several.
+fn inputs<'a>(alloc: Global, found: &ArgMatches<'a>) -> Result<Vec<Input<'a>>, AllocError>
+    ensures { IfOk result (λ inputs. map input_value inputs.items
+        ≡ map input_of (values_of (codes "file") (rows_of (found_of found.now)))) }
+{
+    let names = all_words(alloc, found, "file")?;
+    let mut inputs = Vec::new(alloc);
+    for name in &names {
+        inputs.push(Input::new(*name))?;
+    }
+    Ok(inputs)
+}
+
+/// The kind of file that is named.
+fn kind(found: &ArgMatches<'_>) -> FileKind
+    ensures { result ≡ kind_of_name (value_of (codes "kind") (rows_of (found_of found.now))) }
+{
+    match word(found, "kind") {
+        "nem13" => FileKind::Nem13,
         _ => FileKind::Nem12,
     }
+}
+
+/// The port, which is a number, since the grammar asks for one.
+fn port(found: &ArgMatches<'_>) -> u16
+    ensures { result ≡ number_of (2 ^ 16) (codes "port") (rows_of (found_of found.now)) }
+{
+    found.get_one::<u16>("port").unwrap_or(0)
+}
+
+/// The count, which is a number, since the grammar asks for one.
+fn count(found: &ArgMatches<'_>) -> u32
+    ensures { result ≡ number_of (2 ^ 32) (codes "count") (rows_of (found_of found.now)) }
+{
+    found.get_one::<u32>("count").unwrap_or(0)
 }

@@ -18,10 +18,43 @@ fn asked(alloc: Global, text: &str) -> Result<String, AllocError> {
             name_of(input)
         ),
         Ok(Words::Init { store }) => format!(in alloc; "init {store}"),
-        Ok(Words::Import { store, kind, input }) => format!(in alloc;
-            "import {store} {} {}",
-            kind_of(kind),
-            name_of(input)
+        Ok(
+            Words::Import {
+                store,
+                kind,
+                inputs,
+            },
+        ) => {
+            let mut text = format!(in alloc; "import {store} {}", kind_of(kind))?;
+            for input in inputs {
+                text.push(' ')?;
+                text.push_str(name_of(input))?;
+            }
+            Ok(text)
+        }
+        Ok(Words::Streams { store }) => format!(in alloc; "streams {store}"),
+        Ok(
+            Words::Day {
+                store,
+                nmi,
+                suffix,
+                date,
+            },
+        ) => format!(in alloc; "day {store}|{nmi}|{suffix}|{date}"),
+        Ok(
+            Words::Versions {
+                store,
+                nmi,
+                suffix,
+                date,
+                interval,
+            },
+        ) => format!(in alloc; "versions {store}|{nmi}|{suffix}|{date}|{interval}"),
+        Ok(Words::Periods { store, nmi, suffix }) => format!(in alloc;
+            "periods {store}|{nmi}|{suffix}"
+        ),
+        Ok(Words::Serve { store, port, count }) => format!(in alloc;
+            "serve {store} {port} {count}"
         ),
         Ok(Words::Substitute { store, input }) => format!(in alloc;
             "substitute {store} {}",
@@ -121,6 +154,31 @@ fn words_ask(rt: HostRuntime) -> Result<(), Fail> {
             "import week.db 13 standard input",
         ),
         (
+            "import --store week.db a.nem12 - b.nem12",
+            "import week.db 12 a.nem12 standard input b.nem12",
+        ),
+        ("streams --store week.db", "streams week.db"),
+        (
+            "day --store week.db NEM1201009 E1 20240101",
+            "day week.db|NEM1201009|E1|20240101",
+        ),
+        (
+            "versions NEM1201009 E1 20240101 --store week.db 07",
+            "versions week.db|NEM1201009|E1|20240101|07",
+        ),
+        (
+            "periods --store week.db 1234567890 11",
+            "periods week.db|1234567890|11",
+        ),
+        (
+            "serve --store week.db --port 8080",
+            "serve week.db 8080 1000000",
+        ),
+        (
+            "serve --count 1 --port=65535 --store=week.db",
+            "serve week.db 65535 1",
+        ),
+        (
             "substitute --store week.db job.json",
             "substitute week.db job.json",
         ),
@@ -195,6 +253,24 @@ fn words_are_wanting(rt: HostRuntime) -> Result<(), Fail> {
         ("gaps --store week.db NEM1201009 E1 20240101", "<TO>"),
         ("gaps --store week.db a b c d e", "unexpected argument 'e'"),
         ("finals --store week.db", "<NMI>"),
+        ("import --store week.db", "<FILE>..."),
+        ("day --store week.db NEM1201009 E1", "<DATE>"),
+        (
+            "versions --store week.db NEM1201009 E1 20240101",
+            "<INTERVAL>",
+        ),
+        ("streams --store week.db x", "unexpected argument 'x'"),
+        ("serve --store week.db", "--port <P>"),
+        ("serve --store week.db --port 0", "0 is not in 1..=65535"),
+        (
+            "serve --store week.db --port 80 --count 0",
+            "0 is not in 1..=1000000",
+        ),
+        (
+            "serve --store week.db --port 80 --count 1000001",
+            "1000001 is not in 1..=1000000",
+        ),
+        ("serve --store week.db --port x", "'x' for '--port <P>'"),
         ("finals --store week.db NEM1201009 E1 20240101", "<TO>"),
         (
             "export --store week.db NEM1201009 20240101 20240107 202401080000 MDP1 RETAILER",

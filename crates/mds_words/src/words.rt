@@ -1,8 +1,8 @@
 //! What the words of a call ask for.
 
-ghost use Rattle.std.specs.Prelude.{◌≡◌, Some, IfSome, IsOkAnd, map, option_map, string_bytes};
-ghost use Rattle.mds_words.specs.Asked.{asked_check, input_value};
-ghost use Rattle.mds_words.specs.Words.{input_of, requested};
+ghost use Rattle.std.specs.Prelude.{◌≡◌, map, string_bytes, IfErr, IfOk};
+ghost use Rattle.mds_words.specs.Asked.{IsAsked, input_of, input_value};
+ghost use Rattle.mds_words.specs.Refused.{IsRefused};
 
 use crate::grammar::read_by_grammar;
 use mds_records::FileKind;
@@ -29,11 +29,11 @@ pub enum Words<'a> {
     Init {
         store: &'a str,
     },
-    /// That a file of a kind is imported into the store in the file of a name.
+    /// That files of a kind are imported, one after the other, into the store in the file of a name.
     Import {
         store: &'a str,
         kind: FileKind,
-        input: Input<'a>,
+        inputs: Vec<Input<'a>>,
     },
     /// That the substitution job that a file says is done in the store in the file of a name.
     Substitute {
@@ -44,6 +44,31 @@ pub enum Words<'a> {
     Holidays {
         store: &'a str,
         input: Input<'a>,
+    },
+    /// The known streams, from the store in the file of a name.
+    Streams {
+        store: &'a str,
+    },
+    /// A day of a stream, from the store in the file of a name.
+    Day {
+        store: &'a str,
+        nmi: &'a str,
+        suffix: &'a str,
+        date: &'a str,
+    },
+    /// The versions of an interval of a day, from the store in the file of a name.
+    Versions {
+        store: &'a str,
+        nmi: &'a str,
+        suffix: &'a str,
+        date: &'a str,
+        interval: &'a str,
+    },
+    /// The accumulations of a stream, from the store in the file of a name.
+    Periods {
+        store: &'a str,
+        nmi: &'a str,
+        suffix: &'a str,
     },
     /// The gaps of a stream in a range of days, from the store in the file of a name.
     Gaps {
@@ -72,6 +97,12 @@ pub enum Words<'a> {
         receiver: &'a str,
         suffixes: Vec<&'a str>,
     },
+    /// That so many connections to a port are served, one after the other, from the store in the file of a name.
+    Serve {
+        store: &'a str,
+        port: u16,
+        count: u32,
+    },
 }
 
 /// Why words ask for nothing.
@@ -97,30 +128,15 @@ impl<'a> Input<'a> {
 
 /// What the words that follow the program's name ask for.
 pub fn read_words<'a>(alloc: Global, words: &'a [String]) -> Result<Words<'a>, WordsFault>
-    // Words that plainly ask for the check of a NEM12 file are understood so.
-    ensures check { IfSome (requested (map string_bytes words.now)) (λ input.
-        IsOkAnd result (λ asked. asked_check asked ≡ Some (FileKind.Nem12, input))) }
+    ensures asked { IfOk result (IsAsked (map string_bytes words.now)) }
+    // No words are never refused, and words that the grammar takes only for want of memory.
+    ensures passes { IfErr result (IsRefused (map string_bytes words.now)) }
 {
-    match plain_check(words) {
-        Some(input) => Ok(Words::Check {
+    if words.is_empty() {
+        return Ok(Words::Check {
             kind: FileKind::Nem12,
-            input,
-        }),
-        None => read_by_grammar(alloc, words),
+            input: Input::Standard,
+        });
     }
-}
-
-/// What is to be checked, where the words are `check FILE` or none: a word that begins with `-` may be one for help.
-fn plain_check(words: &[String]) -> Option<Input<'_>>
-    ensures { option_map input_value result ≡ requested (map string_bytes words.now) }
-{
-    match words {
-        [] => Some(Input::Standard),
-        [command, name] if command.as_str() == "check" => match name.as_bytes() {
-            b"-" => Some(Input::Standard),
-            [b'-', ..] => None,
-            _ => Some(Input::File(name.as_str())),
-        },
-        _ => None,
-    }
+    read_by_grammar(alloc, words)
 }

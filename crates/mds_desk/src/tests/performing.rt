@@ -93,7 +93,12 @@ fn range_to<'a>(to: &'a [u8]) -> RangeArguments<'a> {
     }
 }
 
-/// Texts are printed as they are, and nothing else.
+/// The streams after the first file, as a line.
+const STREAMS: &[u8] =
+    b"{\"streams\":[{\"configuration\":\"E1\",\"datastream\":\"N1\",\"meter\":\"01009\",\"next\":\"\",\
+    \"nmi\":\"NEM1201009\",\"register\":\"1\",\"suffix\":\"E1\"}]}\n";
+
+/// Texts are printed as they are, JSON as a line, and nothing else.
 #[test]
 fn texts_are_printed(rt: HostRuntime) -> Result<(), Fail> {
     let alloc = rt.alloc();
@@ -108,8 +113,9 @@ fn texts_are_printed(rt: HostRuntime) -> Result<(), Fail> {
         suffixes: [b"E1".as_slice()].to_vec(alloc)?,
     };
     let exported = file_of(alloc, EXPORT)?;
-    let rows: [(Request, &[u8], Status); 5] = [
+    let rows: [(Request, &[u8], Status); 6] = [
         (import_of(alloc, FIRST)?, ADDED, Status::Done),
+        (Request::Streams, STREAMS, Status::Done),
         (read_gaps(&range_to(b"20240102"))?, GAPS, Status::Done),
         (read_finals(&range_to(b"20240102"))?, FINALS, Status::Done),
         (

@@ -1,0 +1,82 @@
+-- What follows of what bytes mean to a store.
+use Rattle.std.specs.Prelude.{◌≡◌, ◌≢◌, ◌⊎◌, ◌≤◌, ℕ, false, List, [], ◌∷◌, length, take}
+use Rattle.httparse.specs.Grammar.{RequestHead, ReadsRequest, HasNoRequest}
+use Rattle.mds_world.specs.World.{IsLawful, World}
+use Rattle.mds_service.specs.Crashes.{MayLeave}
+use Rattle.mds_service.specs.Machine.{Run}
+use Rattle.mds_service.specs.declared.request.Request.{Request}
+use Rattle.mds_service.specs.declared.request.Answer.{Answer as Told}
+use Rattle.mds_targets.specs.Targets.{AsksAt}
+use Rattle.mds_wire.specs.Heads.{most_fields}
+use Rattle.mds_wire.specs.Laws.{IsHeadOf, IsRefusedHead}
+use Rattle.mds_wire.specs.Meaning.{Answer, is_head_method, refused}
+use Rattle.mds_wire.specs.declared.answer.Status.{Status}
+use Rattle.mds_wire.specs.declared.answer.Status.TheVariants.{Success, BadRequest, FieldsTooLarge}
+use Rattle.mds_wire.specs.declared.route.Route.{Route}
+use Rattle.mds_http.specs.declared.handling.StoreHandler.{StoreHandler}
+use Rattle.mds_http.specs.Handling.{Tells, status_of}
+use Rattle.mds_http.specs.Serving.{MeansOver}
+
+-- the bytes begin with a head that wants a body of this size on a route
+abbrev pub Wants : List ℕ → RequestHead → List ℕ → Route → ℕ → Type 0
+Wants bytes head rest route size =
+    ReadsRequest bytes head rest × (length head.fields ≤ most_fields) × IsHeadOf head route size
+
+-- the bytes are a whole request that asks for this
+abbrev pub AskFor : List ℕ → Request → Type 0
+AskFor bytes request =
+    (head : RequestHead) × (rest : List ℕ) × (route : Route) × (size : ℕ) × Wants bytes head rest route size
+    × (size ≤ length rest) × AsksAt route head.target (take size rest) request
+
+-- the answer tells this one
+abbrev pub IsTold : Told → Answer → Type 0
+IsTold told answer =
+    (answer.status ≡ status_of told) × Tells told answer.kind answer.body × (answer.is_head ≡ false)
+
+-- The requests that were done, and their answers: by each connection the one that its bytes ask for, whose answer it was told;
+-- or none, and it wasn't told 200.
+abbrev pub AreDone : List (List ℕ × Answer) → List Request → List Told → Type 0
+AreDone [] requests answers = (requests ≡ []) × (answers ≡ [])
+AreDone (connection ∷ connections) requests answers =
+    ((connection.1.status ≢ Success) × AreDone connections requests answers)
+    ⊎ ((request : Request) × (later : List Request) × (told : Told) × (more : List Told)
+    × (requests ≡ request ∷ later) × (answers ≡ told ∷ more) × AskFor connection.0 request × IsTold told connection.1
+    × AreDone connections later more)
+
+module _ {K : Type 0} (honest sound : K → Type 0) (world : K → World) (may_leave : K → World → Type 0) where
+  -- the bytes of connections, one after the other, and what they were answered
+  abbrev pub AreServed : StoreHandler K → List (List ℕ × Answer) → StoreHandler K → Type 0
+  AreServed old [] new = new ≡ old
+  AreServed old (connection ∷ connections) new =
+      (next : StoreHandler K) × MeansOver honest sound world may_leave connection.0 old connection.1 next
+      × AreServed next connections new
+
+  -- Connections are a run of the machine: of the requests that they ask for, each once and in their order, with the answers
+  -- that they were told. A store that is sound keeps the World of the run, and a crash leaves it, or it with one more whole
+  -- request whose answer was Unavailable.
+  abbrev pub ConnectionsRun : Type 0
+  ConnectionsRun = (connections : List (List ℕ × Answer)) (first last : StoreHandler K)
+      → AreServed first connections last → honest last.keeper → sound first.keeper → IsLawful (world first.keeper)
+      → (requests : List Request) × (answers : List Told) × (w : World) × AreDone connections requests answers
+      × IsLawful w × Run (world first.keeper) requests answers w × (sound last.keeper → world last.keeper ≡ w)
+      × ((left : World) → may_leave last.keeper left → MayLeave w requests answers left)
+
+  -- bytes that hold no head change nothing
+  abbrev pub NoHeadNoChange : Type 0
+  NoHeadNoChange = (bytes : List ℕ) (old new : StoreHandler K) (answer : Answer) → HasNoRequest bytes
+      → MeansOver honest sound world may_leave bytes old answer new
+      → ((answer ≡ refused BadRequest false) ⊎ (answer ≡ refused FieldsTooLarge false)) × (new ≡ old)
+
+  -- nor do those of a head that is refused
+  abbrev pub RefusedNoChange : Type 0
+  RefusedNoChange = (bytes rest : List ℕ) (head : RequestHead) (status : Status) (old new : StoreHandler K)
+      (answer : Answer) → ReadsRequest bytes head rest → length head.fields ≤ most_fields
+      → IsRefusedHead head status → MeansOver honest sound world may_leave bytes old answer new
+      → (answer ≡ refused status (is_head_method head)) × (new ≡ old)
+
+  -- nor those of a target and a body that ask for no request
+  abbrev pub UnaskedNoChange : Type 0
+  UnaskedNoChange = (bytes rest : List ℕ) (head : RequestHead) (route : Route) (size : ℕ) (old new : StoreHandler K)
+      (answer : Answer) → Wants bytes head rest route size
+      → ((request : Request) → AsksAt route head.target (take size rest) request → ⊥)
+      → MeansOver honest sound world may_leave bytes old answer new → (answer.status ≢ Success) × (new ≡ old)

@@ -1,0 +1,4 @@
+pub mod Handling
+pub mod Laws
+pub mod Serving
+pub mod TellingSteps

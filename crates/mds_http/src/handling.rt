@@ -1,0 +1,41 @@
+//! The handler over a keeper.
+
+ghost use Rattle.mds_http.specs.Handling.{Handles};
+ghost use Rattle.mds_http.specs.Serving.{IsSame};
+
+use crate::telling::{refuse_holidays, refuse_target, tell};
+use mds_service::apply;
+use mds_targets::{TargetFault, request_at};
+use mds_versions::Keeper;
+use mds_wire::{Handler, Kind, Route, Status, Unavailable};
+use std::alloc::Global;
+
+/// A keeper that answers requests over HTTP.
+#[derive(Drop)]
+pub struct StoreHandler<K> {
+    pub keeper: K,
+}
+
+impl<K: Keeper> Handler for StoreHandler<K> {
+    ghost step = { Handles K.honest K.sound K.world K.may_leave };
+
+    ghost same = { IsSame };
+
+    fn handle(
+        &mut self,
+        alloc: Global,
+        route: Route,
+        target: &[u8],
+        body: Vec<u8>,
+        answer: &mut Vec<u8>,
+    ) -> Result<(Status, Kind), Unavailable> {
+        let request = match request_at(alloc, route, target, body) {
+            Ok(request) => request,
+            Err(TargetFault::Bad) => return Ok(refuse_target(answer)),
+            Err(TargetFault::BadHolidays(row)) => return Ok(refuse_holidays(row, answer)),
+            Err(TargetFault::Memory) => return Err(Unavailable),
+        };
+        let told = apply(alloc, &mut self.keeper, &request);
+        Ok(tell(alloc, told, answer))
+    }
+}

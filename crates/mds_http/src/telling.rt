@@ -1,0 +1,139 @@
+//! What is told of an answer, or of a target that asks for nothing.
+
+ghost use Rattle.std.specs.Prelude.{◌≡◌, ◌≤◌, [], true, false, vec_capacity};
+ghost use Rattle.mds_answers.specs.Json.{has_list, has_text};
+ghost use Rattle.mds_targets.specs.declared.targets.TargetFault.TheVariants as fault;
+ghost use Rattle.mds_wire.specs.Serving.{short_answer};
+ghost use Rattle.mds_http.specs.Handling.{TellsFault, status_of as status_of_answer, status_of_rule as status_of_code};
+ghost use Rattle.mds_http.specs.TellingSteps.{TellsOrNot, TellsWhole};
+
+use mds_answers::{answer_json, holidays_json};
+use mds_service::Answer;
+use mds_versions::RefusalCode;
+use mds_wire::{Kind, Status};
+use std::alloc::Global;
+
+/// Writes the text of an answer, and says its status and its type. Where the text of a list has no memory, `Unavailable` is
+/// told in its place.
+pub(crate) fn tell(alloc: Global, answer: Answer, out: &mut Vec<u8>) -> (Status, Kind)
+    requires empty { out.old.items ≡ [] }
+    requires room { short_answer ≤ vec_capacity out.old }
+    ensures { TellsOrNot answer result.0 result.1 out.new.items }
+{
+    match answer {
+        Answer::Gaps(text) => tell_text(text, out),
+        Answer::Finals(text) => tell_text(text, out),
+        Answer::Exported(text) => tell_text(text, out),
+        other => tell_json(alloc, &other, out),
+    }
+}
+
+/// Tells a text of an answer, which isn't copied.
+fn tell_text(text: Vec<u8>, out: &mut Vec<u8>) -> (Status, Kind)
+    ensures { (result ≡ (Status.Success, Kind.Csv)) × (out.new.items ≡ text.items) }
+{
+    *out = text;
+    (Status::Success, Kind::Csv)
+}
+
+/// Writes the JSON text of an answer. The text of a list takes memory.
+fn tell_json(alloc: Global, answer: &Answer, out: &mut Vec<u8>) -> (Status, Kind)
+    requires text { has_text answer.now ≡ false }
+    requires empty { out.old.items ≡ [] }
+    requires room { short_answer ≤ vec_capacity out.old }
+    ensures { TellsOrNot answer.now result.0 result.1 out.new.items }
+{
+    match answer {
+        Answer::Day(_) | Answer::Versions(_) | Answer::Period(_) | Answer::Streams(_) => {
+            tell_list(alloc, answer, out)
+        }
+        _ => tell_short(alloc, answer, out),
+    }
+}
+
+/// Writes the text of an answer with a list, for which it takes memory.
+fn tell_list(alloc: Global, answer: &Answer, out: &mut Vec<u8>) -> (Status, Kind)
+    requires list { has_list answer.now ≡ true }
+    requires empty { out.old.items ≡ [] }
+    requires room { short_answer ≤ vec_capacity out.old }
+    ensures { TellsOrNot answer.now result.0 result.1 out.new.items }
+{
+    let mut text = Vec::new(alloc);
+    match answer_json(alloc, answer, &mut text) {
+        Ok(()) => {
+            *out = text;
+            (status_of(answer), Kind::Json)
+        }
+        Err(_) => tell_short(alloc, &Answer::Unavailable, out),
+    }
+}
+
+/// Writes the text of an answer for which there is room.
+fn tell_short(alloc: Global, answer: &Answer, out: &mut Vec<u8>) -> (Status, Kind)
+    requires text { has_text answer.now ≡ false }
+    requires list { has_list answer.now ≡ false }
+    requires empty { out.old.items ≡ [] }
+    requires room { short_answer ≤ vec_capacity out.old }
+    ensures { TellsWhole answer.now result.0 result.1 out.new.items }
+{
+    let Ok(()) = answer_json(alloc, answer, out) else {
+        unreachable!();
+    };
+    (status_of(answer), Kind::Json)
+}
+
+/// The status of an answer.
+fn status_of(answer: &Answer) -> Status
+    ensures { result ≡ status_of_answer answer.now }
+{
+    match answer {
+        Answer::File(_) => Status::Unprocessable,
+        Answer::Refused(refusal) => status_of_rule(refusal.code),
+        Answer::Unavailable => Status::Unavailable,
+        _ => Status::Success,
+    }
+}
+
+/// The status of a refusal.
+fn status_of_rule(code: RefusalCode) -> Status
+    ensures { result ≡ status_of_code code }
+{
+    match code {
+        RefusalCode::LengthConflict
+        | RefusalCode::UnitConflict
+        | RefusalCode::VersionConflict
+        | RefusalCode::JobReused
+        | RefusalCode::Protected
+        | RefusalCode::StaleUpdate => Status::Conflict,
+        RefusalCode::UnknownDay => Status::NotFound,
+        RefusalCode::NoLikeDay
+        | RefusalCode::TooLong
+        | RefusalCode::NoAnchor
+        | RefusalCode::BadJob
+        | RefusalCode::RangeTooWide => Status::Unprocessable,
+    }
+}
+
+/// Tells that a target and its body ask for nothing.
+pub(crate) fn refuse_target(out: &mut Vec<u8>) -> (Status, Kind)
+    requires empty { out.old.items ≡ [] }
+    requires room { short_answer ≤ vec_capacity out.old }
+    ensures { TellsFault fault.Bad result.0 result.1 out.new.items }
+{
+    let Ok(()) = out.extend_from_slice(Status::BadRequest.refusal()) else {
+        unreachable!();
+    };
+    (Status::BadRequest, Kind::Json)
+}
+
+/// Tells the row from which on a list of holidays differs.
+pub(crate) fn refuse_holidays(row: u64, out: &mut Vec<u8>) -> (Status, Kind)
+    requires empty { out.old.items ≡ [] }
+    requires room { short_answer ≤ vec_capacity out.old }
+    ensures { TellsFault (fault.BadHolidays row) result.0 result.1 out.new.items }
+{
+    let Ok(()) = holidays_json(row, out) else {
+        unreachable!();
+    };
+    (Status::Unprocessable, Kind::Json)
+}

@@ -1,0 +1,4 @@
+pub mod Queries
+pub mod QuerySteps
+pub mod TargetSteps
+pub mod Targets

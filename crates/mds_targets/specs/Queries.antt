@@ -1,0 +1,29 @@
+-- The pairs of a query, in the words of the library `form_urlencoded` (URL Standard, section 5).
+use Rattle.std.specs.Prelude.{ℕ, Bool, if◌then◌else◌, List, [], ◌∷◌, map, bytes_eq, Option, Some, None}
+use Rattle.std.specs.List.{list_all, list_any}
+use Rattle.std.specs.Str.Lossy.{utf8_lossy}
+use Rattle.form_urlencoded.specs.Form.{decode, raw_pairs}
+
+-- what the bytes of a name or a value stand for; what isn't UTF-8 is replaced
+abbrev pub decoded : List ℕ → List ℕ
+decoded bytes = utf8_lossy (decode bytes)
+
+-- the names and values of a query, in order
+abbrev pub pairs_of : List ℕ → List (List ℕ × List ℕ)
+pairs_of query = map (λ pair. (decoded pair.0, decoded pair.1)) (raw_pairs query)
+
+-- the values of a name
+abbrev pub values_named : List ℕ → List (List ℕ × List ℕ) → List (List ℕ)
+values_named name [] = []
+values_named name (pair ∷ pairs) =
+    if bytes_eq pair.0 name then pair.1 ∷ values_named name pairs else values_named name pairs
+
+-- the value, where there is one and no other
+abbrev pub only : List (List ℕ) → Option (List ℕ)
+only [] = None
+only (value ∷ []) = Some value
+only (value ∷ other ∷ values) = None
+
+-- no pair has a name beside these
+abbrev pub has_only : List (List ℕ) → List (List ℕ × List ℕ) → Bool
+has_only names pairs = list_all (λ pair. list_any (λ name. bytes_eq pair.0 name) names) pairs

@@ -1,0 +1,13 @@
+//! What a target over HTTP and its body ask of the machine.
+#![tactic(auto)]
+
+mod bodies;
+mod exports;
+mod paths;
+mod query;
+mod ranges;
+mod targets;
+#[cfg(test)]
+mod tests;
+
+pub use targets::{TargetFault, request_at};

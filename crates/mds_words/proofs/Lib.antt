@@ -1,0 +1,4 @@
+pub mod Building
+pub mod Getters
+pub mod Named
+pub mod Stops
