@@ -2,7 +2,8 @@
 //!
 //! It has a day of five minutes under quality V, with a run of its own for each interval and with many events; a day of five
 //! minutes under several updates; and days of one update, whose lines are as long as a line may be. All are of
-//! the first file's stream, but for a day of half hours of each of many others.
+//! the first file's stream, but for a day of half hours of each of many others. A job with a reason that is as long as it may
+//! be comes behind it.
 
 use crate::rows::request_of;
 use crate::texts::text_of;
@@ -48,12 +49,19 @@ const MARKED_DAY: &str = "20240101";
 /// The day with several updates.
 const UPDATED_DAY: &str = "20240102";
 
+/// A day that is in no file.
+const FILLED_DAY: &str = "20240203";
+
+/// Its stream, and how many half hours of it a job fills in.
+const FILLED: (&str, u16) = ("NEM2000000", 48);
+
 /// The file.
 pub fn file_at_the_limits(alloc: Global) -> Result<Vec<u8>, AllocError> {
     let mut file = String::new(alloc);
     file.push_str("100,NEM12,202401030000,MDP1,RETAILER\n")?;
-    push_stream(&mut file, "NEM1201009", 5)?;
-    push_marked_day(&mut file)?;
+    push_stream(&mut file, "NEM1201009", 5, "\n")?;
+    push_marked_day(&mut file, "\n")?;
+    push_events(&mut file)?;
     push_updated_day(&mut file)?;
     for number in 0..LONG_DAYS {
         let date = date_of(alloc, number)?;
@@ -61,7 +69,7 @@ pub fn file_at_the_limits(alloc: Global) -> Result<Vec<u8>, AllocError> {
     }
     for number in 0..STREAMS {
         let nmi = nmi_of(alloc, number)?;
-        push_stream(&mut file, nmi.as_str(), 30)?;
+        push_stream(&mut file, nmi.as_str(), 30, "\n")?;
         push_long_day(alloc, &mut file, MARKED_DAY, HALF_HOURS)?;
     }
     file.push_str("900\n")?;
@@ -91,8 +99,8 @@ fn nmi_of(alloc: Global, number: u16) -> Result<String, AllocError> {
     format!(in alloc; "NEM2{number:06}")
 }
 
-/// Appends a 200 record, with texts as long as they may be.
-fn push_stream(file: &mut String, nmi: &str, minutes: u16) -> Result<(), AllocError> {
+/// Appends a 200 record, with texts as long as they may be, and a line's end.
+fn push_stream(file: &mut String, nmi: &str, minutes: u16, end: &str) -> Result<(), AllocError> {
     write!(file, "200,{nmi},")?;
     push_times(file, "c", FIELD)?;
     file.push(',')?;
@@ -101,7 +109,7 @@ fn push_stream(file: &mut String, nmi: &str, minutes: u16) -> Result<(), AllocEr
     push_times(file, "d", FIELD)?;
     file.push(',')?;
     push_times(file, "m", FIELD)?;
-    write!(file, ",kWh,{minutes},20240201\n")
+    write!(file, ",kWh,{minutes},20240201{end}")
 }
 
 /// Appends the answer's text of a stream with these details.
@@ -114,16 +122,21 @@ fn push_known_stream(out: &mut String, nmi: &str) -> Result<(), AllocError> {
     out.push_str("20240201 ")
 }
 
-/// Appends the day with a run for each interval, and its events, the last of the answer first.
-fn push_marked_day(file: &mut String) -> Result<(), AllocError> {
+/// Appends the day with a run for each interval, each line with an end.
+fn push_marked_day(file: &mut String, end: &str) -> Result<(), AllocError> {
     write!(file, "300,{MARKED_DAY},")?;
     push_times(file, "1,", FIVE_MINUTES)?;
-    file.push_str("V,,,20240102000000,\n")?;
+    write!(file, "V,,,20240102000000,{end}")?;
     for k in 1..=FIVE_MINUTES {
         write!(file, "400,{k},{k},")?;
         push_mark(file, k)?;
-        file.push('\n')?;
+        file.push_str(end)?;
     }
+    Ok(())
+}
+
+/// Appends the events of that day, the last of the answer first.
+fn push_events(file: &mut String) -> Result<(), AllocError> {
     for k in 0..EVENTS {
         file.push_str("500,")?;
         push_event(file, EVENTS - k)?;
@@ -132,12 +145,54 @@ fn push_marked_day(file: &mut String) -> Result<(), AllocError> {
     Ok(())
 }
 
-/// Appends the quality and the reason of an interval. The reasons are as long as they may be, each second one in
-/// characters of four bytes.
+/// Appends the quality and the reason of an interval: the first half of the day is of quality F. The reasons are as long as they
+/// may be.
 fn push_mark(out: &mut String, interval: u16) -> Result<(), AllocError> {
-    write!(out, "S14,{interval},")?;
+    let flag = if is_final(interval) { 'F' } else { 'S' };
+    write!(out, "{flag}14,{interval},")?;
+    push_reason(out, interval)
+}
+
+/// Whether an interval of that day is of quality F.
+fn is_final(interval: u16) -> bool {
+    interval <= FIVE_MINUTES / 2
+}
+
+/// Appends a reason's text, each second one in characters of four bytes.
+fn push_reason(out: &mut String, interval: u16) -> Result<(), AllocError> {
     let letter = if interval % 2 == 0 { "x" } else { "\u{1f50c}" };
     push_times(out, letter, FIELD)
+}
+
+/// The register of the finals of that day.
+fn finals_text(alloc: Global) -> Result<String, AllocError> {
+    let mut out = String::from_str(alloc, "nmi,suffix,date,first,last,method,code,text\n")?;
+    for k in 1..=FIVE_MINUTES {
+        if is_final(k) {
+            write!(out, "NEM1201009,E1,{MARKED_DAY},{k},{k},14,{k},")?;
+            push_reason(&mut out, k)?;
+            out.push('\n')?;
+        }
+    }
+    Ok(out)
+}
+
+/// The export of that day.
+fn exported_text(alloc: Global) -> Result<String, AllocError> {
+    let mut out = String::from_str(alloc, "100,NEM12,202401040000,MDP1,RETAILER\r\n")?;
+    push_stream(&mut out, "NEM1201009", 5, "\r\n")?;
+    push_marked_day(&mut out, "\r\n")?;
+    out.push_str("900\r\n")?;
+    Ok(out)
+}
+
+/// A job that fills a day with zeros, under a reason that is as long as it may be. `Streams` where it is none.
+fn job(alloc: Global) -> Result<Request, AllocError> {
+    let (nmi, count) = FILLED;
+    let mut body = format!(in alloc; "{nmi},E1,{FILLED_DAY},1,{count},30,kWh,19,F,76,")?;
+    push_reason(&mut body, 1)?;
+    body.push_str(",20240204000000")?;
+    request_of(alloc, "substitute", &["LONG", body.as_str()], 0)
 }
 
 /// Appends an event, with texts as long as they may be.
@@ -268,6 +323,13 @@ fn requests_at_the_limits(alloc: Global) -> Result<Vec<(Request, String)>, Alloc
     requests.push((long, wanted))?;
     let gaps = request_of(alloc, "gaps", &["20240101", "20250203"], 0)?;
     requests.push((gaps, gaps_text(alloc)?))?;
+    let finals = request_of(alloc, "finals", &[MARKED_DAY, MARKED_DAY], 0)?;
+    requests.push((finals, finals_text(alloc)?))?;
+    let export = request_of(alloc, "export", &[MARKED_DAY, MARKED_DAY, "E1"], 0)?;
+    requests.push((export, exported_text(alloc)?))?;
+    let (_, count) = FILLED;
+    requests.push((job(alloc)?, format!(in alloc; "substituted {count}")?))?;
+    requests.push((job(alloc)?, format!(in alloc; "known {count}")?))?;
     requests.push((Request::Streams, streams_text(alloc)?))?;
     Ok(requests)
 }

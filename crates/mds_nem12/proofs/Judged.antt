@@ -1,5 +1,5 @@
 -- What a record says is what its line says, and its faults are judged alike by what governs it and by what the reader keeps.
-use Rattle.std.proofs.Common.{◌≡◌, ℕ, ◌+◌, ◌≤◌, Bool, true, false, ◌||◌, cond, ltb, List, [], ◌∷◌, length, drop, Option, Some, None, IsSome, unwrap_or, Result, Ok, Err, MatchResult, refl, sym, ◌∙◌, ap, subst, arith}
+use Rattle.std.proofs.Common.{◌≡◌, ℕ, ◌+◌, ◌≤◌, Bool, true, false, ◌||◌, cond, ltb, List, [], ◌∷◌, ◌++◌, length, drop, Option, Some, None, IsSome, unwrap_or, Result, Ok, Err, MatchResult, refl, sym, ◌∙◌, ap, subst, arith}
 use Rattle.std.specs.Option.{option_map}
 use Rattle.std.proofs.lemmas.Bool.Decides.{nat_tests}
 use Rattle.std.proofs.lemmas.List.{length-drop, length-take-le}
@@ -9,7 +9,7 @@ use Rattle.mds_lines.specs.declared.line.Kind.TheVariants as a
 use Rattle.mds_days.specs.Days.{DayValue, run_value}
 use Rattle.mds_days.specs.RunFaults.{first_of, run_fault}
 use Rattle.mds_records.specs.FieldFaults.{field_fault, has_wrong_count}
-use Rattle.mds_records.specs.Records.{IsB2bDetails, IsHeader, IsIntervalEvent, IsNmiDataDetails, Spells, value_count, values_of}
+use Rattle.mds_records.specs.Records.{IsB2bDetails, IsHeader, IsIntervalEvent, IsNmiDataDetails, value_count, values_of}
 use Rattle.mds_records.specs.declared.b2b_details.B2bDetailsRecord.{B2bDetailsRecord}
 use Rattle.mds_records.specs.declared.fault.FieldFault.{FieldFault}
 use Rattle.mds_records.specs.declared.fault.FieldFault.TheVariants.{Count}
@@ -19,17 +19,16 @@ use Rattle.mds_records.specs.declared.header_name.HeaderName.TheVariants.{Nem12}
 use Rattle.mds_records.specs.declared.header.HeaderRecord.{HeaderRecord}
 use Rattle.mds_records.specs.declared.interval_event.IntervalEventRecord.{IntervalEventRecord}
 use Rattle.mds_records.specs.declared.nmi_data_details.NmiDataDetailsRecord.{NmiDataDetailsRecord}
-use Rattle.mds_records.specs.declared.record.Record.{Record}
-use Rattle.mds_records.specs.declared.record.Record.TheVariants as of
 use Rattle.mds_nem12.specs.Answers.{takes_memory}
 use Rattle.mds_nem12.specs.Faults.{at_field, at_line, fault_of_run}
-use Rattle.mds_nem12.specs.FileReaderSteps.{CanFollow, Governs, IsStop, Says, fields_fault, has_day, has_open_day, last_governing, last_kind, last_moment}
+use Rattle.mds_nem12.specs.FileReaderSteps.{Governs, HasTaken, IsRefusal, IsStop, Says, Takes, fields_fault, has_day, has_open_day, last_governing, last_kind, last_moment}
 use Rattle.mds_nem12.specs.Governing.{Governors, governors}
 use Rattle.mds_nem12.specs.Place.{is_in_place, is_kind}
 use Rattle.mds_nem12.specs.Said.{bare_null, count_in, event_in, header_in, run_in, values_in}
 use Rattle.mds_statements.specs.Statements.{Statement}
 use Rattle.mds_nem12.specs.Statements.{stream_statement}
 use Rattle.mds_nem12.specs.Told.{event_said, header_said, stream_said}
+use Rattle.mds_nem12.specs.declared.file_reader.FileReader.{FileReader}
 use Rattle.mds_nem12.specs.declared.file_reader.LastRecord.{LastRecord}
 use Rattle.mds_nem12.specs.declared.file_reader.LastRecord.TheVariants as state
 use Rattle.mds_reading.specs.declared.fault.TakeFault.{TakeFault}
@@ -112,31 +111,8 @@ values_length n line none =
     let left = length-drop 2 (fields_of line) in
     length-take-le n (drop 2 (fields_of line)) (omega arith)
 
--- The kind of a record is that of its line.
-abbrev pub kind_by : Record → Kind
-kind_by (of.Header r) = a.Header
-kind_by (of.NmiDataDetails r) = a.NmiDataDetails
-kind_by (of.AccumulationData r) = a.AccumulationData
-kind_by (of.IntervalData r) = a.IntervalData
-kind_by (of.IntervalEvent r) = a.IntervalEvent
-kind_by (of.B2bDetails r) = a.B2bDetails
-kind_by (of.AccumulationB2bDetails r) = a.AccumulationB2bDetails
-kind_by of.EndOfData = a.EndOfData
-
-pub spelled : (kind : Kind) (n : ℕ) (line : List ℕ) (r : Record) → Spells kind n line r → kind ≡ kind_by r
-spelled a.Header n line (of.Header r) s = refl
-spelled a.NmiDataDetails n line (of.NmiDataDetails r) s = refl
-spelled a.AccumulationData n line (of.AccumulationData r) s = refl
-spelled a.IntervalData n line (of.IntervalData r) s = refl
-spelled a.IntervalEvent n line (of.IntervalEvent r) s = refl
-spelled a.B2bDetails n line (of.B2bDetails r) s = refl
-spelled a.AccumulationB2bDetails n line (of.AccumulationB2bDetails r) s = refl
-spelled a.EndOfData n line of.EndOfData s = refl
-spelled kind n line r s = absurd s
-
--- A record of a kind that is in place can be kept: what it goes on from is there. Records of accumulation data are in place
--- nowhere.
-moment_there : (last : LastRecord) → is_in_place (last_kind last) a.NmiDataDetails ≡ true → IsSome (last_moment last)
+-- A record of a kind that is in place can be kept: what it goes on from is there.
+pub moment_there : (last : LastRecord) → is_in_place (last_kind last) a.NmiDataDetails ≡ true → IsSome (last_moment last)
 moment_there state.Nothing place = absurd (cc)
 moment_there (state.Header moment) place = refl
 moment_there (state.Details g) place = refl
@@ -145,7 +121,7 @@ moment_there (state.Run g) place = refl
 moment_there (state.Event g) place = refl
 moment_there state.End place = absurd (cc)
 
-governing_there : (last : LastRecord) → is_in_place (last_kind last) a.IntervalData ≡ true → IsSome (last_governing last)
+pub governing_there : (last : LastRecord) → is_in_place (last_kind last) a.IntervalData ≡ true → IsSome (last_governing last)
 governing_there state.Nothing place = absurd (cc)
 governing_there (state.Header moment) place = absurd (cc)
 governing_there (state.Details g) place = refl
@@ -154,7 +130,7 @@ governing_there (state.Run g) place = refl
 governing_there (state.Event g) place = refl
 governing_there state.End place = absurd (cc)
 
-open_there : (last : LastRecord) → is_in_place (last_kind last) a.IntervalEvent ≡ true → has_open_day last ≡ true
+pub open_there : (last : LastRecord) → is_in_place (last_kind last) a.IntervalEvent ≡ true → has_open_day last ≡ true
 open_there state.Nothing place = absurd (cc)
 open_there (state.Header moment) place = absurd (cc)
 open_there (state.Details g) place = absurd (cc)
@@ -163,7 +139,7 @@ open_there (state.Run g) place = refl
 open_there (state.Event g) place = absurd (cc)
 open_there state.End place = absurd (cc)
 
-day_there : (last : LastRecord) → is_in_place (last_kind last) a.B2bDetails ≡ true → has_day last ≡ true
+pub day_there : (last : LastRecord) → is_in_place (last_kind last) a.B2bDetails ≡ true → has_day last ≡ true
 day_there state.Nothing place = absurd (cc)
 day_there (state.Header moment) place = absurd (cc)
 day_there (state.Details g) place = absurd (cc)
@@ -171,60 +147,6 @@ day_there (state.Day g) place = refl
 day_there (state.Run g) place = refl
 day_there (state.Event g) place = refl
 day_there state.End place = absurd (cc)
-
-no_accumulation : (last : LastRecord) → is_in_place (last_kind last) a.AccumulationData ≡ true → ⊥
-no_accumulation state.Nothing place = cc
-no_accumulation (state.Header moment) place = cc
-no_accumulation (state.Details g) place = cc
-no_accumulation (state.Day g) place = cc
-no_accumulation (state.Run g) place = cc
-no_accumulation (state.Event g) place = cc
-no_accumulation state.End place = cc
-
-no_accumulation_b2b : (last : LastRecord) → is_in_place (last_kind last) a.AccumulationB2bDetails ≡ true → ⊥
-no_accumulation_b2b state.Nothing place = cc
-no_accumulation_b2b (state.Header moment) place = cc
-no_accumulation_b2b (state.Details g) place = cc
-no_accumulation_b2b (state.Day g) place = cc
-no_accumulation_b2b (state.Run g) place = cc
-no_accumulation_b2b (state.Event g) place = cc
-no_accumulation_b2b state.End place = cc
-
-pub can_follow : (kind : Kind) (n : ℕ) (line : List ℕ) (r : Record) (last : LastRecord) → Spells kind n line r
-    → is_in_place (last_kind last) kind ≡ true → CanFollow r last
-can_follow a.Header n line (of.Header r) last s place = tt
-can_follow a.NmiDataDetails n line (of.NmiDataDetails r) last s place = moment_there last place
-can_follow a.AccumulationData n line (of.AccumulationData r) last s place = no_accumulation last place
-can_follow a.IntervalData n line (of.IntervalData r) last s place = governing_there last place
-can_follow a.IntervalEvent n line (of.IntervalEvent r) last s place = open_there last place
-can_follow a.B2bDetails n line (of.B2bDetails r) last s place = day_there last place
-can_follow a.AccumulationB2bDetails n line (of.AccumulationB2bDetails r) last s place = no_accumulation_b2b last place
-can_follow a.EndOfData n line of.EndOfData last s place = tt
-can_follow kind n line r last s place = absurd s
-
--- The number of values matters to a 300 alone.
-pub fields_same : (kind : Kind) (m n : ℕ) (line : List ℕ) → (kind ≡ a.IntervalData → m ≡ n)
-    → field_fault Nem12 kind m line ≡ field_fault Nem12 kind n line
-unfolding field_fault
-fields_same a.Header m n line same = refl
-fields_same a.NmiDataDetails m n line same = refl
-fields_same a.AccumulationData m n line same = refl
-fields_same a.IntervalData m n line same = ap (λ k. field_fault Nem12 a.IntervalData k line) (same refl)
-fields_same a.IntervalEvent m n line same = refl
-fields_same a.B2bDetails m n line same = refl
-fields_same a.AccumulationB2bDetails m n line same = refl
-fields_same a.EndOfData m n line same = refl
-
-pub spells_same : (kind : Kind) (m n : ℕ) (line : List ℕ) (r : Record) → (kind ≡ a.IntervalData → m ≡ n) → Spells kind m line r → Spells kind n line r
-spells_same a.IntervalData m n line r same s = subst (λ (k : ℕ). Spells a.IntervalData k line r) (same refl) s
-spells_same a.Header m n line (of.Header r) same s = s
-spells_same a.NmiDataDetails m n line (of.NmiDataDetails r) same s = s
-spells_same a.AccumulationData m n line (of.AccumulationData r) same s = s
-spells_same a.IntervalEvent m n line (of.IntervalEvent r) same s = s
-spells_same a.B2bDetails m n line (of.B2bDetails r) same s = s
-spells_same a.AccumulationB2bDetails m n line (of.AccumulationB2bDetails r) same s = s
-spells_same a.EndOfData m n line of.EndOfData same s = s
-spells_same kind m n line r same s = absurd s
 
 -- the number of values is that of the governing 200, where a 300 may stand
 pub count_known : (before : List (List ℕ)) (last : LastRecord) (day : DayValue) (done : List Statement) → Governs before last day done
@@ -298,3 +220,42 @@ answered_run r P g number line kind same h =
     subst (λ (k : Kind). MatchResult r (λ _. (fault_of_run g line k ≡ None) × P)
     (IsStop (option_map (at_line number) (fault_of_run g line k)) ((fault_of_run g line k ≡ None) × (takes_memory g line (Some k) ≡ true))))
     (sym same) (run_answered r P g line _ h)
+
+-- A record other than a 400 is taken as it is kept; memory may be wanting for one that takes some.
+pub takes_any : {T : Type 0} {U : Type 0} (told : T → List Statement → Type 0) (before : List (List ℕ)) (line : List ℕ) (kind : Kind)
+    (r : Result U TakeFault) (new : FileReader T) (L : Type 0)
+    → is_kind kind a.IntervalEvent ≡ false → (L → takes_memory (governors before) line (Some kind) ≡ true)
+    → field_fault Nem12 kind (count_in (governors before).details) line ≡ None
+    → MatchResult r (λ _. HasTaken told (before ++ line ∷ []) new) (IsStop None L) → Takes told before line kind r new
+takes_any told before line kind r new L other takes none h =
+    let event = no_event (governors before) line kind other in
+    answered_as r _ _ _ (at_line (length before + 1)) _ (fields_none (governors before) (length before + 1) line kind none)
+    (answered r _ _ _ _ _ event (λ l. (event, takes l)) h)
+
+pub takes_kept : {T : Type 0} {U : Type 0} (told : T → List Statement → Type 0) (before : List (List ℕ)) (line : List ℕ) (kind : Kind)
+    (r : Result U TakeFault) (new : FileReader T)
+    → is_kind kind a.IntervalEvent ≡ false → takes_memory (governors before) line (Some kind) ≡ true
+    → field_fault Nem12 kind (count_in (governors before).details) line ≡ None
+    → MatchResult r (λ _. HasTaken told (before ++ line ∷ []) new) (IsRefusal None) → Takes told before line kind r new
+takes_kept told before line kind r new other takes none h = takes_any told before line kind r new _ other (λ _. takes) none h
+
+pub takes_run : {T : Type 0} {U : Type 0} (told : T → List Statement → Type 0) (before : List (List ℕ)) (line : List ℕ)
+    (r : Result U TakeFault) (new : FileReader T)
+    → field_fault Nem12 a.IntervalEvent (count_in (governors before).details) line ≡ None
+    → MatchResult r (λ _. (fault_of_run (governors before) line a.IntervalEvent ≡ None) × HasTaken told (before ++ line ∷ []) new)
+    (IsStop (option_map (at_line (length before + 1)) (fault_of_run (governors before) line a.IntervalEvent))
+    (fault_of_run (governors before) line a.IntervalEvent ≡ None))
+    → Takes told before line a.IntervalEvent r new
+takes_run told before line r new none h =
+    answered_as r _ _ _ (at_line (length before + 1)) _ (fields_none (governors before) (length before + 1) line a.IntervalEvent none)
+    (run_answered r _ (governors before) line _ h)
+
+pub refused_in_field : (before : List (List ℕ)) (line : List ℕ) (kind : Kind) (number : ℕ) (fault : FieldFault)
+    (answer : TakeFault) → number ≡ length before + 1 → answer ≡ File (at_field number fault)
+    → field_fault Nem12 kind (count_in (governors before).details) line ≡ Some fault
+    → IsStop (fields_fault (governors before) (length before + 1) line kind)
+    ((fields_fault (governors before) (length before + 1) line kind ≡ None)
+    × (takes_memory (governors before) line (Some kind) ≡ true)) answer
+refused_in_field before line kind number fault answer at is some =
+    refused_with _ _ _ _ is
+    (fields_some (governors before) (length before + 1) line kind fault some ∙ ap (λ k. Some (at_field k fault)) (sym at))

@@ -38,7 +38,7 @@ struct B2bFields<'a> {
 }
 
 /// Reads a 500 record.
-pub(crate) fn read_b2b_details(text: &[u8]) -> Result<B2bDetailsRecord<'_>, FieldFault>
+pub fn read_b2b_details(text: &[u8]) -> Result<B2bDetailsRecord<'_>, FieldFault>
     ensures { (file : HeaderName) (n : ℕ) → MatchResult result
         (λ r. (field_fault file Kind.B2bDetails n text.now ≡ None) × IsB2bDetails text.now r)
         (λ fault. field_fault file Kind.B2bDetails n text.now ≡ Some fault) }

@@ -40,7 +40,7 @@ struct DayFields<'a> {
 }
 
 /// Reads a 300 record of so many values, and these in place of those that were held.
-pub(crate) fn read_interval_data<'a>(
+pub fn read_interval_data<'a>(
     text: &'a [u8],
     count: usize,
     values: &mut IntervalValues,

@@ -34,7 +34,7 @@ struct RunFields<'a> {
 }
 
 /// Reads a 400 record.
-pub(crate) fn read_interval_event(text: &[u8]) -> Result<IntervalEventRecord<'_>, FieldFault>
+pub fn read_interval_event(text: &[u8]) -> Result<IntervalEventRecord<'_>, FieldFault>
     ensures read { (file : HeaderName) (n : ℕ) → MatchResult result
         (λ r. (field_fault file Kind.IntervalEvent n text.now ≡ None) × IsIntervalEvent text.now r)
         (λ fault. field_fault file Kind.IntervalEvent n text.now ≡ Some fault) }

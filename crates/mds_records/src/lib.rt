@@ -20,19 +20,19 @@ mod term;
 
 pub use accumulation_b2b_details::{AccumulationB2bDetailsRecord, read_accumulation_b2b_details};
 pub use accumulation_data::{AccumulationDataRecord, read_accumulation_data};
-pub use b2b_details::B2bDetailsRecord;
+pub use b2b_details::{B2bDetailsRecord, read_b2b_details};
 pub use direction::Direction;
 pub use fault::FieldFault;
 pub use file::{FaultCode, FileFault, FileKind};
 pub use header::{HeaderRecord, read_header};
 pub use header_name::HeaderName;
-pub use interval_data::IntervalDataRecord;
-pub use interval_event::IntervalEventRecord;
+pub use interval_data::{IntervalDataRecord, read_interval_data};
+pub use interval_event::{IntervalEventRecord, read_interval_event};
 pub use interval_values::IntervalValues;
 pub use mds_lines::{
     Counted, Fields, Kind, KindFault, Line, LineBuffer, LineFault, LineReader, Sink, Source,
 };
-pub use nmi_data_details::NmiDataDetailsRecord;
+pub use nmi_data_details::{NmiDataDetailsRecord, read_nmi_data_details};
 pub use record::{Record, read_end, read_record};
 pub use register_read::RegisterRead;
 

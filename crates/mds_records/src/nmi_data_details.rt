@@ -39,7 +39,8 @@ struct DetailsFields<'a> {
 }
 
 /// Reads a 200 record.
-pub(crate) fn read_nmi_data_details(text: &[u8]) -> Result<NmiDataDetailsRecord<'_>, FieldFault>
+#[inline(always)]
+pub fn read_nmi_data_details(text: &[u8]) -> Result<NmiDataDetailsRecord<'_>, FieldFault>
     ensures { (file : HeaderName) (n : ℕ) → MatchResult result
         (λ r. (field_fault file Kind.NmiDataDetails n text.now ≡ None) × IsNmiDataDetails text.now r)
         (λ fault. field_fault file Kind.NmiDataDetails n text.now ≡ Some fault) }
