@@ -6,8 +6,6 @@ mod json;
 mod periods;
 mod short;
 mod streams;
-#[cfg(test)]
-mod tests;
 mod told;
 
 pub use json::{answer_json, holidays_json, one_json};

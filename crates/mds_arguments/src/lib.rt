@@ -3,8 +3,6 @@
 
 mod arguments;
 mod reading;
-#[cfg(test)]
-mod tests;
 
 pub use arguments::{Argument, ExportArguments, RangeArguments};
 pub use reading::{

@@ -5,8 +5,6 @@
 mod day;
 mod length;
 mod moment;
-#[cfg(test)]
-mod tests;
 
 pub use day::{Day, first_and_last_day, one_day_text, weekdays_go_on};
 pub use jiff_core::civil::Weekday;

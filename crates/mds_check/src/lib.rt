@@ -4,7 +4,5 @@
 mod checking;
 mod period_report;
 mod report;
-#[cfg(test)]
-mod tests;
 
 pub use checking::{CheckFault, check};

@@ -85,7 +85,7 @@ impl DayData {
             line: 0,
             date: Day::from_number(0).unwrap(),
             update: None,
-            mark: null_mark(alloc),
+            mark: null_mark(),
             sum: 0,
             values: IntervalValues::new(alloc)?,
             cover: Cover::new(alloc, 0),
@@ -322,6 +322,7 @@ fn lacks_value(values: &[Option<Quantity>], first: u16, last: u16) -> bool
 
 /// The reading of an interval with a mark and a value field, which go together. It takes memory only
 /// for the text of a reason.
+#[inline(always)]
 fn reading(mark: &Mark, value: Option<Quantity>) -> Result<Reading, AllocError>
     requires { IsTrue (is_reading mark.now.quality.flag (reading_by mark.now value).value) }
     ensures value { IfOk result (λ reading. reading ≡ reading_by mark.now value) }
@@ -339,11 +340,11 @@ fn reading(mark: &Mark, value: Option<Quantity>) -> Result<Reading, AllocError>
 }
 
 /// The mark of no data: quality N, without a reason.
-fn null_mark(alloc: Global) -> Mark
+fn null_mark() -> Mark
     ensures { result ≡ null_mark }
 {
     Mark {
         quality: Quality::new(NULL, 0).unwrap(),
-        reason: Reason::new(None, String::new(alloc)).unwrap(),
+        reason: Reason::none(),
     }
 }

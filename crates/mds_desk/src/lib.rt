@@ -3,8 +3,6 @@
 
 mod outcome;
 mod performing;
-#[cfg(test)]
-mod tests;
 
 pub use outcome::{Outcome, Status};
 pub use performing::{PerformFault, perform};

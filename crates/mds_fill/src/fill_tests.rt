@@ -181,7 +181,7 @@ fn quality_of(flag: u8) -> Option<Quality> {
 fn reading_of(alloc: Global, made: &Made) -> Option<Reading> {
     let mark = Mark {
         quality: quality_of(made.flag)?,
-        reason: Reason::new(None, String::new(alloc))?,
+        reason: Reason::none(),
     };
     match made.value {
         Some(value) => Reading::new(mark, Some(Quantity::from_millionths(value)?)),
@@ -294,7 +294,7 @@ fn job_of(alloc: Global, case: &Case) -> Option<Job> {
         unit: Unit::KWh,
         method: case.method,
         flag: b'F',
-        reason: Reason::new(Some(76), String::new(alloc))?,
+        reason: Reason::new(alloc, Some(76), "").ok()??,
         update: Moment::from_seconds(i64::from(JOB_UPDATE))?,
     })
 }

@@ -5,8 +5,6 @@ mod handling;
 mod laws;
 mod serving;
 mod telling;
-#[cfg(test)]
-mod tests;
 
 pub use handling::StoreHandler;
 pub use laws::laws_of;

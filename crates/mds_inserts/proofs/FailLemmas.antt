@@ -6,6 +6,7 @@ use Rattle.sqlite.specs.State.{HasCleanDisk, State, Survives}
 use Rattle.sqlite.specs.Steps.{FailsToCommit}
 use Rattle.sqlite.specs.declared.error.Error.{Error}
 use Rattle.sqlite_catalog.specs.Listing.{IsSound}
+use Rattle.mds_versions.specs.Content.{versions_of}
 use Rattle.mds_versions.specs.declared.additions.Additions.{Additions}
 use Rattle.mds_tables.specs.Tables.{schema_1}
 use Rattle.mds_tables.proofs.CauseLemmas.{fails_since, store_fails}
@@ -43,7 +44,7 @@ abbrev from_details : Additions → List JobRow → List (ℕ × Row)
 from_details added jobs = rows_of detail_part added.details.items ++ from_events added jobs
 
 abbrev from_versions : Additions → List JobRow → List (ℕ × Row)
-from_versions added jobs = rows_of version_part added.versions.items ++ from_details added jobs
+from_versions added jobs = rows_of version_part (versions_of added.days.items) ++ from_details added jobs
 
 pub heads_fail : (a b : State) (added : Additions) (jobs : List JobRow)
     → IsTrue a.is_open → IsTrue a.in_transaction → a.now.schema ≡ schema_1 → IsSound schema_1 a.now.trees
@@ -56,10 +57,10 @@ pub versions_fail : (a b c : State) (added : Additions) (jobs : List JobRow)
     → HasCleanDisk b
     → IsTrue a.is_open → IsTrue a.in_transaction → a.now.schema ≡ schema_1 → IsSound schema_1 a.now.trees
     → PutsThere head_part a b added.heads.items
-    → (e : Error) → Why b c (rows_of version_part added.versions.items) e → FailsToPut a c (rows_in added jobs) a.now e
+    → (e : Error) → Why b c (rows_of version_part (versions_of added.days.items)) e → FailsToPut a c (rows_in added jobs) a.now e
 versions_fail a b c added jobs s0 clean o inside has sound p0 e why =
     after head_part a b c added.heads.items _ s0 clean p0 e
-    (λ o inside has sound. fails_more b c (rows_of version_part added.versions.items) (from_details added jobs) b.now e (why o inside has sound)) o inside has sound
+    (λ o inside has sound. fails_more b c (rows_of version_part (versions_of added.days.items)) (from_details added jobs) b.now e (why o inside has sound)) o inside has sound
 
 pub details_fail : (a b c d : State) (added : Additions) (jobs : List JobRow)
     → Survives a b (λ _. ⊥)
@@ -67,11 +68,11 @@ pub details_fail : (a b c d : State) (added : Additions) (jobs : List JobRow)
     → HasCleanDisk c
     → IsTrue a.is_open → IsTrue a.in_transaction → a.now.schema ≡ schema_1 → IsSound schema_1 a.now.trees
     → PutsThere head_part a b added.heads.items
-    → PutsThere version_part b c added.versions.items
+    → PutsThere version_part b c (versions_of added.days.items)
     → (e : Error) → Why c d (rows_of detail_part added.details.items) e → FailsToPut a d (rows_in added jobs) a.now e
 details_fail a b c d added jobs s0 s1 clean o inside has sound p0 p1 e why =
     after head_part a b d added.heads.items _ s0 (omega (arith, s1.clean, clean)) p0 e
-    (after version_part b c d added.versions.items _ s1 clean p1 e
+    (after version_part b c d (versions_of added.days.items) _ s1 clean p1 e
     (λ o inside has sound. fails_more c d (rows_of detail_part added.details.items) (from_events added jobs) c.now e (why o inside has sound))) o inside has sound
 
 pub events_fail : (a b c d f : State) (added : Additions) (jobs : List JobRow)
@@ -81,12 +82,12 @@ pub events_fail : (a b c d f : State) (added : Additions) (jobs : List JobRow)
     → HasCleanDisk d
     → IsTrue a.is_open → IsTrue a.in_transaction → a.now.schema ≡ schema_1 → IsSound schema_1 a.now.trees
     → PutsThere head_part a b added.heads.items
-    → PutsThere version_part b c added.versions.items
+    → PutsThere version_part b c (versions_of added.days.items)
     → PutsThere detail_part c d added.details.items
     → (e : Error) → Why d f (rows_of event_part added.events.items) e → FailsToPut a f (rows_in added jobs) a.now e
 events_fail a b c d f added jobs s0 s1 s2 clean o inside has sound p0 p1 p2 e why =
     after head_part a b f added.heads.items _ s0 (omega (arith, s1.clean, s2.clean, clean)) p0 e
-    (after version_part b c f added.versions.items _ s1 (omega (arith, s2.clean, clean)) p1 e
+    (after version_part b c f (versions_of added.days.items) _ s1 (omega (arith, s2.clean, clean)) p1 e
     (after detail_part c d f added.details.items _ s2 clean p2 e
     (λ o inside has sound. fails_more d f (rows_of event_part added.events.items) (from_periods added jobs) d.now e (why o inside has sound)))) o inside has sound
 
@@ -98,13 +99,13 @@ pub periods_fail : (a b c d f g : State) (added : Additions) (jobs : List JobRow
     → HasCleanDisk f
     → IsTrue a.is_open → IsTrue a.in_transaction → a.now.schema ≡ schema_1 → IsSound schema_1 a.now.trees
     → PutsThere head_part a b added.heads.items
-    → PutsThere version_part b c added.versions.items
+    → PutsThere version_part b c (versions_of added.days.items)
     → PutsThere detail_part c d added.details.items
     → PutsThere event_part d f added.events.items
     → (e : Error) → Why f g (rows_of period_part added.periods.items) e → FailsToPut a g (rows_in added jobs) a.now e
 periods_fail a b c d f g added jobs s0 s1 s2 s3 clean o inside has sound p0 p1 p2 p3 e why =
     after head_part a b g added.heads.items _ s0 (omega (arith, s1.clean, s2.clean, s3.clean, clean)) p0 e
-    (after version_part b c g added.versions.items _ s1 (omega (arith, s2.clean, s3.clean, clean)) p1 e
+    (after version_part b c g (versions_of added.days.items) _ s1 (omega (arith, s2.clean, s3.clean, clean)) p1 e
     (after detail_part c d g added.details.items _ s2 (omega (arith, s3.clean, clean)) p2 e
     (after event_part d f g added.events.items _ s3 clean p3 e
     (λ o inside has sound. fails_more f g (rows_of period_part added.periods.items) (from_holidays added jobs) f.now e (why o inside has sound))))) o inside has sound
@@ -118,14 +119,14 @@ pub holidays_fail : (a b c d f g h : State) (added : Additions) (jobs : List Job
     → HasCleanDisk g
     → IsTrue a.is_open → IsTrue a.in_transaction → a.now.schema ≡ schema_1 → IsSound schema_1 a.now.trees
     → PutsThere head_part a b added.heads.items
-    → PutsThere version_part b c added.versions.items
+    → PutsThere version_part b c (versions_of added.days.items)
     → PutsThere detail_part c d added.details.items
     → PutsThere event_part d f added.events.items
     → PutsThere period_part f g added.periods.items
     → (e : Error) → Why g h (rows_of holiday_part added.holidays.items) e → FailsToPut a h (rows_in added jobs) a.now e
 holidays_fail a b c d f g h added jobs s0 s1 s2 s3 s4 clean o inside has sound p0 p1 p2 p3 p4 e why =
     after head_part a b h added.heads.items _ s0 (omega (arith, s1.clean, s2.clean, s3.clean, s4.clean, clean)) p0 e
-    (after version_part b c h added.versions.items _ s1 (omega (arith, s2.clean, s3.clean, s4.clean, clean)) p1 e
+    (after version_part b c h (versions_of added.days.items) _ s1 (omega (arith, s2.clean, s3.clean, s4.clean, clean)) p1 e
     (after detail_part c d h added.details.items _ s2 (omega (arith, s3.clean, s4.clean, clean)) p2 e
     (after event_part d f h added.events.items _ s3 (omega (arith, s4.clean, clean)) p3 e
     (after period_part f g h added.periods.items _ s4 clean p4 e
@@ -141,7 +142,7 @@ pub jobs_fail : {X : Type 0} (a b c d f g h k : State) (added : Additions) (jobs
     → HasCleanDisk h
     → IsTrue a.is_open → IsTrue a.in_transaction → a.now.schema ≡ schema_1 → IsSound schema_1 a.now.trees
     → PutsThere head_part a b added.heads.items
-    → PutsThere version_part b c added.versions.items
+    → PutsThere version_part b c (versions_of added.days.items)
     → PutsThere detail_part c d added.details.items
     → PutsThere event_part d f added.events.items
     → PutsThere period_part f g added.periods.items
@@ -153,7 +154,7 @@ pub jobs_fail : {X : Type 0} (a b c d f g h k : State) (added : Additions) (jobs
 jobs_fail a b c d f g h k added jobs s0 s1 s2 s3 s4 s5 clean o inside has sound p0 p1 p2 p3 p4 p5 (Ok x) why = tt
 jobs_fail a b c d f g h k added jobs s0 s1 s2 s3 s4 s5 clean o inside has sound p0 p1 p2 p3 p4 p5 (Err e) why =
     after head_part a b k added.heads.items _ s0 (omega (arith, s1.clean, s2.clean, s3.clean, s4.clean, s5.clean, clean)) p0 e
-    (after version_part b c k added.versions.items _ s1 (omega (arith, s2.clean, s3.clean, s4.clean, s5.clean, clean)) p1 e
+    (after version_part b c k (versions_of added.days.items) _ s1 (omega (arith, s2.clean, s3.clean, s4.clean, s5.clean, clean)) p1 e
     (after detail_part c d k added.details.items _ s2 (omega (arith, s3.clean, s4.clean, s5.clean, clean)) p2 e
     (after event_part d f k added.events.items _ s3 (omega (arith, s4.clean, s5.clean, clean)) p3 e
     (after period_part f g k added.periods.items _ s4 (omega (arith, s5.clean, clean)) p4 e

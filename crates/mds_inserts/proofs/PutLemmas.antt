@@ -1,5 +1,6 @@
 -- Rows that are put into the tables in a transaction.
-use Rattle.std.proofs.Common.{◌≡◌, ◌≤◌, ◌<◌, ◌+◌, ◌++◌, ◌/◌, ◌==◌, inl, inr, ℕ, List, [], ◌∷◌, drop, length, map, take, get_or, slice_get, IsPermutation, IsTrue, Some, None, Ok, Err, Result, OnOk, Option, refl, sym, ap, subst, ◌∙◌, arith}
+use Rattle.std.proofs.Common.{◌≡◌, ◌≤◌, ◌<◌, ◌+◌, ◌++◌, ◌/◌, ◌==◌, inl, inr, ℕ, zero, suc, List, [], ◌∷◌, drop, length, map, take, get_or, slice_get, IsPermutation, IsTrue, Some, None, Ok, Err, Result, OnOk, Option, refl, sym, ap, subst, ◌∙◌, arith}
+use Rattle.std.proofs.lemmas.Grind.{flat_map-append}
 use Rattle.std.proofs.lemmas.List.{append-nil, map-append, take-append-drop, take_more}
 use Rattle.std.proofs.lemmas.List.Sorted.{IsPermutation-refl}
 use Rattle.sqlite.specs.Command.TheVariants.{Insert}
@@ -34,7 +35,11 @@ use Rattle.mds_statements.specs.declared.periods.Period.{Period}
 use Rattle.mds_world.specs.declared.facts.Detail.{Detail}
 use Rattle.mds_world.specs.declared.facts.Head.{Head}
 use Rattle.mds_world.specs.declared.facts.Key.{Key}
+use Rattle.mds_versions.specs.declared.day_book.Version.{Version}
+use Rattle.mds_names.specs.declared.stream.Stream.{Stream}
 use Rattle.mds_versions.specs.Content as content
+use Rattle.mds_versions.specs.Content.{day_versions, version_at, versions_of}
+use Rattle.mds_versions.specs.declared.additions.DayVersions.{DayVersions}
 use Rattle.mds_versions.specs.declared.additions.Additions.{Additions}
 use Rattle.mds_tables.proofs.InsertLemmas.{Adds as OneMore, adds, cast_int, either, simple}
 use Rattle.mds_tables.proofs.InsertTexts.{detail_terms, event_terms, head_terms, holiday_terms, insert_detail, insert_detail_is, insert_detail_plain, insert_event, insert_event_is, insert_event_plain, insert_head, insert_head_is, insert_head_plain, insert_holiday, insert_holiday_is, insert_holiday_plain, insert_job, insert_job_is, insert_job_plain, insert_period, insert_period_is, insert_period_plain, job_terms, period_terms, insert_version, insert_version_is, insert_version_plain, version_terms}
@@ -354,6 +359,26 @@ module _ {A : Type 0} (part : Part A) where
       subst (PutsThere part a c) (ap (λ y. take at xs ++ y ∷ []) is ∙ sym (take_more xs at x low))
       (there_then a b c (take at xs) (x ∷ []) later limit p q)
 
+  -- some of them fail to be put, behind others that were
+  pub between_fails : (a b c : State) (front these rest xs : List A) → (front ++ these) ++ rest ≡ xs
+      → doubt b.is_clean ≤ doubt c.is_clean → b.step_limit ≡ a.step_limit → a.faults ≤ b.faults
+      → PutsThere part a b front → HasCleanDisk c → IsTrue a.is_open → IsTrue a.in_transaction
+      → a.now.schema ≡ schema_1 → IsSound schema_1 a.now.trees → (e : Error)
+      → (IsTrue b.is_open → IsTrue b.in_transaction → b.now.schema ≡ schema_1 → IsSound schema_1 b.now.trees
+      → FailsToPut b c (rows_of part these) b.now e)
+      → FailsToPut a c (rows_of part xs) a.now e
+  between_fails a b c front these rest xs whole later limit up p clean o inside has sound e fails =
+      let row : A → ℕ × Row = λ item. (part.place, part.cells item) in
+      let parts : (rows_of part front ++ rows_of part these) ++ rows_of part rest ≡ rows_of part xs =
+      ap (λ l. l ++ rows_of part rest) (sym (map-append row front these)) ∙ sym (map-append row (front ++ these) rest)
+      ∙ ap (rows_of part) whole in
+      let before = p.puts (omega arith) o has sound in
+      let now = p.is_open (omega arith) o in
+      subst (λ rows. FailsToPut a c rows a.now e) parts
+      (fails_more a c (rows_of part front ++ rows_of part these) (rows_of part rest) a.now e
+      (fails_later a b c (rows_of part front) (rows_of part these) e up now limit before.took
+      (fails now (p.inside (omega arith) inside) before.schema before.sound)))
+
   -- the row of one of them fails to be put
   pub next_fails : (a b c : State) (xs : List A) (at : ℕ) (x : A) → at < length xs → x ≡ get_or xs at x
       → doubt b.is_clean ≤ doubt c.is_clean → b.step_limit ≡ a.step_limit → a.faults ≤ b.faults
@@ -362,25 +387,54 @@ module _ {A : Type 0} (part : Part A) where
       → (IsTrue b.in_transaction → b.now.schema ≡ schema_1 → FailsToPut b c (rows_of part (x ∷ [])) b.now e)
       → FailsToPut a c (rows_of part xs) a.now e
   next_fails a b c xs at x low is later limit up p clean o inside has sound e fails =
-      let row : A → ℕ × Row = λ item. (part.place, part.cells item) in
-      let front : take (at + 1) xs ≡ take at xs ++ x ∷ [] = take_more xs at x low ∙ ap (λ y. take at xs ++ y ∷ []) (sym is) in
-      let first : rows_of part (take at xs) ++ rows_of part (x ∷ []) ≡ rows_of part (take (at + 1) xs) =
-      sym (map-append row (take at xs) (x ∷ [])) ∙ ap (rows_of part) (sym front) in
-      let whole : rows_of part (take (at + 1) xs) ++ rows_of part (drop (at + 1) xs) ≡ rows_of part xs =
-      sym (map-append row (take (at + 1) xs) (drop (at + 1) xs)) ∙ ap (rows_of part) (take-append-drop (at + 1) xs) in
-      let before = p.puts (omega arith) o has sound in
-      let failed = fails_later a b c (rows_of part (take at xs)) (rows_of part (x ∷ [])) e up (p.is_open (omega arith) o) limit
-      before.took (fails (p.inside (omega arith) inside) before.schema) in
-      subst (λ rows. FailsToPut a c rows a.now e) whole
-      (fails_more a c (rows_of part (take (at + 1) xs)) (rows_of part (drop (at + 1) xs)) a.now e
-      (subst (λ rows. FailsToPut a c rows a.now e) first failed))
+      between_fails a b c (take at xs) (x ∷ []) (drop (at + 1) xs) xs
+      (ap (λ l. l ++ drop (at + 1) xs) (ap (λ y. take at xs ++ y ∷ []) is ∙ sym (take_more xs at x low)) ∙ take-append-drop (at + 1) xs)
+      later limit up p clean o inside has sound e (λ _ i h _. fails i h)
+
+-- the versions of days up to one, and those of this one
+days_more : (days : List DayVersions) (at : ℕ) (day : DayVersions) → at < length days → day ≡ get_or days at day
+    → versions_of (take at days) ++ day_versions day ≡ versions_of (take (at + 1) days)
+days_more days at day low is =
+    sym (ap versions_of (take_more days at day low ∙ ap (λ y. take at days ++ y ∷ []) (sym is))
+    ∙ flat_map-append day_versions (take at days) (day ∷ [])
+    ∙ ap (λ l. versions_of (take at days) ++ l) (append-nil (day_versions day)))
+
+-- the step of a loop over days
+pub next_day_there : (a b c : State) (days : List DayVersions) (at : ℕ) (day : DayVersions) → at < length days → day ≡ get_or days at day
+    → doubt b.is_clean ≤ doubt c.is_clean → b.step_limit ≡ a.step_limit
+    → PutsThere version_part a b (versions_of (take at days)) → PutsThere version_part b c (day_versions day)
+    → PutsThere version_part a c (versions_of (take (at + 1) days))
+next_day_there a b c days at day low is later limit p q =
+    subst (PutsThere version_part a c) (days_more days at day low is)
+    (there_then version_part a b c (versions_of (take at days)) (day_versions day) later limit p q)
+
+-- a row of one of them fails to be put
+pub next_day_fails : (a b c : State) (days : List DayVersions) (at : ℕ) (day : DayVersions) → at < length days → day ≡ get_or days at day
+    → doubt b.is_clean ≤ doubt c.is_clean → b.step_limit ≡ a.step_limit → a.faults ≤ b.faults
+    → PutsThere version_part a b (versions_of (take at days)) → HasCleanDisk c → IsTrue a.is_open → IsTrue a.in_transaction
+    → a.now.schema ≡ schema_1 → IsSound schema_1 a.now.trees → (e : Error)
+    → (IsTrue b.is_open → IsTrue b.in_transaction → b.now.schema ≡ schema_1 → IsSound schema_1 b.now.trees
+    → FailsToPut b c (rows_of version_part (day_versions day)) b.now e)
+    → FailsToPut a c (rows_of version_part (versions_of days)) a.now e
+next_day_fails a b c days at day low is later limit up p clean o inside has sound e fails =
+    between_fails version_part a b c (versions_of (take at days)) (day_versions day) (versions_of (drop (at + 1) days)) (versions_of days)
+    (ap (λ l. l ++ versions_of (drop (at + 1) days)) (days_more days at day low is)
+    ∙ sym (flat_map-append day_versions (take (at + 1) days) (drop (at + 1) days)) ∙ ap versions_of (take-append-drop (at + 1) days))
+    later limit up p clean o inside has sound e fails
+
+-- where a row of a day stands among its versions
+pub version_here : (stream : Stream) (day : ℕ) (rows : List (ℕ × Version)) (at : ℕ) (row : ℕ × Version) → row ≡ get_or rows at row
+    → version_at stream day row ≡ get_or (map (version_at stream day) rows) at (version_at stream day row)
+version_here stream day [] at row is = refl
+version_here stream day (r ∷ rows) zero row is = ap (version_at stream day) is
+version_here stream day (r ∷ rows) (suc at) row is = version_here stream day rows at row is
 
 pub if_ok : {X E : Type 0} (r : Result X E) (A B : Type 0) → (A → B) → OnOk r A → OnOk r B
 if_ok (Ok x) A B f h = f h
 if_ok (Err e) A B f h = tt
 
 gains_jobs : (a b c d e f g h : State) (added : Additions) (jobs : List JobRow)
-    → Puts head_part a b added.heads.items → Puts version_part b c added.versions.items
+    → Puts head_part a b added.heads.items → Puts version_part b c (versions_of added.days.items)
     → Puts detail_part c d added.details.items → Puts event_part d e added.events.items
     → Puts period_part e f added.periods.items → Puts holiday_part f g added.holidays.items → Puts job_part g h jobs
     → Gains 14 (map job_part.cells jobs) a.now.trees h.now.trees
@@ -392,7 +446,7 @@ gains_jobs a b c d e f g h added jobs p q r s t u v =
 
 -- Each table has the rows of its part, and no other.
 adds_all : (a b c d e f g h : State) (added : Additions) (jobs : List JobRow) → AreRowsOf added.jobs.items jobs
-    → Puts head_part a b added.heads.items → Puts version_part b c added.versions.items
+    → Puts head_part a b added.heads.items → Puts version_part b c (versions_of added.days.items)
     → Puts detail_part c d added.details.items → Puts event_part d e added.events.items
     → Puts period_part e f added.periods.items → Puts holiday_part f g added.holidays.items → Puts job_part g h jobs
     → Adds a.now.trees h.now.trees added
@@ -445,13 +499,13 @@ pub all_there : {X E : Type 0} (a b c d e f g h : State) (added : Additions) (jo
     → AreRowsOf added.jobs.items jobs
     → doubt b.is_clean ≤ doubt c.is_clean → doubt c.is_clean ≤ doubt d.is_clean → doubt d.is_clean ≤ doubt e.is_clean
     → doubt e.is_clean ≤ doubt f.is_clean → doubt f.is_clean ≤ doubt g.is_clean → doubt g.is_clean ≤ doubt h.is_clean
-    → PutsThere head_part a b added.heads.items → PutsThere version_part b c added.versions.items
+    → PutsThere head_part a b added.heads.items → PutsThere version_part b c (versions_of added.days.items)
     → PutsThere detail_part c d added.details.items → PutsThere event_part d e added.events.items
     → PutsThere period_part e f added.periods.items → PutsThere holiday_part f g added.holidays.items
     → OnOk result (PutsThere job_part g h jobs) → OnOk result (PutsAll a h added)
 all_there a b c d e f g h added jobs result are bc cd de ef fg gh p q r s t u v = if_ok result _ _ (λ v.
     let parts : HasCleanDisk h → IsTrue a.is_open → a.now.schema ≡ schema_1 → IsSound schema_1 a.now.trees
-    → Puts head_part a b added.heads.items × Puts version_part b c added.versions.items
+    → Puts head_part a b added.heads.items × Puts version_part b c (versions_of added.days.items)
     × Puts detail_part c d added.details.items × Puts event_part d e added.events.items
     × Puts period_part e f added.periods.items × Puts holiday_part f g added.holidays.items × Puts job_part g h jobs =
     λ clean o has sound.

@@ -18,7 +18,7 @@ use Rattle.mds_world.specs.Facts.{Fact}
 use Rattle.mds_world.specs.Facts.Fact.{JobIs}
 use Rattle.mds_world.specs.Sets.{list_append, union_assoc, union_comm}
 use Rattle.mds_world.specs.World.{World, union}
-use Rattle.mds_versions.specs.Content.{content, job_fact as content_fact}
+use Rattle.mds_versions.specs.Content.{content, versions_of, job_fact as content_fact}
 use Rattle.mds_versions.specs.declared.additions.Additions.{Additions}
 use Rattle.mds_tables.specs.RowFacts.{detail_fact, event_fact, head_fact, holiday_fact, job_fact, natural, period_fact, version_fact, world_in}
 use Rattle.mds_tables.specs.Stores.{Adds, AreJobRows, Gains}
@@ -194,7 +194,7 @@ job_facts_are (job ∷ jobs) (row ∷ rows) are =
 
 -- the World that the tables name is the union
 pub world_after : (old new : Trees) (added : Additions) (jobs : List JobRow) → AreRowsOf added.jobs.items jobs
-    → Say head_part added.heads.items → Say version_part added.versions.items → Say detail_part added.details.items
+    → Say head_part added.heads.items → Say version_part (versions_of added.days.items) → Say detail_part added.details.items
     → Say event_part added.events.items → Say period_part added.periods.items → Say holiday_part added.holidays.items
     → Say job_part jobs
     → Adds old new added → Gains 14 (map job_part.cells jobs) old new → world_in new ≡ union (world_in old) (content added)
@@ -206,7 +206,7 @@ world_after old new added jobs are heads versions details events periods holiday
     (more_both _ (map detail_fact (old 6)) _ (map detail_fact (new 6)) _ _
     (more_both (map head_fact (old 2)) (map version_fact (old 4)) (map head_fact (new 2)) (map version_fact (new 4)) _ _
     (more head_part head_bare added.heads.items heads old new adds.heads)
-    (more version_part version_bare added.versions.items versions old new adds.versions))
+    (more version_part version_bare (versions_of added.days.items) versions old new adds.versions))
     (more detail_part detail_bare added.details.items details old new adds.details))
     (more event_part event_bare added.events.items events old new adds.events))
     (more period_part period_bare added.periods.items periods old new adds.periods))

@@ -66,7 +66,7 @@ rows_of part items = map (λ item. (part.place, part.cells item)) items
 abbrev pub rows_in : Additions → List JobRow → List (ℕ × Row)
 rows_in additions jobs =
     rows_of head_part additions.heads.items
-    ++ (rows_of version_part additions.versions.items
+    ++ (rows_of version_part (content.versions_of additions.days.items)
     ++ (rows_of detail_part additions.details.items
     ++ (rows_of event_part additions.events.items
     ++ (rows_of period_part additions.periods.items

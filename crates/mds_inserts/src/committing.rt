@@ -12,7 +12,7 @@ ghost use Rattle.mds_tables.specs.Stores.{Commits, Holds, LeavesAdded};
 ghost use Rattle.mds_inserts.specs.Writing.{LeavesWritten, PutsAll, Writes};
 
 use crate::jobs::JobRow;
-use crate::putting::put_each;
+use crate::putting::{put_days, put_each};
 use mds_tables::ready;
 use mds_versions::Additions;
 use sqlite::{Alter, Connection, Error, Transaction};
@@ -34,7 +34,7 @@ fn put_all<S: Alter>(
     ensures survives { Survives (state S.Store tx.old.conn.now) (state S.Store tx.new.conn.now) (λ _. ⊥) }
 {
     put_each(tx, &additions.heads)?;
-    put_each(tx, &additions.versions)?;
+    put_days(tx, &additions.days)?;
     put_each(tx, &additions.details)?;
     put_each(tx, &additions.events)?;
     put_each(tx, &additions.periods)?;

@@ -5,6 +5,7 @@ ghost use Rattle.sqlite.specs.Held.{state};
 ghost use Rattle.sqlite.specs.State.{HasCleanDisk, KeepsCommit, Survives};
 ghost use Rattle.sqlite_catalog.specs.Listing.{IsSound};
 ghost use Rattle.mds_tables.specs.Tables.{schema_1};
+ghost use Rattle.mds_versions.specs.Content.{day_versions, versions_of};
 ghost use Rattle.mds_inserts.specs.Parts.{Part, detail_part, event_part, head_part, holiday_part, job_part, period_part, rows_of, version_part};
 ghost use Rattle.mds_inserts.specs.Refusals.{FailsToPut};
 ghost use Rattle.mds_inserts.specs.Writing.{PutsThere};
@@ -18,6 +19,7 @@ use mds_tables::{
     version_cells,
 };
 use mds_terms::{Day, Event};
+use mds_versions::DayVersions;
 use mds_world::{Detail, Head, Key};
 use sqlite::{Alter, Error, Transaction};
 
@@ -71,20 +73,70 @@ impl Put for Head {
     }
 }
 
-/// A version: where it stands, and its reading.
-impl Put for (Key, Reading) {
-    ghost part = { version_part };
+/// Puts the row of a version.
+fn put_version<S: Alter>(
+    tx: &mut Transaction<'_, S>,
+    key: &Key,
+    reading: &Reading,
+) -> Result<(), Error>
+    ensures same_reference { tx.new.conn.ghost_name ≡ tx.old.conn.ghost_name }
+    ensures ok { OnOk result (PutsThere version_part (state S.Store tx.old.conn.now) (state S.Store tx.new.conn.now) ((key.now, reading.now) ∷ [])) }
+    ensures cause { HasCleanDisk (state S.Store tx.new.conn.now) → IsTrue (state S.Store tx.old.conn.now).in_transaction
+        → (state S.Store tx.old.conn.now).now.schema ≡ schema_1
+        → IfErr result (FailsToPut (state S.Store tx.old.conn.now) (state S.Store tx.new.conn.now) (rows_of version_part ((key.now, reading.now) ∷ [])) (state S.Store tx.old.conn.now).now) }
+    ensures kept { HasCleanDisk (state S.Store tx.new.conn.now) → KeepsCommit (state S.Store tx.old.conn.now) (state S.Store tx.new.conn.now) }
+    ensures survives { Survives (state S.Store tx.old.conn.now) (state S.Store tx.new.conn.now) (λ _. ⊥) }
+{
+    qualities_read_back();
+    let (letters, count) = reading.mark().quality.letters();
+    tx.execute(
+        "INSERT INTO mds_version (nmi, suffix, day, slot, moment, quality, code, note, amount) VALUES (?1, ?2, ?3, ?4, ?5, ?6, ?7, ?8, ?9)",
+        &version_cells(key, reading, &letters[..count]),
+    )?;
+    Ok(())
+}
 
-    fn put<S: Alter>(&self, tx: &mut Transaction<'_, S>) -> Result<(), Error> {
-        let (key, reading) = (&self.0, &self.1);
-        qualities_read_back();
-        let (letters, count) = reading.mark().quality.letters();
-        tx.execute(
-            "INSERT INTO mds_version (nmi, suffix, day, slot, moment, quality, code, note, amount) VALUES (?1, ?2, ?3, ?4, ?5, ?6, ?7, ?8, ?9)",
-            &version_cells(key, reading, &letters[..count]),
-        )?;
-        Ok(())
+/// Puts the rows of a day's versions.
+fn put_day<S: Alter>(tx: &mut Transaction<'_, S>, added: &DayVersions) -> Result<(), Error>
+    ensures same_reference { tx.new.conn.ghost_name ≡ tx.old.conn.ghost_name }
+    ensures ok { OnOk result (PutsThere version_part (state S.Store tx.old.conn.now) (state S.Store tx.new.conn.now) (day_versions added.now)) }
+    ensures cause { HasCleanDisk (state S.Store tx.new.conn.now) → IsTrue (state S.Store tx.old.conn.now).is_open
+        → IsTrue (state S.Store tx.old.conn.now).in_transaction
+        → (state S.Store tx.old.conn.now).now.schema ≡ schema_1 → IsSound schema_1 (state S.Store tx.old.conn.now).now.trees
+        → IfErr result (FailsToPut (state S.Store tx.old.conn.now) (state S.Store tx.new.conn.now) (rows_of version_part (day_versions added.now)) (state S.Store tx.old.conn.now).now) }
+    ensures kept { HasCleanDisk (state S.Store tx.new.conn.now) → KeepsCommit (state S.Store tx.old.conn.now) (state S.Store tx.new.conn.now) }
+    ensures survives { Survives (state S.Store tx.old.conn.now) (state S.Store tx.new.conn.now) (λ _. ⊥) }
+{
+    for row in &added.rows {
+        let key = Key {
+            stream: added.stream,
+            day: added.day,
+            interval: row.0,
+            update: row.1.update,
+        };
+        put_version(tx, &key, &row.1.reading)?;
     }
+    Ok(())
+}
+
+/// Puts the rows of the versions of each day.
+pub(crate) fn put_days<S: Alter>(
+    tx: &mut Transaction<'_, S>,
+    days: &[DayVersions],
+) -> Result<(), Error>
+    ensures same_reference { tx.new.conn.ghost_name ≡ tx.old.conn.ghost_name }
+    ensures ok { OnOk result (PutsThere version_part (state S.Store tx.old.conn.now) (state S.Store tx.new.conn.now) (versions_of days.now)) }
+    ensures cause { HasCleanDisk (state S.Store tx.new.conn.now) → IsTrue (state S.Store tx.old.conn.now).is_open
+        → IsTrue (state S.Store tx.old.conn.now).in_transaction
+        → (state S.Store tx.old.conn.now).now.schema ≡ schema_1 → IsSound schema_1 (state S.Store tx.old.conn.now).now.trees
+        → IfErr result (FailsToPut (state S.Store tx.old.conn.now) (state S.Store tx.new.conn.now) (rows_of version_part (versions_of days.now)) (state S.Store tx.old.conn.now).now) }
+    ensures kept { HasCleanDisk (state S.Store tx.new.conn.now) → KeepsCommit (state S.Store tx.old.conn.now) (state S.Store tx.new.conn.now) }
+    ensures survives { Survives (state S.Store tx.old.conn.now) (state S.Store tx.new.conn.now) (λ _. ⊥) }
+{
+    for added in days {
+        put_day(tx, added)?;
+    }
+    Ok(())
 }
 
 impl Put for Detail {

@@ -40,7 +40,7 @@ fn job_of(alloc: Global, first: u16, last: u16, method: u8, flag: u8) -> Option<
         unit: Unit::KWh,
         method,
         flag,
-        reason: Reason::new(Some(76), String::new(alloc))?,
+        reason: Reason::new(alloc, Some(76), "").ok()??,
         update: Moment::read(b"20240123000000")?,
     })
 }

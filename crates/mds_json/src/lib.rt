@@ -4,7 +4,5 @@
 mod fields;
 mod job;
 mod parts;
-#[cfg(test)]
-mod tests;
 
 pub use job::job_from_json;

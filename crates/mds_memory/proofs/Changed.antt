@@ -1,5 +1,5 @@
 -- Days to which heads and versions are added.
-use Rattle.std.proofs.Common.{◌≡◌, ℕ, List, [], ◌∷◌, ◌++◌, true, false, Option, Some, None, length, refl, sym, ap, ◌∙◌, subst, inl, inr, arith}
+use Rattle.std.proofs.Common.{◌≡◌, ℕ, List, [], ◌∷◌, ◌++◌, true, false, Option, Some, None, length, refl, sym, ap, ◌∙◌, subst, inl, inr, arith, append_assoc}
 use Rattle.std.specs.Prelude.{◌⊎◌, cond, map, IsSome}
 use Rattle.std.specs.BTreeMap.{BTreeMap, IsOrdered, get, insert_entry, is_at}
 use Rattle.std.specs.FinSet as set
@@ -7,6 +7,9 @@ use Rattle.std.specs.Cmp.{tied_itself}
 use Rattle.std.specs.Map.{lookup}
 use Rattle.std.specs.Ordering.{is_eq}
 use Rattle.std.specs.declared.cmp.Ordering.TheVariants.{Less, Equal, Greater}
+use Rattle.std.proofs.lemmas.Grind.{flat_map-append}
+use Rattle.std.proofs.lemmas.List.{append-nil, map-append}
+use Rattle.std.proofs.lemmas.Simd.{map-map}
 use Rattle.mds_quantity.specs.declared.unit.Unit.{Unit as MeasureUnit}
 use Rattle.mds_names.specs.declared.stream.Stream.{Stream}
 use Rattle.mds_marks.specs.Reading.{ReadingValue}
@@ -20,9 +23,10 @@ use Rattle.mds_world.specs.Members.{in_list, in_union, list_in, union_left, unio
 use Rattle.mds_world.specs.Sets.{◌∈◌}
 use Rattle.mds_world.specs.World.{IsLawful, IsOn, World, union}
 use Rattle.mds_versions.specs.Books.{BookValue, IsDay, book_facts, book_world, head_facts, row_fact}
-use Rattle.mds_versions.specs.Content.{version_fact}
+use Rattle.mds_versions.specs.Content.{day_versions, version_at, version_fact, versions_of}
 use Rattle.mds_memory.specs.Stored.{AreOfTheirDays, IsChange, days_world, place_cmp}
 use Rattle.mds_memory.specs.StoredSteps.{AreBooks, AreChanged, AreLawfulDays, Holds, rows_book}
+use Rattle.mds_versions.specs.declared.additions.DayVersions.{DayVersions}
 use Rattle.mds_versions.specs.declared.day_book.Version.{Version}
 use Rattle.mds_memory.specs.declared.stored_days.InHand.{InHand}
 use Rattle.mds_memory.specs.declared.stored_days.Rows.{Rows}
@@ -150,31 +154,26 @@ changed_first w more old new place rows u ordered e h a = changed_taken w more o
   only = λ f m. elim (h.only f m) [ inl k ↦ inl k | inr z ↦ absurd z ];
 }) a
 
--- one more fact, of the day in hand
-pub changed_push : (w : World) (more : List Fact) (f : Fact) (closed : Pending) (hand new : InHand)
-    → AreChanged w more closed (Some hand) → new.place ≡ hand.place → IsOn hand.place.stream hand.place.day f
-    → Holds w (more ++ f ∷ []) hand.place new.rows → AreChanged w (more ++ f ∷ []) closed (Some new)
-changed_push w more f closed hand new a e on h = record {
+-- more facts, of the day in hand
+pub changed_push : (w : World) (more facts : List Fact) (closed : Pending) (hand new : InHand)
+    → AreChanged w more closed (Some hand) → new.place ≡ hand.place
+    → ((f : Fact) → Member f facts → IsOn hand.place.stream hand.place.day f)
+    → Holds w (more ++ facts) hand.place new.rows → AreChanged w (more ++ facts) closed (Some new)
+changed_push w more facts closed hand new a e on h = record {
   each = λ q r g other. let was = a.each q r g (λ s. other (e ∙ s)) in record {
     whole = λ x at known. elim known [
       | inl k ↦ was.whole x at (inl k)
-      | inr m ↦ elim (member_append x more (f ∷ []) m) [
+      | inr m ↦ elim (member_append x more facts m) [
         | inl n ↦ was.whole x at (inr n)
-        | inr n ↦ elim n [
-          | inl s ↦ absurd (other (e ∙ one_day hand.place q f on (subst (IsOn q.stream q.day) s at)))
-          | inr z ↦ absurd z
-        ]
+        | inr n ↦ absurd (other (e ∙ one_day hand.place q x (on x n) at))
       ]
     ];
-    only = λ x m. elim (was.only x m) [ inl k ↦ inl k | inr n ↦ inr (append_left x more (f ∷ []) n) ];
+    only = λ x m. elim (was.only x m) [ inl k ↦ inl k | inr n ↦ inr (append_left x more facts n) ];
   };
-  hand = subst (λ k. Holds w (more ++ f ∷ []) k new.rows) (sym e) h;
-  all = λ x m. elim (member_append x more (f ∷ []) m) [
+  hand = subst (λ k. Holds w (more ++ facts) k new.rows) (sym e) h;
+  all = λ x m. elim (member_append x more facts m) [
     | inl n ↦ let r = a.all x n in (r.0, r.1, elim r.2 [ inl s ↦ inl s | inr s ↦ inr (e ∙ s) ])
-    | inr n ↦ elim n [
-      | inl s ↦ (hand.place, subst (IsOn hand.place.stream hand.place.day) (sym s) on, inr e)
-      | inr z ↦ absurd z
-    ]
+    | inr n ↦ (hand.place, on x n, inr e)
   ];
   ordered = a.ordered;
 }
@@ -244,47 +243,39 @@ holds_head w more head old new one e v h =
       ];
     }
 
--- the same with one more version
-pub holds_version : (w : World) (more : List Fact) (key : Key) (reading : ReadingValue) (old new : Rows)
-    → new.head ≡ old.head
-    → new.versions.items ≡ old.versions.items ++ (key.interval, record { update = key.update; reading = reading }) ∷ []
-    → Holds w more (record { stream = key.stream; day = key.day }) old
-    → Holds w (more ++ VersionIs key reading ∷ []) (record { stream = key.stream; day = key.day }) new
-holds_version w more key reading old new e v h =
-    let g : ℕ × Version → Fact = row_fact key.stream key.day in
-    let row : ℕ × Version = (key.interval, record { update = key.update; reading = reading }) in
-    let place : StreamDay = record { stream = key.stream; day = key.day } in
+-- the same with more versions of the day
+pub holds_versions : (w : World) (more : List Fact) (place : StreamDay) (rows : List (ℕ × Version)) (old new : Rows)
+    → new.head ≡ old.head → new.versions.items ≡ old.versions.items ++ rows
+    → Holds w more place old → Holds w (more ++ map (row_fact place.stream place.day) rows) place new
+holds_versions w more place rows old new e v h =
+    let g : ℕ × Version → Fact = row_fact place.stream place.day in
+    let put : (row : ℕ × Version) → Member row (old.versions.items ++ rows) → Member (g row) (book_facts (rows_book place new)) =
+    λ row m. append_right (g row) (head_facts place.stream place.day new.head) _
+    (map_in g new.versions.items row (subst (λ l. Member row l) (sym v) m)) in
     let grown : (f : Fact) → Member f (book_facts (rows_book place old)) → Member f (book_facts (rows_book place new)) =
-    λ f m. elim (member_append f (head_facts key.stream key.day old.head) _ m) [
-      | inl a ↦ append_left f (head_facts key.stream key.day new.head) _ (subst (λ o. Member f (head_facts key.stream key.day o)) (sym e) a)
+    λ f m. elim (member_append f (head_facts place.stream place.day old.head) _ m) [
+      | inl a ↦ append_left f (head_facts place.stream place.day new.head) _ (subst (λ o. Member f (head_facts place.stream place.day o)) (sym e) a)
       | inr b ↦ let r = in_map g old.versions.items f b in
-          append_right f (head_facts key.stream key.day new.head) _ (subst (λ x. Member x (map g new.versions.items)) (sym r.2)
-          (map_in g new.versions.items r.0 (subst (λ rows. Member r.0 rows) (sym v) (append_left r.0 old.versions.items (row ∷ []) r.1))))
+          subst (λ x. Member x (book_facts (rows_book place new))) (sym r.2) (put r.0 (append_left r.0 old.versions.items rows r.1))
     ] in
     record {
       whole = λ f on k. elim k [
         | inl a ↦ grown f (h.whole f on (inl a))
-        | inr m ↦ elim (member_append f more (VersionIs key reading ∷ []) m) [
+        | inr m ↦ elim (member_append f more (map g rows) m) [
           | inl n ↦ grown f (h.whole f on (inr n))
-          | inr n ↦ elim n [
-            | inl s ↦ append_right f (head_facts key.stream key.day new.head) _ (subst (λ x. Member x (map g new.versions.items)) (sym s)
-                (map_in g new.versions.items row (subst (λ rows. Member row rows) (sym v) (append_right row old.versions.items (row ∷ []) (inl refl)))))
-            | inr z ↦ absurd z
-          ]
+          | inr n ↦ let r = in_map g rows f n in
+              subst (λ x. Member x (book_facts (rows_book place new))) (sym r.2) (put r.0 (append_right r.0 old.versions.items rows r.1))
         ]
       ];
       only = λ f m.
-          let from : Member f (book_facts (rows_book place old)) → (f ∈ w) ⊎ Member f (more ++ VersionIs key reading ∷ []) = λ n.
-          elim (h.only f n) [ inl k ↦ inl k | inr x ↦ inr (append_left f more (VersionIs key reading ∷ []) x) ] in
-          elim (member_append f (head_facts key.stream key.day new.head) _ m) [
-            | inl a ↦ from (append_left f (head_facts key.stream key.day old.head) _ (subst (λ o. Member f (head_facts key.stream key.day o)) e a))
+          let from : Member f (book_facts (rows_book place old)) → (f ∈ w) ⊎ Member f (more ++ map g rows) = λ n.
+          elim (h.only f n) [ inl k ↦ inl k | inr x ↦ inr (append_left f more (map g rows) x) ] in
+          elim (member_append f (head_facts place.stream place.day new.head) _ m) [
+            | inl a ↦ from (append_left f (head_facts place.stream place.day old.head) _ (subst (λ o. Member f (head_facts place.stream place.day o)) e a))
             | inr b ↦ let r = in_map g new.versions.items f b in
-                elim (member_append r.0 old.versions.items (row ∷ []) (subst (λ rows. Member r.0 rows) v r.1)) [
-                  | inl n ↦ from (append_right f (head_facts key.stream key.day old.head) _ (subst (λ x. Member x (map g old.versions.items)) (sym r.2) (map_in g old.versions.items r.0 n)))
-                  | inr n ↦ elim n [
-                    | inl s ↦ inr (append_right f more (VersionIs key reading ∷ []) (inl (r.2 ∙ ap g s)))
-                    | inr z ↦ absurd z
-                  ]
+                elim (member_append r.0 old.versions.items rows (subst (λ l. Member r.0 l) v r.1)) [
+                  | inl n ↦ from (append_right f (head_facts place.stream place.day old.head) _ (subst (λ x. Member x (map g old.versions.items)) (sym r.2) (map_in g old.versions.items r.0 n)))
+                  | inr n ↦ inr (append_right f more (map g rows) (subst (λ x. Member x (map g rows)) (sym r.2) (map_in g rows r.0 n)))
                 ]
           ];
     }
@@ -498,35 +489,49 @@ head_pushed w heads yielded rest versions head closed hand new lawful split at a
     λ x k s d. lawful.agrees.one_head x head (known x k) (among head (append_right head yielded (head ∷ []) (inl refl))) s d in
     let holds : Holds w (map HeadIs yielded ++ HeadIs head ∷ []) place new.rows =
     holds_head w (map HeadIs yielded) head hand.rows new.rows one h v (subst (λ k. Holds w (map HeadIs yielded) k hand.rows) at a.hand) in
-    let on : IsOn hand.place.stream hand.place.day (HeadIs head) =
-    subst (λ (k : StreamDay). IsOn k.stream k.day (HeadIs head)) (sym at) (refl, refl) in
+    let on : (f : Fact) → Member f (HeadIs head ∷ []) → IsOn hand.place.stream hand.place.day f = λ f m. elim m [
+      | inl s ↦ subst (IsOn hand.place.stream hand.place.day) (sym s)
+          (subst (λ (k : StreamDay). IsOn k.stream k.day (HeadIs head)) (sym at) (refl, refl))
+      | inr z ↦ absurd z
+    ] in
     subst (λ l. AreChanged w l closed (Some new)) (sym (map_push HeadIs yielded head))
-    (changed_push w (map HeadIs yielded) (HeadIs head) closed hand new a p on
+    (changed_push w (map HeadIs yielded) (HeadIs head ∷ []) closed hand new a p on
     (subst (λ k. Holds w (map HeadIs yielded ++ HeadIs head ∷ []) k new.rows) (sym at) holds))
 
--- a version is put into the day in hand
-pub version_pushed : (w : World) (front : List Fact) (yielded : List (Key × ReadingValue)) (key : Key) (reading : ReadingValue)
-    (closed : Pending) (hand new : InHand) → hand.place ≡ record { stream = key.stream; day = key.day }
-    → AreChanged w (front ++ map version_fact yielded) closed (Some hand) → new.place ≡ hand.place
-    → new.rows.head ≡ hand.rows.head
-    → new.rows.versions.items ≡ hand.rows.versions.items ++ (key.interval, record { update = key.update; reading = reading }) ∷ []
-    → AreChanged w (front ++ map version_fact (yielded ++ (key, reading) ∷ [])) closed (Some new)
-version_pushed w front yielded key reading closed hand new at a p h v =
-    let more : List Fact = front ++ map version_fact yielded in
-    let f : Fact = VersionIs key reading in
-    let place : StreamDay = record { stream = key.stream; day = key.day } in
-    let holds : Holds w (more ++ f ∷ []) place new.rows =
-    holds_version w more key reading hand.rows new.rows h v (subst (λ k. Holds w more k hand.rows) at a.hand) in
-    let on : IsOn hand.place.stream hand.place.day f = subst (λ (k : StreamDay). IsOn k.stream k.day f) (sym at) (refl, refl) in
-    let same : more ++ f ∷ [] ≡ front ++ map version_fact (yielded ++ (key, reading) ∷ []) =
-    then_push front (map version_fact yielded) f ∙ ap (λ l. front ++ l) (sym (map_push version_fact yielded (key, reading))) in
+-- the facts of one more day
+day_push : (yielded : List DayVersions) (day : DayVersions)
+    → map version_fact (versions_of (yielded ++ day ∷ []))
+    ≡ map version_fact (versions_of yielded) ++ map (row_fact day.stream day.day) day.rows.items
+day_push yielded day =
+    ap (map version_fact) (flat_map-append day_versions yielded (day ∷ []) ∙ ap (λ l. versions_of yielded ++ l) (append-nil (day_versions day)))
+    ∙ map-append version_fact (versions_of yielded) (day_versions day)
+    ∙ ap (λ l. map version_fact (versions_of yielded) ++ l) (map-map version_fact (version_at day.stream day.day) day.rows.items)
+
+-- versions are put into the day in hand
+pub versions_pushed : (w : World) (front : List Fact) (yielded : List DayVersions) (day : DayVersions) (closed : Pending) (hand new : InHand)
+    → hand.place ≡ record { stream = day.stream; day = day.day }
+    → AreChanged w (front ++ map version_fact (versions_of yielded)) closed (Some hand) → new.place ≡ hand.place
+    → new.rows.head ≡ hand.rows.head → new.rows.versions.items ≡ hand.rows.versions.items ++ day.rows.items
+    → AreChanged w (front ++ map version_fact (versions_of (yielded ++ day ∷ []))) closed (Some new)
+versions_pushed w front yielded day closed hand new at a p h v =
+    let more : List Fact = front ++ map version_fact (versions_of yielded) in
+    let place : StreamDay = record { stream = day.stream; day = day.day } in
+    let facts : List Fact = map (row_fact day.stream day.day) day.rows.items in
+    let holds : Holds w (more ++ facts) place new.rows =
+    holds_versions w more place day.rows.items hand.rows new.rows h v (subst (λ k. Holds w more k hand.rows) at a.hand) in
+    let on : (f : Fact) → Member f facts → IsOn hand.place.stream hand.place.day f = λ f m.
+    let r = in_map (row_fact day.stream day.day) day.rows.items f m in
+    subst (IsOn hand.place.stream hand.place.day) (sym r.2)
+    (subst (λ (k : StreamDay). IsOn k.stream k.day (row_fact day.stream day.day r.0)) (sym at) (refl, refl)) in
+    let same : more ++ facts ≡ front ++ map version_fact (versions_of (yielded ++ day ∷ [])) =
+    append_assoc front (map version_fact (versions_of yielded)) facts ∙ ap (λ l. front ++ l) (sym (day_push yielded day)) in
     subst (λ l. AreChanged w l closed (Some new)) same
-    (changed_push w more f closed hand new a p on (subst (λ k. Holds w (more ++ f ∷ []) k new.rows) (sym at) holds))
+    (changed_push w more facts closed hand new a p on (subst (λ k. Holds w (more ++ facts) k new.rows) (sym at) holds))
 
 -- where all is put and nothing is left in hand
-pub changed_all : (w : World) (front : List Fact) (yielded rest versions : List (Key × ReadingValue)) (n : ℕ) (closed : Pending)
-    (hand now : Option InHand) → yielded ++ rest ≡ versions → n ≡ length rest → n ≡ 0 → hand ≡ now
-    → AreChanged w (front ++ map version_fact yielded) closed hand → AreChanged w (front ++ map version_fact versions) closed now
-changed_all w front yielded rest versions n closed hand now split len zero at a =
-    subst (λ h. AreChanged w (front ++ map version_fact versions) closed h) at
-    (subst (λ l. AreChanged w (front ++ map version_fact l) closed hand) (split_end _ _ _ split (none_left _ _ len zero)) a)
+pub changed_all : (w : World) (front : List Fact) (yielded rest days : List DayVersions) (n : ℕ) (closed : Pending)
+    (hand now : Option InHand) → yielded ++ rest ≡ days → n ≡ length rest → n ≡ 0 → hand ≡ now
+    → AreChanged w (front ++ map version_fact (versions_of yielded)) closed hand → AreChanged w (front ++ map version_fact (versions_of days)) closed now
+changed_all w front yielded rest days n closed hand now split len zero at a =
+    subst (λ h. AreChanged w (front ++ map version_fact (versions_of days)) closed h) at
+    (subst (λ l. AreChanged w (front ++ map version_fact (versions_of l)) closed hand) (split_end _ _ _ split (none_left _ _ len zero)) a)

@@ -20,7 +20,7 @@ use Rattle.mds_world.specs.Members.{in_list, in_union, list_in, same_by, union_l
 use Rattle.mds_world.specs.Sets.{◌∈◌, not_in_empty}
 use Rattle.mds_world.specs.World.{Agrees, IsLawful, IsOn, World, union}
 use Rattle.mds_versions.specs.Books.{BookValue, IsDay}
-use Rattle.mds_versions.specs.Content.{AreNew, content, content_facts, job_fact, period_fact, version_fact}
+use Rattle.mds_versions.specs.Content.{AreNew, content, content_facts, job_fact, period_fact, version_fact, versions_of}
 use Rattle.mds_versions.specs.Queries.{AreDaysOf, AreEventsOf, AreHolidays, ArePeriodsOf, IsContentOf, IsJobOf}
 use Rattle.mds_memory.specs.Stored.{IsStored, days_world, id_cmp, jobs_world, key_cmp, note_fact, notes_world, periods_world, place_cmp, stored_world}
 use Rattle.mds_versions.specs.declared.additions.Additions.{Additions}
@@ -270,7 +270,7 @@ days_of_all days notes jobs periods stream first last books are = record {
 }
 
 abbrev day_facts : Additions → List Fact
-day_facts more = map HeadIs more.heads.items ++ map version_fact more.versions.items
+day_facts more = map HeadIs more.heads.items ++ map version_fact (versions_of more.days.items)
 
 abbrev other_facts : Additions → List Fact
 other_facts more = map DetailIs more.details.items ++ map EventIs more.events.items ++ map HolidayIs more.holidays.items
@@ -384,7 +384,7 @@ lawful_part w part sub back law = record {
 -- the days will be lawful where all will be
 pub lawful_days : (days : Kept) (notes : BTreeSet Note) (jobs : Jobs) (periods : Periods) (more : Additions)
     → IsLawful (union (stored_world days notes jobs periods) (content more))
-    → IsLawful (union (days_world days) (set.from_list (map HeadIs more.heads.items ++ map version_fact more.versions.items)))
+    → IsLawful (union (days_world days) (set.from_list (map HeadIs more.heads.items ++ map version_fact (versions_of more.days.items))))
 lawful_days days notes jobs periods more law =
     lawful_part (union (stored_world days notes jobs periods) (content more)) (union (days_world days) (set.from_list (day_facts more)))
     (λ f h. elim (in_union (days_world days) _ f h) [
@@ -500,7 +500,7 @@ notes_absent days notes jobs periods w more noted is new e note m h =
 -- all that is added is kept then
 pub committed : (days now : Kept) (notes noted_now : BTreeSet Note) (jobs jobs_now : Jobs) (periods periods_now : Periods)
     (more : Additions) (noted : List Note)
-    → days_world now ≡ union (days_world days) (set.from_list (map HeadIs more.heads.items ++ map version_fact more.versions.items))
+    → days_world now ≡ union (days_world days) (set.from_list (map HeadIs more.heads.items ++ map version_fact (versions_of more.days.items)))
     → notes_world noted_now ≡ union (notes_world notes) (set.from_list (map note_fact noted))
     → map note_fact noted ≡ map DetailIs more.details.items ++ map EventIs more.events.items ++ map HolidayIs more.holidays.items
     → jobs_world jobs_now ≡ union (jobs_world jobs) (set.from_list (map job_fact more.jobs.items))

@@ -150,7 +150,7 @@ impl Keeper for MemoryKeeper {
     fn commit(&mut self, additions: Additions) -> Result<(), Unavailable> {
         let Additions {
             heads,
-            versions,
+            days,
             details,
             events,
             periods,
@@ -160,7 +160,7 @@ impl Keeper for MemoryKeeper {
         let Ok(notes) = notes_of(self.alloc, details, events, holidays) else {
             return Err(Unavailable);
         };
-        let Ok(changed) = changed_days(self.alloc, &self.days, heads, versions) else {
+        let Ok(changed) = changed_days(self.alloc, &self.days, heads, days) else {
             return Err(Unavailable);
         };
         if make_room(self.alloc, &mut self.days, &changed).is_err() {

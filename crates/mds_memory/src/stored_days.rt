@@ -1,21 +1,20 @@
 //! The days that are kept in memory.
 
-ghost use Rattle.std.specs.Prelude.{◌≡◌, ◌++◌, [], IfOk, OnOk, List, Some, None, is_some, map};
+ghost use Rattle.std.specs.Prelude.{◌≡◌, ◌<◌, ◌++◌, [], length, IfOk, OnOk, OnErr, List, Some, None, is_some, map};
 ghost use Rattle.std.specs.FinSet as set;
 ghost use Rattle.mds_world.specs.Facts.{Fact};
 ghost use Rattle.mds_world.specs.Facts.Fact.{HeadIs};
 ghost use Rattle.mds_world.specs.World.{IsLawful, World, union};
 ghost use Rattle.mds_versions.specs.Books.{IsDay, book_world};
-ghost use Rattle.mds_versions.specs.Content.{version_fact};
+ghost use Rattle.mds_versions.specs.Content.{version_fact, versions_of};
 ghost use Rattle.mds_versions.specs.Queries.{AreDaysOf};
 ghost use Rattle.mds_memory.specs.Stored.{AreOfTheirDays, HasRoom, IsChange, days_world};
 ghost use Rattle.mds_memory.specs.StoredSteps.{AreBooks, AreChanged, AreLawfulDays, Holds};
 
-use mds_marks::Reading;
 use mds_quantity::Unit;
 use mds_terms::{Day, Length, Stream};
-use mds_versions::{DayBook, Version};
-use mds_world::{Head, Key, StreamDay};
+use mds_versions::{DayBook, DayVersions, Version};
+use mds_world::{Head, StreamDay};
 use std::alloc::{AllocError, Global};
 use std::collections::BTreeMap;
 
@@ -101,15 +100,15 @@ pub(crate) fn changed_days(
     alloc: Global,
     days: &BTreeMap<StreamDay, DayBook>,
     heads: Vec<Head>,
-    versions: Vec<(Key, Reading)>,
+    versions: Vec<DayVersions>,
 ) -> Result<BTreeMap<StreamDay, DayBook>, AllocError>
     requires days { AreOfTheirDays days.now }
     requires lawful { IsLawful (union (days_world days.now)
-        (set.from_list (map HeadIs heads.items ++ map version_fact versions.items))) }
+        (set.from_list (map HeadIs heads.items ++ map version_fact (versions_of versions.items)))) }
     ensures { IfOk result (λ changed. AreOfTheirDays changed × IsChange (days_world days.now)
-        (set.from_list (map HeadIs heads.items ++ map version_fact versions.items)) changed) }
+        (set.from_list (map HeadIs heads.items ++ map version_fact (versions_of versions.items))) changed) }
 {
-    // Versions of one day mostly stand together, so the day in hand is kept out of the map.
+    // What is added to a day mostly stands together, so the day in hand is kept out of the map.
     let mut closed: BTreeMap<StreamDay, Rows> = BTreeMap::new(alloc);
     let mut in_hand: Option<InHand> = None;
     for head in heads {
@@ -117,22 +116,17 @@ pub(crate) fn changed_days(
             stream: head.stream,
             day: head.day,
         };
-        let room = head.length.count();
-        let mut hand = opened(alloc, days, &mut closed, in_hand, &place, room)?;
+        let mut hand = opened(alloc, days, &mut closed, in_hand, &place)?;
         hand.rows.head = Some((head.length, head.unit));
         in_hand = Some(hand);
     }
-    for (key, reading) in versions {
+    for added in versions {
         let place = StreamDay {
-            stream: key.stream,
-            day: key.day,
+            stream: added.stream,
+            day: added.day,
         };
-        let mut hand = opened(alloc, days, &mut closed, in_hand, &place, 0)?;
-        let version = Version {
-            update: key.update,
-            reading,
-        };
-        hand.rows.versions.push((key.interval, version))?;
+        let mut hand = opened(alloc, days, &mut closed, in_hand, &place)?;
+        put_behind(&mut hand.rows.versions, added.rows)?;
         in_hand = Some(hand);
     }
     let Some(hand) = in_hand else {
@@ -142,9 +136,26 @@ pub(crate) fn changed_days(
     books_of(alloc, closed)
 }
 
+/// Puts versions behind others. Where there are no others they are moved, and take no memory.
+fn put_behind(
+    versions: &mut Vec<(u16, Version)>,
+    more: Vec<(u16, Version)>,
+) -> Result<(), AllocError>
+    ensures value { OnOk result (versions.new.items ≡ versions.old.items ++ more.items) }
+    ensures memory { OnErr result (0 < length versions.old.items) }
+{
+    if versions.is_empty() {
+        *versions = more;
+        return Ok(());
+    }
+    for version in more {
+        versions.push(version)?;
+    }
+    Ok(())
+}
+
 /// Goes on to the day of this place: takes it out of those that were changed before, or copies what
-/// is kept of it; one of which nothing is kept gets room for so many versions. The day in hand before
-/// joins those, where it is another.
+/// is kept of it. The day in hand before joins those, where it is another.
 #[inline(always)]
 fn opened(
     alloc: Global,
@@ -152,7 +163,6 @@ fn opened(
     closed: &mut BTreeMap<StreamDay, Rows>,
     in_hand: Option<InHand>,
     place: &StreamDay,
-    room: usize,
 ) -> Result<InHand, AllocError>
     requires { AreOfTheirDays days.now }
     ensures place { IfOk result (λ hand. hand.place ≡ place.now) }
@@ -166,7 +176,7 @@ fn opened(
         }
         close(closed, hand)?;
     }
-    taken(alloc, days, closed, place, room)
+    taken(alloc, days, closed, place)
 }
 
 /// Puts the day in hand to the others.
@@ -186,7 +196,6 @@ fn taken(
     days: &BTreeMap<StreamDay, DayBook>,
     closed: &mut BTreeMap<StreamDay, Rows>,
     place: &StreamDay,
-    room: usize,
 ) -> Result<InHand, AllocError>
     requires { AreOfTheirDays days.now }
     ensures place { IfOk result (λ hand. hand.place ≡ place.now) }
@@ -196,7 +205,7 @@ fn taken(
 {
     let rows = match closed.remove(place) {
         Some(rows) => rows,
-        None => kept_rows(alloc, days, place, room)?,
+        None => kept_rows(alloc, days, place)?,
     };
     Ok(InHand {
         place: *place,
@@ -204,12 +213,11 @@ fn taken(
     })
 }
 
-/// What is kept of a day, copied. Where nothing is, there is room for so many versions.
+/// What is kept of a day, copied.
 fn kept_rows(
     alloc: Global,
     days: &BTreeMap<StreamDay, DayBook>,
     place: &StreamDay,
-    room: usize,
 ) -> Result<Rows, AllocError>
     requires { AreOfTheirDays days.now }
     ensures { IfOk result (Holds (days_world days.now) [] place.now) }
@@ -217,7 +225,7 @@ fn kept_rows(
     let Some(book) = days.get(place) else {
         return Ok(Rows {
             head: None,
-            versions: Vec::with_capacity(alloc, room)?,
+            versions: Vec::new(alloc),
         });
     };
     Ok(Rows {

@@ -6,8 +6,6 @@ mod name;
 mod nmi;
 mod stream;
 mod suffix;
-#[cfg(test)]
-mod tests;
 
 pub use name::names_read_back;
 pub use nmi::Nmi;

@@ -24,29 +24,29 @@ pub fn current_readings(
     let count = length.count();
     let mut readings = Vec::with_capacity(alloc, count)?;
     for i in 0..count {
-        readings.push(current_reading(alloc, book, i as u16 + 1)?)?;
+        readings.push(current_reading(book, i as u16 + 1)?)?;
     }
     Ok(readings)
 }
 
 /// A copy of the current reading of an interval, or bare N where it has no version.
-fn current_reading(alloc: Global, book: &DayBook, interval: u16) -> Result<Reading, AllocError>
+fn current_reading(book: &DayBook, interval: u16) -> Result<Reading, AllocError>
     ensures { (w : World) → IsDay w book.now
         → IfOk result (IsReading w book.now.stream book.now.day interval) }
 {
     match book.current(interval) {
         Some(version) => version.reading.try_clone(),
-        None => Ok(no_reading(alloc)),
+        None => Ok(no_reading()),
     }
 }
 
 /// Bare N: quality N, without a method, a reason or a value.
-fn no_reading(alloc: Global) -> Reading
+fn no_reading() -> Reading
     ensures { result ≡ bare_n }
 {
     let mark = Mark {
         quality: Quality::new(b'N', 0).unwrap(),
-        reason: Reason::new(None, String::new(alloc)).unwrap(),
+        reason: Reason::none(),
     };
     Reading::new(mark, None).unwrap()
 }

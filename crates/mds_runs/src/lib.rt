@@ -3,7 +3,5 @@
 #![tactic(auto)]
 
 mod cover;
-#[cfg(test)]
-mod tests;
 
 pub use cover::{Cover, Run, RunFault, equal_faults, gather, mark_from, one_run_holds, spread};

@@ -221,10 +221,10 @@ fn reading_in(alloc: Global, row: &Row) -> Result<Reading, Unavailable>
     let Some(it) = reading_ref_in(row) else {
         return Err(Unavailable);
     };
-    let Ok(note) = copy_of(alloc, it.note) else {
+    let Ok(read) = Reason::new(alloc, it.code, it.note) else {
         return Err(Unavailable);
     };
-    let Some(reason) = Reason::new(it.code, note) else {
+    let Some(reason) = read else {
         return Err(Unavailable);
     };
     let mark = Mark {

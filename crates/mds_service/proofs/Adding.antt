@@ -11,6 +11,7 @@ use Rattle.std.specs.List.Sorted.{IsStrictlySortedBy}
 use Rattle.std.specs.Map.{keys_of}
 use Rattle.std.specs.declared.cmp.Ordering.{Ordering}
 use Rattle.std.specs.declared.cmp.Ordering.TheVariants.{Less, Equal}
+use Rattle.std.proofs.lemmas.List.{length-append}
 use Rattle.std.proofs.lemmas.Map.Entries.{btree_map_get_place, place_from_lookup}
 use Rattle.std.proofs.lemmas.Map.Keys.{sorted_head, sorted_tail}
 use Rattle.mds_names.specs.declared.stream.Stream.{Stream}
@@ -24,16 +25,17 @@ use Rattle.mds_world.specs.Members.{in_list, in_union, len_list, list_in, same_b
 use Rattle.mds_world.specs.Sets.{◌∈◌, difference_in, in_difference, in_intersection, in_retain, intersection_in, len_union, retain_in, not_in_empty}
 use Rattle.mds_world.specs.World.{IsOn, World, union}
 use Rattle.mds_versions.specs.Books.{book_world}
-use Rattle.mds_versions.specs.Content.{content_facts, job_fact, period_fact, version_fact}
+use Rattle.mds_versions.specs.Content.{content_facts, job_fact, period_fact, version_fact, versions_of}
 use Rattle.mds_versions.specs.DayMerges.{DayMergeValue, Settles}
 use Rattle.mds_versions.specs.Queries.{stream_cmp}
 use Rattle.mds_versions.specs.declared.additions.Additions.{Additions}
+use Rattle.mds_versions.specs.declared.day_merge.MergeCounts.{MergeCounts}
 use Rattle.mds_service.proofs.StatedDays.{on_book, on_one_day}
 use Rattle.mds_service.specs.Imports.{AreMerges, IsMergeOf, IsOfDays, IsSettled, MatchMerge}
 
 -- heads and versions as facts
 abbrev pub day_facts : Additions → List Fact
-day_facts a = map HeadIs a.heads.items ++ map version_fact a.versions.items
+day_facts a = map HeadIs a.heads.items ++ map version_fact (versions_of a.days.items)
 
 abbrev pub new_of : DayMergeValue → World
 new_of merge = set.difference merge.said (book_world merge.book)
@@ -55,7 +57,7 @@ SayApart [] = Unit {0}
 SayApart (e ∷ es) = ((x : Entry) → Member x es → (f : Fact) → f ∈ e.1.said → f ∈ x.1.said → ⊥) × SayApart es
 
 -- What is added, and known, by those that are done.
-pub record IsPart (all rest : List Entry) (a : Additions) (known : ℕ) : Type 0 where
+pub record IsPart (all rest : List Entry) (a : Additions) (counts : MergeCounts) : Type 0 where
   pub done : List Entry
   pub split : all ≡ done ++ rest
   pub no_details : a.details.items ≡ []
@@ -66,7 +68,8 @@ pub record IsPart (all rest : List Entry) (a : Additions) (known : ℕ) : Type 0
   pub within : (f : Fact) → Member f (day_facts a) → (e : Entry) × Member e done × (f ∈ new_of e.1)
   pub whole : (e : Entry) → Member e done → (f : Fact) → f ∈ new_of e.1 → Member f (day_facts a)
   pub apart : SayApart done → Apart (day_facts a)
-  pub known_is : known ≡ known_sum done
+  pub added_is : counts.added ≡ length (versions_of a.days.items)
+  pub known_is : counts.known ≡ known_sum done
 
 -- ---- one more merge
 say_front : (es : List Entry) (e : Entry) → SayApart (es ++ e ∷ []) → SayApart es
@@ -140,17 +143,18 @@ append_one : {K : Type 0} (xs : List K) (x : K) (ys : List K) → xs ++ x ∷ ys
 append_one [] x ys = refl
 append_one (k ∷ xs) x ys = ap (λ l. k ∷ l) (append_one xs x ys)
 
-pub part_more : (all left rest : List Entry) (old new : Additions) (known more sum : ℕ) (e : Entry)
-    → IsPart all left old known → left ≡ e ∷ rest → Settles e.1 old new more → sum ≡ known + more
+pub part_more : (all left rest : List Entry) (old new : Additions) (counts more sum : MergeCounts) (e : Entry)
+    → IsPart all left old counts → left ≡ e ∷ rest → Settles e.1 old new more
+    → (sum.added ≡ counts.added + more.added) × (sum.known ≡ counts.known + more.known)
     → IsPart all rest new sum
-part_more all left rest old new known more sum e p is s count =
+part_more all left rest old new counts more sum e p is s count =
     let a = map HeadIs old.heads.items in
     let b = map HeadIs s.heads in
-    let c = map version_fact old.versions.items in
+    let c = map version_fact (versions_of old.days.items) in
     let d = map version_fact s.versions in
     let facts : day_facts new ≡ (a ++ b) ++ (c ++ d) =
     (λ i. map HeadIs (s.more_heads i) ++ map version_fact (s.more_versions i))
-    ∙ (λ i. map_append HeadIs old.heads.items s.heads i ++ map_append version_fact old.versions.items s.versions i) in
+    ∙ (λ i. map_append HeadIs old.heads.items s.heads i ++ map_append version_fact (versions_of old.days.items) s.versions i) in
     let mine : (f : Fact) → Member f (b ++ d) → f ∈ new_of e.1 = λ f m.
     subst (λ u. f ∈ u) s.just (list_in (b ++ d) f m) in record {
       done = p.done ++ e ∷ [];
@@ -178,7 +182,15 @@ part_more all left rest old new known more sum e p is s count =
           let r = p.within f m in
           say_last p.done e r.0 say r.1 f (in_difference total exact _ _ f r.2).0
           (in_difference total exact _ _ f (mine f n)).0));
-      known_is = omega (arith, count, p.known_is, s.known_count, sum_push p.done e);
+      added_is = omega (
+        arith,
+        count.0,
+        p.added_is,
+        s.added,
+        ap length s.more_versions,
+        length-append (versions_of old.days.items) s.versions,
+      );
+      known_is = omega (arith, count.1, p.known_is, s.known, sum_push p.done e);
     }
 
 append_nil : {K : Type 0} (xs : List K) → xs ++ [] ≡ xs
@@ -197,10 +209,11 @@ nothing_in : {A B : Type 0} (f : A → B) (xs : List A) → map f xs ≡ [] → 
 nothing_in f [] e = refl
 nothing_in f (x ∷ xs) e = cc
 
-pub part_start : (all rest : List Entry) (a : Additions) → rest ≡ all → content_facts a ≡ [] → IsPart all rest a 0
+pub part_start : (all rest : List Entry) (a : Additions) → rest ≡ all → content_facts a ≡ []
+    → IsPart all rest a (record { added = 0; known = 0 })
 part_start all rest a e none =
     let h = map HeadIs a.heads.items in
-    let v = map version_fact a.versions.items in
+    let v = map version_fact (versions_of a.days.items) in
     let d = map DetailIs a.details.items in
     let t = map EventIs a.events.items in
     let p = map period_fact a.periods.items in
@@ -221,6 +234,7 @@ part_start all rest a e none =
       within = λ f m. absurd (subst (Member f) facts m);
       whole = λ x m f k. absurd m;
       apart = λ say. subst Apart (sym facts) tt;
+      added_is = ap length (sym (nothing_in version_fact (versions_of a.days.items) (nothing_right h v facts)));
       known_is = refl;
     }
 
@@ -371,9 +385,9 @@ module _ {R : StreamDay → StreamDay → Ordering} (o : IsTotalOrder R) (w fact
       (retain_in total exact r.0.1.said is_counted f ((x.said f).1 (a.0, r.5)) a.1)
       (retain_in total exact (book_world r.0.1.book) is_counted f (in_book r.2 r.3 r.0.1 x f r.5 b.0) a.1)))
 
-  new_facts : (a : Additions) (known : ℕ) → IsPart merges.entries [] a known → (f : Fact) → Member f (day_facts a)
+  new_facts : (a : Additions) (counts : MergeCounts) → IsPart merges.entries [] a counts → (f : Fact) → Member f (day_facts a)
       → f ∈ set.difference facts w
-  new_facts a known p f m =
+  new_facts a counts p f m =
       let r = p.within f m in
       let at = subst (Member r.0) (sym (p.split ∙ append_nil p.done)) r.1 in
       let x = merge_at r.0 at in
@@ -381,9 +395,9 @@ module _ {R : StreamDay → StreamDay → Ordering} (o : IsTotalOrder R) (w fact
       let said = (x.said f).0 q.0 in
       difference_in total exact facts w f said.0 (λ h. q.1 (in_book r.0.0.stream r.0.0.day r.0.1 x f said.1 h))
 
-  facts_new : (a : Additions) (known : ℕ) → IsPart merges.entries [] a known → (f : Fact)
+  facts_new : (a : Additions) (counts : MergeCounts) → IsPart merges.entries [] a counts → (f : Fact)
       → f ∈ set.difference facts w → Member f (day_facts a)
-  facts_new a known p f h =
+  facts_new a counts p f h =
       let q = in_difference total exact facts w f h in
       let r = said_in R w facts merges are of f q.0 in
       let x = r.4 in
@@ -391,24 +405,24 @@ module _ {R : StreamDay → StreamDay → Ordering} (o : IsTotalOrder R) (w fact
       (difference_in total exact r.0.1.said (book_world r.0.1.book) f ((x.said f).1 (q.0, r.5))
       (λ k. q.1 (x.book.only f k)))
 
-  pub settled_all : (a : Additions) (known : ℕ) → IsPart merges.entries [] a known → IsSettled w facts a known
-  settled_all a known p =
-      let versions = map version_fact a.versions.items in
+  pub settled_all : (a : Additions) (counts : MergeCounts) → IsPart merges.entries [] a counts → IsSettled w facts a counts
+  settled_all a counts p =
+      let versions = map version_fact (versions_of a.days.items) in
       let apart : Apart (day_facts a) =
       p.apart (subst SayApart (p.split ∙ append_nil p.done) all_apart) in
       let mine : set.from_list {R = fact_cmp} versions ≡ set.difference (countable facts) (countable w) = same_by _ _
       (λ f h.
       let m = in_list versions f h in
-      let v = in_map version_fact a.versions.items f m in
+      let v = in_map version_fact (versions_of a.days.items) f m in
       let counted : is_counted f ≡ true = ap is_counted v.2 in
       let q = in_difference total exact facts w f
-      (new_facts a known p f (append_right f (map HeadIs a.heads.items) versions m)) in
+      (new_facts a counts p f (append_right f (map HeadIs a.heads.items) versions m)) in
       difference_in total exact (countable facts) (countable w) f (retain_in total exact facts is_counted f q.0 counted)
       (λ k. q.1 (in_retain total exact w is_counted f k).0))
       (λ f h.
       let q = in_difference total exact (countable facts) (countable w) f h in
       let c = in_retain total exact facts is_counted f q.0 in
-      let m = facts_new a known p f
+      let m = facts_new a counts p f
       (difference_in total exact facts w f c.0 (λ k. q.1 (retain_in total exact w is_counted f k c.1))) in
       elim (member_append f (map HeadIs a.heads.items) versions m) [
         | inl n ↦ let v = in_map HeadIs a.heads.items f n in let e = ap is_counted v.2 in cc
@@ -421,10 +435,10 @@ module _ {R : StreamDay → StreamDay → Ordering} (o : IsTotalOrder R) (w fact
         no_jobs = p.no_jobs;
         apart = apart;
         just = same_by _ _
-            (λ f h. new_facts a known p f (in_list (day_facts a) f h))
-            (λ f h. list_in (day_facts a) f (facts_new a known p f h));
-        added = sym (length_map version_fact a.versions.items)
+            (λ f h. new_facts a counts p f (in_list (day_facts a) f h))
+            (λ f h. list_in (day_facts a) f (facts_new a counts p f h));
+        added = p.added_is ∙ sym (length_map version_fact (versions_of a.days.items))
             ∙ sym (len_list versions (apart_parts (map HeadIs a.heads.items) versions apart).1) ∙ ap set.len mine;
-        known_count = p.known_is ∙ ap known_sum (sym (p.split ∙ append_nil p.done)) ∙ sum_len merges.entries all_apart
+        known = p.known_is ∙ ap known_sum (sym (p.split ∙ append_nil p.done)) ∙ sum_len merges.entries all_apart
             ∙ ap set.len known_whole;
       }

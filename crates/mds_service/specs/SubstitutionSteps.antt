@@ -7,7 +7,7 @@ use Rattle.mds_world.specs.Stated.{versions_from}
 use Rattle.mds_world.specs.World.{World}
 use Rattle.mds_jobs.specs.declared.job.Job.{Job}
 use Rattle.mds_versions.specs.Books.{BookValue}
-use Rattle.mds_versions.specs.Content.{version_fact}
+use Rattle.mds_versions.specs.Content.{version_fact, versions_of}
 use Rattle.mds_versions.specs.declared.additions.Additions.{Additions}
 use Rattle.mds_fill.specs.Fills.{IsBookOf}
 use Rattle.mds_service.specs.Substitution.{head_of}
@@ -26,7 +26,7 @@ new_heads job false = head_of job ∷ []
 -- what is added: the head of a day that isn't known, the job with the count of the readings, and a version for each
 pub record IsPut (job : Job) (is_known : Bool) (readings : List ReadingValue) (additions : Additions) : Type 0 where
   pub heads : additions.heads.items ≡ new_heads job is_known
-  pub versions : map version_fact additions.versions.items
+  pub versions : map version_fact (versions_of additions.days.items)
       ≡ versions_from job.stream job.day job.update job.first readings
   pub details : additions.details.items ≡ []
   pub events : additions.events.items ≡ []

@@ -192,7 +192,7 @@ fn additions_of(alloc: Global, periods: Vec<Period>) -> Additions
 {
     Additions {
         heads: Vec::new(alloc),
-        versions: Vec::new(alloc),
+        days: Vec::new(alloc),
         details: Vec::new(alloc),
         events: Vec::new(alloc),
         periods,

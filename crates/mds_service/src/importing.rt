@@ -11,7 +11,7 @@ use crate::request::Answer;
 use crate::settling::settle;
 use mds_nem12::{Nem12Fault, read_nem12};
 use mds_records::FileKind;
-use mds_versions::{Keeper, Stop};
+use mds_versions::{Keeper, MergeCounts, Stop};
 use std::alloc::Global;
 
 /// Takes in what a file of a kind states: all of it by one commit, or nothing.
@@ -63,10 +63,10 @@ fn import_nem12<K: Keeper>(alloc: Global, keeper: &mut K, text: &[u8]) -> Answer
     let Ok(events) = new_events(alloc, keeper, events) else {
         return Answer::Unavailable;
     };
-    let Ok((mut additions, known)) = settle(alloc, merges) else {
+    let Ok((mut additions, counts)) = settle(alloc, merges) else {
         return Answer::Unavailable;
     };
-    let added = additions.versions.len() as u64;
+    let MergeCounts { added, known } = counts;
     additions.details = details;
     additions.events = events;
     match keeper.commit(additions) {

@@ -95,7 +95,7 @@ fn additions_of(alloc: Global, holidays: Vec<Day>) -> Additions
 {
     Additions {
         heads: Vec::new(alloc),
-        versions: Vec::new(alloc),
+        days: Vec::new(alloc),
         details: Vec::new(alloc),
         events: Vec::new(alloc),
         periods: Vec::new(alloc),

@@ -7,7 +7,7 @@ ghost use Rattle.mds_world.specs.World.{World};
 ghost use Rattle.mds_jobs.specs.Jobs.{IsBad, content_of};
 ghost use Rattle.mds_versions.specs.Books.{BookValue};
 ghost use Rattle.mds_versions.specs.Claims.{BreaksForm, SuitsForm};
-ghost use Rattle.mds_versions.specs.Content.{version_fact};
+ghost use Rattle.mds_versions.specs.Content.{version_fact, versions_of};
 ghost use Rattle.mds_fill.specs.Fills.{IsContext};
 ghost use Rattle.mds_service.specs.Crashes.{Goes};
 ghost use Rattle.mds_service.specs.Substitution.{IsNewJob, head_of};
@@ -21,7 +21,7 @@ use mds_marks::Reading;
 use mds_quantity::Unit;
 use mds_terms::{Day, Length, Stream};
 use mds_versions::{
-    Additions, DayBook, Head, Keeper, Key, Refusal, RefusalCode, Stop, Unavailable,
+    Additions, DayBook, DayVersions, Head, Keeper, Refusal, RefusalCode, Stop, Unavailable, Version,
 };
 use std::alloc::{AllocError, Global};
 
@@ -196,12 +196,12 @@ fn additions_of(
 {
     let count = readings.len() as u64;
     let heads = heads_of(alloc, job, is_known)?;
-    let versions = versions_of(alloc, job, readings)?;
+    let days = days_of(alloc, job, readings)?;
     let mut jobs = Vec::new(alloc);
     jobs.push((job.try_clone()?, count))?;
     Ok(Additions {
         heads,
-        versions,
+        days,
         details: Vec::new(alloc),
         events: Vec::new(alloc),
         periods: Vec::new(alloc),
@@ -227,27 +227,27 @@ fn heads_of(alloc: Global, job: &Job, is_known: bool) -> Result<Vec<Head>, Alloc
     Ok(heads)
 }
 
-/// The readings with their places: the intervals from the job's first on, under its update.
-fn versions_of(
-    alloc: Global,
-    job: &Job,
-    readings: Vec<Reading>,
-) -> Result<Vec<(Key, Reading)>, AllocError>
+/// The readings as versions of the job's day: of the intervals from its first on, under its update.
+fn days_of(alloc: Global, job: &Job, readings: Vec<Reading>) -> Result<Vec<DayVersions>, AllocError>
     requires few { job.now.first + length readings.items ≤ 65536 }
-    ensures { IfOk result (λ versions. map version_fact versions.items
+    ensures { IfOk result (λ days. map version_fact (versions_of days.items)
         ≡ versions_from job.now.stream job.now.day job.now.update job.now.first readings.items) }
 {
-    let mut versions = Vec::with_capacity(alloc, readings.len())?;
+    let mut rows = Vec::with_capacity(alloc, readings.len())?;
     let mut interval = u32::from(job.first);
     for reading in readings {
-        let key = Key {
-            stream: job.stream,
-            day: job.day,
-            interval: interval as u16,
+        let version = Version {
             update: job.update,
+            reading,
         };
-        versions.push((key, reading))?;
+        rows.push((interval as u16, version))?;
         interval += 1;
     }
-    Ok(versions)
+    let mut days = Vec::new(alloc);
+    days.push(DayVersions {
+        stream: job.stream,
+        day: job.day,
+        rows,
+    })?;
+    Ok(days)
 }

@@ -8,7 +8,7 @@ use Rattle.sqlite_trees.specs.Tree.{Trees}
 use Rattle.sqlite_value.specs.Order.{Row, column}
 use Rattle.mds_world.specs.Lists.{Member}
 use Rattle.mds_world.specs.World.{World, union}
-use Rattle.mds_versions.specs.Content.{content}
+use Rattle.mds_versions.specs.Content.{content, versions_of}
 use Rattle.mds_versions.specs.declared.additions.Additions.{Additions}
 use Rattle.mds_jobs.specs.Bodies.{IsJobBody}
 use Rattle.mds_jobs.specs.Jobs.{content_of}
@@ -69,7 +69,7 @@ AreJobRows (job ∷ jobs) [] = ⊥
 pub record Adds (old new : Trees) (additions : Additions) : Type 0 where
   pub schema : new 0 ≡ old 0
   pub heads : Gains 2 (map head_cells additions.heads.items) old new
-  pub versions : Gains 4 (map (λ version. version_cells version.0 version.1) additions.versions.items) old new
+  pub versions : Gains 4 (map (λ version. version_cells version.0 version.1) (versions_of additions.days.items)) old new
   pub details : Gains 6 (map detail_cells additions.details.items) old new
   pub events : Gains 8 (map event_cells additions.events.items) old new
   pub periods : Gains 10 (map period_cells additions.periods.items) old new

@@ -7,7 +7,5 @@ mod paths;
 mod query;
 mod ranges;
 mod targets;
-#[cfg(test)]
-mod tests;
 
 pub use targets::{TargetFault, request_at};

@@ -9,8 +9,6 @@ mod event_ref;
 mod parts;
 mod printable;
 mod printable_string;
-#[cfg(test)]
-mod tests;
 mod trans_code;
 
 pub use details::{Details, details_read_back};

@@ -18,11 +18,12 @@ use Rattle.mds_world.specs.Sets.{◌∈◌, decided, difference_in, in_differenc
 use Rattle.mds_world.specs.Stated.{day_facts}
 use Rattle.mds_world.specs.World.{Agrees, IsLawful, World, union}
 use Rattle.mds_versions.specs.Books.{BookValue, book_world}
-use Rattle.mds_versions.specs.Content.{content, content_facts, job_fact, period_fact, version_fact}
+use Rattle.mds_versions.specs.Content.{content, content_facts, job_fact, period_fact, version_fact, versions_of}
 use Rattle.mds_versions.specs.DayMerges.{AreAscending, DayMergeValue, IfRefused, IsPlan, Settles}
 use Rattle.mds_versions.specs.Merge.{Breaks, IsRefusal, claim_facts, claim_world, claims_upto, claims_world}
 use Rattle.mds_versions.specs.declared.additions.Additions.{Additions}
 use Rattle.mds_versions.specs.declared.claim.Claim.{Claim}
+use Rattle.mds_versions.specs.declared.day_merge.MergeCounts.{MergeCounts}
 use Rattle.mds_versions.specs.declared.day_merge.Stop.{Stop}
 use Rattle.mds_versions.specs.declared.day_merge.Stop.TheVariants.{Refused, Memory}
 use Rattle.mds_versions.specs.declared.refusal.Refusal.{Refusal}
@@ -204,11 +205,11 @@ nil_map : {X Y : Type 0} (f : X → Y) (xs : List X) → map f xs ≡ [] → xs 
 nil_map f [] e = refl
 nil_map f (x ∷ xs) e = cc
 
-added_facts : (d : DayMergeValue) (old new : Additions) (known : ℕ) (s : Settles d old new known) → content_facts old ≡ []
-    → (content_facts new ≡ map HeadIs s.heads ++ map version_fact s.versions) × (new.versions.items ≡ s.versions)
-added_facts d old new known s e =
+added_facts : (d : DayMergeValue) (old new : Additions) (counts : MergeCounts) (s : Settles d old new counts) → content_facts old ≡ []
+    → (content_facts new ≡ map HeadIs s.heads ++ map version_fact s.versions) × (versions_of new.days.items ≡ s.versions)
+added_facts d old new counts s e =
     let H = map HeadIs old.heads.items in
-    let V = map version_fact old.versions.items in
+    let V = map version_fact (versions_of old.days.items) in
     let D = map DetailIs old.details.items in
     let E = map EventIs old.events.items in
     let P = map period_fact old.periods.items in
@@ -220,14 +221,14 @@ added_facts d old new known s e =
     let e3 : (H ++ V) ++ D ≡ [] = nil_left ((H ++ V) ++ D) E e4 in
     let e2 : H ++ V ≡ [] = nil_left (H ++ V) D e3 in
     let hs : old.heads.items ≡ [] = nil_map HeadIs old.heads.items (nil_left H V e2) in
-    let vs : old.versions.items ≡ [] = nil_map version_fact old.versions.items (nil_right H V e2) in
+    let vs : versions_of old.days.items ≡ [] = nil_map version_fact (versions_of old.days.items) (nil_right H V e2) in
     let ds : old.details.items ≡ [] = nil_map DetailIs old.details.items (nil_right (H ++ V) D e3) in
     let es : old.events.items ≡ [] = nil_map EventIs old.events.items (nil_right ((H ++ V) ++ D) E e4) in
     let ps : old.periods.items ≡ [] = nil_map period_fact old.periods.items (nil_right (((H ++ V) ++ D) ++ E) P e5) in
     let ls : old.holidays.items ≡ [] = nil_map HolidayIs old.holidays.items (nil_right ((((H ++ V) ++ D) ++ E) ++ P) L e6) in
     let js : old.jobs.items ≡ [] = nil_map job_fact old.jobs.items (nil_right (((((H ++ V) ++ D) ++ E) ++ P) ++ L) J e) in
     let h : new.heads.items ≡ s.heads = s.more_heads ∙ ap (λ l. l ++ s.heads) hs in
-    let v : new.versions.items ≡ s.versions = s.more_versions ∙ ap (λ l. l ++ s.versions) vs in
+    let v : versions_of new.days.items ≡ s.versions = s.more_versions ∙ ap (λ l. l ++ s.versions) vs in
     let x : new.details.items ≡ [] = ap (λ k. k.items) s.same_details ∙ ds in
     let y : new.events.items ≡ [] = ap (λ k. k.items) s.same_events ∙ es in
     let p : new.periods.items ≡ [] = ap (λ k. k.items) s.same_periods ∙ ps in
@@ -245,9 +246,9 @@ apart_tail [] ys a = a
 apart_tail (x ∷ xs) ys a = apart_tail xs ys a.1
 
 pub planned : (b : BookValue) (claims : List Claim) (i : ℕ) (d : DayMergeValue) → IsPlanning b claims i d → length claims ≤ i → i ≤ length claims
-    → (old new : Additions) (known : ℕ) → content_facts old ≡ [] → Settles d old new known
+    → (old new : Additions) (settled : MergeCounts) → content_facts old ≡ [] → Settles d old new settled
     → IsPlan (book_world b) (claims_world b.stream b.day claims) new
-planned b claims i d is low high old new known none s = record {
+planned b claims i d is low high old new settled none s = record {
   agrees = subst (λ w. Agrees (union (book_world b) w)) all is.agrees;
   whole = ap (union (book_world b)) added ∙ rest_in ∙ ap (union (book_world b)) all;
   new = record {
@@ -259,8 +260,8 @@ planned b claims i d is low high old new known none s = record {
       ∙ ap set.len counts ∙ ap (λ w. set.len (set.difference (countable w) (countable (book_world b)))) all;
 }
   where
-    facts : (content_facts new ≡ map HeadIs s.heads ++ map version_fact s.versions) × (new.versions.items ≡ s.versions)
-    facts = added_facts d old new known s none
+    facts : (content_facts new ≡ map HeadIs s.heads ++ map version_fact s.versions) × (versions_of new.days.items ≡ s.versions)
+    facts = added_facts d old new settled s none
 
     all : d.said ≡ claims_world b.stream b.day claims
     all =

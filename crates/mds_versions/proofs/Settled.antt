@@ -3,13 +3,13 @@ use Rattle.std.proofs.Common.{◌≡◌, ◌≢◌, ℕ, zero, suc, ◌+◌, ◌
 use Rattle.std.specs.Prelude.{Bool, true, false, cond, not}
 use Rattle.std.specs.BTreeMap.{BTreeMap}
 use Rattle.std.specs.List.{slice_get}
+use Rattle.std.proofs.lemmas.Grind.{flat_map-append}
 use Rattle.std.proofs.lemmas.List.{append-nil, length-append, length-map, map-append}
 use Rattle.std.proofs.Math.Nat.{div-le_self}
 use Rattle.std.specs.FinSet as set
 use Rattle.std.specs.declared.alloc.Global.{Global}
 use Rattle.std.specs.declared.vec.Vec.{Vec}
 use Rattle.mds_quantity.specs.declared.unit.Unit.{Unit as MeasureUnit}
-use Rattle.mds_names.specs.declared.stream.Stream.{Stream}
 use Rattle.mds_marks.specs.Reading.{ReadingValue}
 use Rattle.mds_world.specs.declared.facts.Head.{Head}
 use Rattle.mds_world.specs.declared.facts.Key.{Key}
@@ -22,10 +22,13 @@ use Rattle.mds_world.specs.Members.{same_by, in_list, list_in, len_list}
 use Rattle.mds_world.specs.Sets.{◌∈◌, difference_in, in_difference, in_intersection, intersection_in, in_retain, not_true, retain_in, true_not}
 use Rattle.mds_versions.specs.Books.{BookValue, book_world}
 use Rattle.mds_versions.specs.Claims.{AreShort, fresh_all, fresh_heads, fresh_versions, held_all, held_count, is_held, key_of}
-use Rattle.mds_versions.specs.Content.{version_fact}
+use Rattle.mds_versions.specs.Content.{day_versions, version_at, version_fact, versions_of}
 use Rattle.mds_versions.specs.DayMerges.{DayMergeValue, Settles}
 use Rattle.mds_versions.specs.DayMergeSteps.{AreCounts, IsDayMerge, all_claimed, merge_value}
 use Rattle.mds_versions.specs.declared.additions.Additions.{Additions}
+use Rattle.mds_versions.specs.declared.additions.DayVersions.{DayVersions}
+use Rattle.mds_versions.specs.declared.day_book.Version.{Version}
+use Rattle.mds_versions.specs.declared.day_merge.MergeCounts.{MergeCounts}
 use Rattle.mds_versions.proofs.Rows.{same_some}
 use Rattle.mds_versions.proofs.Taken.{head_in_book, head_of, in_book, in_said, said_here}
 
@@ -98,12 +101,23 @@ start_update b update readings old rest e = record {
   place = omega (arith, ap length e);
 }
 
-pub pushed : (b : BookValue) (now next : List (Key × ReadingValue)) (stream : Stream) (day interval update : ℕ) (r : ReadingValue)
-    → stream ≡ b.stream → day ≡ b.day
-    → next ≡ now ++ (record { stream = stream; day = day; interval = interval; update = update }, r) ∷ []
-    → next ≡ now ++ (key_of b interval update, r) ∷ []
-pushed b now next stream day interval update r s d e =
-    e ∙ (λ i. now ++ (record { stream = s i; day = d i; interval = interval; update = update }, r) ∷ [])
+-- one more row
+pub pushed : (b : BookValue) (now next : List (ℕ × Version)) (interval update : ℕ) (r : ReadingValue)
+    → next ≡ now ++ (interval, record { update = update; reading = r }) ∷ []
+    → map (version_at b.stream b.day) next ≡ map (version_at b.stream b.day) now ++ (key_of b interval update, r) ∷ []
+pushed b now next interval update r e =
+    ap (map (version_at b.stream b.day)) e
+    ∙ map-append (version_at b.stream b.day) now ((interval, record { update = update; reading = r }) ∷ [])
+
+-- one more day
+pub day_pushed : (b : BookValue) (es : List (ℕ × Vec ReadingValue Global)) (old new : List DayVersions) (day : DayVersions) (none : List (ℕ × Version))
+    → new ≡ old ++ day ∷ [] → day.stream ≡ b.stream → day.day ≡ b.day → none ≡ []
+    → map (version_at b.stream b.day) day.rows.items ≡ map (version_at b.stream b.day) none ++ fresh_all b es
+    → versions_of new ≡ versions_of old ++ fresh_all b es
+day_pushed b es old new day none push s d empty rows =
+    ap versions_of push ∙ flat_map-append day_versions old (day ∷ []) ∙ ap (λ l. versions_of old ++ l)
+    (append-nil (day_versions day) ∙ (λ i. map (version_at (s i) (d i)) day.rows.items) ∙ rows
+    ∙ ap (λ l. map (version_at b.stream b.day) l ++ fresh_all b es) empty)
 
 -- of an update's readings those of which it is wanted that the book has them, or that it doesn't
 abbrev pub picked : (Bool → Bool) → BookValue → ℕ → ℕ → List ReadingValue → List (Key × ReadingValue)
@@ -422,16 +436,17 @@ module _ (b : BookValue) (form : Option (ℕ × MeasureUnit)) (claimed : BTreeMa
   counts = all_held b claimed.entries ∙ sym (length-map (picked_all has b claimed.entries) version_fact)
       ∙ sym (len_list (map version_fact (picked_all has b claimed.entries)) (all_apart has b claimed.entries d.once)) ∙ ap set.len held_facts
 
-  pub settles : (v : DayMergeValue) → merge_value b form claimed ≡ v → (old new : Additions) (known : ℕ)
+  pub settles : (v : DayMergeValue) → merge_value b form claimed ≡ v → (old new : Additions) (counted : MergeCounts)
       → new.heads.items ≡ old.heads.items ++ fresh_heads b.stream b.day b.head form
-      → (new.versions.items ≡ old.versions.items ++ fresh_all b claimed.entries) × (known ≡ held_all b claimed.entries)
+      → versions_of new.days.items ≡ versions_of old.days.items ++ fresh_all b claimed.entries
+      → AreCounts b claimed.entries counted.known counted.added
       → new.details ≡ old.details → new.events ≡ old.events → new.periods ≡ old.periods
-      → new.holidays ≡ old.holidays → new.jobs ≡ old.jobs → Settles v old new known
-  settles v is old new known hs vs ds es ps ls js = subst (λ x. Settles x old new known) is (record {
+      → new.holidays ≡ old.holidays → new.jobs ≡ old.jobs → Settles v old new counted
+  settles v is old new counted hs vs c ds es ps ls js = subst (λ x. Settles x old new counted) is (record {
     heads = fresh_heads b.stream b.day b.head form;
     versions = picked_all not b claimed.entries;
     more_heads = hs;
-    more_versions = vs.0 ∙ ap (λ l. old.versions.items ++ l) (all_picked b claimed.entries);
+    more_versions = vs ∙ ap (λ l. versions_of old.days.items ++ l) (all_picked b claimed.entries);
     same_details = ds;
     same_events = es;
     same_periods = ps;
@@ -439,13 +454,6 @@ module _ (b : BookValue) (form : Option (ℕ × MeasureUnit)) (claimed : BTreeMa
     same_jobs = js;
     apart = apart;
     just = just;
-    known_count = vs.1 ∙ counts;
+    added = c.fresh_are ∙ ap length (all_picked b claimed.entries);
+    known = c.held_are ∙ counts;
   })
-
-  pub settles_end : (v : DayMergeValue) → merge_value b form claimed ≡ v → (old new : Additions) (held fresh : ℕ)
-      → AreCounts b claimed.entries held fresh
-      → new.heads.items ≡ old.heads.items ++ fresh_heads b.stream b.day b.head form
-      → new.versions.items ≡ old.versions.items ++ fresh_all b claimed.entries
-      → new.details ≡ old.details → new.events ≡ old.events → new.periods ≡ old.periods
-      → new.holidays ≡ old.holidays → new.jobs ≡ old.jobs → Settles v old new held
-  settles_end v is old new held fresh c hs vs ds es ps ls js = settles v is old new held hs (vs, c.held_are) ds es ps ls js

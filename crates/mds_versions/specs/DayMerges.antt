@@ -1,5 +1,5 @@
 -- A day's book with what lines claim of the day.
-use Rattle.std.specs.Prelude.{◌≡◌, ℕ, ◌<◌, List, ◌++◌, map, length}
+use Rattle.std.specs.Prelude.{◌≡◌, ◌<◌, List, ◌++◌, map, length}
 use Rattle.std.specs.List.{AllPairs}
 use Rattle.std.specs.FinSet as set
 use Rattle.mds_marks.specs.Reading.{ReadingValue}
@@ -10,9 +10,10 @@ use Rattle.mds_world.specs.Facts.Fact.{HeadIs}
 use Rattle.mds_world.specs.Lists.{Apart}
 use Rattle.mds_world.specs.World.{Agrees, World, union}
 use Rattle.mds_versions.specs.Books.{BookValue, book_world}
-use Rattle.mds_versions.specs.Content.{AreNew, content, version_fact}
+use Rattle.mds_versions.specs.Content.{AreNew, content, version_fact, versions_of}
 use Rattle.mds_versions.specs.declared.additions.Additions.{Additions}
 use Rattle.mds_versions.specs.declared.claim.Claim.{Claim}
+use Rattle.mds_versions.specs.declared.day_merge.MergeCounts.{MergeCounts}
 use Rattle.mds_versions.specs.declared.day_merge.Stop.{Stop}
 use Rattle.mds_versions.specs.declared.day_merge.Stop.TheVariants.{Refused, Memory}
 use Rattle.mds_versions.specs.declared.refusal.Refusal.{Refusal}
@@ -36,15 +37,15 @@ pub record IsPlan (w said : World) (additions : Additions) : Type 0 where
   pub agrees : Agrees (union w said)
   pub whole : union w (content additions) ≡ union w said
   pub new : AreNew w additions
-  pub counted : length additions.versions.items ≡ set.len (set.difference (countable said) (countable w))
+  pub counted : length (versions_of additions.days.items) ≡ set.len (set.difference (countable said) (countable w))
 
 -- What a merge puts behind additions: heads and versions, each once, that are just what is claimed and isn't in the
--- book; and how many of the versions claimed are in it.
-pub record Settles (merge : DayMergeValue) (old new : Additions) (known : ℕ) : Type 0 where
+-- book; how many versions these are, and how many of those claimed are in it.
+pub record Settles (merge : DayMergeValue) (old new : Additions) (counts : MergeCounts) : Type 0 where
   pub heads : List Head
   pub versions : List (Key × ReadingValue)
   pub more_heads : new.heads.items ≡ old.heads.items ++ heads
-  pub more_versions : new.versions.items ≡ old.versions.items ++ versions
+  pub more_versions : versions_of new.days.items ≡ versions_of old.days.items ++ versions
   pub same_details : new.details ≡ old.details
   pub same_events : new.events ≡ old.events
   pub same_periods : new.periods ≡ old.periods
@@ -53,4 +54,5 @@ pub record Settles (merge : DayMergeValue) (old new : Additions) (known : ℕ) :
   pub apart : Apart (map HeadIs heads ++ map version_fact versions)
   pub just : set.from_list (map HeadIs heads ++ map version_fact versions)
       ≡ set.difference merge.said (book_world merge.book)
-  pub known_count : known ≡ set.len (set.intersection (countable merge.said) (countable (book_world merge.book)))
+  pub added : counts.added ≡ length versions
+  pub known : counts.known ≡ set.len (set.intersection (countable merge.said) (countable (book_world merge.book)))

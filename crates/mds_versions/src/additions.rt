@@ -1,18 +1,27 @@
 //! What is added to a World.
 
+use crate::day_book::Version;
 use mds_jobs::Job;
-use mds_marks::Reading;
 use mds_statements::Period;
-use mds_terms::{Day, Event};
-use mds_world::{Detail, Head, Key};
+use mds_terms::{Day, Event, Stream};
+use mds_world::{Detail, Head};
 use std::alloc::Global;
+
+/// Versions of a day of a stream, in any order.
+#[derive(Drop)]
+pub struct DayVersions {
+    pub stream: Stream,
+    pub day: Day,
+    /// Each with the number of its interval.
+    pub rows: Vec<(u16, Version)>,
+}
 
 /// What a change adds to each set that a World has.
 #[derive(Drop)]
 pub struct Additions {
     pub heads: Vec<Head>,
-    /// The versions: where each stands, and its reading.
-    pub versions: Vec<(Key, Reading)>,
+    /// The versions. A day may stand there more than once.
+    pub days: Vec<DayVersions>,
     pub details: Vec<Detail>,
     pub events: Vec<Event>,
     pub periods: Vec<Period>,
@@ -31,7 +40,7 @@ impl Additions {
     {
         Additions {
             heads: Vec::new(alloc),
-            versions: Vec::new(alloc),
+            days: Vec::new(alloc),
             details: Vec::new(alloc),
             events: Vec::new(alloc),
             periods: Vec::new(alloc),

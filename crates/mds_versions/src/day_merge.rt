@@ -1,6 +1,6 @@
 //! A day of the store with what the lines so far claim of it.
 
-ghost use Rattle.std.specs.Prelude.{◌≡◌, ◌≢◌, ◌≤◌, ℕ, ◌++◌, cond, false, length, Err, IsTrue, IfOk, IfErr, IfSome, IfNone, OnOk};
+ghost use Rattle.std.specs.Prelude.{◌≡◌, ◌≢◌, ◌≤◌, ℕ, ◌++◌, cond, false, length, map, Err, IsTrue, IfOk, IfErr, IfSome, IfNone, OnOk};
 ghost use Rattle.std.specs.List.{AllPairs, slice_get};
 ghost use Rattle.std.specs.FinSet as set;
 ghost use Rattle.mds_marks.specs.Reading.{ReadingValue};
@@ -10,20 +10,21 @@ ghost use Rattle.mds_world.specs.Sets.{◌∈◌};
 ghost use Rattle.mds_world.specs.World.{Agrees, union};
 ghost use Rattle.mds_versions.specs.Books.{book_world};
 ghost use Rattle.mds_versions.specs.BookRows.{IsBefore};
+ghost use Rattle.mds_versions.specs.Content.{version_at, versions_of};
 ghost use Rattle.mds_versions.specs.declared.day_merge.Stop.TheVariants.{Refused};
 ghost use Rattle.mds_versions.specs.DayMerges.{DayMergeValue, AreAscending, IfRefused, IsPlan, Settles};
 ghost use Rattle.mds_versions.specs.Claims.{Contradicts, IsFirst, Suits, BreaksForm, SuitsForm, AreShort, fresh_all, fresh_heads, fresh_versions, held_all, held_count, is_held, key_of};
 ghost use Rattle.mds_versions.specs.DayMergeSteps.{AreCounts, IsFrom, row_of};
 ghost use Rattle.mds_versions.specs.Merge.{Breaks, IsRefusal, claim_world, claims_upto, claims_world};
 
-use crate::additions::Additions;
+use crate::additions::{Additions, DayVersions};
 use crate::claim::Claim;
 use crate::day_book::{DayBook, Version};
 use crate::refusal::{Refusal, RefusalCode};
 use mds_marks::Reading;
 use mds_quantity::Unit;
 use mds_terms::{Length, Moment};
-use mds_world::{Head, Key};
+use mds_world::Head;
 use std::alloc::{AllocError, Global};
 use std::collections::BTreeMap;
 use std::marker::Model;
@@ -35,6 +36,14 @@ pub enum Stop {
     Refused(Refusal),
     /// There was no memory.
     Memory,
+}
+
+/// Of the versions that were claimed of a day, how many its book didn't have, which are added, and
+/// how many it had.
+#[derive(Clone, Copy, Debug, PartialEq, Eq)]
+pub struct MergeCounts {
+    pub added: u64,
+    pub known: u64,
 }
 
 /// A day's book, and what lines claim of the day beside it.
@@ -245,18 +254,18 @@ fn is_kept(book: &DayBook, are_new: bool, interval: u16, update: Moment, reading
     has_reading(book, interval, update, reading)
 }
 
-/// Moves the readings of an update that a book doesn't have behind the versions to be added.
+/// Moves the readings of an update that a book doesn't have behind the rows of its day.
 fn settle_update(
     book: &DayBook,
     are_new: bool,
     update: Moment,
     readings: Vec<Reading>,
-    versions: &mut Vec<(Key, Reading)>,
+    rows: &mut Vec<(u16, Version)>,
 ) -> Result<(), AllocError>
     requires few { length readings.items ≤ 1440 }
     requires new { IsTrue are_new → held_count book.now update 1 readings.items ≡ 0 }
-    ensures { OnOk result (versions.new.items
-        ≡ versions.old.items ++ fresh_versions book.now update 1 readings.items) }
+    ensures { OnOk result (map (version_at book.now.stream book.now.day) rows.new.items
+        ≡ map (version_at book.now.stream book.now.day) rows.old.items ++ fresh_versions book.now update 1 readings.items) }
 {
     let mut interval: u16 = 0;
     for reading in readings {
@@ -264,13 +273,7 @@ fn settle_update(
         if is_kept(book, are_new, interval, update, &reading) {
             continue;
         }
-        let key = Key {
-            stream: book.stream(),
-            day: book.day(),
-            interval,
-            update,
-        };
-        versions.push((key, reading))?;
+        rows.push((interval, Version { update, reading }))?;
     }
     Ok(())
 }
@@ -280,37 +283,45 @@ fn settle_claimed(
     book: &DayBook,
     are_new: bool,
     claimed: BTreeMap<Moment, Vec<Reading>>,
-    versions: &mut Vec<(Key, Reading)>,
+    rows: &mut Vec<(u16, Version)>,
 ) -> Result<(), AllocError>
     requires short { AreShort claimed.entries }
     requires new { IsTrue are_new → held_all book.now claimed.entries ≡ 0 }
-    ensures { OnOk result (versions.new.items
-        ≡ versions.old.items ++ fresh_all book.now claimed.entries) }
+    ensures { OnOk result (map (version_at book.now.stream book.now.day) rows.new.items
+        ≡ map (version_at book.now.stream book.now.day) rows.old.items ++ fresh_all book.now claimed.entries) }
 {
     for (update, readings) in claimed {
-        settle_update(book, are_new, update, readings, versions)?;
+        settle_update(book, are_new, update, readings, rows)?;
     }
     Ok(())
 }
 
-/// The same, where so many of the readings claimed are in the book and so many aren't: nothing is
-/// looked at where all are.
+/// Puts the readings claimed that a book doesn't have behind the days to be added, where so many are
+/// in the book and so many aren't: nothing is looked at where all are.
 fn settle_fresh(
+    alloc: Global,
     book: &DayBook,
     claimed: BTreeMap<Moment, Vec<Reading>>,
     held: u64,
     fresh: u64,
-    versions: &mut Vec<(Key, Reading)>,
+    days: &mut Vec<DayVersions>,
 ) -> Result<(), AllocError>
     requires short { AreShort claimed.entries }
     requires counts { AreCounts book.now claimed.entries held fresh }
-    ensures { OnOk result (versions.new.items
-        ≡ versions.old.items ++ fresh_all book.now claimed.entries) }
+    ensures { OnOk result (versions_of days.new.items
+        ≡ versions_of days.old.items ++ fresh_all book.now claimed.entries) }
 {
     if fresh == 0 {
         return Ok(());
     }
-    settle_claimed(book, held == 0, claimed, versions)
+    let mut rows = Vec::with_capacity(alloc, fresh as usize)?;
+    settle_claimed(book, held == 0, claimed, &mut rows)?;
+    days.push(DayVersions {
+        stream: book.stream(),
+        day: book.day(),
+        rows,
+    })?;
+    Ok(())
 }
 
 impl DayMerge {
@@ -386,10 +397,9 @@ impl DayMerge {
         Ok(())
     }
 
-    /// Puts what is claimed and isn't in the book behind what is to be added, and answers how many
-    /// of the versions claimed are in the book.
-    pub fn settle(self, additions: &mut Additions) -> Result<u64, AllocError>
-        ensures { IfOk result (λ known. Settles self additions.old additions.new known) }
+    /// Puts what is claimed and isn't in the book behind what is to be added.
+    pub fn settle(self, alloc: Global, additions: &mut Additions) -> Result<MergeCounts, AllocError>
+        ensures { IfOk result (Settles self additions.old additions.new) }
     {
         let DayMerge {
             book,
@@ -399,8 +409,11 @@ impl DayMerge {
             fresh,
         } = self;
         settle_head(&book, form, &mut additions.heads)?;
-        settle_fresh(&book, claimed, held, fresh, &mut additions.versions)?;
-        Ok(held)
+        settle_fresh(alloc, &book, claimed, held, fresh, &mut additions.days)?;
+        Ok(MergeCounts {
+            added: fresh,
+            known: held,
+        })
     }
 }
 
@@ -428,7 +441,7 @@ impl DayBook {
             }
         }
         let mut additions = Additions::new(alloc);
-        let Ok(_) = merge.settle(&mut additions) else {
+        let Ok(_) = merge.settle(alloc, &mut additions) else {
             return Err(Stop::Memory);
         };
         Ok(additions)

@@ -11,10 +11,10 @@ mod refusal;
 #[cfg(test)]
 mod tests;
 
-pub use additions::Additions;
+pub use additions::{Additions, DayVersions};
 pub use claim::Claim;
 pub use day_book::{DayBook, Version};
-pub use day_merge::{DayMerge, Stop};
+pub use day_merge::{DayMerge, MergeCounts, Stop};
 pub use keeper::{Keeper, Unavailable};
 pub use mds_world::{Detail, Head, Key, StreamDay};
 pub use refusal::{Refusal, RefusalCode};

@@ -148,12 +148,13 @@ fn claims_are_planned(rt: HostRuntime) -> Result<(), Fail> {
     // two updates of an unknown day
     let additions = unknown.plan(alloc, &[copy, later])?;
     assert_eq!(rt; additions.heads.len(), 1);
-    assert_eq!(rt; additions.versions.len(), 96);
-    let added = additions.versions.get(50).expect(&rt, "a version");
-    assert_eq!(rt; added.0.interval, 3);
-    assert_eq!(rt; added.0.update.seconds(), 20);
+    let added = additions.days.first().expect(&rt, "a day");
+    assert_eq!(rt; (additions.days.len(), added.rows.len()), (1, 96));
+    let added = added.rows.get(50).expect(&rt, "a version");
+    assert_eq!(rt; added.0, 3);
+    assert_eq!(rt; added.1.update.seconds(), 20);
     let mut text = String::new(alloc);
-    added.1.write_to(&mut text)?;
+    added.1.reading.write_to(&mut text)?;
     assert_eq!(rt; text.as_str(), "A,,,2");
     // another reading under the first of them
     let stop = unknown.plan(alloc, &[first, contradicting]).err();

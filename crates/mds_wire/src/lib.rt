@@ -16,6 +16,3 @@ pub use laws::laws_of;
 pub use route::{Method, Route};
 pub use serve::{Handler, Unavailable, WireFault, serve_one};
 pub use target::{part, path_of, query_of};
-
-#[cfg(test)]
-mod tests;

@@ -9,26 +9,26 @@ pub returns-clause-ok : goal.returns-clause-ok
 returns-clause-ok g c =
     all_there (state g.S.Store c.args.tx.now.conn.now)
     (state g.S.Store c.put_each.new.tx.conn.now)
+    (state g.S.Store c.put_days.new.tx.conn.now)
     (state g.S.Store c.put_each-2.new.tx.conn.now)
     (state g.S.Store c.put_each-3.new.tx.conn.now)
     (state g.S.Store c.put_each-4.new.tx.conn.now)
     (state g.S.Store c.put_each-5.new.tx.conn.now)
     (state g.S.Store c.put_each-6.new.tx.conn.now)
-    (state g.S.Store c.put_each-7.new.tx.conn.now)
-    c.args.additions.now c.args.jobs.now c.put_each-7.result c.requires
+    c.args.additions.now c.args.jobs.now c.put_each-6.result c.requires
+    (omega (arith, c.put_days.ensures.survives.clean))
     (omega (arith, c.put_each-2.ensures.survives.clean))
     (omega (arith, c.put_each-3.ensures.survives.clean))
     (omega (arith, c.put_each-4.ensures.survives.clean))
     (omega (arith, c.put_each-5.ensures.survives.clean))
     (omega (arith, c.put_each-6.ensures.survives.clean))
-    (omega (arith, c.put_each-7.ensures.survives.clean))
     (rw (c.deref.ensures.value) at c.in_ok-put_each.ensures.ok)
-    (rw (c.deref-2.ensures.value) at c.in_ok-put_each-2.ensures.ok)
-    (rw (c.deref-3.ensures.value) at c.in_ok-put_each-3.ensures.ok)
-    (rw (c.deref-4.ensures.value) at c.in_ok-put_each-4.ensures.ok)
-    (rw (c.deref-5.ensures.value) at c.in_ok-put_each-5.ensures.ok)
-    (rw (c.deref-6.ensures.value) at c.in_ok-put_each-6.ensures.ok)
-    c.put_each-7.ensures.ok
+    (rw (c.deref-2.ensures.value) at c.in_ok-put_days.ensures.ok)
+    (rw (c.deref-3.ensures.value) at c.in_ok-put_each-2.ensures.ok)
+    (rw (c.deref-4.ensures.value) at c.in_ok-put_each-3.ensures.ok)
+    (rw (c.deref-5.ensures.value) at c.in_ok-put_each-4.ensures.ok)
+    (rw (c.deref-6.ensures.value) at c.in_ok-put_each-5.ensures.ok)
+    c.put_each-6.ensures.ok
 
 pub returns-in_err-put_each-clause-cause : goal.returns-in_err-put_each-clause-cause
 returns-in_err-put_each-clause-cause g c clean is_open inside has sound =
@@ -40,86 +40,111 @@ returns-in_err-put_each-clause-cause g c clean is_open inside has sound =
     is_open inside has sound
     _ (rw (c.deref.ensures.value) at (c.in_err-put_each.ensures.cause clean)))
 
+pub returns-in_err-put_days-clause-cause : goal.returns-in_err-put_days-clause-cause
+returns-in_err-put_days-clause-cause g c clean is_open inside has sound =
+    let p = err_from_is_err_and c.from_residual-in_err-put_days.result c.from_residual-in_err-put_days.ensures.1 in
+    rw (p.1, p.2)
+    (versions_fail (state g.S.Store c.args.tx.now.conn.now)
+    (state g.S.Store c.put_each.new.tx.conn.now)
+    (state g.S.Store c.put_days.new.tx.conn.now)
+    c.args.additions.now c.args.jobs.now
+    c.put_each.ensures.survives
+    (omega (arith, c.put_days.ensures.survives.clean))
+    is_open inside has sound
+    (rw (c.deref.ensures.value) at c.in_ok-put_each.ensures.ok)
+    _ (rw (c.deref-2.ensures.value) at (c.in_err-put_days.ensures.cause clean)))
+
 pub returns-in_err-put_each-2-clause-cause : goal.returns-in_err-put_each-2-clause-cause
 returns-in_err-put_each-2-clause-cause g c clean is_open inside has sound =
     let p = err_from_is_err_and c.from_residual-in_err-put_each-2.result c.from_residual-in_err-put_each-2.ensures.1 in
     rw (p.1, p.2)
-    (versions_fail (state g.S.Store c.args.tx.now.conn.now)
+    (details_fail (state g.S.Store c.args.tx.now.conn.now)
     (state g.S.Store c.put_each.new.tx.conn.now)
+    (state g.S.Store c.put_days.new.tx.conn.now)
     (state g.S.Store c.put_each-2.new.tx.conn.now)
     c.args.additions.now c.args.jobs.now
     c.put_each.ensures.survives
+    c.put_days.ensures.survives
     (omega (arith, c.put_each-2.ensures.survives.clean))
     is_open inside has sound
     (rw (c.deref.ensures.value) at c.in_ok-put_each.ensures.ok)
-    _ (rw (c.deref-2.ensures.value) at (c.in_err-put_each-2.ensures.cause clean)))
+    (rw (c.deref-2.ensures.value) at c.in_ok-put_days.ensures.ok)
+    _ (rw (c.deref-3.ensures.value) at (c.in_err-put_each-2.ensures.cause clean)))
 
 pub returns-in_err-put_each-3-clause-cause : goal.returns-in_err-put_each-3-clause-cause
 returns-in_err-put_each-3-clause-cause g c clean is_open inside has sound =
     let p = err_from_is_err_and c.from_residual-in_err-put_each-3.result c.from_residual-in_err-put_each-3.ensures.1 in
     rw (p.1, p.2)
-    (details_fail (state g.S.Store c.args.tx.now.conn.now)
+    (events_fail (state g.S.Store c.args.tx.now.conn.now)
     (state g.S.Store c.put_each.new.tx.conn.now)
+    (state g.S.Store c.put_days.new.tx.conn.now)
     (state g.S.Store c.put_each-2.new.tx.conn.now)
     (state g.S.Store c.put_each-3.new.tx.conn.now)
     c.args.additions.now c.args.jobs.now
     c.put_each.ensures.survives
+    c.put_days.ensures.survives
     c.put_each-2.ensures.survives
     (omega (arith, c.put_each-3.ensures.survives.clean))
     is_open inside has sound
     (rw (c.deref.ensures.value) at c.in_ok-put_each.ensures.ok)
-    (rw (c.deref-2.ensures.value) at c.in_ok-put_each-2.ensures.ok)
-    _ (rw (c.deref-3.ensures.value) at (c.in_err-put_each-3.ensures.cause clean)))
+    (rw (c.deref-2.ensures.value) at c.in_ok-put_days.ensures.ok)
+    (rw (c.deref-3.ensures.value) at c.in_ok-put_each-2.ensures.ok)
+    _ (rw (c.deref-4.ensures.value) at (c.in_err-put_each-3.ensures.cause clean)))
 
 pub returns-in_err-put_each-4-clause-cause : goal.returns-in_err-put_each-4-clause-cause
 returns-in_err-put_each-4-clause-cause g c clean is_open inside has sound =
     let p = err_from_is_err_and c.from_residual-in_err-put_each-4.result c.from_residual-in_err-put_each-4.ensures.1 in
     rw (p.1, p.2)
-    (events_fail (state g.S.Store c.args.tx.now.conn.now)
+    (periods_fail (state g.S.Store c.args.tx.now.conn.now)
     (state g.S.Store c.put_each.new.tx.conn.now)
+    (state g.S.Store c.put_days.new.tx.conn.now)
     (state g.S.Store c.put_each-2.new.tx.conn.now)
     (state g.S.Store c.put_each-3.new.tx.conn.now)
     (state g.S.Store c.put_each-4.new.tx.conn.now)
     c.args.additions.now c.args.jobs.now
     c.put_each.ensures.survives
+    c.put_days.ensures.survives
     c.put_each-2.ensures.survives
     c.put_each-3.ensures.survives
     (omega (arith, c.put_each-4.ensures.survives.clean))
     is_open inside has sound
     (rw (c.deref.ensures.value) at c.in_ok-put_each.ensures.ok)
-    (rw (c.deref-2.ensures.value) at c.in_ok-put_each-2.ensures.ok)
-    (rw (c.deref-3.ensures.value) at c.in_ok-put_each-3.ensures.ok)
-    _ (rw (c.deref-4.ensures.value) at (c.in_err-put_each-4.ensures.cause clean)))
+    (rw (c.deref-2.ensures.value) at c.in_ok-put_days.ensures.ok)
+    (rw (c.deref-3.ensures.value) at c.in_ok-put_each-2.ensures.ok)
+    (rw (c.deref-4.ensures.value) at c.in_ok-put_each-3.ensures.ok)
+    _ (rw (c.deref-5.ensures.value) at (c.in_err-put_each-4.ensures.cause clean)))
 
 pub returns-in_err-put_each-5-clause-cause : goal.returns-in_err-put_each-5-clause-cause
 returns-in_err-put_each-5-clause-cause g c clean is_open inside has sound =
     let p = err_from_is_err_and c.from_residual-in_err-put_each-5.result c.from_residual-in_err-put_each-5.ensures.1 in
     rw (p.1, p.2)
-    (periods_fail (state g.S.Store c.args.tx.now.conn.now)
+    (holidays_fail (state g.S.Store c.args.tx.now.conn.now)
     (state g.S.Store c.put_each.new.tx.conn.now)
+    (state g.S.Store c.put_days.new.tx.conn.now)
     (state g.S.Store c.put_each-2.new.tx.conn.now)
     (state g.S.Store c.put_each-3.new.tx.conn.now)
     (state g.S.Store c.put_each-4.new.tx.conn.now)
     (state g.S.Store c.put_each-5.new.tx.conn.now)
     c.args.additions.now c.args.jobs.now
     c.put_each.ensures.survives
+    c.put_days.ensures.survives
     c.put_each-2.ensures.survives
     c.put_each-3.ensures.survives
     c.put_each-4.ensures.survives
     (omega (arith, c.put_each-5.ensures.survives.clean))
     is_open inside has sound
     (rw (c.deref.ensures.value) at c.in_ok-put_each.ensures.ok)
-    (rw (c.deref-2.ensures.value) at c.in_ok-put_each-2.ensures.ok)
-    (rw (c.deref-3.ensures.value) at c.in_ok-put_each-3.ensures.ok)
-    (rw (c.deref-4.ensures.value) at c.in_ok-put_each-4.ensures.ok)
-    _ (rw (c.deref-5.ensures.value) at (c.in_err-put_each-5.ensures.cause clean)))
+    (rw (c.deref-2.ensures.value) at c.in_ok-put_days.ensures.ok)
+    (rw (c.deref-3.ensures.value) at c.in_ok-put_each-2.ensures.ok)
+    (rw (c.deref-4.ensures.value) at c.in_ok-put_each-3.ensures.ok)
+    (rw (c.deref-5.ensures.value) at c.in_ok-put_each-4.ensures.ok)
+    _ (rw (c.deref-6.ensures.value) at (c.in_err-put_each-5.ensures.cause clean)))
 
-pub returns-in_err-put_each-6-clause-cause : goal.returns-in_err-put_each-6-clause-cause
-returns-in_err-put_each-6-clause-cause g c clean is_open inside has sound =
-    let p = err_from_is_err_and c.from_residual-in_err-put_each-6.result c.from_residual-in_err-put_each-6.ensures.1 in
-    rw (p.1, p.2)
-    (holidays_fail (state g.S.Store c.args.tx.now.conn.now)
+pub returns-clause-cause : goal.returns-clause-cause
+returns-clause-cause g c clean is_open inside has sound =
+    jobs_fail (state g.S.Store c.args.tx.now.conn.now)
     (state g.S.Store c.put_each.new.tx.conn.now)
+    (state g.S.Store c.put_days.new.tx.conn.now)
     (state g.S.Store c.put_each-2.new.tx.conn.now)
     (state g.S.Store c.put_each-3.new.tx.conn.now)
     (state g.S.Store c.put_each-4.new.tx.conn.now)
@@ -127,6 +152,7 @@ returns-in_err-put_each-6-clause-cause g c clean is_open inside has sound =
     (state g.S.Store c.put_each-6.new.tx.conn.now)
     c.args.additions.now c.args.jobs.now
     c.put_each.ensures.survives
+    c.put_days.ensures.survives
     c.put_each-2.ensures.survives
     c.put_each-3.ensures.survives
     c.put_each-4.ensures.survives
@@ -134,35 +160,9 @@ returns-in_err-put_each-6-clause-cause g c clean is_open inside has sound =
     (omega (arith, c.put_each-6.ensures.survives.clean))
     is_open inside has sound
     (rw (c.deref.ensures.value) at c.in_ok-put_each.ensures.ok)
-    (rw (c.deref-2.ensures.value) at c.in_ok-put_each-2.ensures.ok)
-    (rw (c.deref-3.ensures.value) at c.in_ok-put_each-3.ensures.ok)
-    (rw (c.deref-4.ensures.value) at c.in_ok-put_each-4.ensures.ok)
-    (rw (c.deref-5.ensures.value) at c.in_ok-put_each-5.ensures.ok)
-    _ (rw (c.deref-6.ensures.value) at (c.in_err-put_each-6.ensures.cause clean)))
-
-pub returns-clause-cause : goal.returns-clause-cause
-returns-clause-cause g c clean is_open inside has sound =
-    jobs_fail (state g.S.Store c.args.tx.now.conn.now)
-    (state g.S.Store c.put_each.new.tx.conn.now)
-    (state g.S.Store c.put_each-2.new.tx.conn.now)
-    (state g.S.Store c.put_each-3.new.tx.conn.now)
-    (state g.S.Store c.put_each-4.new.tx.conn.now)
-    (state g.S.Store c.put_each-5.new.tx.conn.now)
-    (state g.S.Store c.put_each-6.new.tx.conn.now)
-    (state g.S.Store c.put_each-7.new.tx.conn.now)
-    c.args.additions.now c.args.jobs.now
-    c.put_each.ensures.survives
-    c.put_each-2.ensures.survives
-    c.put_each-3.ensures.survives
-    c.put_each-4.ensures.survives
-    c.put_each-5.ensures.survives
-    c.put_each-6.ensures.survives
-    (omega (arith, c.put_each-7.ensures.survives.clean))
-    is_open inside has sound
-    (rw (c.deref.ensures.value) at c.in_ok-put_each.ensures.ok)
-    (rw (c.deref-2.ensures.value) at c.in_ok-put_each-2.ensures.ok)
-    (rw (c.deref-3.ensures.value) at c.in_ok-put_each-3.ensures.ok)
-    (rw (c.deref-4.ensures.value) at c.in_ok-put_each-4.ensures.ok)
-    (rw (c.deref-5.ensures.value) at c.in_ok-put_each-5.ensures.ok)
-    (rw (c.deref-6.ensures.value) at c.in_ok-put_each-6.ensures.ok)
-    c.put_each-7.result (c.put_each-7.ensures.cause clean)
+    (rw (c.deref-2.ensures.value) at c.in_ok-put_days.ensures.ok)
+    (rw (c.deref-3.ensures.value) at c.in_ok-put_each-2.ensures.ok)
+    (rw (c.deref-4.ensures.value) at c.in_ok-put_each-3.ensures.ok)
+    (rw (c.deref-5.ensures.value) at c.in_ok-put_each-4.ensures.ok)
+    (rw (c.deref-6.ensures.value) at c.in_ok-put_each-5.ensures.ok)
+    c.put_each-6.result (c.put_each-6.ensures.cause clean)

@@ -1,6 +1,6 @@
 use Rattle.std.proofs.Common.{◌≡◌, ◌++◌, map}
 use Rattle.mds_world.specs.Facts.Fact.{HeadIs}
-use Rattle.mds_versions.specs.Content.{version_fact}
+use Rattle.mds_versions.specs.Content.{version_fact, versions_of}
 use Rattle.mds_memory.specs.Stored.{days_world}
 use Rattle.mds_memory.specs.StoredSteps.{AreChanged}
 use Rattle.mds_memory.proofs.stored_days.changed_days.Given as goal
@@ -11,8 +11,8 @@ invariant-loop-head l = record {
   changed : AreChanged (days_world l.days) (map HeadIs l.yielded) l.closed l.in_hand;
 }
 
-abbrev pub invariant-loop-key : goal.invariant-loop-key
-invariant-loop-key l = record {
-  split : l.yielded ++ l.key-iterator.rest.items ≡ l.fn.versions.items;
-  changed : AreChanged (days_world l.days) (map HeadIs l.fn.heads.items ++ map version_fact l.yielded) l.closed l.in_hand;
+abbrev pub invariant-loop-added : goal.invariant-loop-added
+invariant-loop-added l = record {
+  split : l.yielded ++ l.added-iterator.rest.items ≡ l.fn.versions.items;
+  changed : AreChanged (days_world l.days) (map HeadIs l.fn.heads.items ++ map version_fact (versions_of l.yielded)) l.closed l.in_hand;
 }

@@ -4,7 +4,7 @@ use Rattle.mds_memory.proofs.stored_days.kept_rows.Goals as goal
 
 pub returns-in_default : goal.returns-in_default
 returns-in_default c =
-    holds_none c.args.days.now c.args.place.now _ c.requires (sym c.in_default.ensures.value) refl c.in_ok-with_capacity.ensures.items
+    holds_none c.args.days.now c.args.place.now _ c.requires (sym c.in_default.ensures.value) refl c.new.ensures.items
 
 pub returns : goal.returns
 returns c =

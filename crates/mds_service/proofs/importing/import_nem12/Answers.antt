@@ -95,13 +95,13 @@ commit-requires-clause-new g c = λ sound.
     let early = c.new_details.ensures.outside later in
     let one = c.gather.ensures.kept early w shows in
     let two = c.new_details.ensures.kept later w one in
-    let x = comes w _ c.in-Ok-gather.gathered c.in-Ok-settle.additions c.in-Ok-settle.known _ _ (c.in-Ok-gather.ensures.gathered early w shows).whole
+    let x = comes w _ c.in-Ok-gather.gathered c.in-Ok-settle.additions c.in-Ok-settle.counts _ _ (c.in-Ok-gather.ensures.gathered early w shows).whole
     (c.in-Ok-settle.ensures w _ (c.in-Ok-gather.ensures.gathered early w shows).merges) c.in-Ok-new_details.ensures.apart
     (c.in-Ok-new_details.ensures.just later w one) c.in-Ok-new_events.ensures.apart
     (c.in-Ok-new_events.ensures.just honest w two) in
     let a : Additions = record {
       heads = c.in-Ok-settle.additions.heads;
-      versions = c.in-Ok-settle.additions.versions;
+      days = c.in-Ok-settle.additions.days;
       details = c.in-Ok-new_details.details;
       events = c.in-Ok-new_events.events;
       periods = c.in-Ok-settle.additions.periods;
@@ -120,13 +120,13 @@ commit-requires-clause-lawful g c = λ sound lawful.
     let one = c.gather.ensures.kept early w shows in
     let two = c.new_details.ensures.kept later w one in
     let now = c.new_events.ensures.kept honest w two sound in
-    let x = comes w _ c.in-Ok-gather.gathered c.in-Ok-settle.additions c.in-Ok-settle.known _ _ (c.in-Ok-gather.ensures.gathered early w shows).whole
+    let x = comes w _ c.in-Ok-gather.gathered c.in-Ok-settle.additions c.in-Ok-settle.counts _ _ (c.in-Ok-gather.ensures.gathered early w shows).whole
     (c.in-Ok-settle.ensures w _ (c.in-Ok-gather.ensures.gathered early w shows).merges) c.in-Ok-new_details.ensures.apart
     (c.in-Ok-new_details.ensures.just later w one) c.in-Ok-new_events.ensures.apart
     (c.in-Ok-new_events.ensures.just honest w two) in
     let a : Additions = record {
       heads = c.in-Ok-settle.additions.heads;
-      versions = c.in-Ok-settle.additions.versions;
+      days = c.in-Ok-settle.additions.days;
       details = c.in-Ok-new_details.details;
       events = c.in-Ok-new_events.events;
       periods = c.in-Ok-settle.additions.periods;
@@ -143,13 +143,13 @@ returns-in-Ok-commit-clause-step g c = λ honest w lawful shows.
     let early = c.new_details.ensures.outside later in
     let one = c.gather.ensures.kept early w shows in
     let two = c.new_details.ensures.kept later w one in
-    let x = comes w _ c.in-Ok-gather.gathered c.in-Ok-settle.additions c.in-Ok-settle.known _ _ (c.in-Ok-gather.ensures.gathered early w shows).whole
+    let x = comes w _ c.in-Ok-gather.gathered c.in-Ok-settle.additions c.in-Ok-settle.counts _ _ (c.in-Ok-gather.ensures.gathered early w shows).whole
     (c.in-Ok-settle.ensures w _ (c.in-Ok-gather.ensures.gathered early w shows).merges) c.in-Ok-new_details.ensures.apart
     (c.in-Ok-new_details.ensures.just later w one) c.in-Ok-new_events.ensures.apart
     (c.in-Ok-new_events.ensures.just last w two) in
     let a : Additions = record {
       heads = c.in-Ok-settle.additions.heads;
-      versions = c.in-Ok-settle.additions.versions;
+      days = c.in-Ok-settle.additions.days;
       details = c.in-Ok-new_details.details;
       events = c.in-Ok-new_events.events;
       periods = c.in-Ok-settle.additions.periods;
@@ -158,10 +158,9 @@ returns-in-Ok-commit-clause-step g c = λ honest w lawful shows.
     } in
     let sound = c.in-Ok-commit.ensures.open honest in
     let now = c.new_events.ensures.kept last w two (c.commit.ensures.before sound) in
-    let t = taken_in _ _ _ _ _ _ _ x Nem12 c.args.text.now _ _ a c.len-added.result c.in-Ok.ensures.done.0
+    let t = taken_in _ _ _ _ _ _ _ x Nem12 c.args.text.now _ _ a c.in-Ok.ensures.done.0
     (ap stated (sym c.in-Ok.ensures.done.1) ∙ (c.in-Ok-gather.ensures.gathered early w shows).all) now (c.in-Ok-commit.ensures.ok sound)
-    refl refl refl refl refl refl refl lawful (c.in-Ok-gather.ensures.agrees early w shows lawful)
-    (c.len-added.ensures ∙ c.in-Ok-settle.additions.versions.ok.0) in (
+    refl refl refl refl refl refl refl lawful (c.in-Ok-gather.ensures.agrees early w shows lawful) in (
       g.K.Keeper.world c.commit.new.self,
       t.0,
       t.1,
@@ -177,13 +176,13 @@ returns-in-Err-clause-step g c = λ honest w lawful shows.
     let one = c.gather.ensures.kept early w shows in
     let two = c.new_details.ensures.kept later w one in
     let three = c.new_events.ensures.kept last w two in
-    let x = comes w _ c.in-Ok-gather.gathered c.in-Ok-settle.additions c.in-Ok-settle.known _ _ (c.in-Ok-gather.ensures.gathered early w shows).whole
+    let x = comes w _ c.in-Ok-gather.gathered c.in-Ok-settle.additions c.in-Ok-settle.counts _ _ (c.in-Ok-gather.ensures.gathered early w shows).whole
     (c.in-Ok-settle.ensures w _ (c.in-Ok-gather.ensures.gathered early w shows).merges) c.in-Ok-new_details.ensures.apart
     (c.in-Ok-new_details.ensures.just later w one) c.in-Ok-new_events.ensures.apart
     (c.in-Ok-new_events.ensures.just last w two) in
     let a : Additions = record {
       heads = c.in-Ok-settle.additions.heads;
-      versions = c.in-Ok-settle.additions.versions;
+      days = c.in-Ok-settle.additions.days;
       details = c.in-Ok-new_details.details;
       events = c.in-Ok-new_events.events;
       periods = c.in-Ok-settle.additions.periods;
@@ -201,10 +200,9 @@ returns-in-Err-clause-step g c = λ honest w lawful shows.
               (c.new_events.ensures.crash last left was)),
         ))
         | inr it ↦
-            let t = taken_in _ _ _ _ _ _ _ x Nem12 c.args.text.now _ left a c.len-added.result
+            let t = taken_in _ _ _ _ _ _ _ x Nem12 c.args.text.now _ left a
             c.in-Ok.ensures.done.0 (ap stated (sym c.in-Ok.ensures.done.1) ∙ (c.in-Ok-gather.ensures.gathered early w shows).all)
-            (three it.0) it.1 refl refl refl refl refl refl refl lawful (c.in-Ok-gather.ensures.agrees early w shows lawful)
-            (c.len-added.ensures ∙ c.in-Ok-settle.additions.versions.ok.0) in
-            inr (inr (refl, told.Imported c.len-added.result c.in-Ok-settle.known, (λ e. cc), t.1))
+            (three it.0) it.1 refl refl refl refl refl refl refl lawful (c.in-Ok-gather.ensures.agrees early w shows lawful) in
+            inr (inr (refl, told.Imported c.in-Ok-settle.counts.added c.in-Ok-settle.counts.known, (λ e. cc), t.1))
       ],
     )

@@ -1,5 +1,11 @@
-use Rattle.mds_versions.proofs.Settled.{none_fresh}
+use Rattle.mds_versions.specs.Content.{versions_of}
+use Rattle.mds_versions.proofs.Settled.{day_pushed, none_fresh}
 use Rattle.mds_versions.proofs.day_merge.settle_fresh.Goals as goal
 
 pub returns-then-fresh-eq0 : goal.returns-then-fresh-eq0
-returns-then-fresh-eq0 c = none_fresh _ _ _ _ _ c.requires.counts c.if-fresh-eq0.true
+returns-then-fresh-eq0 c = none_fresh _ _ _ _ (versions_of c.args.days.now.items) c.requires.counts c.if-fresh-eq0.true
+
+pub returns : goal.returns
+returns c =
+    day_pushed c.args.book.now c.args.claimed.entries c.args.days.now.items _ _ c.in_ok-rows.rows.items c.in_ok-push.ensures.items c.stream.ensures c.day.ensures c.in_ok-rows.ensures.items
+    c.in_ok-settle_claimed.ensures

@@ -36,7 +36,7 @@ loop-reading-preserved c =
     let s = c.in-Some.ensures.steps in
     let e = ap length s.0 in
     record {
-      settled = update_fresh _ _ _ _ _ _ _ c.loop-reading.invariant.settled c.in-Some.reading _ s.0 _ c.if-is_kept.ensures (pushed c.args.book.now _ _ _ _ _ _ _ c.stream.ensures c.day.ensures c.in_ok-push.ensures.items);
+      settled = update_fresh _ _ _ _ _ _ _ c.loop-reading.invariant.settled c.in-Some.reading _ s.0 _ c.if-is_kept.ensures (pushed c.args.book.now _ _ _ _ _ c.in_ok-push.ensures.items);
       len = omega (arith, e, s.1, c.loop-reading.invariant.len);
       new = λ are. (new_first _ _ _ _ c.in-Some.reading _ s.0 (c.loop-reading.invariant.new are)).1;
     }

@@ -2,7 +2,7 @@ use Rattle.std.proofs.Common.{◌≡◌, ◌++◌, ◌∙◌, ap, inr, map, subs
 use Rattle.std.specs.FinSet as set
 use Rattle.mds_world.specs.Facts.Fact.{HeadIs}
 use Rattle.mds_world.specs.World.{Agrees, IsLawful, union}
-use Rattle.mds_versions.specs.Content.{content, job_fact, period_fact, version_fact}
+use Rattle.mds_versions.specs.Content.{content, job_fact, period_fact, version_fact, versions_of}
 use Rattle.mds_memory.specs.Stored.{HasKeys, HasPlaces, IsChange, days_world, stored_world}
 use Rattle.mds_memory.proofs.Kept.{committed, lawful_days, lawful_jobs, notes_absent, notes_apart, ok_now, periods_agree}
 use Rattle.mds_memory.proofs.memory.MemoryKeeperKeeper.commit.Goals as goal
@@ -56,12 +56,12 @@ made : (c : After-drop-notes-2)
     ≡ union (stored_world c.self.inside.days c.self.inside.notes c.self.inside.jobs c.self.inside.periods) (content c.args.additions)
 made c =
     let change = c.in-Ok-changed_days.ensures in
-    let here : IsChange (days_world c.make_room.new.days) (set.from_list (map HeadIs c.args.additions.heads.items ++ map version_fact c.args.additions.versions.items)) c.in-Ok-changed_days.changed =
-    subst (λ w. IsChange w (set.from_list (map HeadIs c.args.additions.heads.items ++ map version_fact c.args.additions.versions.items)) c.in-Ok-changed_days.changed)
+    let here : IsChange (days_world c.make_room.new.days) (set.from_list (map HeadIs c.args.additions.heads.items ++ map version_fact (versions_of c.args.additions.days.items))) c.in-Ok-changed_days.changed =
+    subst (λ w. IsChange w (set.from_list (map HeadIs c.args.additions.heads.items ++ map version_fact (versions_of c.args.additions.days.items))) c.in-Ok-changed_days.changed)
     (sym c.make_room.ensures.same) change.1 in
     committed c.self.inside.days c.put_days.new.days c.self.inside.notes c.insert_notes.new.notes c.self.inside.jobs c.put_jobs.new.jobs c.self.inside.periods c.put_periods.new.periods c.args.additions c.in-Ok.notes.items
     (c.put_days.ensures.put _ here
-    ∙ ap (λ w. union w (set.from_list (map HeadIs c.args.additions.heads.items ++ map version_fact c.args.additions.versions.items))) c.make_room.ensures.same)
+    ∙ ap (λ w. union w (set.from_list (map HeadIs c.args.additions.heads.items ++ map version_fact (versions_of c.args.additions.days.items)))) c.make_room.ensures.same)
     (rw c.deref-3.ensures.value at (ok_now c.insert_notes.result _ c.insert_notes.ensures.ok c.if-is_err-4.ensures.value))
     c.in-Ok.ensures
     (c.put_jobs.ensures.put ∙ ap (λ w. union w (set.from_list (map job_fact c.args.additions.jobs.items))) c.make_places.ensures.same)

@@ -1,5 +1,5 @@
 use Rattle.std.proofs.Common.{refl}
-use Rattle.mds_versions.proofs.Settled.{all_short, settles_end}
+use Rattle.mds_versions.proofs.Settled.{all_short, settles}
 use Rattle.mds_versions.proofs.day_merge.DayMerge.settle.Goals as goal
 
 pub settle_fresh-requires-clause-short : goal.settle_fresh-requires-clause-short
@@ -7,5 +7,5 @@ settle_fresh-requires-clause-short c = all_short _ _ _ c.self.invariant.0
 
 pub returns : goal.returns
 returns c =
-    settles_end _ _ _ c.self.invariant.0 _ c.self.view_is _ _ _ _ c.self.invariant.1 c.in_ok-settle_head.ensures c.in_ok-settle_fresh.ensures
-    refl refl refl refl refl
+    settles _ _ _ c.self.invariant.0 _ c.self.view_is _ _ _ c.in_ok-settle_head.ensures c.in_ok-settle_fresh.ensures
+    c.self.invariant.1 refl refl refl refl refl
