@@ -123,6 +123,17 @@ fn reading_of(alloc: Global, row: &str) -> Result<Option<Reading>, AllocError> {
     Reading::read(alloc, quality, code, text.as_bytes(), value.as_bytes())
 }
 
+/// Appends a copy of a reading, which has a value unless its flag is N.
+fn push_copy(reading: &Reading, out: &mut String) -> Result<(), AllocError> {
+    let copy = reading.try_clone()?;
+    let is_null = copy.mark().quality.flag() == b'N';
+    if copy.is_same(reading) && copy.value().is_none() == is_null {
+        copy.write_to(out)
+    } else {
+        out.push_str("another reading")
+    }
+}
+
 /// Appends a reading's mark with a value of 0, if that is another reading.
 fn push_zero(reading: &Reading, out: &mut String) -> Result<(), AllocError> {
     let mark = reading.mark().try_clone()?;
@@ -140,13 +151,9 @@ impl Told for Reading {
         let Some(reading) = reading_of(alloc, text)? else {
             return out.push_str("none");
         };
-        let copy = reading.try_clone()?;
-        if !copy.is_same(&reading) || copy.value().is_none() != text.starts_with('N') {
-            return out.push_str("another reading");
-        }
-        copy.write_to(out)?;
+        push_copy(&reading, out)?;
         out.push(' ')?;
-        push_zero(&copy, out)
+        push_zero(&reading, out)
     }
 }
 

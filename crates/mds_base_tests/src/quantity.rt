@@ -68,17 +68,16 @@ fn no_quantities(rt: HostRuntime) -> Result<(), Fail> {
     )?)
 }
 
-/// Each field is read as it is when it stands alone, up to the comma of this tail.
-fn fields_are_read(
-    rt: &impl Abort,
-    alloc: Global,
-    tail: &str,
-    fields: &[&str],
-) -> Result<(), AllocError> {
+/// Whether a field is read as it is when it stands alone, up to the comma of a tail.
+fn is_read(alloc: Global, field: &str, tail: &str) -> Result<bool, AllocError> {
+    let line = format!(in alloc; "{field}{tail}")?;
+    let alone = (Quantity::read(field.as_bytes()), field.len());
+    Ok(Quantity::read_field(line.as_bytes()) == alone)
+}
+
+fn are_read(rt: &impl Abort, alloc: Global, tail: &str, fields: &[&str]) -> Result<(), AllocError> {
     for field in fields {
-        let text = format!(in alloc; "{field}{tail}")?;
-        let alone = (Quantity::read(field.as_bytes()), field.len());
-        assert!(rt; Quantity::read_field(text.as_bytes()) == alone, "{text}");
+        assert!(rt; is_read(alloc, field, tail)?, "{field}{tail}");
     }
     Ok(())
 }
@@ -86,7 +85,7 @@ fn fields_are_read(
 #[test]
 fn fields(rt: HostRuntime) -> Result<(), Fail> {
     for tail in ["", ",", ",7", ",1.5,2.25,-3,0.000001,A"] {
-        fields_are_read(
+        are_read(
             &rt,
             rt.alloc(),
             tail,

@@ -14,7 +14,14 @@ pub fn cut(text: &str, at: char) -> (&str, &str) {
     text.split_once(at).unwrap_or((text, ""))
 }
 
-/// Each row holds behind a text that leaves no room.
+/// What is told of a text, behind another that leaves no room.
+fn told_behind<T: Told>(alloc: Global, before: &str, text: &str) -> Result<String, AllocError> {
+    let mut out = String::from_str(alloc, before)?;
+    T::tell(alloc, text, &mut out)?;
+    Ok(out)
+}
+
+/// Each row holds behind a text.
 fn hold_behind<T: Told>(
     rt: &impl Abort,
     alloc: Global,
@@ -23,9 +30,8 @@ fn hold_behind<T: Told>(
 ) -> Result<(), AllocError> {
     for row in rows {
         let (text, wanted) = cut(row, '=');
-        let mut out = String::from_str(alloc, before)?;
-        T::tell(alloc, text, &mut out)?;
-        assert_eq!(rt; out.as_str().strip_prefix(before), Some(wanted), "{row}");
+        let told = told_behind::<T>(alloc, before, text)?;
+        assert_eq!(rt; told.as_str().strip_prefix(before), Some(wanted), "{row}");
     }
     Ok(())
 }

@@ -80,13 +80,10 @@ fn covers(rt: HostRuntime) -> Result<(), Fail> {
     )?)
 }
 
-/// The marks at some places, with a blank behind each.
-fn push_marks(marks: &[Mark], places: &[usize], out: &mut String) -> Result<(), AllocError> {
-    for place in places {
-        if let Some(mark) = marks.get(*place) {
-            mark.write_to(out)?;
-            out.push(' ')?;
-        }
+/// The flag of each mark.
+fn push_flags(marks: &[Mark], out: &mut String) -> Result<(), AllocError> {
+    for mark in marks {
+        out.push(char::from(mark.quality.flag()))?;
     }
     Ok(())
 }
@@ -104,32 +101,40 @@ fn push_marks_from(cover: &Cover, default: &Mark, out: &mut String) -> Result<()
     write!(out, " {};", left.len())
 }
 
-/// How many marks there are, and the cover that is gathered of them.
+/// The cover that is gathered of marks, and how many intervals its day has.
 fn push_gathered(alloc: Global, marks: &[Mark], out: &mut String) -> Result<(), AllocError> {
     if marks.len() > 288 {
         return out.push_str("many");
     }
     let gathered = gather(alloc, marks)?;
-    write!(out, "{} {} ", marks.len(), gathered.count())?;
+    write!(out, " {} ", gathered.count())?;
     push_runs(&gathered, out)
 }
 
-/// The marks of a cover's day, from the mark where there is no run and, behind a `:`, the runs.
+/// The marks of a cover's day, this one where there is no run.
+fn push_spread(
+    alloc: Global,
+    cover: &Cover,
+    default: &Mark,
+    out: &mut String,
+) -> Result<(), AllocError> {
+    let marks = spread(alloc, cover, default)?;
+    push_flags(&marks, out)?;
+    push_gathered(alloc, &marks, out)
+}
+
+/// The marks of a day, from the mark where there is no run and, behind a `:`, the runs.
 struct Spread;
 
 impl Told for Spread {
     fn tell(alloc: Global, text: &str, out: &mut String) -> Result<(), AllocError> {
         let (default, runs) = cut(text, ':');
-        let cover = cover_of(alloc, runs, out)?;
         let Some(default) = mark_of(alloc, default)? else {
             return out.push_str("no mark");
         };
-        let marks = spread(alloc, &cover, &default)?;
-        push_marks(&marks, &[0, 19, 20, 23, 24, 45, 46, 47], out)?;
-        out.push('|')?;
+        let cover = cover_of(alloc, runs, out)?;
         push_marks_from(&cover, &default, out)?;
-        out.push('|')?;
-        push_gathered(alloc, &marks, out)
+        push_spread(alloc, &cover, &default, out)
     }
 }
 
@@ -139,10 +144,10 @@ fn marks_of_days(rt: HostRuntime) -> Result<(), Fail> {
         &rt,
         rt.alloc(),
         &[
-            "N:1-20 F14,76;21-24 A;25-48 S14,76=F14,76, F14,76, A,, A,, S14,76, S14,76, S14,76, S14,76, |\
-                F14,76, 3;A,, 2;S14,76, 1;|48 48 1-20 F14,76,;21-24 A,,;25-48 S14,76,;full",
-            "A:1-20 F14,76;47-48 F14,76=F14,76, F14,76, A,, A,, A,, A,, F14,76, F14,76, |\
-                F14,76, 2;A,, 1;F14,76, 1;|48 48 1-20 F14,76,;21-46 A,,;47-48 F14,76,;full",
+            "N:1-20 F14,76;21-24 A;25-48 S14,76=F14,76, 3;A,, 2;S14,76, 1;\
+                FFFFFFFFFFFFFFFFFFFFAAAASSSSSSSSSSSSSSSSSSSSSSSS 48 1-20 F14,76,;21-24 A,,;25-48 S14,76,;full",
+            "A:1-20 F14,76;47-48 F14,76=F14,76, 2;A,, 1;F14,76, 1;\
+                FFFFFFFFFFFFFFFFFFFFAAAAAAAAAAAAAAAAAAAAAAAAAAFF 48 1-20 F14,76,;21-46 A,,;47-48 F14,76,;full",
         ],
     )?)
 }

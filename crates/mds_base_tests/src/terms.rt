@@ -122,20 +122,25 @@ fn are_lent_details(row: &str) -> bool {
     DetailsRef::read(configuration, register, b"N1", b"01009", next).is_some()
 }
 
+/// Appends a copy of details.
+fn push_details(details: &Details, out: &mut String) -> Result<(), AllocError> {
+    let copy = details.try_clone()?;
+    if copy.is_same(details) && copy == *details {
+        copy.write_to(out)
+    } else {
+        out.push_str("other details")
+    }
+}
+
 /// Whether details are borrowed, and a copy of those of their own.
 impl Told for Details {
     fn tell(alloc: Global, text: &str, out: &mut String) -> Result<(), AllocError> {
         if !are_lent_details(text) {
             out.push_str("not lent ")?;
         }
-        let Some(details) = details_of(alloc, text)? else {
-            return out.push_str("none");
-        };
-        let copy = details.try_clone()?;
-        if copy.is_same(&details) && copy == details {
-            copy.write_to(out)
-        } else {
-            out.push_str("other details")
+        match details_of(alloc, text)? {
+            Some(details) => push_details(&details, out),
+            None => out.push_str("none"),
         }
     }
 }
@@ -199,32 +204,37 @@ fn event_of(alloc: Global, row: &str) -> Result<Option<Event>, AllocError> {
     Event::read(alloc, nmi, suffix, day, trans, ticket, moment, reading)
 }
 
-/// The event that such a row's borrowed event becomes.
+/// The event of its own that such a row's borrowed one becomes.
 fn lent_event_of(alloc: Global, row: &str) -> Result<Option<Event>, AllocError> {
     let [suffix, day, trans, ticket, moment, reading] = parts(row);
     let nmi = b"NEM1201009";
-    let lent = EventRef::read(nmi, suffix, day, trans, ticket, moment, reading);
-    match lent {
+    match EventRef::read(nmi, suffix, day, trans, ticket, moment, reading) {
         Some(lent) => Ok(Some(lent.to_event(alloc)?)),
         None => Ok(None),
     }
 }
 
-/// A copy of an event, where it is as the borrowed one becomes.
+/// Appends a copy of an event.
+fn push_event(event: &Event, out: &mut String) -> Result<(), AllocError> {
+    let copy = event.try_clone()?;
+    if copy.is_same(event) && copy == *event {
+        copy.write_to(out)
+    } else {
+        out.push_str("another event")
+    }
+}
+
+/// An event that was borrowed, and one of its own.
 impl Told for Event {
     fn tell(alloc: Global, text: &str, out: &mut String) -> Result<(), AllocError> {
-        let (lent, own) = (lent_event_of(alloc, text)?, event_of(alloc, text)?);
-        match (lent, own) {
-            (Some(lent), Some(own)) => {
-                let copy = lent.try_clone()?;
-                if copy.is_same(&lent) && copy.is_same(&own) && copy == own {
-                    copy.write_to(out)
-                } else {
-                    out.push_str("another event")
-                }
-            }
-            (None, None) => out.push_str("none"),
-            _ => out.push_str("one of two"),
+        match lent_event_of(alloc, text)? {
+            Some(event) => push_event(&event, out)?,
+            None => out.push_str("none")?,
+        }
+        out.push(' ')?;
+        match event_of(alloc, text)? {
+            Some(event) => push_event(&event, out),
+            None => out.push_str("none"),
         }
     }
 }
@@ -236,17 +246,18 @@ fn events(rt: HostRuntime) -> Result<(), Fail> {
         &rt,
         rt.alloc(),
         &[
-            "E1|20240102|O||20240102000000|15.5=NEM1201009,E1,20240102,O,,20240102000000,15.5",
-            "E1|20240102||S1||=NEM1201009,E1,20240102,,S1,,",
-            "E1|20240103|O|||15=NEM1201009,E1,20240103,O,,,15",
-            "E2|20240102|O|||15=NEM1201009,E2,20240102,O,,,15",
-            "E2|20240103||||15=NEM1201009,E2,20240103,,,,15",
-            "E2|20240103|O|||15=NEM1201009,E2,20240103,O,,,15",
-            "E2|20240103|O|||2=NEM1201009,E2,20240103,O,,,2",
-            "E1|20240102|o|||15.5=none",
-            "E1|20240102|OO|||15.5=none",
-            "E1|20240102|O|1,2||15.5=none",
-            "E1|20240102|O||2024010200000|15.5=none",
+            "E1|20240102|O||20240102000000|15.5=NEM1201009,E1,20240102,O,,20240102000000,15.5 \
+                NEM1201009,E1,20240102,O,,20240102000000,15.5",
+            "E1|20240102||S1||=NEM1201009,E1,20240102,,S1,, NEM1201009,E1,20240102,,S1,,",
+            "E1|20240103|O|||15=NEM1201009,E1,20240103,O,,,15 NEM1201009,E1,20240103,O,,,15",
+            "E2|20240102|O|||15=NEM1201009,E2,20240102,O,,,15 NEM1201009,E2,20240102,O,,,15",
+            "E2|20240103||||15=NEM1201009,E2,20240103,,,,15 NEM1201009,E2,20240103,,,,15",
+            "E2|20240103|O|||15=NEM1201009,E2,20240103,O,,,15 NEM1201009,E2,20240103,O,,,15",
+            "E2|20240103|O|||2=NEM1201009,E2,20240103,O,,,2 NEM1201009,E2,20240103,O,,,2",
+            "E1|20240102|o|||15.5=none none",
+            "E1|20240102|OO|||15.5=none none",
+            "E1|20240102|O|1,2||15.5=none none",
+            "E1|20240102|O||2024010200000|15.5=none none",
         ],
     )?)
 }

@@ -1,12 +1,13 @@
 //! The words of a call, as `clap` reads them.
 
-ghost use Rattle.std.specs.Prelude.{◌≡◌, ◌^◌, List, Some, true, codes, map, string_bytes, IfErr, IfOk};
+ghost use Rattle.std.specs.Prelude.{◌≡◌, ◌∷◌, ◌^◌, List, [], Some, true, bytes_eq, codes, map, string_bytes, IfErr, IfOk};
+ghost use Rattle.std.specs.List.{list_any};
 ghost use Rattle.std.specs.Borrow.{Bor};
 ghost use Rattle.clap.specs.Walk.{texts};
 ghost use Rattle.clap.specs.Words.{App, Text, found_of, kind_of, rows_of, takes};
 ghost use Rattle.mds_words.specs.Asked.{Asks, IsAskedBy, input_of, input_value, kind_of_name, number_of, value_of, values_of};
 ghost use Rattle.mds_words.specs.Commands.{has_command};
-ghost use Rattle.mds_words.specs.Grammar.{IsMdstore, mdstore_app};
+ghost use Rattle.mds_words.specs.Grammar.{IsMdstore, export_command, finals_command, gaps_command, mdstore_app, serve_command, store_commands};
 
 use crate::commands::{grammar, kinds};
 use crate::words::{Input, Words, WordsFault};
@@ -64,6 +65,10 @@ fn asked<'a>(alloc: Global, name: &str, found: &ArgMatches<'a>) -> Result<Words<
         → Asks (Some (name.now, rows_of (found_of found.now))) words) }
 {
     match name {
+        "check" => Ok(Words::Check {
+            kind: kind(found),
+            input: Input::new(word(found, "file")),
+        }),
         "init" => Ok(Words::Init {
             store: word(found, "store"),
         }),
@@ -80,6 +85,20 @@ fn asked<'a>(alloc: Global, name: &str, found: &ArgMatches<'a>) -> Result<Words<
             store: word(found, "store"),
             input: Input::new(word(found, "file")),
         }),
+        _ => asked_of_store(alloc, name, found),
+    }
+}
+
+/// The same of a command on a store alone.
+fn asked_of_store<'a>(
+    alloc: Global,
+    name: &str,
+    found: &ArgMatches<'a>,
+) -> Result<Words<'a>, AllocError>
+    ensures { IfOk result (λ words. list_any (λ shape. bytes_eq shape.name name.now) store_commands ≡ true
+        → Asks (Some (name.now, rows_of (found_of found.now))) words) }
+{
+    match name {
         "streams" => Ok(Words::Streams {
             store: word(found, "store"),
         }),
@@ -101,6 +120,21 @@ fn asked<'a>(alloc: Global, name: &str, found: &ArgMatches<'a>) -> Result<Words<
             nmi: word(found, "nmi"),
             suffix: word(found, "suffix"),
         }),
+        _ => asked_of_range(alloc, name, found),
+    }
+}
+
+/// The same of a command on a range of days, or of the service.
+fn asked_of_range<'a>(
+    alloc: Global,
+    name: &str,
+    found: &ArgMatches<'a>,
+) -> Result<Words<'a>, AllocError>
+    ensures { IfOk result (λ words.
+        list_any (λ shape. bytes_eq shape.name name.now) (gaps_command ∷ finals_command ∷ export_command ∷ serve_command ∷ []) ≡ true
+        → Asks (Some (name.now, rows_of (found_of found.now))) words) }
+{
+    match name {
         "gaps" => Ok(Words::Gaps {
             store: word(found, "store"),
             nmi: word(found, "nmi"),
@@ -125,14 +159,10 @@ fn asked<'a>(alloc: Global, name: &str, found: &ArgMatches<'a>) -> Result<Words<
             receiver: word(found, "receiver"),
             suffixes: all_words(alloc, found, "suffixes")?,
         }),
-        "serve" => Ok(Words::Serve {
+        _ => Ok(Words::Serve {
             store: word(found, "store"),
             port: port(found),
             count: count(found),
-        }),
-        _ => Ok(Words::Check {
-            kind: kind(found),
-            input: Input::new(word(found, "file")),
         }),
     }
 }

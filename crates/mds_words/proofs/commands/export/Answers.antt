@@ -1,17 +1,12 @@
-use Rattle.std.proofs.Common.{rules, codes}
-use Rattle.clap.specs.Simple.{new_shape}
-use Rattle.mds_words.specs.Commands.{IsLeaf}
-use Rattle.mds_words.proofs.Building.{or_fails, with_one_more}
 use Rattle.mds_words.proofs.commands.export.Goals as goal
 
 pub returns : goal.returns
 returns c =
-    let bare : IsLeaf (new_shape (codes "export")) c.about.result = search rules in
-    let one = with_one_more bare c.store.ensures c.in_ok-arg.ensures in
-    let two = with_one_more one c.nmi.ensures c.in_ok-arg-2.ensures in
-    let three = with_one_more two c.from.ensures c.in_ok-arg-3.ensures in
-    let four = with_one_more three c.to.ensures c.in_ok-arg-4.ensures in
-    let five = with_one_more four c.moment.ensures c.in_ok-arg-5.ensures in
-    let six = with_one_more five c.sender.ensures c.in_ok-arg-6.ensures in
-    let seven = with_one_more six c.receiver.ensures c.in_ok-arg-7.ensures in
-    or_fails _ seven c.suffixes.ensures c.arg-8.ensures
+    let one = c.command-export.ensures _ c.store.ensures in
+    let two = c.with_argument-export.ensures _ _ one c.nmi.ensures in
+    let three = c.with_argument-export-2.ensures _ _ two c.from.ensures in
+    let four = c.with_argument-export-3.ensures _ _ three c.to.ensures in
+    let five = c.with_argument-export-4.ensures _ _ four c.moment.ensures in
+    let six = c.with_argument-export-5.ensures _ _ five c.sender.ensures in
+    let seven = c.with_argument-export-6.ensures _ _ six c.receiver.ensures in
+    c.with_argument.ensures _ _ seven c.suffixes.ensures

@@ -1,4 +1,5 @@
-use Rattle.std.proofs.Common.{rules, codes, true, []}
+use Rattle.std.proofs.Common.{rules, codes, true, [], IfOk}
+use Rattle.std.proofs.lemmas.Result.{IfOk-weaker}
 use Rattle.clap.specs.Words.{App}
 use Rattle.clap.specs.Simple.{new_shape}
 use Rattle.mds_words.specs.Commands.{IsApp}
@@ -12,5 +13,6 @@ program = record {
 
 pub returns : goal.returns
 returns c =
-    let bare : IsApp program c.subcommand_required-program.result = search rules in
-    c.with_store_commands.ensures _ (c.in_ok-with_file_commands.ensures program bare)
+    let bare : IfOk c.bin_name-program.result (IsApp program) =
+    IfOk-weaker c.bin_name-program.result _ (IsApp program) (λ named is. search rules) c.bin_name-program.ensures in
+    c.with_store_commands.ensures _ (c.with_file_commands.ensures program bare)
