@@ -3,14 +3,10 @@
 #![tactic(auto)]
 
 mod context;
-#[cfg(test)]
-mod fill_tests;
 mod filling;
 mod like_days;
 mod sources;
 mod targets;
-#[cfg(test)]
-mod tests;
 mod usable;
 
 pub use context::Context;

@@ -5,8 +5,6 @@
 mod body;
 mod job;
 mod job_id;
-#[cfg(test)]
-mod tests;
 
 pub use body::bodies_read_back;
 pub use job::Job;

@@ -2,8 +2,6 @@
 #![tactic(auto)]
 
 mod stretches;
-#[cfg(test)]
-mod tests;
 mod writing;
 
 pub use stretches::{Final, Gap, finals, gaps};

@@ -8,8 +8,6 @@ mod day_book;
 mod day_merge;
 mod keeper;
 mod refusal;
-#[cfg(test)]
-mod tests;
 
 pub use additions::{Additions, DayVersions};
 pub use claim::Claim;

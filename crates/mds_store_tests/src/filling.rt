@@ -2,7 +2,7 @@
 
 ghost use Rattle.std.specs.Prelude.{◌<◌, ◌≤◌};
 
-use crate::{Context, candidates, fill};
+use mds_fill::{Context, candidates, fill};
 use mds_jobs::{Job, JobId};
 use mds_quantity::{Quantity, Unit};
 use mds_terms::{Day, Length, Mark, Moment, Quality, Reading, Reason, Stream};
