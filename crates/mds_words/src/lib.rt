@@ -3,8 +3,6 @@
 
 mod commands;
 mod grammar;
-#[cfg(test)]
-mod tests;
 mod words;
 
 pub use words::{Input, Words, WordsFault, read_words};

@@ -1,0 +1,5 @@
+//! Tests of the words of a call.
+#![tactic(auto)]
+
+#[cfg(test)]
+mod asked;
