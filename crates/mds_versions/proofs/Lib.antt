@@ -3,6 +3,7 @@ pub mod BookPlaces
 pub mod BookReads
 pub mod BookRowsMade
 pub mod BooksMade
+pub mod KeptReadings
 pub mod Planned
 pub mod Rows
 pub mod Settled

@@ -1,7 +1,6 @@
 -- What a merge adds to the book, and how much of it is there.
 use Rattle.std.proofs.Common.{◌≡◌, ◌≢◌, ℕ, zero, suc, ◌+◌, ◌≤◌, List, [], ◌∷◌, ◌++◌, length, map, Option, Some, None, refl, sym, ap, ◌∙◌, subst, inl, inr, arith, append_assoc}
 use Rattle.std.specs.Prelude.{Bool, true, false, cond, not}
-use Rattle.std.specs.BTreeMap.{BTreeMap}
 use Rattle.std.specs.List.{slice_get}
 use Rattle.std.proofs.lemmas.Grind.{flat_map-append}
 use Rattle.std.proofs.lemmas.List.{append-nil, length-append, length-map, map-append}
@@ -24,7 +23,7 @@ use Rattle.mds_versions.specs.Books.{BookValue, book_world}
 use Rattle.mds_versions.specs.Claims.{AreShort, fresh_all, fresh_heads, fresh_versions, held_all, held_count, is_held, key_of}
 use Rattle.mds_versions.specs.Content.{day_versions, version_at, version_fact, versions_of}
 use Rattle.mds_versions.specs.DayMerges.{DayMergeValue, Settles}
-use Rattle.mds_versions.specs.DayMergeSteps.{AreCounts, IsDayMerge, all_claimed, merge_value}
+use Rattle.mds_versions.specs.DayMergeSteps.{AreCounts, AreInBook, IsDayMerge, all_claimed, claimed_entries, claimed_entry, claimed_readings, merge_value, readings_under}
 use Rattle.mds_versions.specs.declared.additions.Additions.{Additions}
 use Rattle.mds_versions.specs.declared.additions.DayVersions.{DayVersions}
 use Rattle.mds_versions.specs.declared.day_book.Version.{Version}
@@ -83,11 +82,12 @@ new_first b update interval readings r later step e =
     none_or_more (is_held b update interval r) (held_count b update (interval + 1) later)
     (ap (held_count b update interval) (sym step) ∙ e)
 
-pub new_update : (b : BookValue) (es : List (ℕ × Vec ReadingValue Global)) (update : ℕ) (readings : Vec ReadingValue Global)
-    (later : List (ℕ × Vec ReadingValue Global)) → es ≡ (update, readings) ∷ later → held_all b es ≡ 0
-    → (held_count b update 1 readings.items ≡ 0) × (held_all b later ≡ 0)
-new_update b es update readings later step e =
-    let sum : held_count b update 1 readings.items + held_all b later ≡ 0 = ap (held_all b) (sym step) ∙ e in
+pub new_update : (b : BookValue) (es : List (ℕ × Option (Vec ReadingValue Global))) (update : ℕ) (kept : Option (Vec ReadingValue Global))
+    (later : List (ℕ × Option (Vec ReadingValue Global))) → es ≡ (update, kept) ∷ later → held_all b (claimed_entries b es) ≡ 0
+    → (held_count b update 1 (claimed_readings b update kept) ≡ 0) × (held_all b (claimed_entries b later) ≡ 0)
+new_update b es update kept later step e =
+    let sum : held_count b update 1 (claimed_readings b update kept) + held_all b (claimed_entries b later) ≡ 0 =
+    ap (λ l. held_all b (claimed_entries b l)) (sym step) ∙ e in
     (omega arith, omega arith)
 
 pub length_none : {X : Type 0} (xs : List X) → length xs ≡ 0 → xs ≡ []
@@ -110,7 +110,7 @@ pushed b now next interval update r e =
     ∙ map-append (version_at b.stream b.day) now ((interval, record { update = update; reading = r }) ∷ [])
 
 -- one more day
-pub day_pushed : (b : BookValue) (es : List (ℕ × Vec ReadingValue Global)) (old new : List DayVersions) (day : DayVersions) (none : List (ℕ × Version))
+pub day_pushed : (b : BookValue) (es : List (ℕ × List ReadingValue)) (old new : List DayVersions) (day : DayVersions) (none : List (ℕ × Version))
     → new ≡ old ++ day ∷ [] → day.stream ≡ b.stream → day.day ≡ b.day → none ≡ []
     → map (version_at b.stream b.day) day.rows.items ≡ map (version_at b.stream b.day) none ++ fresh_all b es
     → versions_of new ≡ versions_of old ++ fresh_all b es
@@ -224,112 +224,146 @@ picked_apart want b update interval (r ∷ rs) = go (want (is_held b update inte
     go false a = a
 
 -- of all updates
-abbrev pub picked_all : (Bool → Bool) → BookValue → List (ℕ × Vec ReadingValue Global) → List (Key × ReadingValue)
+abbrev pub picked_all : (Bool → Bool) → BookValue → List (ℕ × List ReadingValue) → List (Key × ReadingValue)
 picked_all want b [] = []
-picked_all want b (e ∷ es) = picked want b e.0 1 e.1.items ++ picked_all want b es
+picked_all want b (e ∷ es) = picked want b e.0 1 e.1 ++ picked_all want b es
 
-all_picked : (b : BookValue) (es : List (ℕ × Vec ReadingValue Global)) → fresh_all b es ≡ picked_all not b es
+all_picked : (b : BookValue) (es : List (ℕ × List ReadingValue)) → fresh_all b es ≡ picked_all not b es
 all_picked b [] = refl
-all_picked b (e ∷ es) = λ i. fresh_picked b e.0 1 e.1.items i ++ all_picked b es i
+all_picked b (e ∷ es) = λ i. fresh_picked b e.0 1 e.1 i ++ all_picked b es i
 
-all_held : (b : BookValue) (es : List (ℕ × Vec ReadingValue Global)) → held_all b es ≡ length (picked_all has b es)
+all_held : (b : BookValue) (es : List (ℕ × List ReadingValue)) → held_all b es ≡ length (picked_all has b es)
 all_held b [] = refl
 all_held b (e ∷ es) =
-    (λ i. held_picked b e.0 1 e.1.items i + all_held b es i) ∙ sym (length-append (picked has b e.0 1 e.1.items) (picked_all has b es))
+    (λ i. held_picked b e.0 1 e.1 i + all_held b es i) ∙ sym (length-append (picked has b e.0 1 e.1) (picked_all has b es))
 
-abbrev IsOfAll : (Bool → Bool) → BookValue → List (ℕ × Vec ReadingValue Global) → Key × ReadingValue → Type 0
+abbrev IsOfAll : (Bool → Bool) → BookValue → List (ℕ × List ReadingValue) → Key × ReadingValue → Type 0
 IsOfAll want b es p =
-    (entry : ℕ × Vec ReadingValue Global) × Member entry es × (k : ℕ) × (slice_get entry.1.items k ≡ Some p.1)
+    (entry : ℕ × List ReadingValue) × Member entry es × (k : ℕ) × (slice_get entry.1 k ≡ Some p.1)
     × (p.0 ≡ key_of b (k + 1) entry.0) × (want (is_held b entry.0 (k + 1) p.1) ≡ true)
 
-from_all : (want : Bool → Bool) (b : BookValue) (es : List (ℕ × Vec ReadingValue Global)) (p : Key × ReadingValue)
+from_all : (want : Bool → Bool) (b : BookValue) (es : List (ℕ × List ReadingValue)) (p : Key × ReadingValue)
     → Member p (picked_all want b es) → IsOfAll want b es p
 from_all want b [] p m = absurd m
-from_all want b (e ∷ es) p m = elim (member_append p (picked want b e.0 1 e.1.items) (picked_all want b es) m) [
-  | inl n ↦ let is = from_picked want b e.0 1 e.1.items p n in
+from_all want b (e ∷ es) p m = elim (member_append p (picked want b e.0 1 e.1) (picked_all want b es) m) [
+  | inl n ↦ let is = from_picked want b e.0 1 e.1 p n in
       let z : 1 + is.0 ≡ is.0 + 1 = omega arith in
       (e, inl refl, is.0, is.1, is.2 ∙ ap (λ i. key_of b i e.0) z, ap (λ i. want (is_held b e.0 i p.1)) (sym z) ∙ is.3)
   | inr n ↦ let is = from_all want b es p n in (is.0, inr is.1, is.2, is.3, is.4, is.5)
 ]
 
-to_all : (want : Bool → Bool) (b : BookValue) (es : List (ℕ × Vec ReadingValue Global)) (entry : ℕ × Vec ReadingValue Global) → Member entry es
-    → (k : ℕ) (r : ReadingValue) → slice_get entry.1.items k ≡ Some r → want (is_held b entry.0 (k + 1) r) ≡ true
+to_all : (want : Bool → Bool) (b : BookValue) (es : List (ℕ × List ReadingValue)) (entry : ℕ × List ReadingValue) → Member entry es
+    → (k : ℕ) (r : ReadingValue) → slice_get entry.1 k ≡ Some r → want (is_held b entry.0 (k + 1) r) ≡ true
     → Member (key_of b (k + 1) entry.0, r) (picked_all want b es)
 to_all want b [] entry m k r e w = absurd m
 to_all want b (x ∷ es) entry (inl f) k r e w =
-    append_left _ (picked want b x.0 1 x.1.items) (picked_all want b es)
-    (subst (λ y. Member (key_of b (k + 1) entry.0, r) (picked want b y.0 1 y.1.items)) f
-    (subst (λ i. Member (key_of b i entry.0, r) (picked want b entry.0 1 entry.1.items)) z
-    (to_picked want b entry.0 1 entry.1.items k r e (ap (λ i. want (is_held b entry.0 i r)) z ∙ w))))
+    append_left _ (picked want b x.0 1 x.1) (picked_all want b es)
+    (subst (λ y. Member (key_of b (k + 1) entry.0, r) (picked want b y.0 1 y.1)) f
+    (subst (λ i. Member (key_of b i entry.0, r) (picked want b entry.0 1 entry.1)) z
+    (to_picked want b entry.0 1 entry.1 k r e (ap (λ i. want (is_held b entry.0 i r)) z ∙ w))))
   where
     z : 1 + k ≡ k + 1
     z = omega arith
 to_all want b (x ∷ es) entry (inr m) k r e w =
-    append_right _ (picked want b x.0 1 x.1.items) (picked_all want b es) (to_all want b es entry m k r e w)
+    append_right _ (picked want b x.0 1 x.1) (picked_all want b es) (to_all want b es entry m k r e w)
 
-all_apart : (want : Bool → Bool) (b : BookValue) (es : List (ℕ × Vec ReadingValue Global)) → Apart (map (λ entry. entry.0) es)
+all_apart : (want : Bool → Bool) (b : BookValue) (es : List (ℕ × List ReadingValue)) → Apart (map (λ entry. entry.0) es)
     → Apart (map version_fact (picked_all want b es))
 all_apart want b [] a = tt
 all_apart want b (e ∷ es) a =
-    subst Apart (sym (map-append version_fact (picked want b e.0 1 e.1.items) (picked_all want b es)))
-    (apart_append (map version_fact (picked want b e.0 1 e.1.items)) (map version_fact (picked_all want b es))
-    (picked_apart want b e.0 1 e.1.items) (all_apart want b es a.1) (λ f m n.
-    let p = in_map version_fact (picked want b e.0 1 e.1.items) f m in
+    subst Apart (sym (map-append version_fact (picked want b e.0 1 e.1) (picked_all want b es)))
+    (apart_append (map version_fact (picked want b e.0 1 e.1)) (map version_fact (picked_all want b es))
+    (picked_apart want b e.0 1 e.1) (all_apart want b es a.1) (λ f m n.
+    let p = in_map version_fact (picked want b e.0 1 e.1) f m in
     let q = in_map version_fact (picked_all want b es) f n in
-    let is = from_picked want b e.0 1 e.1.items p.0 p.1 in
+    let is = from_picked want b e.0 1 e.1 p.0 p.1 in
     let of = from_all want b es q.0 q.1 in
     let same = version_inj p.0 q.0 (sym p.2 ∙ q.2) in
     let key : e.0 ≡ of.0.0 = sym (ap (λ k. k.update) is.2) ∙ ap (λ x. x.0.update) same ∙ ap (λ k. k.update) of.4 in
-    a.0 (subst (λ u. Member u (map (λ entry. entry.0) es)) (sym key) (map_in (λ (entry : ℕ × Vec ReadingValue Global). entry.0) es of.0 of.1))))
+    a.0 (subst (λ u. Member u (map (λ entry. entry.0) es)) (sym key) (map_in (λ (entry : ℕ × List ReadingValue). entry.0) es of.0 of.1))))
+
+-- none is fresh of readings that the book has
+none_of_book : (b : BookValue) (update interval : ℕ) (rs : List ReadingValue)
+    → ((k : ℕ) (r : ReadingValue) → slice_get rs k ≡ Some r → is_held b update (interval + k) r ≡ true)
+    → fresh_versions b update interval rs ≡ []
+none_of_book b update interval [] held = refl
+none_of_book b update interval (r ∷ rs) held =
+    let z : interval ≡ interval + 0 = omega arith in
+    ap (λ t. cond t (fresh_versions b update (interval + 1) rs) ((key_of b interval update, r) ∷ fresh_versions b update (interval + 1) rs))
+    (ap (λ i. is_held b update i r) z ∙ held 0 r refl)
+    ∙ none_of_book b update (interval + 1) rs (λ k x e.
+    ap (λ i. is_held b update i x) (let y : interval + 1 + k ≡ interval + suc k = omega arith in y) ∙ held (suc k) x e)
 
 -- the loop over the updates
-pub record IsSettled (b : BookValue) (es : List (ℕ × Vec ReadingValue Global)) (old now : List (Key × ReadingValue))
-    (rest : List (ℕ × Vec ReadingValue Global)) : Type 0 where
-  pub versions : now ++ fresh_all b rest ≡ old ++ fresh_all b es
-  pub within : (entry : ℕ × Vec ReadingValue Global) → Member entry rest → Member entry es
+pub record IsSettled (b : BookValue) (es : List (ℕ × Option (Vec ReadingValue Global))) (old now : List (Key × ReadingValue))
+    (rest : List (ℕ × Option (Vec ReadingValue Global))) : Type 0 where
+  pub versions : now ++ fresh_all b (claimed_entries b rest) ≡ old ++ fresh_all b (claimed_entries b es)
+  pub within : (entry : ℕ × Option (Vec ReadingValue Global)) → Member entry rest → Member entry es
 
-pub start_settled : (b : BookValue) (es rest : List (ℕ × Vec ReadingValue Global)) (old : List (Key × ReadingValue)) → rest ≡ es
+pub start_settled : (b : BookValue) (es rest : List (ℕ × Option (Vec ReadingValue Global))) (old : List (Key × ReadingValue)) → rest ≡ es
     → IsSettled b es old old rest
 start_settled b es rest old e = record {
-  versions = ap (λ l. old ++ fresh_all b l) e;
+  versions = ap (λ l. old ++ fresh_all b (claimed_entries b l)) e;
   within = λ entry m. subst (λ l. Member entry l) e m;
 }
 
-pub one_settled : (b : BookValue) (es : List (ℕ × Vec ReadingValue Global)) (old now next : List (Key × ReadingValue))
-    (rest later : List (ℕ × Vec ReadingValue Global)) (update : ℕ) (readings : Vec ReadingValue Global) → IsSettled b es old now rest
-    → rest ≡ (update, readings) ∷ later → next ≡ now ++ fresh_versions b update 1 readings.items → IsSettled b es old next later
-one_settled b es old now next rest later update readings is step push = record {
-  versions = ap (λ l. l ++ fresh_all b later) push ∙ append_assoc now (fresh_versions b update 1 readings.items) (fresh_all b later)
-      ∙ ap (λ l. now ++ fresh_all b l) (sym step) ∙ is.versions;
-  within = λ entry m. is.within entry (subst (λ l. Member entry l) (sym step) (inr m));
-}
+module _ (b : BookValue) (es : List (ℕ × Option (Vec ReadingValue Global))) (old now : List (Key × ReadingValue))
+    (rest later : List (ℕ × Option (Vec ReadingValue Global))) (update : ℕ) (kept : Option (Vec ReadingValue Global))
+    (is : IsSettled b es old now rest) (step : rest ≡ (update, kept) ∷ later) where
+  pub here_settled : Member (update, kept) es
+  here_settled = is.within (update, kept) (subst (λ l. Member (update, kept) l) (sym step) (inl refl))
 
-pub all_settled : (b : BookValue) (es : List (ℕ × Vec ReadingValue Global)) (old now : List (Key × ReadingValue))
-    (rest : List (ℕ × Vec ReadingValue Global)) → IsSettled b es old now rest → rest ≡ [] → now ≡ old ++ fresh_all b es
-all_settled b es old now rest is e = sym (append-nil now) ∙ ap (λ l. now ++ fresh_all b l) (sym e) ∙ is.versions
+  later_within : (entry : ℕ × Option (Vec ReadingValue Global)) → Member entry later → Member entry es
+  later_within entry m = is.within entry (subst (λ l. Member entry l) (sym step) (inr m))
 
-pub readings_short : (b : BookValue) (es : List (ℕ × Vec ReadingValue Global)) → AreShort es
-    → (old now : List (Key × ReadingValue)) (rest later : List (ℕ × Vec ReadingValue Global)) (update : ℕ) (readings : Vec ReadingValue Global)
-    → IsSettled b es old now rest → rest ≡ (update, readings) ∷ later → length readings.items ≤ 1440
-readings_short b es short old now rest later update readings is step =
-    short (update, readings) (is.within (update, readings) (subst (λ l. Member (update, readings) l) (sym step) (inl refl)))
+  pub one_settled : (readings : List ReadingValue) → claimed_readings b update kept ≡ readings → (next : List (Key × ReadingValue))
+      → next ≡ now ++ fresh_versions b update 1 readings → IsSettled b es old next later
+  one_settled readings same next push = record {
+    versions = ap (λ l. l ++ fresh_all b (claimed_entries b later)) push
+        ∙ append_assoc now (fresh_versions b update 1 readings) (fresh_all b (claimed_entries b later))
+        ∙ ap (λ l. now ++ (fresh_versions b update 1 l ++ fresh_all b (claimed_entries b later))) (sym same)
+        ∙ ap (λ l. now ++ fresh_all b (claimed_entries b l)) (sym step) ∙ is.versions;
+    within = later_within;
+  }
+
+  -- the book has them all
+  pub none_settled : kept ≡ None → AreInBook b es → IsSettled b es old now later
+  none_settled none held = record {
+    versions = ap (λ l. now ++ (l ++ fresh_all b (claimed_entries b later)))
+        (sym (ap (λ o. fresh_versions b update 1 (claimed_readings b update o)) none
+        ∙ none_of_book b update 1 (readings_under update b.rows) (λ k r e.
+        ap (λ n. set.contains (book_world b) (VersionIs (key_of b n update) r)) (let z : 1 + k ≡ k + 1 = omega arith in z)
+        ∙ held update (subst (λ o. Member (update, o) es) none here_settled) k r e)))
+        ∙ ap (λ l. now ++ fresh_all b (claimed_entries b l)) (sym step) ∙ is.versions;
+    within = later_within;
+  }
+
+  pub readings_short : AreShort (claimed_entries b es) → length (claimed_readings b update kept) ≤ 1440
+  readings_short short =
+      short (update, claimed_readings b update kept) (map_in (claimed_entry b) es (update, kept) here_settled)
+
+pub all_settled : (b : BookValue) (es : List (ℕ × Option (Vec ReadingValue Global))) (old now : List (Key × ReadingValue))
+    (rest : List (ℕ × Option (Vec ReadingValue Global))) → IsSettled b es old now rest → rest ≡ []
+    → now ≡ old ++ fresh_all b (claimed_entries b es)
+all_settled b es old now rest is e =
+    sym (append-nil now) ∙ ap (λ l. now ++ fresh_all b (claimed_entries b l)) (sym e) ∙ is.versions
 
 -- where none is fresh
-pub none_fresh : (b : BookValue) (es : List (ℕ × Vec ReadingValue Global)) (held fresh : ℕ) (old : List (Key × ReadingValue))
+pub none_fresh : (b : BookValue) (es : List (ℕ × List ReadingValue)) (held fresh : ℕ) (old : List (Key × ReadingValue))
     → AreCounts b es held fresh → fresh ≡ 0 → old ≡ old ++ fresh_all b es
 none_fresh b es held fresh old c e =
     sym (append-nil old) ∙ ap (λ l. old ++ l) (sym (length_none (fresh_all b es) (sym c.fresh_are ∙ e)))
 
-pub all_short : (b : BookValue) (form : Option (ℕ × MeasureUnit)) (claimed : BTreeMap ℕ (Vec ReadingValue Global)) → IsDayMerge b form claimed
-    → AreShort claimed.entries
+pub all_short : (b : BookValue) (form : Option (ℕ × MeasureUnit)) (claimed : List (ℕ × List ReadingValue)) → IsDayMerge b form claimed
+    → AreShort claimed
 all_short b form claimed d entry m = go form refl
   where
-    go : (o : Option (ℕ × MeasureUnit)) → form ≡ o → length entry.1.items ≤ 1440
+    go : (o : Option (ℕ × MeasureUnit)) → form ≡ o → length entry.1 ≤ 1440
     go None e = absurd (subst (λ es. Member entry es) (d.none e) m)
     go (Some known) e = omega (arith, d.whole known e entry m, div-le_self 1440 known.0)
 
 -- the head and the versions that a merge adds
-module _ (b : BookValue) (form : Option (ℕ × MeasureUnit)) (claimed : BTreeMap ℕ (Vec ReadingValue Global)) (d : IsDayMerge b form claimed) where
+module _ (b : BookValue) (form : Option (ℕ × MeasureUnit)) (claimed : List (ℕ × List ReadingValue)) (d : IsDayMerge b form claimed) where
   from_heads : (head form : Option (ℕ × MeasureUnit)) (h : Head) → Member h (fresh_heads b.stream b.day head form)
       → (head ≡ None) × (known : ℕ × MeasureUnit) × (form ≡ Some known) × (h ≡ head_of b known)
   from_heads (Some k) f h m = absurd m
@@ -342,24 +376,24 @@ module _ (b : BookValue) (form : Option (ℕ × MeasureUnit)) (claimed : BTreeMa
   heads_apart None None = tt
   heads_apart None (Some known) = ((λ m. m), tt)
 
-  claimed_form : (entry : ℕ × Vec ReadingValue Global) → Member entry claimed.entries → (known : ℕ × MeasureUnit) × (form ≡ Some known)
+  claimed_form : (entry : ℕ × List ReadingValue) → Member entry claimed → (known : ℕ × MeasureUnit) × (form ≡ Some known)
   claimed_form entry m = go form refl
     where
       go : (o : Option (ℕ × MeasureUnit)) → form ≡ o → (known : ℕ × MeasureUnit) × (form ≡ Some known)
       go None e = absurd (subst (λ es. Member entry es) (d.none e) m)
       go (Some known) e = (known, e)
 
-  to_facts : (f : Fact) → f ∈ all_claimed b form claimed.entries → set.contains (book_world b) f ≢ true
-      → Member f (map HeadIs (fresh_heads b.stream b.day b.head form) ++ map version_fact (picked_all not b claimed.entries))
+  to_facts : (f : Fact) → f ∈ all_claimed b form claimed → set.contains (book_world b) f ≢ true
+      → Member f (map HeadIs (fresh_heads b.stream b.day b.head form) ++ map version_fact (picked_all not b claimed))
   to_facts f i out =
-      let n = in_said b form claimed.entries f i in
+      let n = in_said b form claimed f i in
       elim n.4 [
-        | inl e ↦ append_left f (map HeadIs (fresh_heads b.stream b.day b.head form)) (map version_fact (picked_all not b claimed.entries))
+        | inl e ↦ append_left f (map HeadIs (fresh_heads b.stream b.day b.head form)) (map version_fact (picked_all not b claimed))
             (head_case n.0 n.1 e b.head refl)
-        | inr v ↦ append_right f (map HeadIs (fresh_heads b.stream b.day b.head form)) (map version_fact (picked_all not b claimed.entries))
-            (subst (λ g. Member g (map version_fact (picked_all not b claimed.entries))) (sym v.3)
-            (map_in version_fact (picked_all not b claimed.entries) (key_of b (v.0 + 1) n.2.0, v.1)
-            (to_all not b claimed.entries n.2 n.3 v.0 v.1 v.2
+        | inr v ↦ append_right f (map HeadIs (fresh_heads b.stream b.day b.head form)) (map version_fact (picked_all not b claimed))
+            (subst (λ g. Member g (map version_fact (picked_all not b claimed))) (sym v.3)
+            (map_in version_fact (picked_all not b claimed) (key_of b (v.0 + 1) n.2.0, v.1)
+            (to_all not b claimed n.2 n.3 v.0 v.1 v.2
             (true_not (is_held b n.2.0 (v.0 + 1) v.1) (λ h. out (ap (set.contains (book_world b)) v.3 ∙ h))))))
       ]
     where
@@ -371,9 +405,9 @@ module _ (b : BookValue) (form : Option (ℕ × MeasureUnit)) (claimed : BTreeMa
       head_case known e is None h =
           subst (λ o. Member f (map HeadIs (fresh_heads b.stream b.day None o))) (sym e) (inl is)
 
-  from_facts : (f : Fact) → Member f (map HeadIs (fresh_heads b.stream b.day b.head form) ++ map version_fact (picked_all not b claimed.entries))
-      → (f ∈ all_claimed b form claimed.entries) × (set.contains (book_world b) f ≢ true)
-  from_facts f m = elim (member_append f (map HeadIs (fresh_heads b.stream b.day b.head form)) (map version_fact (picked_all not b claimed.entries)) m) [
+  from_facts : (f : Fact) → Member f (map HeadIs (fresh_heads b.stream b.day b.head form) ++ map version_fact (picked_all not b claimed))
+      → (f ∈ all_claimed b form claimed) × (set.contains (book_world b) f ≢ true)
+  from_facts f m = elim (member_append f (map HeadIs (fresh_heads b.stream b.day b.head form)) (map version_fact (picked_all not b claimed)) m) [
     | inl n ↦ let p = in_map HeadIs (fresh_heads b.stream b.day b.head form) f n in
         let q = from_heads b.head form p.0 p.1 in
         let is : f ≡ HeadIs (head_of b q.1) = p.2 ∙ ap HeadIs q.3 in (
@@ -383,8 +417,8 @@ module _ (b : BookValue) (form : Option (ℕ × MeasureUnit)) (claimed : BTreeMa
           ],
           (λ h. elim (in_book b f h) [ inl k ↦ let z = q.0 in let y = k.1 in cc | inr r ↦ let e = r.2 in cc ]),
         )
-    | inr n ↦ let p = in_map version_fact (picked_all not b claimed.entries) f n in
-        let q = from_all not b claimed.entries p.0 p.1 in
+    | inr n ↦ let p = in_map version_fact (picked_all not b claimed) f n in
+        let q = from_all not b claimed p.0 p.1 in
         let is : f ≡ VersionIs (key_of b (q.2 + 1) q.0.0) p.0.1 = p.2 ∙ ap (λ k. VersionIs k p.0.1) q.4 in
         let k = claimed_form q.0 q.1 in (
           said_here b form claimed d k.0 k.1 q.0 q.1 f (inr (q.2, p.0.1, q.3, is)),
@@ -392,27 +426,27 @@ module _ (b : BookValue) (form : Option (ℕ × MeasureUnit)) (claimed : BTreeMa
         )
   ]
 
-  just : set.from_list (map HeadIs (fresh_heads b.stream b.day b.head form) ++ map version_fact (picked_all not b claimed.entries))
-      ≡ set.difference (all_claimed b form claimed.entries) (book_world b)
+  just : set.from_list (map HeadIs (fresh_heads b.stream b.day b.head form) ++ map version_fact (picked_all not b claimed))
+      ≡ set.difference (all_claimed b form claimed) (book_world b)
   just = same_by _ _
-      (λ f i. let p = from_facts f (in_list (map HeadIs (fresh_heads b.stream b.day b.head form) ++ map version_fact (picked_all not b claimed.entries)) f i) in
+      (λ f i. let p = from_facts f (in_list (map HeadIs (fresh_heads b.stream b.day b.head form) ++ map version_fact (picked_all not b claimed)) f i) in
       difference_in total exact _ _ f p.0 p.1)
       (λ f i. let p = in_difference total exact _ _ f i in
-      list_in (map HeadIs (fresh_heads b.stream b.day b.head form) ++ map version_fact (picked_all not b claimed.entries)) f (to_facts f p.0 p.1))
+      list_in (map HeadIs (fresh_heads b.stream b.day b.head form) ++ map version_fact (picked_all not b claimed)) f (to_facts f p.0 p.1))
 
-  apart : Apart (map HeadIs (fresh_heads b.stream b.day b.head form) ++ map version_fact (picked_all not b claimed.entries))
-  apart = apart_append (map HeadIs (fresh_heads b.stream b.day b.head form)) (map version_fact (picked_all not b claimed.entries))
-      (heads_apart b.head form) (all_apart not b claimed.entries d.once) (λ f m n.
+  apart : Apart (map HeadIs (fresh_heads b.stream b.day b.head form) ++ map version_fact (picked_all not b claimed))
+  apart = apart_append (map HeadIs (fresh_heads b.stream b.day b.head form)) (map version_fact (picked_all not b claimed))
+      (heads_apart b.head form) (all_apart not b claimed d.once) (λ f m n.
       let p = in_map HeadIs (fresh_heads b.stream b.day b.head form) f m in
-      let q = in_map version_fact (picked_all not b claimed.entries) f n in
+      let q = in_map version_fact (picked_all not b claimed) f n in
       let e = sym p.2 ∙ q.2 in cc)
 
-  held_facts : set.from_list (map version_fact (picked_all has b claimed.entries))
-      ≡ set.intersection (countable (all_claimed b form claimed.entries)) (countable (book_world b))
+  held_facts : set.from_list (map version_fact (picked_all has b claimed))
+      ≡ set.intersection (countable (all_claimed b form claimed)) (countable (book_world b))
   held_facts = same_by _ _
       (λ f i.
-      let p = in_map version_fact (picked_all has b claimed.entries) f (in_list (map version_fact (picked_all has b claimed.entries)) f i) in
-      let q = from_all has b claimed.entries p.0 p.1 in
+      let p = in_map version_fact (picked_all has b claimed) f (in_list (map version_fact (picked_all has b claimed)) f i) in
+      let q = from_all has b claimed p.0 p.1 in
       let is : f ≡ VersionIs (key_of b (q.2 + 1) q.0.0) p.0.1 = p.2 ∙ ap (λ k. VersionIs k p.0.1) q.4 in
       let k = claimed_form q.0 q.1 in
       let counts : is_counted f ≡ true = ap is_counted is in
@@ -423,30 +457,30 @@ module _ (b : BookValue) (form : Option (ℕ × MeasureUnit)) (claimed : BTreeMa
       let p = in_intersection total exact _ _ f i in
       let s = in_retain total exact _ is_counted f p.0 in
       let w = in_retain total exact _ is_counted f p.1 in
-      let n = in_said b form claimed.entries f s.0 in
-      list_in (map version_fact (picked_all has b claimed.entries)) f (elim n.4 [
+      let n = in_said b form claimed f s.0 in
+      list_in (map version_fact (picked_all has b claimed)) f (elim n.4 [
         | inl e ↦ let z : is_counted f ≡ false = ap is_counted e in cc (s.1)
-        | inr v ↦ subst (λ g. Member g (map version_fact (picked_all has b claimed.entries))) (sym v.3)
-            (map_in version_fact (picked_all has b claimed.entries) (key_of b (v.0 + 1) n.2.0, v.1)
-            (to_all has b claimed.entries n.2 n.3 v.0 v.1 v.2 (ap (set.contains (book_world b)) (sym v.3) ∙ w.0)))
+        | inr v ↦ subst (λ g. Member g (map version_fact (picked_all has b claimed))) (sym v.3)
+            (map_in version_fact (picked_all has b claimed) (key_of b (v.0 + 1) n.2.0, v.1)
+            (to_all has b claimed n.2 n.3 v.0 v.1 v.2 (ap (set.contains (book_world b)) (sym v.3) ∙ w.0)))
       ]))
 
-  counts : held_all b claimed.entries
-      ≡ set.len (set.intersection (countable (all_claimed b form claimed.entries)) (countable (book_world b)))
-  counts = all_held b claimed.entries ∙ sym (length-map (picked_all has b claimed.entries) version_fact)
-      ∙ sym (len_list (map version_fact (picked_all has b claimed.entries)) (all_apart has b claimed.entries d.once)) ∙ ap set.len held_facts
+  counts : held_all b claimed
+      ≡ set.len (set.intersection (countable (all_claimed b form claimed)) (countable (book_world b)))
+  counts = all_held b claimed ∙ sym (length-map (picked_all has b claimed) version_fact)
+      ∙ sym (len_list (map version_fact (picked_all has b claimed)) (all_apart has b claimed d.once)) ∙ ap set.len held_facts
 
   pub settles : (v : DayMergeValue) → merge_value b form claimed ≡ v → (old new : Additions) (counted : MergeCounts)
       → new.heads.items ≡ old.heads.items ++ fresh_heads b.stream b.day b.head form
-      → versions_of new.days.items ≡ versions_of old.days.items ++ fresh_all b claimed.entries
-      → AreCounts b claimed.entries counted.known counted.added
+      → versions_of new.days.items ≡ versions_of old.days.items ++ fresh_all b claimed
+      → AreCounts b claimed counted.known counted.added
       → new.details ≡ old.details → new.events ≡ old.events → new.periods ≡ old.periods
       → new.holidays ≡ old.holidays → new.jobs ≡ old.jobs → Settles v old new counted
   settles v is old new counted hs vs c ds es ps ls js = subst (λ x. Settles x old new counted) is (record {
     heads = fresh_heads b.stream b.day b.head form;
-    versions = picked_all not b claimed.entries;
+    versions = picked_all not b claimed;
     more_heads = hs;
-    more_versions = vs ∙ ap (λ l. versions_of old.days.items ++ l) (all_picked b claimed.entries);
+    more_versions = vs ∙ ap (λ l. versions_of old.days.items ++ l) (all_picked b claimed);
     same_details = ds;
     same_events = es;
     same_periods = ps;
@@ -454,6 +488,6 @@ module _ (b : BookValue) (form : Option (ℕ × MeasureUnit)) (claimed : BTreeMa
     same_jobs = js;
     apart = apart;
     just = just;
-    added = c.fresh_are ∙ ap length (all_picked b claimed.entries);
+    added = c.fresh_are ∙ ap length (all_picked b claimed);
     known = c.held_are ∙ counts;
   })

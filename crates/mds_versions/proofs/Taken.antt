@@ -1,7 +1,7 @@
 -- What a claim does to a merge.
 use Rattle.std.proofs.Common.{◌≡◌, ◌≢◌, ℕ, zero, suc, ◌+◌, ◌<◌, List, [], ◌∷◌, length, map, Option, Some, None, refl, sym, ap, ◌∙◌, subst, inl, inr, arith}
-use Rattle.std.specs.Prelude.{Bool, true, false, cond, ◌⊎◌}
-use Rattle.std.specs.BTreeMap.{BTreeMap, insert_entry}
+use Rattle.std.specs.Prelude.{Bool, true, false, cond, ◌⊎◌, IsNone, is_some}
+use Rattle.std.specs.BTreeMap.{insert_entry}
 use Rattle.std.specs.FinSet as set
 use Rattle.std.specs.List.{slice_get, flat_map}
 use Rattle.std.specs.Map.{lookup}
@@ -30,7 +30,7 @@ use Rattle.mds_world.specs.World.{Agrees, IsLawful, World, union}
 use Rattle.mds_versions.specs.Books.{BookValue, book_facts, book_world, head_facts, row_fact}
 use Rattle.mds_versions.specs.Claims.{BreaksForm, Contradicts, IsFirst, Suits, SuitsForm, key_of}
 use Rattle.mds_versions.specs.DayMerges.{DayMergeValue}
-use Rattle.mds_versions.specs.DayMergeSteps.{IsDayMerge, all_claimed, claimed_facts, merge_value}
+use Rattle.mds_versions.specs.DayMergeSteps.{AreInBook, IsDayMerge, IsInBook, all_claimed, claimed_entries, claimed_entry, claimed_facts, claimed_readings, merge_value}
 use Rattle.mds_versions.specs.Merge.{Breaks, HasTwoLengths, HasTwoUnits, claim_facts, claim_world}
 use Rattle.mds_versions.specs.declared.claim.Claim.{Claim}
 use Rattle.mds_versions.specs.declared.day_book.Version.{Version}
@@ -266,21 +266,21 @@ module _ (b : BookValue) (form : Option (ℕ × MeasureUnit)) (w : World) (c : C
       )
 
 -- what was claimed before
-pub in_said : (b : BookValue) (form : Option (ℕ × MeasureUnit)) (es : List (ℕ × Vec ReadingValue Global)) (f : Fact)
+pub in_said : (b : BookValue) (form : Option (ℕ × MeasureUnit)) (es : List (ℕ × List ReadingValue)) (f : Fact)
     → f ∈ all_claimed b form es
-    → (known : ℕ × MeasureUnit) × (form ≡ Some known) × (entry : ℕ × Vec ReadingValue Global) × Member entry es
-    × IsOfClaim b known entry.0 entry.1.items f
+    → (known : ℕ × MeasureUnit) × (form ≡ Some known) × (entry : ℕ × List ReadingValue) × Member entry es
+    × IsOfClaim b known entry.0 entry.1 f
 in_said b None es f i = absurd (in_list [] f i)
 in_said b (Some known) es f i =
     let n = in_flat (claimed_facts b known) es f (in_list (flat_map (claimed_facts b known) es) f i) in
-    (known, refl, n.0, n.1, of_claim b known n.0.0 n.0.1.items f n.2)
+    (known, refl, n.0, n.1, of_claim b known n.0.0 n.0.1 f n.2)
 
-pub said_in : (b : BookValue) (known : ℕ × MeasureUnit) (es : List (ℕ × Vec ReadingValue Global))
-    (entry : ℕ × Vec ReadingValue Global) → Member entry es → (f : Fact) → IsOfClaim b known entry.0 entry.1.items f
+pub said_in : (b : BookValue) (known : ℕ × MeasureUnit) (es : List (ℕ × List ReadingValue))
+    (entry : ℕ × List ReadingValue) → Member entry es → (f : Fact) → IsOfClaim b known entry.0 entry.1 f
     → f ∈ all_claimed b (Some known) es
 said_in b known es entry m f is =
     list_in (flat_map (claimed_facts b known) es) f
-    (flat_in (claimed_facts b known) es f entry m (claim_of b known entry.0 entry.1.items f is))
+    (flat_in (claimed_facts b known) es f entry m (claim_of b known entry.0 entry.1 f is))
 
 -- a book's facts
 in_head_facts : (b : BookValue) (head : Option (ℕ × MeasureUnit)) (f : Fact) → Member f (head_facts b.stream b.day head)
@@ -306,14 +306,14 @@ pub head_in_book : (b : BookValue) (known : ℕ × MeasureUnit) → b.head ≡ S
 head_in_book b known e =
     list_in (book_facts b) _ (append_left _ (head_facts b.stream b.day b.head) (map (row_fact b.stream b.day) b.rows) (head_fact b b.head known e))
 
-module _ (b : BookValue) (form : Option (ℕ × MeasureUnit)) (claimed : BTreeMap ℕ (Vec ReadingValue Global)) (d : IsDayMerge b form claimed) where
+module _ (b : BookValue) (form : Option (ℕ × MeasureUnit)) (claimed : List (ℕ × List ReadingValue)) (d : IsDayMerge b form claimed) where
   -- what is said of the form that is known
-  pub said_here : (known : ℕ × MeasureUnit) → form ≡ Some known → (entry : ℕ × Vec ReadingValue Global) → Member entry claimed.entries
-      → (f : Fact) → IsOfClaim b known entry.0 entry.1.items f → f ∈ all_claimed b form claimed.entries
+  pub said_here : (known : ℕ × MeasureUnit) → form ≡ Some known → (entry : ℕ × List ReadingValue) → Member entry claimed
+      → (f : Fact) → IsOfClaim b known entry.0 entry.1 f → f ∈ all_claimed b form claimed
   said_here known e entry m f is =
-      subst (λ o. f ∈ all_claimed b o claimed.entries) (sym e) (said_in b known claimed.entries entry m f is)
+      subst (λ o. f ∈ all_claimed b o claimed) (sym e) (said_in b known claimed entry m f is)
 
-  pub base : IsBase b form (union (book_world b) (all_claimed b form claimed.entries))
+  pub base : IsBase b form (union (book_world b) (all_claimed b form claimed))
   base = record {
     agrees = d.agrees;
     heads = heads;
@@ -324,28 +324,28 @@ module _ (b : BookValue) (form : Option (ℕ × MeasureUnit)) (claimed : BTreeMa
     periods = periods;
   }
     where
-      heads : (h : Head) → HeadIs h ∈ union (book_world b) (all_claimed b form claimed.entries)
+      heads : (h : Head) → HeadIs h ∈ union (book_world b) (all_claimed b form claimed)
           → (known : ℕ × MeasureUnit) × (form ≡ Some known) × (h ≡ head_of b known)
       heads h i = elim (in_union _ _ _ i) [
         | inl a ↦ elim (in_book b _ a) [
           | inl k ↦ (k.0, d.known k.0 k.1, same_head h _ k.2)
           | inr r ↦ let k = r.2 in cc
         ]
-        | inr a ↦ let n = in_said b form claimed.entries _ a in elim n.4 [
+        | inr a ↦ let n = in_said b form claimed _ a in elim n.4 [
           | inl e ↦ (n.0, n.1, same_head h _ e)
           | inr v ↦ let k = v.3 in cc
         ]
       ]
 
       periods : (key : PeriodKey) (content : PeriodContent)
-          → PeriodIs key content ∈ union (book_world b) (all_claimed b form claimed.entries) → ⊥
+          → PeriodIs key content ∈ union (book_world b) (all_claimed b form claimed) → ⊥
       periods key content i = elim (in_union _ _ _ i) [
         | inl a ↦ elim (in_book b _ a) [ inl k ↦ let e = k.2 in cc | inr r ↦ let e = r.2 in cc ]
-        | inr a ↦ let n = in_said b form claimed.entries _ a in elim n.4 [ inl e ↦ cc | inr v ↦ let k = v.3 in cc ]
+        | inr a ↦ let n = in_said b form claimed _ a in elim n.4 [ inl e ↦ cc | inr v ↦ let k = v.3 in cc ]
       ]
 
   -- where something was claimed the form is known
-  pub known_form : (entry : ℕ × Vec ReadingValue Global) → Member entry claimed.entries → (length : ℕ) (unit : MeasureUnit)
+  pub known_form : (entry : ℕ × List ReadingValue) → Member entry claimed → (length : ℕ) (unit : MeasureUnit)
       → SuitsForm form length unit → form ≡ Some (length, unit)
   known_form entry m length unit suits = go form refl
     where
@@ -355,73 +355,73 @@ module _ (b : BookValue) (form : Option (ℕ × MeasureUnit)) (claimed : BTreeMa
 
   module _ (c : Claim) (suits : SuitsForm form c.length c.unit) where
     -- the update was claimed before
-    module _ (readings : Vec ReadingValue Global) (m : Member (c.update, readings) claimed.entries) where
-      pub as_many : length readings.items ≡ count_of c.length
+    module _ (readings : List ReadingValue) (m : Member (c.update, readings) claimed) where
+      pub as_many : length readings ≡ count_of c.length
       as_many = d.whole (c.length, c.unit) (known_form _ m c.length c.unit suits) _ m
 
-      said_version : (k : ℕ) (r : ReadingValue) → slice_get readings.items k ≡ Some r
-          → VersionIs (key_of b (k + 1) c.update) r ∈ union (book_world b) (all_claimed b form claimed.entries)
+      said_version : (k : ℕ) (r : ReadingValue) → slice_get readings k ≡ Some r
+          → VersionIs (key_of b (k + 1) c.update) r ∈ union (book_world b) (all_claimed b form claimed)
       said_version k r e =
           union_right _ _ _ (said_here (c.length, c.unit) (known_form _ m c.length c.unit suits) _ m _ (inr (k, r, e, refl)))
 
-      pub first_of_claims : (interval : ℕ) → length readings.items ≡ length c.readings.items
-          → IsFirst (λ k. slice_get readings.items k ≢ slice_get c.readings.items k)
-          (λ k. slice_get readings.items k ≡ slice_get c.readings.items k) interval
-          → IsFirst (Contradicts (union (book_world b) (all_claimed b form claimed.entries)) b c.update c.readings.items)
-          (Suits (union (book_world b) (all_claimed b form claimed.entries)) b c.update c.readings.items) interval
+      pub first_of_claims : (interval : ℕ) → length readings ≡ length c.readings.items
+          → IsFirst (λ k. slice_get readings k ≢ slice_get c.readings.items k)
+          (λ k. slice_get readings k ≡ slice_get c.readings.items k) interval
+          → IsFirst (Contradicts (union (book_world b) (all_claimed b form claimed)) b c.update c.readings.items)
+          (Suits (union (book_world b) (all_claimed b form claimed)) b c.update c.readings.items) interval
       first_of_claims interval many q = (q.0, q.1, wrong, right)
         where
-          wrong : Contradicts (union (book_world b) (all_claimed b form claimed.entries)) b c.update c.readings.items q.0
+          wrong : Contradicts (union (book_world b) (all_claimed b form claimed)) b c.update c.readings.items q.0
           wrong = elim (slice_get_cases c.readings.items q.0).1 [
-            | inl x ↦ elim (slice_get_cases readings.items q.0).1 [
+            | inl x ↦ elim (slice_get_cases readings q.0).1 [
               | inl y ↦ (x.0, y.0, x.2, said_version q.0 y.0 y.2, λ e. q.2 (y.2 ∙ ap Some e ∙ sym x.2))
               | inr y ↦ absurd (omega (arith, y.0, x.1, many))
             ]
-            | inr x ↦ elim (slice_get_cases readings.items q.0).1 [
+            | inr x ↦ elim (slice_get_cases readings q.0).1 [
               | inl y ↦ absurd (omega (arith, y.1, x.0, many))
               | inr y ↦ absurd (q.2 (y.1 ∙ sym x.1))
             ]
           ]
 
-          right : (j : ℕ) → j < q.0 → Suits (union (book_world b) (all_claimed b form claimed.entries)) b c.update c.readings.items j
+          right : (j : ℕ) → j < q.0 → Suits (union (book_world b) (all_claimed b form claimed)) b c.update c.readings.items j
           right j below mine other e i = d.agrees.one_reading _ other mine i (said_version j mine (q.3 j below ∙ e))
 
-      pub known_claim : ((k : ℕ) → slice_get readings.items k ≡ slice_get c.readings.items k)
-          → all_claimed b form claimed.entries
-          ≡ union (all_claimed b form claimed.entries) (claim_world b.stream b.day c)
+      pub known_claim : ((k : ℕ) → slice_get readings k ≡ slice_get c.readings.items k)
+          → all_claimed b form claimed
+          ≡ union (all_claimed b form claimed) (claim_world b.stream b.day c)
       known_claim same = sym (union_absorbs total exact _ _ (λ f i. elim (in_claim b c f i) [
         | inl e ↦ said_here (c.length, c.unit) (known_form _ m c.length c.unit suits) _ m f (inl e)
         | inr n ↦ said_here (c.length, c.unit) (known_form _ m c.length c.unit suits) _ m f (inr (n.0, n.1, same n.0 ∙ n.2, n.3))
       ]))
 
     -- the update wasn't claimed before
-    module _ (absent : (entry : ℕ × Vec ReadingValue Global) → Member entry claimed.entries → entry.0 ≢ c.update) where
+    module _ (absent : (entry : ℕ × List ReadingValue) → Member entry claimed → entry.0 ≢ c.update) where
       of_book : (interval : ℕ) (r : ReadingValue)
-          → VersionIs (key_of b interval c.update) r ∈ union (book_world b) (all_claimed b form claimed.entries)
+          → VersionIs (key_of b interval c.update) r ∈ union (book_world b) (all_claimed b form claimed)
           → VersionIs (key_of b interval c.update) r ∈ book_world b
       of_book interval r i = elim (in_union _ _ _ i) [
         | inl a ↦ a
-        | inr a ↦ let n = in_said b form claimed.entries _ a in elim n.4 [
+        | inr a ↦ let n = in_said b form claimed _ a in elim n.4 [
           | inl e ↦ cc
           | inr v ↦ absurd (absent n.2 n.3 (sym (ap (λ k. k.update) (same_key _ _ r v.1 v.3).0)))
         ]
       ]
 
       pub suits_all : (k : ℕ) → Suits (book_world b) b c.update c.readings.items k
-          → Suits (union (book_world b) (all_claimed b form claimed.entries)) b c.update c.readings.items k
+          → Suits (union (book_world b) (all_claimed b form claimed)) b c.update c.readings.items k
       suits_all k s mine other e i = s mine other e (of_book (k + 1) other i)
 
       pub first_of_book : (interval : ℕ)
           → IsFirst (Contradicts (book_world b) b c.update c.readings.items) (Suits (book_world b) b c.update c.readings.items) interval
-          → IsFirst (Contradicts (union (book_world b) (all_claimed b form claimed.entries)) b c.update c.readings.items)
-          (Suits (union (book_world b) (all_claimed b form claimed.entries)) b c.update c.readings.items) interval
+          → IsFirst (Contradicts (union (book_world b) (all_claimed b form claimed)) b c.update c.readings.items)
+          (Suits (union (book_world b) (all_claimed b form claimed)) b c.update c.readings.items) interval
       first_of_book interval q =
           let w = q.2 in
           (q.0, q.1, (w.0, w.1, w.2, union_left _ _ _ w.3, w.4), λ j below. suits_all j (q.3 j below))
 
 -- a map's look-up by the order of the keys
-pub found_entry : (row : ℕ → Ordering) (key : ℕ) (order : (other : ℕ) → row other ≡ nat_cmp key other)
-    (es : List (ℕ × Vec ReadingValue Global)) (v : Vec ReadingValue Global) → Some v ≡ lookup (λ k. is_eq (row k)) es → Member (key, v) es
+pub found_entry : {V : Type 0} (row : ℕ → Ordering) (key : ℕ) (order : (other : ℕ) → row other ≡ nat_cmp key other)
+    (es : List (ℕ × V)) (v : V) → Some v ≡ lookup (λ k. is_eq (row k)) es → Member (key, v) es
 found_entry row key order [] v e = cc
 found_entry row key order (x ∷ es) v e = go (is_eq (row x.0)) refl (found_entry row key order es v) e
   where
@@ -431,9 +431,9 @@ found_entry row key order (x ∷ es) v e = go (is_eq (row x.0)) refl (found_entr
         inl (λ i. (k i, same_some v x.1 f i))
     go false t rest f = inr (rest f)
 
-pub absent_entry : (row : ℕ → Ordering) (key : ℕ) (order : (other : ℕ) → row other ≡ nat_cmp key other)
-    (es : List (ℕ × Vec ReadingValue Global)) → None ≡ lookup (λ k. is_eq (row k)) es
-    → (entry : ℕ × Vec ReadingValue Global) → Member entry es → entry.0 ≢ key
+pub absent_entry : {V : Type 0} (row : ℕ → Ordering) (key : ℕ) (order : (other : ℕ) → row other ≡ nat_cmp key other)
+    (es : List (ℕ × V)) → None ≡ lookup (λ k. is_eq (row k)) es
+    → (entry : ℕ × V) → Member entry es → entry.0 ≢ key
 absent_entry row key order [] e entry m = absurd m
 absent_entry row key order (x ∷ es) e entry m =
     go (is_eq (row x.0)) refl (λ f. absent_entry row key order es f entry) e m
@@ -448,12 +448,12 @@ absent_entry row key order (x ∷ es) e entry m =
     go false t rest f (inr n) = rest f n
 
 -- a key that isn't there goes in between
-module _ (cmp : ℕ → ℕ → Ordering) (key : ℕ) (order : (other : ℕ) → cmp key other ≡ nat_cmp key other) (v : Vec ReadingValue Global) where
+module _ {V : Type 0} (cmp : ℕ → ℕ → Ordering) (key : ℕ) (order : (other : ℕ) → cmp key other ≡ nat_cmp key other) (v : V) where
   pub not_equal : (other : ℕ) → other ≢ key → cmp key other ≢ Equal
   not_equal other apart e = apart (sym (nat_tied key other (ap is_eq (sym (order other) ∙ e))))
 
-  pub in_inserted : (es : List (ℕ × Vec ReadingValue Global)) → ((e : ℕ × Vec ReadingValue Global) → Member e es → e.0 ≢ key)
-      → (x : ℕ × Vec ReadingValue Global) → Member x (insert_entry cmp es key v) → (x ≡ (key, v)) ⊎ Member x es
+  pub in_inserted : (es : List (ℕ × V)) → ((e : ℕ × V) → Member e es → e.0 ≢ key)
+      → (x : ℕ × V) → Member x (insert_entry cmp es key v) → (x ≡ (key, v)) ⊎ Member x es
   in_inserted [] none x (inl e) = inl e
   in_inserted [] none x (inr z) = absurd z
   in_inserted (e ∷ es) none x m =
@@ -468,7 +468,7 @@ module _ (cmp : ℕ → ℕ → Ordering) (key : ℕ) (order : (other : ℕ) →
       go Greater h rest (inl a) = inr (inl a)
       go Greater h rest (inr n) = elim (rest n) [ inl a ↦ inl a | inr k ↦ inr (inr k) ]
 
-  pub inserted_new : (es : List (ℕ × Vec ReadingValue Global)) → ((e : ℕ × Vec ReadingValue Global) → Member e es → e.0 ≢ key)
+  pub inserted_new : (es : List (ℕ × V)) → ((e : ℕ × V) → Member e es → e.0 ≢ key)
       → Member (key, v) (insert_entry cmp es key v)
   inserted_new [] none = inl refl
   inserted_new (e ∷ es) none = go (cmp key e.0) (not_equal e.0 (none e (inl refl))) (inserted_new es (λ y k. none y (inr k)))
@@ -479,8 +479,8 @@ module _ (cmp : ℕ → ℕ → Ordering) (key : ℕ) (order : (other : ℕ) →
       go Equal h rest = absurd (h refl)
       go Greater h rest = inr rest
 
-  pub inserted_old : (es : List (ℕ × Vec ReadingValue Global)) → ((e : ℕ × Vec ReadingValue Global) → Member e es → e.0 ≢ key)
-      → (x : ℕ × Vec ReadingValue Global) → Member x es → Member x (insert_entry cmp es key v)
+  pub inserted_old : (es : List (ℕ × V)) → ((e : ℕ × V) → Member e es → e.0 ≢ key)
+      → (x : ℕ × V) → Member x es → Member x (insert_entry cmp es key v)
   inserted_old [] none x m = absurd m
   inserted_old (e ∷ es) none x m =
       go (cmp key e.0) (not_equal e.0 (none e (inl refl))) (inserted_old es (λ y k. none y (inr k)) x) m
@@ -492,7 +492,7 @@ module _ (cmp : ℕ → ℕ → Ordering) (key : ℕ) (order : (other : ℕ) →
       go Greater h rest (inl a) = inl a
       go Greater h rest (inr n) = inr (rest n)
 
-  pub inserted_apart : (es : List (ℕ × Vec ReadingValue Global)) → ((e : ℕ × Vec ReadingValue Global) → Member e es → e.0 ≢ key)
+  pub inserted_apart : (es : List (ℕ × V)) → ((e : ℕ × V) → Member e es → e.0 ≢ key)
       → Apart (map (λ entry. entry.0) es) → Apart (map (λ entry. entry.0) (insert_entry cmp es key v))
   inserted_apart [] none a = ((λ m. m), tt)
   inserted_apart (e ∷ es) none a =
@@ -500,56 +500,112 @@ module _ (cmp : ℕ → ℕ → Ordering) (key : ℕ) (order : (other : ℕ) →
       (in_inserted es (λ y k. none y (inr k)))
     where
       go : (o : Ordering) → o ≢ Equal → Apart (map (λ entry. entry.0) (insert_entry cmp es key v))
-          → ((x : ℕ × Vec ReadingValue Global) → Member x (insert_entry cmp es key v) → (x ≡ (key, v)) ⊎ Member x es)
+          → ((x : ℕ × V) → Member x (insert_entry cmp es key v) → (x ≡ (key, v)) ⊎ Member x es)
           → Apart (map (λ entry. entry.0) (match_ordering o ((key, v) ∷ e ∷ es) ((e.0, v) ∷ es) (e ∷ insert_entry cmp es key v)))
       go Less h rest put = (
-        (λ m. let n = in_map (λ (entry : ℕ × Vec ReadingValue Global). entry.0) (e ∷ es) key m in none n.0 n.1 (sym n.2)),
+        (λ m. let n = in_map (λ (entry : ℕ × V). entry.0) (e ∷ es) key m in none n.0 n.1 (sym n.2)),
         a,
       )
       go Equal h rest put = absurd (h refl)
       go Greater h rest put = (
-        (λ m. let n = in_map (λ (entry : ℕ × Vec ReadingValue Global). entry.0) (insert_entry cmp es key v) e.0 m in
+        (λ m. let n = in_map (λ (entry : ℕ × V). entry.0) (insert_entry cmp es key v) e.0 m in
             elim (put n.0 n.1) [
               | inl s ↦ none e (inl refl) (n.2 ∙ ap (λ y. y.0) s)
-              | inr k ↦ a.0 (subst (λ y. Member y (map (λ entry. entry.0) es)) (sym n.2) (map_in (λ (entry : ℕ × Vec ReadingValue Global). entry.0) es n.0 k))
+              | inr k ↦ a.0 (subst (λ y. Member y (map (λ entry. entry.0) es)) (sym n.2) (map_in (λ (entry : ℕ × V). entry.0) es n.0 k))
             ]),
         rest,
       )
 
+-- a claim that comes in
+pub record ComesIn (claimed later : List (ℕ × List ReadingValue)) (update : ℕ) (readings : List ReadingValue) : Type 0 where
+  pub from : (x : ℕ × List ReadingValue) → Member x later → (x ≡ (update, readings)) ⊎ Member x claimed
+  pub new : Member (update, readings) later
+  pub old : (x : ℕ × List ReadingValue) → Member x claimed → Member x later
+  pub once : Apart (map (λ entry. entry.0) claimed) → Apart (map (λ entry. entry.0) later)
+
+same_updates : (b : BookValue) (es : List (ℕ × Option (Vec ReadingValue Global)))
+    → map (λ entry. entry.0) (claimed_entries b es) ≡ map (λ entry. entry.0) es
+same_updates b [] = refl
+same_updates b (e ∷ es) = ap (λ l. e.0 ∷ l) (same_updates b es)
+
+-- what is claimed under an update, by the map
+pub claimed_entry_in : (b : BookValue) (es : List (ℕ × Option (Vec ReadingValue Global))) (update : ℕ) (kept : Option (Vec ReadingValue Global))
+    → Member (update, kept) es → Member (update, claimed_readings b update kept) (claimed_entries b es)
+claimed_entry_in b es update kept m = map_in (claimed_entry b) es (update, kept) m
+
+pub none_kept : (b : BookValue) (es : List (ℕ × Option (Vec ReadingValue Global))) (update : ℕ) (kept : Option (Vec ReadingValue Global))
+    → AreInBook b es → Member (update, kept) es → IsNone kept → IsInBook b update
+none_kept b es update None all m e = all update m
+none_kept b es update (Some readings) all m e = cc
+
+pub absent_claimed : (b : BookValue) (es : List (ℕ × Option (Vec ReadingValue Global))) (update : ℕ)
+    → ((entry : ℕ × Option (Vec ReadingValue Global)) → Member entry es → entry.0 ≢ update)
+    → (entry : ℕ × List ReadingValue) → Member entry (claimed_entries b es) → entry.0 ≢ update
+absent_claimed b es update absent entry m e =
+    let n = in_map (claimed_entry b) es entry m in
+    absent n.0 n.1 (sym (ap (λ x. x.0) n.2) ∙ e)
+
+module _ (b : BookValue) (es later : List (ℕ × Option (Vec ReadingValue Global))) (update : ℕ) (kept : Option (Vec ReadingValue Global))
+    (readings : List ReadingValue) (same : claimed_readings b update kept ≡ readings)
+    (absent : (entry : ℕ × Option (Vec ReadingValue Global)) → Member entry es → entry.0 ≢ update)
+    (cmp : ℕ → ℕ → Ordering) (order : (other : ℕ) → cmp update other ≡ nat_cmp update other)
+    (put : later ≡ insert_entry cmp es update kept) where
+  pub comes_in : ComesIn (claimed_entries b es) (claimed_entries b later) update readings
+  comes_in = record {
+    from = λ x m.
+        let n = in_map (claimed_entry b) later x m in
+        elim (in_inserted cmp update order kept es absent n.0 (subst (λ l. Member n.0 l) put n.1)) [
+          | inl e ↦ inl (n.2 ∙ ap (claimed_entry b) e ∙ ap (λ l. (update, l)) same)
+          | inr k ↦ inr (subst (λ y. Member y (claimed_entries b es)) (sym n.2) (map_in (claimed_entry b) es n.0 k))
+        ];
+    new = subst (λ l. Member (update, l) (claimed_entries b later)) same
+        (claimed_entry_in b later update kept (subst (λ l. Member (update, kept) l) (sym put) (inserted_new cmp update order kept es absent)));
+    old = λ x m.
+        let n = in_map (claimed_entry b) es x m in
+        subst (λ y. Member y (claimed_entries b later)) (sym n.2) (map_in (claimed_entry b) later n.0
+        (subst (λ l. Member n.0 l) (sym put) (inserted_old cmp update order kept es absent n.0 n.1)));
+    once = λ a.
+        subst Apart (ap (map (λ entry. entry.0)) (sym put) ∙ sym (same_updates b later))
+        (inserted_apart cmp update order kept es absent (subst Apart (same_updates b es) a));
+  }
+
+  -- where nothing is kept of it the book has it all
+  pub still_in_book : (IsNone kept → IsInBook b update) → AreInBook b es → AreInBook b later
+  still_in_book one all u m = elim (in_inserted cmp update order kept es absent _ (subst (λ l. Member (u, None) l) put m)) [
+    | inl e ↦ subst (IsInBook b) (sym (ap (λ x. x.0) e)) (one (ap (λ x. is_some x.1) (sym e)))
+    | inr k ↦ all u k
+  ]
+
+-- a claim that suits a merge is of the length of its book
+pub whole_of : (b : BookValue) (form : Option (ℕ × MeasureUnit)) (claimed : List (ℕ × List ReadingValue)) → IsDayMerge b form claimed → (c : Claim)
+    → SuitsForm form c.length c.unit → length c.readings.items ≡ count_of c.length
+    → (known : ℕ × MeasureUnit) → b.head ≡ Some known → length c.readings.items ≡ count_of known.0
+whole_of b form claimed d c suits whole known e = whole ∙ ap (λ k. count_of k.0) (sym (suits known (d.known known e)))
+
 -- the update wasn't claimed before, and comes in
-module _ (b : BookValue) (form : Option (ℕ × MeasureUnit)) (claimed later : BTreeMap ℕ (Vec ReadingValue Global)) (d : IsDayMerge b form claimed)
+module _ (b : BookValue) (form : Option (ℕ × MeasureUnit)) (claimed later : List (ℕ × List ReadingValue)) (d : IsDayMerge b form claimed)
     (c : Claim) (suits : SuitsForm form c.length c.unit)
-    (absent : (entry : ℕ × Vec ReadingValue Global) → Member entry claimed.entries → entry.0 ≢ c.update)
-    (cmp : ℕ → ℕ → Ordering) (order : (other : ℕ) → cmp c.update other ≡ nat_cmp c.update other)
-    (put : later.entries ≡ insert_entry cmp claimed.entries c.update c.readings) where
-  in_later : (x : ℕ × Vec ReadingValue Global) → Member x later.entries → (x ≡ (c.update, c.readings)) ⊎ Member x claimed.entries
-  in_later x m = in_inserted cmp c.update order c.readings claimed.entries absent x (subst (λ es. Member x es) put m)
-
-  later_new : Member (c.update, c.readings) later.entries
-  later_new = subst (λ es. Member (c.update, c.readings) es) (sym put) (inserted_new cmp c.update order c.readings claimed.entries absent)
-
-  later_old : (x : ℕ × Vec ReadingValue Global) → Member x claimed.entries → Member x later.entries
-  later_old x m = subst (λ es. Member x es) (sym put) (inserted_old cmp c.update order c.readings claimed.entries absent x m)
-
-  pub said_more : all_claimed b (Some (c.length, c.unit)) later.entries
-      ≡ union (all_claimed b form claimed.entries) (claim_world b.stream b.day c)
+    (absent : (entry : ℕ × List ReadingValue) → Member entry claimed → entry.0 ≢ c.update)
+    (comes : ComesIn claimed later c.update c.readings.items) where
+  pub said_more : all_claimed b (Some (c.length, c.unit)) later
+      ≡ union (all_claimed b form claimed) (claim_world b.stream b.day c)
   said_more = same_by _ _
-      (λ f i. let n = in_said b (Some (c.length, c.unit)) later.entries f i in
-      let is : IsOfClaim b (c.length, c.unit) n.2.0 n.2.1.items f =
-      subst (λ k. IsOfClaim b k n.2.0 n.2.1.items f) (sym (same_some (c.length, c.unit) n.0 n.1)) n.4 in
-      elim (in_later n.2 n.3) [
-        | inl e ↦ union_right _ _ f (claim_in b c f (subst (λ x. IsOfClaim b (c.length, c.unit) x.0 x.1.items f) e is))
+      (λ f i. let n = in_said b (Some (c.length, c.unit)) later f i in
+      let is : IsOfClaim b (c.length, c.unit) n.2.0 n.2.1 f =
+      subst (λ k. IsOfClaim b k n.2.0 n.2.1 f) (sym (same_some (c.length, c.unit) n.0 n.1)) n.4 in
+      elim (comes.from n.2 n.3) [
+        | inl e ↦ union_right _ _ f (claim_in b c f (subst (λ x. IsOfClaim b (c.length, c.unit) x.0 x.1 f) e is))
         | inr m ↦ union_left _ _ f (said_here b form claimed d (c.length, c.unit) (known_form b form claimed d n.2 m c.length c.unit suits) n.2 m f is)
       ])
       (λ f i. elim (in_union _ _ f i) [
-        | inl a ↦ let n = in_said b form claimed.entries f a in
-            said_in b (c.length, c.unit) later.entries n.2 (later_old n.2 n.3) f
-            (subst (λ k. IsOfClaim b k n.2.0 n.2.1.items f) (suits n.0 n.1) n.4)
-        | inr a ↦ said_in b (c.length, c.unit) later.entries (c.update, c.readings) later_new f (in_claim b c f a)
+        | inl a ↦ let n = in_said b form claimed f a in
+            said_in b (c.length, c.unit) later n.2 (comes.old n.2 n.3) f
+            (subst (λ k. IsOfClaim b k n.2.0 n.2.1 f) (suits n.0 n.1) n.4)
+        | inr a ↦ said_in b (c.length, c.unit) later (c.update, c.readings.items) comes.new f (in_claim b c f a)
       ])
 
   module _ (free : (k : ℕ) → Suits (book_world b) b c.update c.readings.items k) where
-    pub agrees_more : Agrees (union (book_world b) (all_claimed b (Some (c.length, c.unit)) later.entries))
+    pub agrees_more : Agrees (union (book_world b) (all_claimed b (Some (c.length, c.unit)) later))
     agrees_more =
         subst Agrees (union_assoc total exact (book_world b) _ _ ∙ ap (union (book_world b)) (sym said_more))
         (accepted b form _ c (base b form claimed d) suits (λ k. suits_all b form claimed d c suits absent k (free k)))
@@ -557,19 +613,19 @@ module _ (b : BookValue) (form : Option (ℕ × MeasureUnit)) (claimed later : B
     pub merge_more : length c.readings.items ≡ count_of c.length → IsDayMerge b (Some (c.length, c.unit)) later
     merge_more many = record {
       agrees = agrees_more;
-      whole = λ known e entry m. elim (in_later entry m) [
-        | inl s ↦ ap (λ x. length x.1.items) s ∙ many ∙ ap (λ k. count_of k.0) (same_some _ known e)
+      whole = λ known e entry m. elim (comes.from entry m) [
+        | inl s ↦ ap (λ x. length x.1) s ∙ many ∙ ap (λ k. count_of k.0) (same_some _ known e)
         | inr n ↦ d.whole known (known_form b form claimed d entry n c.length c.unit suits ∙ e) entry n
       ];
-      once = subst (λ es. Apart (map (λ entry. entry.0) es)) (sym put) (inserted_apart cmp c.update order c.readings claimed.entries absent d.once);
+      once = comes.once d.once;
       none = λ e. cc;
       known = λ head e. ap Some (sym (suits head (d.known head e)));
-      told = λ known e. inr ((c.update, c.readings), later_new);
+      told = λ known e. inr ((c.update, c.readings.items), comes.new);
     }
 
 -- a want of memory
-pub merge_same : (b : BookValue) (form : Option (ℕ × MeasureUnit)) (claimed later : BTreeMap ℕ (Vec ReadingValue Global))
-    → later.entries ≡ claimed.entries → IsDayMerge b form claimed → IsDayMerge b form later
+pub merge_same : (b : BookValue) (form : Option (ℕ × MeasureUnit)) (claimed later : List (ℕ × List ReadingValue))
+    → later ≡ claimed → IsDayMerge b form claimed → IsDayMerge b form later
 merge_same b form claimed later e d = record {
   agrees = subst (λ es. Agrees (union (book_world b) (all_claimed b form es))) (sym e) d.agrees;
   whole = λ known k entry m. d.whole known k entry (subst (λ es. Member entry es) e m);
@@ -580,10 +636,10 @@ merge_same b form claimed later e d = record {
 }
 
 -- what `take` says, at each of its ends: v is the value before
-module _ (b : BookValue) (form : Option (ℕ × MeasureUnit)) (claimed : BTreeMap ℕ (Vec ReadingValue Global)) (v : DayMergeValue)
+module _ (b : BookValue) (form : Option (ℕ × MeasureUnit)) (claimed : List (ℕ × List ReadingValue)) (v : DayMergeValue)
     (is : merge_value b form claimed ≡ v) (d : IsDayMerge b form claimed) (c : Claim) where
   refuse : (code : RefusalCode) (interval : ℕ)
-      → Breaks (union (union (book_world b) (all_claimed b form claimed.entries)) (claim_world b.stream b.day c)) code interval
+      → Breaks (union (union (book_world b) (all_claimed b form claimed)) (claim_world b.stream b.day c)) code interval
       → Breaks (union (book_world v.book) (union v.said (claim_world v.book.stream v.book.day c))) code interval
   refuse code interval q =
       subst (λ x. Breaks (union (book_world x.book) (union x.said (claim_world x.book.stream x.book.day c))) code interval) is
@@ -594,23 +650,23 @@ module _ (b : BookValue) (form : Option (ℕ × MeasureUnit)) (claimed : BTreeMa
   form_end code q = refuse code 0 (form_refused b form _ c (base b form claimed d) code q)
 
   module _ (suits : SuitsForm form c.length c.unit) where
-    pub claim_end : (readings : Vec ReadingValue Global) → Member (c.update, readings) claimed.entries
-        → length readings.items ≡ length c.readings.items → (interval : ℕ)
-        → IsFirst (λ k. slice_get readings.items k ≢ slice_get c.readings.items k)
-        (λ k. slice_get readings.items k ≡ slice_get c.readings.items k) interval
+    pub claim_end : (readings : List ReadingValue) → Member (c.update, readings) claimed
+        → length readings ≡ length c.readings.items → (interval : ℕ)
+        → IsFirst (λ k. slice_get readings k ≢ slice_get c.readings.items k)
+        (λ k. slice_get readings k ≡ slice_get c.readings.items k) interval
         → Breaks (union (book_world v.book) (union v.said (claim_world v.book.stream v.book.day c))) VersionConflict interval
     claim_end readings m many interval q =
         refuse VersionConflict interval
         (reading_refused b form _ c (base b form claimed d) suits interval (first_of_claims b form claimed d c suits readings m interval many q))
 
-    pub known_end : (readings : Vec ReadingValue Global) → Member (c.update, readings) claimed.entries
-        → ((k : ℕ) → slice_get readings.items k ≡ slice_get c.readings.items k)
+    pub known_end : (readings : List ReadingValue) → Member (c.update, readings) claimed
+        → ((k : ℕ) → slice_get readings k ≡ slice_get c.readings.items k)
         → (v.said ≡ union v.said (claim_world v.book.stream v.book.day c)) × Agrees (union (book_world v.book) v.said)
     known_end readings m same =
         subst (λ x. (x.said ≡ union x.said (claim_world x.book.stream x.book.day c)) × Agrees (union (book_world x.book) x.said)) is
         (known_claim b form claimed d c suits readings m same, d.agrees)
 
-    module _ (absent : (entry : ℕ × Vec ReadingValue Global) → Member entry claimed.entries → entry.0 ≢ c.update) where
+    module _ (absent : (entry : ℕ × List ReadingValue) → Member entry claimed → entry.0 ≢ c.update) where
       pub book_end : (interval : ℕ)
           → IsFirst (Contradicts (book_world b) b c.update c.readings.items) (Suits (book_world b) b c.update c.readings.items) interval
           → Breaks (union (book_world v.book) (union v.said (claim_world v.book.stream v.book.day c))) VersionConflict interval
@@ -628,24 +684,22 @@ module _ (b : BookValue) (form : Option (ℕ × MeasureUnit)) (claimed : BTreeMa
       pub unsaid_end : (interval : ℕ) (r : ReadingValue) → VersionIs (key_of v.book interval c.update) r ∈ v.said → ⊥
       unsaid_end interval r =
           subst (λ x. VersionIs (key_of x.book interval c.update) r ∈ x.said → ⊥) is (λ i.
-          let n = in_said b form claimed.entries _ i in elim n.4 [
+          let n = in_said b form claimed _ i in elim n.4 [
             | inl e ↦ cc
             | inr q ↦ absent n.2 n.3 (sym (ap (λ k. k.update) (same_key _ _ r q.1 q.3).0))
           ])
 
-      pub taken_end : (later : BTreeMap ℕ (Vec ReadingValue Global)) (cmp : ℕ → ℕ → Ordering)
-          → ((other : ℕ) → cmp c.update other ≡ nat_cmp c.update other)
-          → later.entries ≡ insert_entry cmp claimed.entries c.update c.readings
+      pub taken_end : (later : List (ℕ × List ReadingValue)) → ComesIn claimed later c.update c.readings.items
           → ((k : ℕ) → Suits (book_world b) b c.update c.readings.items k)
           → (b ≡ v.book)
-          × (all_claimed b (Some (c.length, c.unit)) later.entries
+          × (all_claimed b (Some (c.length, c.unit)) later
           ≡ union v.said (claim_world v.book.stream v.book.day c))
-          × Agrees (union (book_world b) (all_claimed b (Some (c.length, c.unit)) later.entries))
-      taken_end later cmp order put free = (
+          × Agrees (union (book_world b) (all_claimed b (Some (c.length, c.unit)) later))
+      taken_end later comes free = (
         ap (λ x. x.book) is,
-        subst (λ x. all_claimed b (Some (c.length, c.unit)) later.entries ≡ union x.said (claim_world x.book.stream x.book.day c)) is
-            (said_more b form claimed later d c suits absent cmp order put),
-        agrees_more b form claimed later d c suits absent cmp order put free,
+        subst (λ x. all_claimed b (Some (c.length, c.unit)) later ≡ union x.said (claim_world x.book.stream x.book.day c)) is
+            (said_more b form claimed later d c suits absent comes),
+        agrees_more b form claimed later d c suits absent comes free,
       )
 
 -- a merge of which nothing was claimed
@@ -653,14 +707,17 @@ none_said : (b : BookValue) (form : Option (ℕ × MeasureUnit)) → all_claimed
 none_said b None = refl
 none_said b (Some known) = refl
 
-pub new_said : (b : BookValue) (form : Option (ℕ × MeasureUnit)) (es : List (ℕ × Vec ReadingValue Global)) → es ≡ []
+pub new_said : (b : BookValue) (form : Option (ℕ × MeasureUnit)) (es : List (ℕ × List ReadingValue)) → es ≡ []
     → all_claimed b form es ≡ set.empty
 new_said b form es e = ap (λ l. all_claimed b form l) e ∙ none_said b form
 
-pub new_merge : (b : BookValue) (form : Option (ℕ × MeasureUnit)) (claimed : BTreeMap ℕ (Vec ReadingValue Global))
-    → form ≡ b.head → claimed.entries ≡ [] → IsLawful (book_world b) → IsDayMerge b form claimed
+pub none_in_book : (b : BookValue) (es : List (ℕ × Option (Vec ReadingValue Global))) → es ≡ [] → AreInBook b es
+none_in_book b es e update m = absurd (subst (λ l. Member (update, None) l) e m)
+
+pub new_merge : (b : BookValue) (form : Option (ℕ × MeasureUnit)) (claimed : List (ℕ × List ReadingValue))
+    → form ≡ b.head → claimed ≡ [] → IsLawful (book_world b) → IsDayMerge b form claimed
 new_merge b form claimed f e h = record {
-  agrees = subst Agrees (sym (ap (union (book_world b)) (new_said b form claimed.entries e) ∙ union_empty total exact (book_world b))) h.agrees;
+  agrees = subst Agrees (sym (ap (union (book_world b)) (new_said b form claimed e) ∙ union_empty total exact (book_world b))) h.agrees;
   whole = λ known k entry m. absurd (subst (λ es. Member entry es) e m);
   once = subst (λ es. Apart (map (λ entry. entry.0) es)) (sym e) tt;
   none = λ k. e;

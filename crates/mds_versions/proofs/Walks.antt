@@ -1,5 +1,5 @@
 -- A walk down the rows of a book, side by side with the readings of a claim.
-use Rattle.std.proofs.Common.{◌≡◌, ◌≢◌, ℕ, zero, suc, ◌+◌, ◌<◌, ◌≤◌, List, [], ◌∷◌, ◌++◌, ◌-◌, length, take, take_all, drop, get_or, Some, refl, sym, ap, ◌∙◌, subst, inl, inr, arith, drop-cons, length-append}
+use Rattle.std.proofs.Common.{◌≡◌, ◌≢◌, ℕ, zero, suc, ◌+◌, ◌<◌, ◌≤◌, List, [], ◌∷◌, ◌++◌, ◌-◌, length, take, take_all, drop, get_or, Option, Some, refl, sym, ap, ◌∙◌, subst, inl, inr, arith, drop-cons, length-append}
 use Rattle.std.specs.Prelude.{Bool, true, false, cond}
 use Rattle.std.specs.BTreeMap.{insert_entry}
 use Rattle.std.specs.List.{AllPairs, slice_get}
@@ -19,7 +19,7 @@ use Rattle.mds_world.specs.World.{Agrees}
 use Rattle.mds_versions.specs.Books.{BookValue, book_world}
 use Rattle.mds_versions.specs.BookRows.{IsBefore}
 use Rattle.mds_versions.specs.Claims.{Contradicts, IsFirst, Suits, fresh_all, fresh_versions, held_all, held_count, is_held, key_of}
-use Rattle.mds_versions.specs.DayMergeSteps.{AreCounts, IsFrom, row_of}
+use Rattle.mds_versions.specs.DayMergeSteps.{AreCounts, IsFrom, claimed_entries, claimed_readings, row_of}
 use Rattle.mds_versions.specs.declared.day_book.Version.{Version}
 use Rattle.mds_versions.proofs.BookFacts.{row_in_book, row_of_book}
 use Rattle.mds_versions.proofs.BookPlaces.{place_of}
@@ -273,60 +273,65 @@ one_or_other b update interval (r ∷ rs) = go (is_held b update interval r) (on
     go true h = omega arith
     go false h = omega arith
 
-module _ (b : BookValue) (cmp : ℕ → ℕ → Ordering) (key : ℕ) (order : (other : ℕ) → cmp key other ≡ nat_cmp key other) (v : Vec ReadingValue Global) where
-  held_inserted : (es : List (ℕ × Vec ReadingValue Global)) → ((e : ℕ × Vec ReadingValue Global) → Member e es → e.0 ≢ key)
-      → held_all b (insert_entry cmp es key v) ≡ held_all b es + held_count b key 1 v.items
+module _ (b : BookValue) (cmp : ℕ → ℕ → Ordering) (key : ℕ) (order : (other : ℕ) → cmp key other ≡ nat_cmp key other) (v : Option (Vec ReadingValue Global)) where
+  held_inserted : (es : List (ℕ × Option (Vec ReadingValue Global))) → ((e : ℕ × Option (Vec ReadingValue Global)) → Member e es → e.0 ≢ key)
+      → held_all b (claimed_entries b (insert_entry cmp es key v)) ≡ held_all b (claimed_entries b es) + held_count b key 1 (claimed_readings b key v)
   held_inserted [] none = omega arith
   held_inserted (e ∷ es) none = go (cmp key e.0) (not_equal cmp key order v e.0 (none e (inl refl))) (held_inserted es (λ y k. none y (inr k)))
     where
-      go : (o : Ordering) → o ≢ Equal → held_all b (insert_entry cmp es key v) ≡ held_all b es + held_count b key 1 v.items
-          → held_all b (match_ordering o ((key, v) ∷ e ∷ es) ((e.0, v) ∷ es) (e ∷ insert_entry cmp es key v))
-          ≡ held_count b e.0 1 e.1.items + held_all b es + held_count b key 1 v.items
+      go : (o : Ordering) → o ≢ Equal → held_all b (claimed_entries b (insert_entry cmp es key v)) ≡ held_all b (claimed_entries b es) + held_count b key 1 (claimed_readings b key v)
+          → held_all b (claimed_entries b (match_ordering o ((key, v) ∷ e ∷ es) ((e.0, v) ∷ es) (e ∷ insert_entry cmp es key v)))
+          ≡ held_count b e.0 1 (claimed_readings b e.0 e.1) + held_all b (claimed_entries b es) + held_count b key 1 (claimed_readings b key v)
       go Less h rest = omega arith
       go Equal h rest = absurd (h refl)
       go Greater h rest = omega arith
 
-  fresh_inserted : (es : List (ℕ × Vec ReadingValue Global)) → ((e : ℕ × Vec ReadingValue Global) → Member e es → e.0 ≢ key)
-      → length (fresh_all b (insert_entry cmp es key v)) ≡ length (fresh_all b es) + length (fresh_versions b key 1 v.items)
-  fresh_inserted [] none = length-append (fresh_versions b key 1 v.items) [] ∙ omega arith
+  fresh_inserted : (es : List (ℕ × Option (Vec ReadingValue Global))) → ((e : ℕ × Option (Vec ReadingValue Global)) → Member e es → e.0 ≢ key)
+      → length (fresh_all b (claimed_entries b (insert_entry cmp es key v))) ≡ length (fresh_all b (claimed_entries b es)) + length (fresh_versions b key 1 (claimed_readings b key v))
+  fresh_inserted [] none = length-append (fresh_versions b key 1 (claimed_readings b key v)) [] ∙ omega arith
   fresh_inserted (e ∷ es) none = go (cmp key e.0) (not_equal cmp key order v e.0 (none e (inl refl))) (fresh_inserted es (λ y k. none y (inr k)))
     where
       here : List (Key × ReadingValue)
-      here = fresh_versions b e.0 1 e.1.items
+      here = fresh_versions b e.0 1 (claimed_readings b e.0 e.1)
 
       new : List (Key × ReadingValue)
-      new = fresh_versions b key 1 v.items
+      new = fresh_versions b key 1 (claimed_readings b key v)
 
       all : List (Key × ReadingValue)
-      all = fresh_all b (insert_entry cmp es key v)
+      all = fresh_all b (claimed_entries b (insert_entry cmp es key v))
 
-      go : (o : Ordering) → o ≢ Equal → length all ≡ length (fresh_all b es) + length new
-          → length (fresh_all b (match_ordering o ((key, v) ∷ e ∷ es) ((e.0, v) ∷ es) (e ∷ insert_entry cmp es key v)))
-          ≡ length (here ++ fresh_all b es) + length new
-      go Less h rest = length-append new (here ++ fresh_all b es) ∙ omega arith
+      go : (o : Ordering) → o ≢ Equal → length all ≡ length (fresh_all b (claimed_entries b es)) + length new
+          → length (fresh_all b (claimed_entries b (match_ordering o ((key, v) ∷ e ∷ es) ((e.0, v) ∷ es) (e ∷ insert_entry cmp es key v))))
+          ≡ length (here ++ fresh_all b (claimed_entries b es)) + length new
+      go Less h rest = length-append new (here ++ fresh_all b (claimed_entries b es)) ∙ omega arith
       go Equal h rest = absurd (h refl)
       go Greater h rest =
           let l = length-append here all in
-          let m = length-append here (fresh_all b es) in
+          let m = length-append here (fresh_all b (claimed_entries b es)) in
           omega arith
 
-  pub counts_more : (es later : List (ℕ × Vec ReadingValue Global)) → ((e : ℕ × Vec ReadingValue Global) → Member e es → e.0 ≢ key)
-      → later ≡ insert_entry cmp es key v → (held fresh one other all_held all_fresh : ℕ) → AreCounts b es held fresh
-      → one ≡ held_count b key 1 v.items → one + other ≡ length v.items → all_held ≡ held + one → all_fresh ≡ fresh + other
-      → AreCounts b later all_held all_fresh
-  counts_more es later none put held fresh one other all_held all_fresh c is split h f =
-      let both = one_or_other b key 1 v.items in
+  pub counts_more : (es later : List (ℕ × Option (Vec ReadingValue Global)))
+      → ((e : ℕ × Option (Vec ReadingValue Global)) → Member e es → e.0 ≢ key)
+      → later ≡ insert_entry cmp es key v → (rs : List ReadingValue) → claimed_readings b key v ≡ rs
+      → (held fresh one other all_held all_fresh : ℕ) → AreCounts b (claimed_entries b es) held fresh
+      → one ≡ held_count b key 1 rs → one + other ≡ length rs → all_held ≡ held + one → all_fresh ≡ fresh + other
+      → AreCounts b (claimed_entries b later) all_held all_fresh
+  counts_more es later none put rs same held fresh one other all_held all_fresh c is split h f =
+      let both = one_or_other b key 1 (claimed_readings b key v) in
       let p = c.held_are in
       let q = c.fresh_are in
+      let one_is : one ≡ held_count b key 1 (claimed_readings b key v) = is ∙ ap (held_count b key 1) (sym same) in
+      let all : one + other ≡ length (claimed_readings b key v) = split ∙ ap length (sym same) in
       record {
-        held_are = (let z : all_held ≡ held_all b es + held_count b key 1 v.items = omega arith in z) ∙ sym (held_inserted es none) ∙ ap (held_all b) (sym put);
-        fresh_are = (let z : all_fresh ≡ length (fresh_all b es) + length (fresh_versions b key 1 v.items) = omega arith in z)
-            ∙ sym (fresh_inserted es none) ∙ ap (λ l. length (fresh_all b l)) (sym put);
+        held_are = (let z : all_held ≡ held_all b (claimed_entries b es) + held_count b key 1 (claimed_readings b key v) = omega arith in z)
+            ∙ sym (held_inserted es none) ∙ ap (λ l. held_all b (claimed_entries b l)) (sym put);
+        fresh_are = (let z : all_fresh ≡ length (fresh_all b (claimed_entries b es)) + length (fresh_versions b key 1 (claimed_readings b key v)) = omega arith in z)
+            ∙ sym (fresh_inserted es none) ∙ ap (λ l. length (fresh_all b (claimed_entries b l))) (sym put);
       }
 
-pub counts_same : (b : BookValue) (es later : List (ℕ × Vec ReadingValue Global)) (held fresh : ℕ) → later ≡ es → AreCounts b es held fresh
+pub counts_same : (b : BookValue) (es later : List (ℕ × List ReadingValue)) (held fresh : ℕ) → later ≡ es → AreCounts b es held fresh
     → AreCounts b later held fresh
 counts_same b es later held fresh e c = subst (λ l. AreCounts b l held fresh) (sym e) c
 
-pub counts_none : (b : BookValue) (es : List (ℕ × Vec ReadingValue Global)) → es ≡ [] → AreCounts b es 0 0
+pub counts_none : (b : BookValue) (es : List (ℕ × List ReadingValue)) → es ≡ [] → AreCounts b es 0 0
 counts_none b es e = subst (λ l. AreCounts b l 0 0) (sym e) (record { held_are = refl; fresh_are = refl })

@@ -2,8 +2,6 @@
 use Rattle.std.specs.Prelude.{◌≡◌, ◌≢◌, ℕ, ◌+◌, ◌<◌, ◌≤◌, Bool, cond, List, [], ◌∷◌, ◌++◌, length, Option, Some, None}
 use Rattle.std.specs.List.{slice_get}
 use Rattle.std.specs.FinSet as set
-use Rattle.std.specs.declared.alloc.Global.{Global}
-use Rattle.std.specs.declared.vec.Vec.{Vec}
 use Rattle.mds_quantity.specs.declared.unit.Unit.{Unit as MeasureUnit}
 use Rattle.mds_names.specs.declared.stream.Stream.{Stream}
 use Rattle.mds_marks.specs.Reading.{ReadingValue}
@@ -75,14 +73,14 @@ held_count book update interval (reading ∷ rest) =
     cond (is_held book update interval reading) 1 0 + held_count book update (interval + 1) rest
 
 -- of all updates that were claimed
-abbrev pub fresh_all : BookValue → List (ℕ × Vec ReadingValue Global) → List (Key × ReadingValue)
+abbrev pub fresh_all : BookValue → List (ℕ × List ReadingValue) → List (Key × ReadingValue)
 fresh_all book [] = []
-fresh_all book (entry ∷ rest) = fresh_versions book entry.0 1 entry.1.items ++ fresh_all book rest
+fresh_all book (entry ∷ rest) = fresh_versions book entry.0 1 entry.1 ++ fresh_all book rest
 
-abbrev pub held_all : BookValue → List (ℕ × Vec ReadingValue Global) → ℕ
+abbrev pub held_all : BookValue → List (ℕ × List ReadingValue) → ℕ
 held_all book [] = 0
-held_all book (entry ∷ rest) = held_count book entry.0 1 entry.1.items + held_all book rest
+held_all book (entry ∷ rest) = held_count book entry.0 1 entry.1 + held_all book rest
 
 -- none has more readings than a day has minutes
-abbrev pub AreShort : List (ℕ × Vec ReadingValue Global) → Type 0
-AreShort claimed = (entry : ℕ × Vec ReadingValue Global) → Member entry claimed → length entry.1.items ≤ 1440
+abbrev pub AreShort : List (ℕ × List ReadingValue) → Type 0
+AreShort claimed = (entry : ℕ × List ReadingValue) → Member entry claimed → length entry.1 ≤ 1440

@@ -1,55 +1,84 @@
 -- What a merge holds, as a value.
-use Rattle.std.specs.Prelude.{◌≡◌, ◌⊎◌, ◌≤◌, ℕ, List, [], map, Option, Some, None, length, refl}
-use Rattle.std.specs.BTreeMap.{BTreeMap}
+use Rattle.std.specs.Prelude.{◌≡◌, ◌⊎◌, ◌+◌, ◌≤◌, ℕ, cond, nat_eq, List, [], ◌∷◌, map, Option, Some, None, length, refl}
 use Rattle.std.specs.Coded.{Coded, code_by, coded×, coded_ℕ, coded_list, coded_option}
 use Rattle.std.specs.FinSet as set
 use Rattle.std.specs.FinSet.{code}
-use Rattle.std.specs.List.{AllPairs, flat_map}
+use Rattle.std.specs.List.{AllPairs, flat_map, slice_get}
 use Rattle.std.specs.declared.alloc.Global.{Global}
 use Rattle.std.specs.declared.vec.Vec.{Vec}
 use Rattle.mds_calendar.specs.Length.{count_of}
 use Rattle.mds_quantity.specs.declared.unit.Unit.{Unit as MeasureUnit}
 use Rattle.mds_marks.specs.Reading.{ReadingValue}
 use Rattle.mds_world.specs.Facts.{Fact}
+use Rattle.mds_world.specs.Facts.Fact.{VersionIs}
 use Rattle.mds_world.specs.FactCodes.{coded_fact, coded_measure, coded_reading, coded_stream}
 use Rattle.mds_world.specs.Lists.{Apart, Member}
+use Rattle.mds_world.specs.Sets.{◌∈◌}
 use Rattle.mds_world.specs.Stated.{day_facts}
 use Rattle.mds_world.specs.World.{Agrees, World, union}
 use Rattle.mds_versions.specs.Books.{BookValue, book_world}
 use Rattle.mds_versions.specs.BookRows.{IsBefore}
-use Rattle.mds_versions.specs.Claims.{fresh_all, held_all}
+use Rattle.mds_versions.specs.Claims.{fresh_all, held_all, key_of}
 use Rattle.mds_versions.specs.DayMerges.{DayMergeValue}
 use Rattle.mds_versions.specs.declared.day_book.Version.{Version}
 
+-- the readings that rows have under an update, by interval where the rows ascend
+abbrev pub readings_under : ℕ → List (ℕ × Version) → List ReadingValue
+readings_under update [] = []
+readings_under update (row ∷ rest) =
+    cond (nat_eq row.1.update update) (row.1.reading ∷ readings_under update rest) (readings_under update rest)
+
+-- the book has each of them, in its place among the intervals
+abbrev pub IsInBook : BookValue → ℕ → Type 0
+IsInBook book update =
+    (k : ℕ) (reading : ReadingValue) → slice_get (readings_under update book.rows) k ≡ Some reading
+    → VersionIs (key_of book (k + 1) update) reading ∈ book_world book
+
+-- the readings claimed under an update: where none are kept, those that the book has
+abbrev pub claimed_readings : BookValue → ℕ → Option (Vec ReadingValue Global) → List ReadingValue
+claimed_readings book update (Some readings) = readings.items
+claimed_readings book update None = readings_under update book.rows
+
+abbrev pub claimed_entry : BookValue → ℕ × Option (Vec ReadingValue Global) → ℕ × List ReadingValue
+claimed_entry book entry = (entry.0, claimed_readings book entry.0 entry.1)
+
+-- the same of all updates that were claimed
+abbrev pub claimed_entries : BookValue → List (ℕ × Option (Vec ReadingValue Global)) → List (ℕ × List ReadingValue)
+claimed_entries book claimed = map (claimed_entry book) claimed
+
+-- where none are kept, the book has them
+abbrev pub AreInBook : BookValue → List (ℕ × Option (Vec ReadingValue Global)) → Type 0
+AreInBook book claimed = (update : ℕ) → Member (update, None) claimed → IsInBook book update
+
 -- what was claimed under an update; on which lines isn't kept
-abbrev pub claimed_facts : BookValue → ℕ × MeasureUnit → ℕ × Vec ReadingValue Global → List Fact
-claimed_facts book form entry = day_facts book.stream book.day form.0 form.1 entry.0 entry.1.items
+abbrev pub claimed_facts : BookValue → ℕ × MeasureUnit → ℕ × List ReadingValue → List Fact
+claimed_facts book form entry = day_facts book.stream book.day form.0 form.1 entry.0 entry.1
 
 -- what was claimed, update by update
-abbrev pub all_claimed : BookValue → Option (ℕ × MeasureUnit) → List (ℕ × Vec ReadingValue Global) → World
+abbrev pub all_claimed : BookValue → Option (ℕ × MeasureUnit) → List (ℕ × List ReadingValue) → World
 all_claimed book None claimed = set.empty
 all_claimed book (Some form) claimed = set.from_list (flat_map (claimed_facts book form) claimed)
 
-abbrev pub merge_value : BookValue → Option (ℕ × MeasureUnit) → BTreeMap ℕ (Vec ReadingValue Global) → DayMergeValue
+abbrev pub merge_value : BookValue → Option (ℕ × MeasureUnit) → List (ℕ × List ReadingValue) → DayMergeValue
 merge_value book form claimed = record {
   book = book;
-  said = all_claimed book form claimed.entries;
+  said = all_claimed book form claimed;
 }
 
 -- All agrees, each claim has a reading for each interval, no update comes twice, and the length and unit are those that
 -- the book's head or a claim says.
-pub record IsDayMerge (book : BookValue) (form : Option (ℕ × MeasureUnit)) (claimed : BTreeMap ℕ (Vec ReadingValue Global)) : Type 0 where
+pub record IsDayMerge (book : BookValue) (form : Option (ℕ × MeasureUnit)) (claimed : List (ℕ × List ReadingValue)) : Type 0 where
   pub agrees : Agrees (union (book_world book) (merge_value book form claimed).said)
-  pub whole : (known : ℕ × MeasureUnit) → form ≡ Some known → (entry : ℕ × Vec ReadingValue Global)
-      → Member entry claimed.entries → length entry.1.items ≡ count_of known.0
-  pub once : Apart (map (λ entry. entry.0) claimed.entries)
-  pub none : form ≡ None → claimed.entries ≡ []
+  pub whole : (known : ℕ × MeasureUnit) → form ≡ Some known → (entry : ℕ × List ReadingValue)
+      → Member entry claimed → length entry.1 ≡ count_of known.0
+  pub once : Apart (map (λ entry. entry.0) claimed)
+  pub none : form ≡ None → claimed ≡ []
   pub known : (head : ℕ × MeasureUnit) → book.head ≡ Some head → form ≡ Some head
   pub told : (known : ℕ × MeasureUnit) → form ≡ Some known
-      → (book.head ≡ Some known) ⊎ ((entry : ℕ × Vec ReadingValue Global) × Member entry claimed.entries)
+      → (book.head ≡ Some known) ⊎ ((entry : ℕ × List ReadingValue) × Member entry claimed)
 
 -- how many of the readings claimed the book has, and how many it doesn't
-pub record AreCounts (book : BookValue) (claimed : List (ℕ × Vec ReadingValue Global)) (held fresh : ℕ) : Type 0 where
+pub record AreCounts (book : BookValue) (claimed : List (ℕ × List ReadingValue)) (held fresh : ℕ) : Type 0 where
   pub held_are : held ≡ held_all book claimed
   pub fresh_are : fresh ≡ length (fresh_all book claimed)
 

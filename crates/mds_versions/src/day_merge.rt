@@ -1,8 +1,10 @@
 //! A day of the store with what the lines so far claim of it.
 
-ghost use Rattle.std.specs.Prelude.{◌≡◌, ◌≢◌, ◌≤◌, ℕ, ◌++◌, cond, false, length, map, Err, IsTrue, IfOk, IfErr, IfSome, IfNone, OnOk};
+ghost use Rattle.std.specs.Prelude.{◌≡◌, ◌≢◌, ◌≤◌, ℕ, ◌++◌, cond, false, length, map, Err, IsTrue, IfOk, IfErr, IfSome, IfNone, IsNone, OnOk, Some};
 ghost use Rattle.std.specs.List.{AllPairs, slice_get};
 ghost use Rattle.std.specs.FinSet as set;
+ghost use Rattle.mds_calendar.specs.Length.{count_of};
+ghost use Rattle.mds_quantity.specs.declared.unit.Unit.{Unit as MeasureUnit};
 ghost use Rattle.mds_marks.specs.Reading.{ReadingValue};
 ghost use Rattle.mds_world.specs.Facts.Fact.{VersionIs};
 ghost use Rattle.mds_world.specs.Lists.{Member};
@@ -14,7 +16,7 @@ ghost use Rattle.mds_versions.specs.Content.{version_at, versions_of};
 ghost use Rattle.mds_versions.specs.declared.day_merge.Stop.TheVariants.{Refused};
 ghost use Rattle.mds_versions.specs.DayMerges.{DayMergeValue, AreAscending, IfRefused, IsPlan, Settles};
 ghost use Rattle.mds_versions.specs.Claims.{Contradicts, IsFirst, Suits, BreaksForm, SuitsForm, AreShort, fresh_all, fresh_heads, fresh_versions, held_all, held_count, is_held, key_of};
-ghost use Rattle.mds_versions.specs.DayMergeSteps.{AreCounts, IsFrom, row_of};
+ghost use Rattle.mds_versions.specs.DayMergeSteps.{AreCounts, AreInBook, IsFrom, IsInBook, claimed_entries, claimed_readings, readings_under, row_of};
 ghost use Rattle.mds_versions.specs.Merge.{Breaks, IsRefusal, claim_world, claims_upto, claims_world};
 
 use crate::additions::{Additions, DayVersions};
@@ -52,9 +54,10 @@ pub struct DayMerge {
     book: DayBook,
     /// The length and unit of the book, or of the first claim.
     form: Option<(Length, Unit)>,
-    /// The readings of each update that was claimed, one for each interval.
-    claimed: BTreeMap<Moment, Vec<Reading>>,
-    /// How many of them the book has.
+    /// The readings of each update that was claimed, one for each interval. None are kept where the
+    /// book has all of them.
+    claimed: BTreeMap<Moment, Option<Vec<Reading>>>,
+    /// How many of the readings claimed the book has.
     held: u64,
     /// How many of them it doesn't have.
     fresh: u64,
@@ -62,15 +65,17 @@ pub struct DayMerge {
 
 impl Model for DayMerge {
     ghost use Rattle.mds_versions.specs.DayMerges.{DayMergeValue};
-    ghost use Rattle.mds_versions.specs.DayMergeSteps.{AreCounts, IsDayMerge, coded_merge, merge_value};
+    ghost use Rattle.mds_versions.specs.DayMergeSteps.{AreCounts, AreInBook, IsDayMerge, claimed_entries, coded_merge, merge_value};
 
     ghost Value = { DayMergeValue };
 
     ghost coded = { coded_merge };
 
-    ghost view = { λ d. merge_value d.book d.form d.claimed };
+    ghost view = { λ d. merge_value d.book d.form (claimed_entries d.book d.claimed.entries) };
 
-    ghost invariant = { λ d. IsDayMerge d.book d.form d.claimed × AreCounts d.book d.claimed.entries d.held d.fresh };
+    ghost invariant = { λ d. IsDayMerge d.book d.form (claimed_entries d.book d.claimed.entries)
+        × AreInBook d.book d.claimed.entries
+        × AreCounts d.book (claimed_entries d.book d.claimed.entries) d.held d.fresh };
 }
 
 /// A refusal of a line, at an interval or at none.
@@ -222,6 +227,69 @@ fn count_held(book: &DayBook, update: Moment, readings: &[Reading]) -> Result<u6
     Ok(held)
 }
 
+/// The first interval of which a claim has another reading than one under the same update, of which
+/// the book has all readings.
+fn difference_in(book: &DayBook, update: Moment, readings: &[Reading]) -> Option<u16>
+    requires as_many { length (readings_under update book.now.rows) ≡ length readings.now }
+    requires few { length readings.now ≤ 1440 }
+    requires kept { IsInBook book.now update }
+    ensures some { IfSome result (IsFirst (λ k. slice_get (readings_under update book.now.rows) k ≢ slice_get readings.now k)
+        (λ k. slice_get (readings_under update book.now.rows) k ≡ slice_get readings.now k)) }
+    ensures none { IfNone result ((k : ℕ)
+        → slice_get (readings_under update book.now.rows) k ≡ slice_get readings.now k) }
+{
+    book.is_lawful();
+    match count_held(book, update, readings) {
+        Ok(_) => None,
+        Err(interval) => Some(interval),
+    }
+}
+
+/// The first interval of which a claim has another reading than one under the same update, by what
+/// is kept of that.
+fn difference(
+    book: &DayBook,
+    update: Moment,
+    claimed: &Option<Vec<Reading>>,
+    readings: &[Reading],
+) -> Option<u16>
+    requires as_many { length (claimed_readings book.now update claimed.now) ≡ length readings.now }
+    requires few { length readings.now ≤ 1440 }
+    requires kept { IsNone claimed.now → IsInBook book.now update }
+    ensures some { IfSome result
+        (IsFirst (λ k. slice_get (claimed_readings book.now update claimed.now) k ≢ slice_get readings.now k)
+        (λ k. slice_get (claimed_readings book.now update claimed.now) k ≡ slice_get readings.now k)) }
+    ensures none { IfNone result ((k : ℕ)
+        → slice_get (claimed_readings book.now update claimed.now) k ≡ slice_get readings.now k) }
+{
+    match claimed {
+        Some(claimed) => first_difference(claimed, readings),
+        None => difference_in(book, update, readings),
+    }
+}
+
+/// What is kept of a claim's readings, of which a book has so many: none where it has all.
+fn kept_of(
+    book: &DayBook,
+    update: Moment,
+    held: u64,
+    readings: Vec<Reading>,
+) -> Option<Vec<Reading>>
+    requires held { held ≡ held_count book.now update 1 readings.items }
+    requires whole { (known : ℕ × MeasureUnit) → book.now.head ≡ Some known
+        → length readings.items ≡ count_of known.0 }
+    ensures same { claimed_readings book.now update result ≡ readings.items }
+    ensures kept { IsNone result → IsInBook book.now update }
+{
+    book.is_lawful();
+    book.ascending_rows();
+    let has_all = held == readings.len() as u64;
+    if has_all {
+        return None;
+    }
+    Some(readings)
+}
+
 /// Puts the head that was claimed behind the heads to be added, where a book has none.
 fn settle_head(
     book: &DayBook,
@@ -282,15 +350,21 @@ fn settle_update(
 fn settle_claimed(
     book: &DayBook,
     are_new: bool,
-    claimed: BTreeMap<Moment, Vec<Reading>>,
+    claimed: BTreeMap<Moment, Option<Vec<Reading>>>,
     rows: &mut Vec<(u16, Version)>,
 ) -> Result<(), AllocError>
-    requires short { AreShort claimed.entries }
-    requires new { IsTrue are_new → held_all book.now claimed.entries ≡ 0 }
+    requires short { AreShort (claimed_entries book.now claimed.entries) }
+    requires kept { AreInBook book.now claimed.entries }
+    requires new { IsTrue are_new → held_all book.now (claimed_entries book.now claimed.entries) ≡ 0 }
     ensures { OnOk result (map (version_at book.now.stream book.now.day) rows.new.items
-        ≡ map (version_at book.now.stream book.now.day) rows.old.items ++ fresh_all book.now claimed.entries) }
+        ≡ map (version_at book.now.stream book.now.day) rows.old.items
+        ++ fresh_all book.now (claimed_entries book.now claimed.entries)) }
 {
-    for (update, readings) in claimed {
+    for (update, kept) in claimed {
+        // Where none are kept, the book has them.
+        let Some(readings) = kept else {
+            continue;
+        };
         settle_update(book, are_new, update, readings, rows)?;
     }
     Ok(())
@@ -301,15 +375,16 @@ fn settle_claimed(
 fn settle_fresh(
     alloc: Global,
     book: &DayBook,
-    claimed: BTreeMap<Moment, Vec<Reading>>,
+    claimed: BTreeMap<Moment, Option<Vec<Reading>>>,
     held: u64,
     fresh: u64,
     days: &mut Vec<DayVersions>,
 ) -> Result<(), AllocError>
-    requires short { AreShort claimed.entries }
-    requires counts { AreCounts book.now claimed.entries held fresh }
+    requires short { AreShort (claimed_entries book.now claimed.entries) }
+    requires kept { AreInBook book.now claimed.entries }
+    requires counts { AreCounts book.now (claimed_entries book.now claimed.entries) held fresh }
     ensures { OnOk result (versions_of days.new.items
-        ≡ versions_of days.old.items ++ fresh_all book.now claimed.entries) }
+        ≡ versions_of days.old.items ++ fresh_all book.now (claimed_entries book.now claimed.entries)) }
 {
     if fresh == 0 {
         return Ok(());
@@ -371,7 +446,7 @@ impl DayMerge {
         // The laws of the order of updates, by which the map finds this one.
         update.seconds();
         if let Some(claimed) = self.claimed.get(&update) {
-            if let Some(interval) = first_difference(claimed, &readings) {
+            if let Some(interval) = difference(&self.book, update, claimed, &readings) {
                 return Err(refused(RefusalCode::VersionConflict, line, interval));
             }
             return Ok(());
@@ -388,7 +463,8 @@ impl DayMerge {
         let Some(all_fresh) = self.fresh.checked_add(fresh) else {
             return Err(Stop::Memory);
         };
-        if self.claimed.insert(update, readings).is_err() {
+        let kept = kept_of(&self.book, update, held, readings);
+        if self.claimed.insert(update, kept).is_err() {
             return Err(Stop::Memory);
         }
         self.form = Some((length, unit));

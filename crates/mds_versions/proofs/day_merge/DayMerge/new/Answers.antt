@@ -1,6 +1,13 @@
-use Rattle.mds_versions.proofs.Taken.{new_merge}
+use Rattle.std.proofs.Common.{ap}
+use Rattle.mds_versions.specs.DayMergeSteps.{claimed_entries}
+use Rattle.mds_versions.proofs.Taken.{new_merge, none_in_book}
 use Rattle.mds_versions.proofs.Walks.{counts_none}
 use Rattle.mds_versions.proofs.day_merge.DayMerge.new.Goals as goal
 
 pub invariant_of-result : goal.invariant_of-result
-invariant_of-result c = (new_merge _ _ _ c.head-form.ensures c.new.ensures.empty c.is_lawful.ensures, counts_none _ _ c.new.ensures.empty)
+invariant_of-result c =
+    let none = ap (claimed_entries c.args.book) c.new.ensures.empty in (
+      new_merge _ _ _ c.head-form.ensures none c.is_lawful.ensures,
+      none_in_book _ _ c.new.ensures.empty,
+      counts_none _ _ none,
+    )
