@@ -3,7 +3,5 @@
 #![tactic(auto)]
 
 mod day;
-#[cfg(test)]
-mod tests;
 
 pub use day::{DayData, Tally};

@@ -5,8 +5,6 @@
 mod laws;
 mod selected;
 mod selection;
-#[cfg(test)]
-mod tests;
 mod writer;
 
 pub use laws::{export_reads_back, one_export_text};

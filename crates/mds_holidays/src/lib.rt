@@ -2,7 +2,5 @@
 #![tactic(auto)]
 
 mod holidays;
-#[cfg(test)]
-mod tests;
 
 pub use holidays::{HolidaysFault, read_holidays};

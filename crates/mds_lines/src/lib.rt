@@ -17,6 +17,3 @@ pub use rest::{is_blank_from, next_field};
 pub use source::{Counted, Sink, Source};
 pub use streams::{read_more, write_whole};
 pub use text_source::TextSource;
-
-#[cfg(test)]
-mod tests;

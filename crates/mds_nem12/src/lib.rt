@@ -7,8 +7,6 @@ mod file_reader;
 mod laws;
 mod reading;
 mod sink;
-#[cfg(test)]
-mod tests;
 
 pub use file_reader::FileReader;
 pub use laws::{days_are_orderly, fault_is_of_every_longer_text, one_run_of_a_day};

@@ -8,8 +8,6 @@ mod content;
 mod file_reader;
 mod reading;
 mod sink;
-#[cfg(test)]
-mod tests;
 
 pub use accumulation::Accumulation;
 pub use file_reader::FileReader;

@@ -35,6 +35,3 @@ pub use mds_lines::{
 pub use nmi_data_details::{NmiDataDetailsRecord, read_nmi_data_details};
 pub use record::{Record, read_end, read_record};
 pub use register_read::RegisterRead;
-
-#[cfg(test)]
-mod tests;

@@ -281,6 +281,7 @@ fn kept_of(
     ensures same { claimed_readings book.now update result ≡ readings.items }
     ensures kept { IsNone result → IsInBook book.now update }
 {
+    // The laws of a book: its rows ascend, within the length of its head.
     book.is_lawful();
     book.ascending_rows();
     let has_all = held == readings.len() as u64;

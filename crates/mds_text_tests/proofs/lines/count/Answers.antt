@@ -1,6 +1,6 @@
 use Rattle.std.proofs.Common.{sym, ap, ◌∙◌}
 use Rattle.mds_lines.proofs.HasTakens.{lent_taken, lent_name, taken_bound}
-use Rattle.mds_lines.proofs.tests.count.Goals as goal
+use Rattle.mds_text_tests.proofs.lines.count.Goals as goal
 
 pub returns : goal.returns
 returns g c =
