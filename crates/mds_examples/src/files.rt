@@ -1,17 +1,24 @@
 //! Files, by short texts that stand for them.
 
+use crate::named::named;
 use std::alloc::{AllocError, Global};
 
-/// A file that short pieces of text stand for: `@` is a header, `#` a 200 record of 30 minutes in kWh, `$`
-/// the end of data, and `;` the end of a line; values are as `values_of` says.
-pub(crate) fn file_of(alloc: Global, pieces: &[&str]) -> Result<Vec<u8>, AllocError> {
+/// A file that short pieces of text stand for, with a `/` between two, each by its name if it has one: `@` is a header, `#` a 200
+/// record of 30 minutes in kWh, `$` the end of data, and `;` the end of a line; values are as `values_of` says.
+pub(crate) fn file_of(alloc: Global, pieces: &str) -> Result<Vec<u8>, AllocError> {
     let mut file = String::new(alloc);
-    for piece in pieces {
-        for c in piece.chars() {
-            push_short(&mut file, c)?;
-        }
+    for piece in pieces.split('/') {
+        push_piece(&mut file, named(piece))?;
     }
     Ok(file.into_bytes())
+}
+
+/// Appends what a piece stands for.
+fn push_piece(file: &mut String, piece: &str) -> Result<(), AllocError> {
+    for c in piece.chars() {
+        push_short(file, c)?;
+    }
+    Ok(())
 }
 
 /// Appends what a character stands for.
@@ -21,16 +28,24 @@ fn push_short(file: &mut String, c: char) -> Result<(), AllocError> {
         '#' => file.push_str("200,NEM1201009,E1,1,E1,N1,01009,kWh,30,\n"),
         '$' => file.push_str("900\n"),
         ';' => file.push('\n'),
-        other => match values_of(other) {
-            (0, _) => file.push(other),
-            (count, value) => {
-                for _ in 0..count {
-                    file.push_str(value)?;
-                }
-                Ok(())
-            }
-        },
+        other => push_values(file, other),
     }
+}
+
+/// Appends the values that a character stands for, or else the character.
+fn push_values(file: &mut String, c: char) -> Result<(), AllocError> {
+    match values_of(c) {
+        (0, _) => file.push(c),
+        (count, value) => push_times(file, value, count),
+    }
+}
+
+/// Appends a text, so many times.
+pub(crate) fn push_times(out: &mut String, text: &str, times: u16) -> Result<(), AllocError> {
+    for _ in 0..times {
+        out.push_str(text)?;
+    }
+    Ok(())
 }
 
 /// How many values a character stands for, and which.

@@ -4,11 +4,14 @@
 
 mod files;
 mod limits;
+mod named;
+mod requests;
 mod rows;
 #[cfg(test)]
 mod tests;
 mod texts;
 
 pub use limits::{file_at_the_limits, first_wrong_at_the_limits};
-pub use rows::{EARLIER, EXAMPLES, EXPORTED_DAY, FIRST, PERIODS, Row, first_wrong, request_of};
+pub use requests::request_of;
+pub use rows::{EXAMPLES, first_wrong};
 pub use texts::text_of;

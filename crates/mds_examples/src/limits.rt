@@ -5,10 +5,11 @@
 //! the first file's stream, but for a day of half hours of each of many others. A job with a reason that is as long as it may
 //! be comes behind it.
 
-use crate::rows::request_of;
-use crate::texts::text_of;
+use crate::files::push_times;
+use crate::requests::request_of;
+use crate::rows::{other_than, told_once};
 use mds_records::FileKind;
-use mds_service::{Request, apply};
+use mds_service::Request;
 use mds_versions::Keeper;
 use std::alloc::{AllocError, Global};
 
@@ -52,38 +53,57 @@ const UPDATED_DAY: &str = "20240102";
 /// A day that is in no file.
 const FILLED_DAY: &str = "20240203";
 
-/// Its stream, and how many half hours of it a job fills in.
-const FILLED: (&str, u16) = ("NEM2000000", 48);
+/// Its stream.
+const FILLED_NMI: &str = "NEM2000000";
 
 /// The file.
 pub fn file_at_the_limits(alloc: Global) -> Result<Vec<u8>, AllocError> {
     let mut file = String::new(alloc);
-    file.push_str("100,NEM12,202401030000,MDP1,RETAILER\n")?;
-    push_stream(&mut file, "NEM1201009", 5, "\n")?;
-    push_marked_day(&mut file, "\n")?;
-    push_events(&mut file)?;
-    push_updated_day(&mut file)?;
-    for number in 0..LONG_DAYS {
-        let date = date_of(alloc, number)?;
-        push_long_day(alloc, &mut file, date.as_str(), FIVE_MINUTES)?;
-    }
-    for number in 0..STREAMS {
-        let nmi = nmi_of(alloc, number)?;
-        push_stream(&mut file, nmi.as_str(), 30, "\n")?;
-        push_long_day(alloc, &mut file, MARKED_DAY, HALF_HOURS)?;
-    }
-    file.push_str("900\n")?;
-    // Empty lines say nothing.
-    for _ in file.len()..FILE_BYTES {
-        file.push('\n')?;
-    }
+    push_file(alloc, &mut file)?;
     Ok(file.into_bytes())
 }
 
-/// Appends a text, so many times.
-fn push_times(out: &mut String, text: &str, times: u16) -> Result<(), AllocError> {
-    for _ in 0..times {
-        out.push_str(text)?;
+/// Appends the file.
+fn push_file(alloc: Global, file: &mut String) -> Result<(), AllocError> {
+    file.push_str("100,NEM12,202401030000,MDP1,RETAILER\n")?;
+    push_first_stream(file)?;
+    push_long_days(alloc, file)?;
+    push_streams(alloc, file)?;
+    file.push_str("900\n")?;
+    push_empty_lines(file)
+}
+
+/// Appends the first file's stream with the days that have runs, events and updates.
+fn push_first_stream(file: &mut String) -> Result<(), AllocError> {
+    push_stream(file, "NEM1201009", 5, "\n")?;
+    push_marked_day(file, "\n")?;
+    push_events(file)?;
+    push_updated_day(file)
+}
+
+/// Appends its days of one update.
+fn push_long_days(alloc: Global, file: &mut String) -> Result<(), AllocError> {
+    for number in 0..LONG_DAYS {
+        let date = date_of(alloc, number)?;
+        push_long_day(alloc, file, date.as_str(), FIVE_MINUTES)?;
+    }
+    Ok(())
+}
+
+/// Appends the streams of half hours, each with a day.
+fn push_streams(alloc: Global, file: &mut String) -> Result<(), AllocError> {
+    for number in 0..STREAMS {
+        let nmi = nmi_of(alloc, number)?;
+        push_stream(file, nmi.as_str(), 30, "\n")?;
+        push_long_day(alloc, file, MARKED_DAY, HALF_HOURS)?;
+    }
+    Ok(())
+}
+
+/// Appends empty lines, which say nothing, up to the size of the file.
+fn push_empty_lines(file: &mut String) -> Result<(), AllocError> {
+    for _ in file.len()..FILE_BYTES {
+        file.push('\n')?;
     }
     Ok(())
 }
@@ -102,22 +122,30 @@ fn nmi_of(alloc: Global, number: u16) -> Result<String, AllocError> {
 /// Appends a 200 record, with texts as long as they may be, and a line's end.
 fn push_stream(file: &mut String, nmi: &str, minutes: u16, end: &str) -> Result<(), AllocError> {
     write!(file, "200,{nmi},")?;
-    push_times(file, "c", FIELD)?;
-    file.push(',')?;
-    push_times(file, "r", FIELD)?;
-    file.push_str(",E1,")?;
-    push_times(file, "d", FIELD)?;
-    file.push(',')?;
-    push_times(file, "m", FIELD)?;
-    write!(file, ",kWh,{minutes},20240201{end}")
+    push_long(file, "c")?;
+    push_long(file, "r")?;
+    push_register(file)?;
+    write!(file, "kWh,{minutes},20240201{end}")
+}
+
+/// Appends its suffix, its register and its meter.
+fn push_register(file: &mut String) -> Result<(), AllocError> {
+    file.push_str("E1,")?;
+    push_long(file, "d")?;
+    push_long(file, "m")
+}
+
+/// Appends a field of so many letters.
+fn push_long(out: &mut String, letter: &str) -> Result<(), AllocError> {
+    push_times(out, letter, FIELD)?;
+    out.push(',')
 }
 
 /// Appends the answer's text of a stream with these details.
 fn push_known_stream(out: &mut String, nmi: &str) -> Result<(), AllocError> {
     write!(out, "{nmi},E1=")?;
     for letter in ["c", "r", "d", "m"] {
-        push_times(out, letter, FIELD)?;
-        out.push(',')?;
+        push_long(out, letter)?;
     }
     out.push_str("20240201 ")
 }
@@ -127,6 +155,11 @@ fn push_marked_day(file: &mut String, end: &str) -> Result<(), AllocError> {
     write!(file, "300,{MARKED_DAY},")?;
     push_times(file, "1,", FIVE_MINUTES)?;
     write!(file, "V,,,20240102000000,{end}")?;
+    push_runs(file, end)
+}
+
+/// Appends a run for each interval.
+fn push_runs(file: &mut String, end: &str) -> Result<(), AllocError> {
     for k in 1..=FIVE_MINUTES {
         write!(file, "400,{k},{k},")?;
         push_mark(file, k)?;
@@ -168,31 +201,53 @@ fn push_reason(out: &mut String, interval: u16) -> Result<(), AllocError> {
 fn finals_text(alloc: Global) -> Result<String, AllocError> {
     let mut out = String::from_str(alloc, "nmi,suffix,date,first,last,method,code,text\n")?;
     for k in 1..=FIVE_MINUTES {
-        if is_final(k) {
-            write!(out, "NEM1201009,E1,{MARKED_DAY},{k},{k},14,{k},")?;
-            push_reason(&mut out, k)?;
-            out.push('\n')?;
-        }
+        push_final(&mut out, k)?;
     }
     Ok(out)
+}
+
+/// Appends an interval to it, if it is of quality F.
+fn push_final(out: &mut String, interval: u16) -> Result<(), AllocError> {
+    if !is_final(interval) {
+        return Ok(());
+    }
+    write!(
+        out,
+        "NEM1201009,E1,{MARKED_DAY},{interval},{interval},14,{interval},"
+    )?;
+    push_reason(out, interval)?;
+    out.push('\n')
 }
 
 /// The export of that day.
 fn exported_text(alloc: Global) -> Result<String, AllocError> {
     let mut out = String::from_str(alloc, "100,NEM12,202401040000,MDP1,RETAILER\r\n")?;
-    push_stream(&mut out, "NEM1201009", 5, "\r\n")?;
-    push_marked_day(&mut out, "\r\n")?;
-    out.push_str("900\r\n")?;
+    push_exported_day(&mut out)?;
     Ok(out)
+}
+
+/// Appends what follows its header.
+fn push_exported_day(out: &mut String) -> Result<(), AllocError> {
+    push_stream(out, "NEM1201009", 5, "\r\n")?;
+    push_marked_day(out, "\r\n")?;
+    out.push_str("900\r\n")
 }
 
 /// A job that fills a day with zeros, under a reason that is as long as it may be. `Streams` where it is none.
 fn job(alloc: Global) -> Result<Request, AllocError> {
-    let (nmi, count) = FILLED;
-    let mut body = format!(in alloc; "{nmi},E1,{FILLED_DAY},1,{count},30,kWh,19,F,76,")?;
-    push_reason(&mut body, 1)?;
-    body.push_str(",20240204000000")?;
-    request_of(alloc, "substitute", &["LONG", body.as_str()], 0)
+    let mut text = String::from_str(alloc, "substitute/LONG/")?;
+    push_body(&mut text)?;
+    request_of(alloc, text.as_str())
+}
+
+/// Appends the body of that job.
+fn push_body(out: &mut String) -> Result<(), AllocError> {
+    write!(
+        out,
+        "{FILLED_NMI},E1,{FILLED_DAY},1,{HALF_HOURS},30,kWh,19,F,76,"
+    )?;
+    push_reason(out, 1)?;
+    out.push_str(",20240204000000")
 }
 
 /// Appends an event, with texts as long as they may be.
@@ -206,29 +261,45 @@ fn push_event(out: &mut String, number: u16) -> Result<(), AllocError> {
 /// The answer's text of that day.
 fn marked_day_text(alloc: Global) -> Result<String, AllocError> {
     let mut out = String::from_str(alloc, "5 kWh 20240102000000")?;
+    push_marks(&mut out)?;
+    push_answered_events(&mut out)?;
+    Ok(out)
+}
+
+/// Appends its readings, and how many they are.
+fn push_marks(out: &mut String) -> Result<(), AllocError> {
     for k in 1..=FIVE_MINUTES {
         write!(out, " {k}:")?;
-        push_mark(&mut out, k)?;
+        push_mark(out, k)?;
         out.push_str(",1")?;
     }
-    out.push_str(" 288")?;
+    out.push_str(" 288")
+}
+
+/// Appends its events.
+fn push_answered_events(out: &mut String) -> Result<(), AllocError> {
     for k in 1..=EVENTS {
         write!(out, " NEM1201009,E1,{MARKED_DAY},")?;
-        push_event(&mut out, k)?;
+        push_event(out, k)?;
     }
-    Ok(out)
+    Ok(())
 }
 
 /// Appends the day with several updates: the value under each is its second.
 fn push_updated_day(file: &mut String) -> Result<(), AllocError> {
     for update in 1..=UPDATES {
-        write!(file, "300,{UPDATED_DAY},")?;
-        for _ in 0..FIVE_MINUTES {
-            write!(file, "{update},")?;
-        }
-        write!(file, "A,,,202401020000{update:02},\n")?;
+        push_update(file, update)?;
     }
     Ok(())
+}
+
+/// Appends that day under one of its updates.
+fn push_update(file: &mut String, update: u16) -> Result<(), AllocError> {
+    write!(file, "300,{UPDATED_DAY},")?;
+    for _ in 0..FIVE_MINUTES {
+        write!(file, "{update},")?;
+    }
+    write!(file, "A,,,202401020000{update:02},\n")
 }
 
 /// The answer's text of an interval of that day.
@@ -247,15 +318,26 @@ fn push_long_day(
     date: &str,
     count: u16,
 ) -> Result<(), AllocError> {
-    let mut front = format!(in alloc; "300,{date},")?;
     let mut rest = String::new(alloc);
-    push_times(&mut rest, "1,", count)?;
-    rest.push_str("A,,,20240103000000,\n")?;
-    for _ in front.len() + rest.len()..LINE_BYTES {
-        front.push('0')?;
-    }
-    file.push_str(front.as_str())?;
+    push_ones(&mut rest, count)?;
+    push_front(file, date, LINE_BYTES.saturating_sub(rest.len()))?;
     file.push_str(rest.as_str())
+}
+
+/// Appends so many values 1, and the end of their line.
+fn push_ones(out: &mut String, count: u16) -> Result<(), AllocError> {
+    push_times(out, "1,", count)?;
+    out.push_str("A,,,20240103000000,\n")
+}
+
+/// Appends the front of a line, and zeros up to so many bytes.
+fn push_front(file: &mut String, date: &str, bytes: usize) -> Result<(), AllocError> {
+    let start = file.len();
+    write!(file, "300,{date},")?;
+    for _ in file.len().saturating_sub(start)..bytes {
+        file.push('0')?;
+    }
+    Ok(())
 }
 
 /// The answer's text of the known streams.
@@ -269,69 +351,136 @@ fn streams_text(alloc: Global) -> Result<String, AllocError> {
     Ok(out)
 }
 
-/// The months that a range of 400 days from 1 January 2024 meets, each with its last day of it.
-const MONTHS: [(u32, u16); 14] = [
-    (202401, 31),
-    (202402, 29),
-    (202403, 31),
-    (202404, 30),
-    (202405, 31),
-    (202406, 30),
-    (202407, 31),
-    (202408, 31),
-    (202409, 30),
-    (202410, 31),
-    (202411, 30),
-    (202412, 31),
-    (202501, 31),
-    (202502, 3),
+/// The last day of each month that a range of 400 days from 1 January 2024 meets, or of the range.
+const LAST_DAYS: [u32; 14] = [
+    20240131, 20240229, 20240331, 20240430, 20240531, 20240630, 20240731, 20240831, 20240930,
+    20241031, 20241130, 20241231, 20250131, 20250203,
 ];
 
 /// The register of the gaps of that range: its first two days have all readings, and the others aren't known.
 fn gaps_text(alloc: Global) -> Result<String, AllocError> {
     let mut out = String::from_str(alloc, "nmi,suffix,date,first,last\n")?;
-    for (month, last) in MONTHS {
-        let first = if month == 202401 { 3 } else { 1 };
-        for day in first..=last {
-            write!(out, "NEM1201009,E1,{month}{day:02},0,0\n")?;
-        }
+    for last in LAST_DAYS {
+        push_gaps(&mut out, last)?;
     }
     Ok(out)
 }
 
-/// Requests on the file, each with the text of its answer over a keeper that was empty before the first.
-fn requests_at_the_limits(alloc: Global) -> Result<Vec<(Request, String)>, AllocError> {
-    let mut requests = Vec::new(alloc);
-    for wanted in [
-        format!(in alloc; "added {VERSIONS} known 0")?,
-        format!(in alloc; "added 0 known {VERSIONS}")?,
-    ] {
-        let bytes = file_at_the_limits(alloc)?;
-        let kind = FileKind::Nem12;
-        requests.push((Request::Import { kind, bytes }, wanted))?;
+/// Appends the days of a month up to one.
+fn push_gaps(out: &mut String, last: u32) -> Result<(), AllocError> {
+    let month = last / 100 * 100;
+    let first = if month == 20_240_100 { 3 } else { 1 };
+    for date in month.saturating_add(first)..=last {
+        write!(out, "NEM1201009,E1,{date},0,0\n")?;
     }
-    let marked = request_of(alloc, "day", &[MARKED_DAY], 0)?;
-    requests.push((marked, marked_day_text(alloc)?))?;
-    let updated = request_of(alloc, "day", &[UPDATED_DAY], 0)?;
-    let wanted = format!(in alloc; "5 kWh 202401020000{UPDATES:02} 1:A,,,{UPDATES} 288")?;
-    requests.push((updated, wanted))?;
-    let versions = request_of(alloc, "versions", &[UPDATED_DAY], FIVE_MINUTES)?;
-    requests.push((versions, updated_interval_text(alloc, FIVE_MINUTES)?))?;
+    Ok(())
+}
+
+/// What is asked of the file, in this order.
+#[derive(Clone, Copy)]
+enum Asked {
+    File,
+    FileAgain,
+    MarkedDay,
+    UpdatedDay,
+    UpdatedInterval,
+    LongDay,
+    Gaps,
+    Finals,
+    Export,
+    Job,
+    JobAgain,
+    Streams,
+}
+
+const ALL: [Asked; 12] = [
+    Asked::File,
+    Asked::FileAgain,
+    Asked::MarkedDay,
+    Asked::UpdatedDay,
+    Asked::UpdatedInterval,
+    Asked::LongDay,
+    Asked::Gaps,
+    Asked::Finals,
+    Asked::Export,
+    Asked::Job,
+    Asked::JobAgain,
+    Asked::Streams,
+];
+
+/// The request.
+fn request_at_the_limits(alloc: Global, asked: Asked) -> Result<Request, AllocError> {
+    match asked {
+        Asked::File | Asked::FileAgain => file_request(alloc),
+        Asked::MarkedDay => day_request(alloc, MARKED_DAY),
+        Asked::UpdatedDay => day_request(alloc, UPDATED_DAY),
+        Asked::UpdatedInterval => interval_request(alloc),
+        Asked::LongDay => long_day_request(alloc),
+        Asked::Gaps => request_of(alloc, "gaps/20240101/20250203"),
+        Asked::Finals => marked_day_request(alloc, "finals", ""),
+        Asked::Export => marked_day_request(alloc, "export", "/E1"),
+        Asked::Job | Asked::JobAgain => job(alloc),
+        Asked::Streams => Ok(Request::Streams),
+    }
+}
+
+fn file_request(alloc: Global) -> Result<Request, AllocError> {
+    let bytes = file_at_the_limits(alloc)?;
+    let kind = FileKind::Nem12;
+    Ok(Request::Import { kind, bytes })
+}
+
+fn day_request(alloc: Global, date: &str) -> Result<Request, AllocError> {
+    let text = format!(in alloc; "day/{date}")?;
+    request_of(alloc, text.as_str())
+}
+
+/// For the last interval of the day with several updates.
+fn interval_request(alloc: Global) -> Result<Request, AllocError> {
+    let text = format!(in alloc; "versions/{UPDATED_DAY}/{FIVE_MINUTES}")?;
+    request_of(alloc, text.as_str())
+}
+
+/// For the last of the days of one update.
+fn long_day_request(alloc: Global) -> Result<Request, AllocError> {
     let date = date_of(alloc, LONG_DAYS - 1)?;
-    let long = request_of(alloc, "day", &[date.as_str()], 0)?;
-    let wanted = String::from_str(alloc, "5 kWh 20240103000000 1:A,,,1 288")?;
-    requests.push((long, wanted))?;
-    let gaps = request_of(alloc, "gaps", &["20240101", "20250203"], 0)?;
-    requests.push((gaps, gaps_text(alloc)?))?;
-    let finals = request_of(alloc, "finals", &[MARKED_DAY, MARKED_DAY], 0)?;
-    requests.push((finals, finals_text(alloc)?))?;
-    let export = request_of(alloc, "export", &[MARKED_DAY, MARKED_DAY, "E1"], 0)?;
-    requests.push((export, exported_text(alloc)?))?;
-    let (_, count) = FILLED;
-    requests.push((job(alloc)?, format!(in alloc; "substituted {count}")?))?;
-    requests.push((job(alloc)?, format!(in alloc; "known {count}")?))?;
-    requests.push((Request::Streams, streams_text(alloc)?))?;
-    Ok(requests)
+    day_request(alloc, date.as_str())
+}
+
+/// For a range of the day with runs and events.
+fn marked_day_request(alloc: Global, what: &str, suffix: &str) -> Result<Request, AllocError> {
+    let text = format!(in alloc; "{what}/{MARKED_DAY}/{MARKED_DAY}{suffix}")?;
+    request_of(alloc, text.as_str())
+}
+
+/// The text of its answer over a keeper that was empty before the first.
+fn text_at_the_limits(alloc: Global, asked: Asked) -> Result<String, AllocError> {
+    match asked {
+        Asked::File => added_text(alloc, VERSIONS, 0),
+        Asked::FileAgain => added_text(alloc, 0, VERSIONS),
+        Asked::MarkedDay => marked_day_text(alloc),
+        Asked::UpdatedDay => updated_day_text(alloc),
+        Asked::UpdatedInterval => updated_interval_text(alloc, FIVE_MINUTES),
+        Asked::LongDay => String::from_str(alloc, "5 kWh 20240103000000 1:A,,,1 288"),
+        Asked::Gaps => gaps_text(alloc),
+        Asked::Finals => finals_text(alloc),
+        Asked::Export => exported_text(alloc),
+        Asked::Job => job_text(alloc, "substituted"),
+        Asked::JobAgain => job_text(alloc, "known"),
+        Asked::Streams => streams_text(alloc),
+    }
+}
+
+fn added_text(alloc: Global, added: u32, known: u32) -> Result<String, AllocError> {
+    format!(in alloc; "added {added} known {known}")
+}
+
+fn updated_day_text(alloc: Global) -> Result<String, AllocError> {
+    format!(in alloc; "5 kWh 202401020000{UPDATES:02} 1:A,,,{UPDATES} 288")
+}
+
+fn job_text(alloc: Global, what: &str) -> Result<String, AllocError> {
+    format!(in alloc; "{what} {HALF_HOURS}")
 }
 
 /// Puts the file to a keeper that is empty, twice, and asks for what it states. The answer is the number of the first request
@@ -340,12 +489,21 @@ pub fn first_wrong_at_the_limits<K: Keeper>(
     alloc: Global,
     keeper: &mut K,
 ) -> Result<Option<(usize, String)>, AllocError> {
-    for (k, row) in requests_at_the_limits(alloc)?.iter().enumerate() {
-        let (request, wanted) = row;
-        let got = text_of(alloc, &apply(alloc, keeper, request))?;
-        if got.as_str() != wanted.as_str() {
+    for (k, asked) in ALL.iter().enumerate() {
+        if let Some(got) = wrong_at_the_limits(alloc, keeper, *asked)? {
             return Ok(Some((k, got)));
         }
     }
     Ok(None)
+}
+
+/// Does a request. The answer is its text, where it isn't the wanted one.
+fn wrong_at_the_limits<K: Keeper>(
+    alloc: Global,
+    keeper: &mut K,
+    asked: Asked,
+) -> Result<Option<String>, AllocError> {
+    let got = told_once(alloc, keeper, request_at_the_limits(alloc, asked)?)?;
+    let wanted = text_at_the_limits(alloc, asked)?;
+    Ok(other_than(got, wanted.as_str()))
 }

@@ -1,9 +1,7 @@
 //! The examples over stores in memory and in a file, and databases that are no stores.
 
 use crate::run_rows;
-use mds_examples::{
-    EXAMPLES, FIRST, Row, first_wrong, first_wrong_at_the_limits, request_of, text_of,
-};
+use mds_examples::{EXAMPLES, first_wrong, first_wrong_at_the_limits, request_of, text_of};
 use mds_service::apply;
 use mds_store::{RowKeeper, StoreFault, adopt, create};
 use sqlite::{Alter, Connection, Error, Wary};
@@ -60,7 +58,7 @@ fn a_store_is_opened_again(rt: HostRuntime) -> Result<(), Fail> {
     let alloc = rt.alloc();
     let _ = fs::remove_dir_all(&rt, KEPT_FOLDER);
     fs::create_dir(&rt, KEPT_FOLDER)?;
-    let first = request_of(alloc, "import", FIRST, 0)?;
+    let first = request_of(alloc, "import/first")?;
     for (is_new, wanted) in [(true, "added 48 known 0"), (false, "added 0 known 48")] {
         let Ok(conn) = Connection::open_from(&rt, KEPT, false, Wary) else {
             assert!(rt; false, "no file was opened");
@@ -190,22 +188,12 @@ fn a_store_of_version_2_is_refused(rt: HostRuntime) -> Result<(), Fail> {
 }
 
 /// What is answered of a store with the first file where the last interval has no version.
-const WITHOUT_48: [Row; 5] = [
-    ("versions", &["20240101"], 47, "47 20240102010203:A,,,1.5"),
-    ("versions", &["20240101"], 48, "48"),
-    (
-        "day",
-        &["20240101"],
-        0,
-        "30 kWh 20240102010203 1:A,,,1.5 48:N,,, 48",
-    ),
-    ("import", FIRST, 0, "added 1 known 47"),
-    (
-        "day",
-        &["20240101"],
-        0,
-        "30 kWh 20240102010203 1:A,,,1.5 48",
-    ),
+const WITHOUT_48: [&str; 5] = [
+    "versions/20240101/47|47 20240102010203:A,,,1.5",
+    "versions/20240101/48|48",
+    "day/20240101|30 kWh 20240102010203 1:A,,,1.5 48:N,,, 48",
+    "import/first|added 1 known 47",
+    "day/20240101|30 kWh 20240102010203 1:A,,,1.5 48",
 ];
 
 /// Files give each interval of a day a version, but another program may take one away.
@@ -213,7 +201,7 @@ const WITHOUT_48: [Row; 5] = [
 fn an_interval_may_have_no_version(rt: HostRuntime) -> Result<(), Fail> {
     let conn = Connection::open_in_memory(rt.alloc())?;
     let mut keeper = kept(create(rt.alloc(), conn))?;
-    let first = request_of(rt.alloc(), "import", FIRST, 0)?;
+    let first = request_of(rt.alloc(), "import/first")?;
     assert_eq!(rt; run_rows(rt.alloc(), &mut keeper, &[first])?.len(), 1);
     let mut conn = keeper.into_connection();
     execute_all(&mut conn, &["DELETE FROM mds_version WHERE slot = 48"])?;
