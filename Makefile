@@ -6,21 +6,19 @@ all: bin/mdstore
 	bin/mdstore import --store week.db examples/week.nem12
 	@if command -v sqlite3 > /dev/null; then sqlite3 week.db < examples/days.sql; fi
 
-SOURCES := $(shell find crates -path '*/out' -prune -o -type f -print) crates.txt HANDLES
+SOURCES := $(shell tools/build --sources)
 
-# The crates that stand on neither sqlite nor clap are proved first, four at a time, each after those that it stands on; then the words beside
-# the store, and the program, which is linked. (A run over all of them would load what these two libraries state before it proves a crate.)
-bin/mdstore: $(SOURCES)
-	cd crates/mds_http && rt all check --jobs 4
-	(cd crates/mds_words && rt lib) & (cd crates/mds_store && rt lib) && wait $$!
-	cd crates/mdstore && rt run < stdin > /dev/null
-	mkdir -p bin
-	cp crates/mdstore/out/mdstore bin/mdstore
+bin/mdstore: $(SOURCES) tools/build
+	tools/build
 
 test:
 	rt ci
+	tests/check crates/mdstore/out/mdstore
+	tests/commands crates/mdstore/out/mdstore
 	tests/program crates/mdstore/out/mdstore
 	tests/service crates/mdstore/out/mdstore
+	tests/examples crates/mdstore/out/mdstore crates/mds_trials/out/mds_trials
+	tests/text crates/mdstore/out/mdstore
 
 bench: bin/mdstore
 	bench/run

@@ -6,7 +6,7 @@ use Rattle.std.specs.List.{list_any}
 use Rattle.jiff_core.proofs.CalendarLemmas.{weekday_number-add, weekday_number_bound}
 use Rattle.mds_calendar.specs.Calendar.{weekday_of}
 use Rattle.mds_world.specs.Lists.{Member}
-use Rattle.mds_world.specs.Sets.{split_or}
+use Rattle.mds_world.proofs.Sets.{split_or}
 use Rattle.mds_fill.specs.Candidates.{IsSunday}
 
 -- what a value has that is there under a condition, and what an absent one says

@@ -1,4 +1,10 @@
 pub mod CommitLemmas
+pub mod EightCells
+pub mod EightDays
+pub mod EightLemmas
 pub mod FailLemmas
+pub mod ManyRows
 pub mod PutLemmas
+pub mod RowByRow
 pub mod RowLemmas
+pub mod ShortRows

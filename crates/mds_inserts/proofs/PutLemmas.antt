@@ -339,7 +339,7 @@ module _ {A : Type 0} (part : Part A) where
         (takes_then a.step_limit (rows_of part xs) (rows_of part ys) a.now b.now c.now p.took (rw limit at (q.took)));
   }
 
-  there_then : (a b c : State) (xs ys : List A) → doubt b.is_clean ≤ doubt c.is_clean → b.step_limit ≡ a.step_limit
+  pub there_then : (a b c : State) (xs ys : List A) → doubt b.is_clean ≤ doubt c.is_clean → b.step_limit ≡ a.step_limit
       → PutsThere part a b xs → PutsThere part b c ys → PutsThere part a c (xs ++ ys)
   there_then a b c xs ys later limit p q = record {
     was_open = λ clean o. p.was_open (omega arith) (q.was_open clean o);

@@ -16,7 +16,7 @@ use Rattle.mds_world.specs.FactOrder.{exact, fact_cmp, total}
 use Rattle.mds_jobs.specs.declared.job.Job.{Job}
 use Rattle.mds_world.specs.Facts.{Fact}
 use Rattle.mds_world.specs.Facts.Fact.{JobIs}
-use Rattle.mds_world.specs.Sets.{list_append, union_assoc, union_comm}
+use Rattle.mds_world.proofs.Sets.{list_append, union_assoc, union_comm}
 use Rattle.mds_world.specs.World.{World, union}
 use Rattle.mds_versions.specs.Content.{content, versions_of, job_fact as content_fact}
 use Rattle.mds_versions.specs.declared.additions.Additions.{Additions}

@@ -38,6 +38,14 @@ module _ {A : Type 0} (part : Part A) (old new : State) (items : List A) where
     pub puts : HasCleanDisk new → IsTrue old.is_open → old.now.schema ≡ schema_1 → IsSound schema_1 old.now.trees → Puts
     pub said : AllByRecursion (λ item. (id : Value) → part.read (id ∷ part.cells item) ≡ part.fact item) items
 
+-- nothing is put, and the transaction goes on
+pub record StaysAs (old new : State) : Type 0 where
+  pub was_open : IsTrue new.is_open → IsTrue old.is_open
+  pub is_open : IsTrue old.is_open → IsTrue new.is_open
+  pub inside : new.in_transaction ≡ old.in_transaction
+  pub now_is : IsTrue old.is_open → new.now ≡ old.now
+  pub committed_is : IsTrue old.is_open → new.committed ≡ old.committed
+
 -- All of the additions are in the tables, beside what was there.
 pub record HasAdded (additions : Additions) (old new : Trees) : Type 0 where
   pub rows : Adds old new additions

@@ -11,8 +11,9 @@ use Rattle.mds_world.specs.FactOrder.{exact, total}
 use Rattle.mds_world.specs.Facts.{Fact}
 use Rattle.mds_world.specs.Facts.Fact.{HeadIs, VersionIs, PeriodIs}
 use Rattle.mds_world.specs.Lists.{Member}
-use Rattle.mds_world.specs.Members.{in_union, union_left, union_right}
-use Rattle.mds_world.specs.Sets.{◌∈◌, union_assoc}
+use Rattle.mds_world.proofs.Members.{in_union, union_left, union_right}
+use Rattle.mds_world.proofs.Sets.{union_assoc}
+use Rattle.mds_world.specs.Sets.{◌∈◌}
 use Rattle.mds_world.specs.Stated.{stated}
 use Rattle.mds_world.specs.World.{Agrees, World, union}
 use Rattle.mds_versions.specs.Merge.{IsRefusal, upto}

@@ -6,7 +6,7 @@ use Rattle.mds_world.specs.declared.facts.Head.{Head}
 use Rattle.mds_world.specs.Facts.{Fact}
 use Rattle.mds_world.specs.Facts.Fact.{HeadIs, VersionIs, PeriodIs}
 use Rattle.mds_world.specs.Lists.{Member}
-use Rattle.mds_world.specs.Members.{in_union, union_left, union_right}
+use Rattle.mds_world.proofs.Members.{in_union, union_left, union_right}
 use Rattle.mds_world.specs.Sets.{◌∈◌}
 use Rattle.mds_world.specs.Stated.{stated}
 use Rattle.mds_world.specs.World.{Agrees, World, union}

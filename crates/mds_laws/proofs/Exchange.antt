@@ -12,7 +12,7 @@ use Rattle.mds_world.specs.declared.facts.Key.{Key}
 use Rattle.mds_world.specs.Facts.{Fact, JobContent}
 use Rattle.mds_world.specs.Facts.Fact.{HeadIs, VersionIs, HolidayIs, JobIs}
 use Rattle.mds_world.specs.Lists.{Member}
-use Rattle.mds_world.specs.Members.{in_union, union_left}
+use Rattle.mds_world.proofs.Members.{in_union, union_left}
 use Rattle.mds_world.specs.Sets.{◌∈◌}
 use Rattle.mds_world.specs.Stated.{facts_of, stated}
 use Rattle.mds_world.specs.World.{World, union}

@@ -14,9 +14,11 @@ use Rattle.mds_world.specs.Counts.{added_by, countable, counted, is_counted}
 use Rattle.mds_world.specs.FactOrder.{exact, fact_cmp, total}
 use Rattle.mds_world.specs.Facts.{Fact}
 use Rattle.mds_world.specs.Facts.Fact.{HeadIs, VersionIs, PeriodIs, HolidayIs, JobIs}
-use Rattle.mds_world.specs.Lists.{Member, in_map}
-use Rattle.mds_world.specs.Members.{in_list, in_union, len_list, list_in, same_by, union_left}
-use Rattle.mds_world.specs.Sets.{◌∈◌, decided, difference_in, difference_none, in_difference, in_retain, not_in_empty, retain_in}
+use Rattle.mds_world.proofs.Lists.{in_map}
+use Rattle.mds_world.specs.Lists.{Member}
+use Rattle.mds_world.proofs.Members.{in_list, in_union, len_list, list_in, same_by, union_left}
+use Rattle.mds_world.proofs.Sets.{decided, difference_in, difference_none, in_difference, in_retain, not_in_empty, retain_in}
+use Rattle.mds_world.specs.Sets.{◌∈◌}
 use Rattle.mds_world.specs.Stated.{stated, versions_from}
 use Rattle.mds_world.specs.World.{IsLawful, World, union}
 use Rattle.mds_world.proofs.Worlds.{counts}

@@ -11,8 +11,9 @@ use Rattle.mds_world.specs.declared.facts.Head.{Head}
 use Rattle.mds_world.specs.declared.facts.Key.{Key}
 use Rattle.mds_world.specs.Facts.{Fact, JobContent}
 use Rattle.mds_world.specs.Facts.Fact.{HeadIs, VersionIs, JobIs}
-use Rattle.mds_world.specs.Lists.{Member, flat_in}
-use Rattle.mds_world.specs.Members.{in_union, union_left, union_right}
+use Rattle.mds_world.proofs.Lists.{flat_in}
+use Rattle.mds_world.specs.Lists.{Member}
+use Rattle.mds_world.proofs.Members.{in_union, union_left, union_right}
 use Rattle.mds_world.specs.Sets.{◌∈◌}
 use Rattle.mds_world.specs.Stated.{facts_of, stated, versions_from}
 use Rattle.mds_world.specs.World.{Agrees, HasHead, HasVersion, IsLawful, World, union}

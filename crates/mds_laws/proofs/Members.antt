@@ -10,9 +10,11 @@ use Rattle.mds_world.specs.declared.facts.Key.{Key}
 use Rattle.mds_world.specs.FactOrder.{exact, total}
 use Rattle.mds_world.specs.Facts.{Fact}
 use Rattle.mds_world.specs.Facts.Fact.{VersionIs}
-use Rattle.mds_world.specs.Lists.{Apart, Member, flat_in, in_flat}
-use Rattle.mds_world.specs.Members.{in_list, list_in}
-use Rattle.mds_world.specs.Sets.{◌∈◌, union_empty}
+use Rattle.mds_world.proofs.Lists.{flat_in, in_flat}
+use Rattle.mds_world.specs.Lists.{Apart, Member}
+use Rattle.mds_world.proofs.Members.{in_list, list_in}
+use Rattle.mds_world.proofs.Sets.{union_empty}
+use Rattle.mds_world.specs.Sets.{◌∈◌}
 use Rattle.mds_world.specs.Stated.{facts_of, stated, versions_from}
 use Rattle.mds_world.specs.World.{World, union}
 use Rattle.mds_statements.specs.Statements.{Statement}

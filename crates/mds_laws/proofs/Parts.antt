@@ -5,9 +5,11 @@ use Rattle.mds_statements.specs.Statements.{Statement}
 use Rattle.mds_statements.specs.Statements.Statement.{HeaderOf, DetailsOf, DayOf, EventOf, PeriodOf}
 use Rattle.mds_world.specs.FactOrder.{exact, total}
 use Rattle.mds_world.specs.Facts.{Fact}
-use Rattle.mds_world.specs.Lists.{Member, in_map, map_in}
-use Rattle.mds_world.specs.Members.{in_union, same_by, union_left, union_right}
-use Rattle.mds_world.specs.Sets.{◌∈◌, not_in_empty}
+use Rattle.mds_world.proofs.Lists.{in_map, map_in}
+use Rattle.mds_world.specs.Lists.{Member}
+use Rattle.mds_world.proofs.Members.{in_union, same_by, union_left, union_right}
+use Rattle.mds_world.proofs.Sets.{not_in_empty}
+use Rattle.mds_world.specs.Sets.{◌∈◌}
 use Rattle.mds_world.specs.Stated.{facts_of, stated}
 use Rattle.mds_world.specs.World.{World}
 use Rattle.mds_laws.specs.AnyOrder.{AreParts, IsAmong, IsHeader, together, unplaced}

@@ -11,8 +11,9 @@ use Rattle.mds_world.specs.Facts.{Fact, PeriodContent}
 use Rattle.mds_statements.specs.declared.periods.PeriodKey.{PeriodKey}
 use Rattle.mds_world.specs.Facts.Fact.{HeadIs, VersionIs, PeriodIs, JobIs}
 use Rattle.mds_world.specs.Lists.{Member}
-use Rattle.mds_world.specs.Members.{in_list, in_union, same_by, union_left, union_right}
-use Rattle.mds_world.specs.Sets.{◌∈◌, difference_in, in_difference, in_intersection, in_retain, intersection_in, retain_in}
+use Rattle.mds_world.proofs.Members.{in_list, in_union, same_by, union_left, union_right}
+use Rattle.mds_world.proofs.Sets.{difference_in, in_difference, in_intersection, in_retain, intersection_in, retain_in}
+use Rattle.mds_world.specs.Sets.{◌∈◌}
 use Rattle.mds_world.specs.Stated.{versions_from}
 use Rattle.mds_world.specs.World.{Agrees, World, union}
 use Rattle.mds_jobs.specs.Jobs.{content_of}

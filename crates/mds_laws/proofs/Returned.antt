@@ -9,7 +9,7 @@ use Rattle.mds_statements.specs.Delivered.{header_value}
 use Rattle.mds_statements.specs.declared.blocks.Header.{Header}
 use Rattle.mds_world.specs.Counts.{added_by, known_by}
 use Rattle.mds_world.specs.FactOrder.{exact, total}
-use Rattle.mds_world.specs.Sets.{union_comm, union_empty}
+use Rattle.mds_world.proofs.Sets.{union_comm, union_empty}
 use Rattle.mds_world.specs.Stated.{stated}
 use Rattle.mds_world.specs.World.{Agrees, IsKnownDay, IsLawful, World, union}
 use Rattle.mds_export.specs.Shows.{selection_stated}

@@ -19,9 +19,11 @@ use Rattle.mds_world.specs.Counts.{added_by, countable, counted, is_counted, kno
 use Rattle.mds_world.specs.FactOrder.{exact, fact_cmp, total}
 use Rattle.mds_world.specs.Facts.{Fact}
 use Rattle.mds_world.specs.Facts.Fact.{PeriodIs}
-use Rattle.mds_world.specs.Lists.{Apart, Member, apart_append, flat_in, in_flat, in_map}
-use Rattle.mds_world.specs.Members.{in_list, len_list, list_in, same_by}
-use Rattle.mds_world.specs.Sets.{◌∈◌, in_retain, retain_in}
+use Rattle.mds_world.proofs.Lists.{apart_append, flat_in, in_flat, in_map}
+use Rattle.mds_world.specs.Lists.{Apart, Member}
+use Rattle.mds_world.proofs.Members.{in_list, len_list, list_in, same_by}
+use Rattle.mds_world.proofs.Sets.{in_retain, retain_in}
+use Rattle.mds_world.specs.Sets.{◌∈◌}
 use Rattle.mds_world.specs.Stated.{facts_of, stated, versions_from}
 use Rattle.mds_world.specs.World.{World}
 use Rattle.mds_world.proofs.Worlds.{known_or_added}

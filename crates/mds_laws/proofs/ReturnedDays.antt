@@ -12,7 +12,8 @@ use Rattle.mds_world.specs.declared.facts.Head.{Head}
 use Rattle.mds_world.specs.declared.facts.Key.{Key}
 use Rattle.mds_world.specs.Current.{HasNoVersion, IsCurrentDetails, IsLatest, IsReading, no_reading}
 use Rattle.mds_world.specs.Facts.Fact.{HeadIs, VersionIs}
-use Rattle.mds_world.specs.Lists.{Member, in_map, map_in}
+use Rattle.mds_world.proofs.Lists.{in_map, map_in}
+use Rattle.mds_world.specs.Lists.{Member}
 use Rattle.mds_world.specs.Sets.{◌∈◌}
 use Rattle.mds_world.specs.Stated.{stated}
 use Rattle.mds_world.specs.World.{HasHead, IsKnownDay, IsLawful, World}

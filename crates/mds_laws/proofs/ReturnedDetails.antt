@@ -7,12 +7,13 @@ use Rattle.std.specs.declared.cmp.Ordering.{Ordering}
 use Rattle.std.specs.declared.cmp.Ordering.TheVariants.{Less, Equal, Greater}
 use Rattle.mds_names.specs.declared.stream.Stream.{Stream}
 use Rattle.mds_terms.specs.Details.{DetailsValue, details_cmp}
-use Rattle.mds_terms.specs.TermOrder.{details_exact, details_total}
+use Rattle.mds_terms.proofs.TermOrder.{details_exact}
+use Rattle.mds_terms.specs.TermOrder.{details_total}
 use Rattle.mds_world.specs.declared.facts.Detail.{Detail}
 use Rattle.mds_world.specs.Current.{IsCurrentDetails, no_details}
 use Rattle.mds_world.specs.Facts.{Fact}
 use Rattle.mds_world.specs.Facts.Fact.{HeadIs, VersionIs, DetailIs, EventIs, PeriodIs, HolidayIs, JobIs}
-use Rattle.mds_world.specs.Members.{in_union, union_left, union_right}
+use Rattle.mds_world.proofs.Members.{in_union, union_left, union_right}
 use Rattle.mds_world.specs.Sets.{◌∈◌}
 use Rattle.mds_world.specs.World.{World, union}
 use Rattle.mds_laws.proofs.ReturnedReadings.{ComesFrom, found, sorts_by}

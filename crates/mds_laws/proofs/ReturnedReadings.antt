@@ -17,8 +17,9 @@ use Rattle.mds_world.specs.FactOrder.{exact, fact_cmp, total}
 use Rattle.mds_world.specs.Facts.{Fact}
 use Rattle.mds_world.specs.Facts.Fact.{HeadIs, VersionIs, DetailIs, EventIs, PeriodIs, HolidayIs, JobIs}
 use Rattle.mds_world.specs.Lists.{Member}
-use Rattle.mds_world.specs.Members.{in_list, in_union, list_in, union_left, union_right}
-use Rattle.mds_world.specs.Sets.{◌∈◌, decided}
+use Rattle.mds_world.proofs.Members.{in_list, in_union, list_in, union_left, union_right}
+use Rattle.mds_world.proofs.Sets.{decided}
+use Rattle.mds_world.specs.Sets.{◌∈◌}
 use Rattle.mds_world.specs.World.{Agrees, HasHead, IsLawful, World, union}
 use Rattle.mds_world.proofs.Worlds.{one_reading}
 use Rattle.mds_laws.specs.Returns.{IsSameDay}

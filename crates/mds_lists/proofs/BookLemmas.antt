@@ -17,8 +17,9 @@ use Rattle.mds_world.specs.declared.facts.Head.{Head}
 use Rattle.mds_world.specs.declared.facts.Key.{Key}
 use Rattle.mds_world.specs.Facts.{Fact}
 use Rattle.mds_world.specs.Facts.Fact.{DetailIs, EventIs, HeadIs, HolidayIs, JobIs, PeriodIs, VersionIs}
-use Rattle.mds_world.specs.Lists.{Member, append_left, append_right, in_map, map_in, member_append}
-use Rattle.mds_world.specs.Members.{list_in}
+use Rattle.mds_world.proofs.Lists.{append_left, append_right, in_map, map_in, member_append}
+use Rattle.mds_world.specs.Lists.{Member}
+use Rattle.mds_world.proofs.Members.{list_in}
 use Rattle.mds_world.specs.Sets.{◌∈◌}
 use Rattle.mds_world.specs.World.{IsKnownDay, IsOn}
 use Rattle.mds_versions.specs.Books.{BookValue, IsDay, book_facts, book_world, head_facts, row_fact}

@@ -6,7 +6,8 @@ use Rattle.std.specs.List.{AllByRecursion, AllPairs, filter}
 use Rattle.std.specs.List.Sorted.{IsStrictlySortedBy}
 use Rattle.std.specs.declared.cmp.Ordering.{Ordering}
 use Rattle.std.specs.declared.cmp.Ordering.TheVariants.{Less}
-use Rattle.mds_world.specs.Lists.{Apart, Member, append_left, append_right, member_append}
+use Rattle.mds_world.proofs.Lists.{append_left, append_right, member_append}
+use Rattle.mds_world.specs.Lists.{Apart, Member}
 
 module _ {K : Type 0} (c : K → K → Ordering) where
   -- each stands before those after it

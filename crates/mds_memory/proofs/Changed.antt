@@ -18,8 +18,9 @@ use Rattle.mds_world.specs.declared.facts.Key.{Key}
 use Rattle.mds_world.specs.declared.facts.StreamDay.{StreamDay}
 use Rattle.mds_world.specs.Facts.{Fact}
 use Rattle.mds_world.specs.Facts.Fact.{HeadIs, VersionIs, DetailIs, EventIs, PeriodIs, HolidayIs, JobIs}
-use Rattle.mds_world.specs.Lists.{Member, append_left, append_right, in_map, map_in, member_append}
-use Rattle.mds_world.specs.Members.{in_list, in_union, list_in, union_left, union_right}
+use Rattle.mds_world.proofs.Lists.{append_left, append_right, in_map, map_in, member_append}
+use Rattle.mds_world.specs.Lists.{Member}
+use Rattle.mds_world.proofs.Members.{in_list, in_union, list_in, union_left, union_right}
 use Rattle.mds_world.specs.Sets.{◌∈◌}
 use Rattle.mds_world.specs.World.{IsLawful, IsOn, World, union}
 use Rattle.mds_versions.specs.Books.{BookValue, IsDay, book_facts, book_world, head_facts, row_fact}

@@ -13,8 +13,9 @@ use Rattle.std.specs.declared.ops.Bound.TheVariants.{Included}
 use Rattle.mds_names.specs.declared.stream.Stream.{Stream}
 use Rattle.mds_world.specs.declared.facts.StreamDay.{StreamDay}
 use Rattle.mds_world.specs.Facts.Fact.{HeadIs}
-use Rattle.mds_world.specs.Lists.{Member, append_left, flat_in, in_flat, in_map, map_in}
-use Rattle.mds_world.specs.Sets.{both_and, split_and}
+use Rattle.mds_world.proofs.Lists.{append_left, flat_in, in_flat, in_map, map_in}
+use Rattle.mds_world.specs.Lists.{Member}
+use Rattle.mds_world.proofs.Sets.{both_and, split_and}
 use Rattle.mds_versions.specs.Books.{BookValue, IsDay}
 use Rattle.mds_versions.specs.Queries.{AreDaysOf, stream_cmp}
 use Rattle.mds_memory.specs.Stored.{AreOfTheirDays, days_world, place_cmp}

@@ -8,7 +8,8 @@ use Rattle.std.specs.declared.cmp.Ordering.{Ordering}
 use Rattle.std.specs.declared.cmp.Ordering.TheVariants.{Less, Equal, Greater}
 use Rattle.mds_names.specs.declared.stream.Stream.{Stream}
 use Rattle.mds_world.specs.declared.facts.Detail.{Detail}
-use Rattle.mds_world.specs.Lists.{Member, append_left, append_right, member_append}
+use Rattle.mds_world.proofs.Lists.{append_left, append_right, member_append}
+use Rattle.mds_world.specs.Lists.{Member}
 use Rattle.mds_versions.specs.Queries.{stream_cmp}
 use Rattle.mds_memory.specs.Stored.{AreDetailStreams, notes_world}
 use Rattle.mds_memory.specs.StoredNotes.{IsAtEnd, PutsLast}

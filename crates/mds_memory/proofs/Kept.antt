@@ -15,9 +15,11 @@ use Rattle.mds_world.specs.Current.{IsCurrentDetails}
 use Rattle.mds_world.specs.FactOrder.{exact, total}
 use Rattle.mds_world.specs.Facts.{Fact, JobContent, PeriodContent}
 use Rattle.mds_world.specs.Facts.Fact.{HeadIs, VersionIs, DetailIs, EventIs, PeriodIs, HolidayIs, JobIs}
-use Rattle.mds_world.specs.Lists.{Apart, Member, append_left, append_right, in_map, map_in, member_append}
-use Rattle.mds_world.specs.Members.{in_list, in_union, list_in, same_by, union_left, union_right}
-use Rattle.mds_world.specs.Sets.{◌∈◌, not_in_empty}
+use Rattle.mds_world.proofs.Lists.{append_left, append_right, in_map, map_in, member_append}
+use Rattle.mds_world.specs.Lists.{Apart, Member}
+use Rattle.mds_world.proofs.Members.{in_list, in_union, list_in, same_by, union_left, union_right}
+use Rattle.mds_world.proofs.Sets.{not_in_empty}
+use Rattle.mds_world.specs.Sets.{◌∈◌}
 use Rattle.mds_world.specs.World.{Agrees, IsLawful, IsOn, World, union}
 use Rattle.mds_versions.specs.Books.{BookValue, IsDay}
 use Rattle.mds_versions.specs.Content.{AreNew, content, content_facts, job_fact, period_fact, version_fact, versions_of}

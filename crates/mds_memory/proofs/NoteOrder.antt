@@ -9,7 +9,7 @@ use Rattle.std.specs.declared.cmp.Ordering.TheVariants.{Less, Equal, Greater}
 use Rattle.std.specs.Ordering.{nat_cmp, ordering_then}
 use Rattle.mds_terms.specs.Details.{details_cmp}
 use Rattle.mds_terms.specs.Event.{EventValue, event_cmp}
-use Rattle.mds_terms.specs.TermOrder.{details_exact, event_exact}
+use Rattle.mds_terms.proofs.TermOrder.{details_exact, event_exact}
 use Rattle.mds_world.specs.declared.facts.Detail.{Detail}
 use Rattle.mds_versions.specs.Queries.{stream_cmp}
 use Rattle.mds_memory.specs.declared.stored_notes.Note.{Note}

@@ -9,9 +9,11 @@ use Rattle.std.specs.Cmp.{Equal-is, tied_itself}
 use Rattle.std.specs.FinSet as set
 use Rattle.std.specs.List.{list_any}
 use Rattle.mds_world.specs.Facts.{Fact}
-use Rattle.mds_world.specs.Lists.{Member, append_left, append_right, in_map, map_in, member_append}
-use Rattle.mds_world.specs.Members.{in_list, in_union, list_in, same_by, union_left, union_right}
-use Rattle.mds_world.specs.Sets.{◌∈◌, or_left, or_right, split_or}
+use Rattle.mds_world.proofs.Lists.{append_left, append_right, in_map, map_in, member_append}
+use Rattle.mds_world.specs.Lists.{Member}
+use Rattle.mds_world.proofs.Members.{in_list, in_union, list_in, same_by, union_left, union_right}
+use Rattle.mds_world.proofs.Sets.{or_left, or_right, split_or}
+use Rattle.mds_world.specs.Sets.{◌∈◌}
 use Rattle.mds_world.specs.World.{union}
 use Rattle.mds_memory.specs.Stored.{note_fact, notes_world}
 use Rattle.mds_memory.specs.declared.stored_notes.Note.{Note}

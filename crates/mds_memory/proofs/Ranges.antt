@@ -14,8 +14,10 @@ use Rattle.mds_terms.specs.Event.{EventValue}
 use Rattle.mds_world.specs.Current.{IsGreatestDetail}
 use Rattle.mds_world.specs.declared.facts.Detail.{Detail}
 use Rattle.mds_world.specs.Facts.Fact.{DetailIs}
-use Rattle.mds_world.specs.Lists.{Apart, Member, append_left, append_right, in_map, map_in, member_append}
-use Rattle.mds_world.specs.Sets.{◌∈◌, both_and, split_and}
+use Rattle.mds_world.proofs.Lists.{append_left, append_right, in_map, map_in, member_append}
+use Rattle.mds_world.specs.Lists.{Apart, Member}
+use Rattle.mds_world.proofs.Sets.{both_and, split_and}
+use Rattle.mds_world.specs.Sets.{◌∈◌}
 use Rattle.mds_world.specs.World.{IsEventOf}
 use Rattle.mds_versions.specs.Queries.{AreEventsOf, AreHolidays}
 use Rattle.mds_memory.specs.Stored.{notes_world}

@@ -6,7 +6,8 @@ use Rattle.std.specs.List.{All, flat_map}
 use Rattle.std.specs.Map.{keys_of}
 use Rattle.std.specs.declared.cmp.Ordering.{Ordering}
 use Rattle.std.specs.declared.cmp.Ordering.TheVariants.{Less}
-use Rattle.mds_world.specs.Lists.{Member, append_right, in_flat, map_in, member_append}
+use Rattle.mds_world.proofs.Lists.{append_right, in_flat, map_in, member_append}
+use Rattle.mds_world.specs.Lists.{Member}
 use Rattle.mds_memory.proofs.Ascending as up
 use Rattle.mds_memory.proofs.Ascending.{Ascends}
 

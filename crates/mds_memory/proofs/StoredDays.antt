@@ -11,9 +11,11 @@ use Rattle.mds_world.specs.declared.facts.StreamDay.{StreamDay}
 use Rattle.mds_world.specs.FactOrder.{exact, total}
 use Rattle.mds_world.specs.Facts.{Fact}
 use Rattle.mds_world.specs.Facts.Fact.{HeadIs, VersionIs, DetailIs, EventIs, PeriodIs, HolidayIs, JobIs}
-use Rattle.mds_world.specs.Lists.{Member, flat_in, in_flat, in_map, map_in, member_append}
-use Rattle.mds_world.specs.Members.{in_list, in_union, list_in, same_by, union_left}
-use Rattle.mds_world.specs.Sets.{◌∈◌, not_in_empty}
+use Rattle.mds_world.proofs.Lists.{flat_in, in_flat, in_map, map_in, member_append}
+use Rattle.mds_world.specs.Lists.{Member}
+use Rattle.mds_world.proofs.Members.{in_list, in_union, list_in, same_by, union_left}
+use Rattle.mds_world.proofs.Sets.{not_in_empty}
+use Rattle.mds_world.specs.Sets.{◌∈◌}
 use Rattle.mds_world.specs.World.{IsLawful, IsOn, World, union}
 use Rattle.mds_versions.specs.Books.{BookValue, IsDay, book_facts, book_world, head_facts, row_fact}
 use Rattle.mds_memory.specs.Stored.{AreOfTheirDays, HasRoom, IsChange, days_world, place_cmp}

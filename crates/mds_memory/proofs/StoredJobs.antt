@@ -17,8 +17,9 @@ use Rattle.mds_jobs.specs.contracts.job_id.JobIdOrd.TheImpl.Laws as id_laws
 use Rattle.mds_jobs.specs.declared.job.Job.{Job}
 use Rattle.mds_world.specs.Facts.{Fact, JobContent}
 use Rattle.mds_world.specs.Facts.Fact.{JobIs}
-use Rattle.mds_world.specs.Lists.{Member, flat_in, in_flat, in_map, map_in}
-use Rattle.mds_world.specs.Members.{in_list, in_union, list_in, same_by, union_left, union_right}
+use Rattle.mds_world.proofs.Lists.{flat_in, in_flat, in_map, map_in}
+use Rattle.mds_world.specs.Lists.{Member}
+use Rattle.mds_world.proofs.Members.{in_list, in_union, list_in, same_by, union_left, union_right}
 use Rattle.mds_world.specs.Sets.{◌∈◌}
 use Rattle.mds_world.specs.World.{IsLawful, World, union}
 use Rattle.mds_versions.specs.Content.{job_fact}

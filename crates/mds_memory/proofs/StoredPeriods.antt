@@ -20,9 +20,11 @@ use Rattle.mds_statements.specs.declared.periods.Period.{Period}
 use Rattle.mds_statements.specs.declared.periods.PeriodKey.{PeriodKey}
 use Rattle.mds_world.specs.Facts.{Fact, PeriodContent}
 use Rattle.mds_world.specs.Facts.Fact.{PeriodIs}
-use Rattle.mds_world.specs.Lists.{Member, append_left, flat_in, in_flat, in_map, map_in}
-use Rattle.mds_world.specs.Members.{in_list, in_union, list_in, same_by, union_left, union_right}
-use Rattle.mds_world.specs.Sets.{◌∈◌, both_and, split_and}
+use Rattle.mds_world.proofs.Lists.{append_left, flat_in, in_flat, in_map, map_in}
+use Rattle.mds_world.specs.Lists.{Member}
+use Rattle.mds_world.proofs.Members.{in_list, in_union, list_in, same_by, union_left, union_right}
+use Rattle.mds_world.proofs.Sets.{both_and, split_and}
+use Rattle.mds_world.specs.Sets.{◌∈◌}
 use Rattle.mds_world.specs.World.{Agrees, World, union}
 use Rattle.mds_versions.specs.Content.{period_fact}
 use Rattle.mds_versions.specs.Queries.{ArePeriodsOf, IsContentOf, period_cmp, stream_cmp}

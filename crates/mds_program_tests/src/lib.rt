@@ -1,23 +1,11 @@
-//! Tests of what the program does of files, arguments and requests, at a desk and over HTTP.
+//! Tests of what no run of the program shows: readers and writers that fail in mid-stream, and the greatest numbers.
 #![tactic(auto)]
 
 #[cfg(test)]
-mod answers;
-#[cfg(test)]
-mod arguments;
-#[cfg(test)]
-mod check;
-#[cfg(test)]
-mod desk;
+mod checking;
 #[cfg(test)]
 mod failing;
 #[cfg(test)]
-mod http;
+mod numbers;
 #[cfg(test)]
-mod json;
-#[cfg(test)]
-mod requests;
-#[cfg(test)]
-mod targets;
-#[cfg(test)]
-mod wire;
+mod serving;

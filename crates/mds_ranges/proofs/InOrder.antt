@@ -7,7 +7,8 @@ use Rattle.std.specs.Ordering.{nat_cmp, ordering_reverse}
 use Rattle.std.specs.declared.cmp.Ordering.{Ordering}
 use Rattle.std.specs.declared.cmp.Ordering.TheVariants.{Less, Equal, Greater}
 use Rattle.std.proofs.lemmas.List.{length-append}
-use Rattle.mds_world.specs.Lists.{Member, append_left, append_right, member_append}
+use Rattle.mds_world.proofs.Lists.{append_left, append_right, member_append}
+use Rattle.mds_world.specs.Lists.{Member}
 use Rattle.mds_ranges.specs.Selections.{AreDistinct, Ascend, HasManySuffixes}
 use Rattle.mds_ranges.specs.SuffixesSteps.{IsAfter, IsBefore, IsNext}
 use Rattle.mds_ranges.proofs.Pairs.{no_more, pairs_append, pairs_apart, pairs_none, pairs_one}

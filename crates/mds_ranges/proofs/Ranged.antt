@@ -5,7 +5,8 @@ use Rattle.std.proofs.lemmas.Bool.{cases_lt}
 use Rattle.std.proofs.lemmas.List.Elements.{All-head, All-tail}
 use Rattle.std.proofs.lemmas.List.Quantifiers.{all_pairs_push}
 use Rattle.mds_names.specs.declared.stream.Stream.{Stream}
-use Rattle.mds_world.specs.Lists.{Member, append_left, append_right, in_map, map_in, member_append}
+use Rattle.mds_world.proofs.Lists.{append_left, append_right, in_map, map_in, member_append}
+use Rattle.mds_world.specs.Lists.{Member}
 use Rattle.mds_world.specs.World.{IsKnownDay, World}
 use Rattle.mds_versions.specs.Books.{BookValue, IsDay}
 use Rattle.mds_versions.specs.Queries.{AreDaysOf}

@@ -9,7 +9,8 @@ use Rattle.std.proofs.lemmas.Bool.{cases_lt}
 use Rattle.std.proofs.lemmas.List.{length-append, length-map, map-append, take_all, take_more}
 use Rattle.std.proofs.lemmas.List.Elements.{All-append, All-head, All-nil, All-push, All-tail, All-weaker}
 use Rattle.mds_names.specs.declared.stream.Stream.{Stream}
-use Rattle.mds_world.specs.Lists.{Member, in_map, map_in}
+use Rattle.mds_world.proofs.Lists.{in_map, map_in}
+use Rattle.mds_world.specs.Lists.{Member}
 use Rattle.mds_world.specs.World.{IsKnownDay, World}
 use Rattle.mds_versions.specs.Books.{BookValue, IsDay}
 use Rattle.mds_versions.specs.Queries.{AreDaysOf}

@@ -17,8 +17,9 @@ use Rattle.sqlite_value.specs.Order.{Row, bytes}
 use Rattle.mds_names.specs.declared.stream.Stream.{Stream}
 use Rattle.mds_terms.specs.Event.{EventValue}
 use Rattle.mds_world.specs.Facts.Fact.{EventIs}
-use Rattle.mds_world.specs.Lists.{Apart, Member, append_left, append_right, member_append}
-use Rattle.mds_world.specs.Sets.{or_left, or_right, split_or}
+use Rattle.mds_world.proofs.Lists.{append_left, append_right, member_append}
+use Rattle.mds_world.specs.Lists.{Apart, Member}
+use Rattle.mds_world.proofs.Sets.{or_left, or_right, split_or}
 use Rattle.mds_versions.specs.Queries.{stream_cmp}
 use Rattle.mds_selects.specs.Added.{AreAdded, IsAdded, SaysEvent, SaysStream}
 use Rattle.mds_selects.specs.Shown.{AreStreamsIn}

@@ -23,7 +23,8 @@ use Rattle.sqlite.specs.declared.error.Error.{Error}
 use Rattle.mds_names.specs.declared.stream.Stream.{Stream}
 use Rattle.mds_terms.specs.Details.{details_cmp}
 use Rattle.mds_terms.specs.TermOrder.{details_total}
-use Rattle.mds_world.specs.Lists.{Member, in_map}
+use Rattle.mds_world.proofs.Lists.{in_map}
+use Rattle.mds_world.specs.Lists.{Member}
 use Rattle.mds_tables.specs.Cells.{stream_cells}
 use Rattle.mds_tables.specs.RowFacts.{int_at, natural, natural_at, optional, text_at}
 use Rattle.mds_tables.specs.Stores.{Finds, Selects}

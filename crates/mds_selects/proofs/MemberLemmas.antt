@@ -10,7 +10,8 @@ use Rattle.sqlite_trees.specs.Tree.{Trees}
 use Rattle.sqlite_sql.specs.Term.{Term, eval_all}
 use Rattle.sqlite.specs.Query.{Output}
 use Rattle.sqlite_schema.specs.declared.schema.Column.{Column}
-use Rattle.mds_world.specs.Lists.{Member, in_map, map_in}
+use Rattle.mds_world.proofs.Lists.{in_map, map_in}
+use Rattle.mds_world.specs.Lists.{Member}
 use Rattle.mds_tables.specs.Stores.{Begins, Selects, SelectsAll}
 use Rattle.mds_selects.proofs.KeyLemmas.{tests, begins, passes_key}
 use Rattle.mds_selects.proofs.SelectLemmas.{Picks, passes, shows}

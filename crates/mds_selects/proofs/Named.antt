@@ -11,8 +11,9 @@ use Rattle.mds_world.specs.declared.facts.Key.{Key}
 use Rattle.mds_world.specs.Facts.{Fact, JobContent, PeriodContent}
 use Rattle.mds_statements.specs.declared.periods.PeriodKey.{PeriodKey}
 use Rattle.mds_world.specs.Facts.Fact.{DetailIs, EventIs, HeadIs, HolidayIs, JobIs, PeriodIs, VersionIs}
-use Rattle.mds_world.specs.Lists.{Member, append_left, append_right, in_map, map_in, member_append}
-use Rattle.mds_world.specs.Members.{in_list, list_in}
+use Rattle.mds_world.proofs.Lists.{append_left, append_right, in_map, map_in, member_append}
+use Rattle.mds_world.specs.Lists.{Member}
+use Rattle.mds_world.proofs.Members.{in_list, list_in}
 use Rattle.mds_world.specs.Sets.{◌∈◌}
 use Rattle.mds_tables.specs.RowFacts.{detail_fact, event_fact, facts_in, head_fact, holiday_fact, job_fact, period_fact, version_fact, world_in}
 

@@ -8,7 +8,7 @@ use Rattle.mds_marks.specs.Quality.{is_quality}
 use Rattle.mds_marks.specs.Reading.{ReadingValue, is_lawful, is_reading, is_value}
 use Rattle.mds_marks.specs.Reason.{is_reason}
 use Rattle.mds_world.specs.Facts.Fact.{VersionIs}
-use Rattle.mds_world.specs.Sets.{split_and}
+use Rattle.mds_world.proofs.Sets.{split_and}
 use Rattle.mds_world.specs.declared.facts.Key.{Key}
 use Rattle.mds_tables.proofs.FactLemmas.{version_back}
 use Rattle.mds_tables.specs.Cells.{version_cells}

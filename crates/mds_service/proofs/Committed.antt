@@ -12,8 +12,9 @@ use Rattle.mds_world.specs.Counts.{added_by, countable, known_by}
 use Rattle.mds_world.specs.FactOrder.{fact_cmp}
 use Rattle.mds_world.specs.Facts.{Fact}
 use Rattle.mds_world.specs.Facts.Fact.{HeadIs, DetailIs, EventIs, HolidayIs}
-use Rattle.mds_world.specs.Lists.{Apart, Member, in_map, member_append}
-use Rattle.mds_world.specs.Members.{in_list}
+use Rattle.mds_world.proofs.Lists.{in_map, member_append}
+use Rattle.mds_world.specs.Lists.{Apart, Member}
+use Rattle.mds_world.proofs.Members.{in_list}
 use Rattle.mds_world.specs.Sets.{◌∈◌}
 use Rattle.mds_world.specs.Stated.{stated}
 use Rattle.mds_world.specs.World.{Agrees, IsLawful, World, union}

@@ -11,7 +11,8 @@ use Rattle.std.specs.declared.cmp.Ordering.TheVariants.{Less}
 use Rattle.mds_terms.specs.Event.{EventValue, event_cmp}
 use Rattle.mds_world.specs.Current.{IsCurrentDetails, IsLatest, IsReading}
 use Rattle.mds_world.specs.Facts.Fact.{HeadIs, VersionIs}
-use Rattle.mds_world.specs.Lists.{Member, in_map, map_in}
+use Rattle.mds_world.proofs.Lists.{in_map, map_in}
+use Rattle.mds_world.specs.Lists.{Member}
 use Rattle.mds_world.specs.Sets.{◌∈◌}
 use Rattle.mds_world.specs.World.{IsKnownDay, World}
 use Rattle.mds_versions.specs.Books.{BookValue, IsDay, book_world}

@@ -5,9 +5,10 @@ use Rattle.std.specs.FinSet as set
 use Rattle.mds_world.specs.FactOrder.{exact, total}
 use Rattle.mds_world.specs.Facts.{Fact}
 use Rattle.mds_world.specs.Facts.Fact.{HolidayIs}
-use Rattle.mds_world.specs.Lists.{Apart, Member, in_map, map_in}
-use Rattle.mds_world.specs.Members.{in_list, in_union, len_list, list_in, same_by, union_left, union_right}
-use Rattle.mds_world.specs.Sets as sets
+use Rattle.mds_world.proofs.Lists.{in_map, map_in}
+use Rattle.mds_world.specs.Lists.{Apart, Member}
+use Rattle.mds_world.proofs.Members.{in_list, in_union, len_list, list_in, same_by, union_left, union_right}
+use Rattle.mds_world.proofs.Sets as sets
 use Rattle.mds_world.specs.Sets.{◌∈◌}
 use Rattle.mds_world.specs.World.{IsLawful, World, union}
 use Rattle.mds_versions.specs.Content.{AreNew, content, content_facts}

@@ -16,8 +16,9 @@ use Rattle.mds_world.specs.FactOrder.{fact_cmp}
 use Rattle.mds_world.specs.Facts.{Fact, JobContent, PeriodContent}
 use Rattle.mds_world.specs.Facts.Fact.{HeadIs, VersionIs, PeriodIs, JobIs}
 use Rattle.mds_world.specs.Lists.{Apart, Member}
-use Rattle.mds_world.specs.Members.{in_list, in_union, list_in, same_by, union_left, union_right}
-use Rattle.mds_world.specs.Sets.{◌∈◌, decided}
+use Rattle.mds_world.proofs.Members.{in_list, in_union, list_in, same_by, union_left, union_right}
+use Rattle.mds_world.proofs.Sets.{decided}
+use Rattle.mds_world.specs.Sets.{◌∈◌}
 use Rattle.mds_world.specs.Stated.{stated}
 use Rattle.mds_world.specs.World.{Agrees, IsLawful, World, union}
 use Rattle.mds_versions.specs.Content.{AreNew, content, content_facts, period_fact}

@@ -20,7 +20,7 @@ use std::collections::BTreeMap;
 
 /// What a file states of the accumulation of a key.
 #[derive(Drop)]
-struct Stated {
+struct StatedPeriod {
     content: PeriodContent,
     /// The store doesn't have it.
     is_new: bool,
@@ -59,7 +59,7 @@ fn gather_periods<K: Keeper>(
     alloc: Global,
     keeper: &mut K,
     accumulations: Vec<Accumulation>,
-) -> Result<BTreeMap<PeriodKey, Stated>, Stop>
+) -> Result<BTreeMap<PeriodKey, StatedPeriod>, Stop>
     ensures outside { K.honest keeper.new → K.honest keeper.old }
     ensures before { K.sound keeper.new → K.sound keeper.old }
 
@@ -88,7 +88,7 @@ fn gather_periods<K: Keeper>(
 fn gather_period<K: Keeper>(
     keeper: &mut K,
     accumulation: Accumulation,
-    stated: &mut BTreeMap<PeriodKey, Stated>,
+    stated: &mut BTreeMap<PeriodKey, StatedPeriod>,
 ) -> Result<(), Stop>
     ensures outside { K.honest keeper.new → K.honest keeper.old }
     ensures before { K.sound keeper.new → K.sound keeper.old }
@@ -117,7 +117,10 @@ fn gather_period<K: Keeper>(
         Ok(is_new) => is_new,
         Err(stop) => return Err(stop),
     };
-    if stated.insert(key, Stated { content, is_new }).is_err() {
+    if stated
+        .insert(key, StatedPeriod { content, is_new })
+        .is_err()
+    {
         return Err(Stop::Memory);
     }
     Ok(())
@@ -170,14 +173,14 @@ fn must_be_same(line: u64, known: &PeriodContent, content: &PeriodContent) -> Re
 /// The accumulations that are new, in the order of their keys, and how many were there.
 fn new_periods(
     alloc: Global,
-    stated: BTreeMap<PeriodKey, Stated>,
+    stated: BTreeMap<PeriodKey, StatedPeriod>,
 ) -> Result<(Vec<Period>, u64), AllocError>
     ensures { IfOk result (λ sifted. (w facts : World) → AreStated ⟦<PeriodKey as Ord>⟧.cmp w facts stated
         → IsOfPeriods facts → AreNewPeriods w facts sifted.0.items sifted.1) }
 {
     let count = stated.len();
     let mut periods = Vec::new(alloc);
-    for (key, Stated { content, is_new }) in stated {
+    for (key, StatedPeriod { content, is_new }) in stated {
         if is_new {
             periods.push(Period { key, content })?;
         }

@@ -11,8 +11,9 @@ use Rattle.mds_world.specs.declared.facts.Head.{Head}
 use Rattle.mds_world.specs.declared.facts.Key.{Key}
 use Rattle.mds_world.specs.Facts.{Fact}
 use Rattle.mds_world.specs.Facts.Fact.{DetailIs, EventIs, HeadIs, HolidayIs, JobIs, PeriodIs, VersionIs}
-use Rattle.mds_world.specs.Lists.{Member, append_left, append_right, map_in}
-use Rattle.mds_world.specs.Members.{list_in}
+use Rattle.mds_world.proofs.Lists.{append_left, append_right, map_in}
+use Rattle.mds_world.specs.Lists.{Member}
+use Rattle.mds_world.proofs.Members.{list_in}
 use Rattle.mds_world.specs.Sets.{◌∈◌}
 use Rattle.mds_world.specs.World.{IsOn, World}
 use Rattle.mds_versions.specs.declared.keeper.Unavailable.{Unavailable}

@@ -2,7 +2,5 @@
 #![tactic(auto)]
 
 mod runs;
-#[cfg(test)]
-mod tests;
 
 pub use runs::run_rows;

@@ -1,13 +1,5 @@
-//! Tests of a store's parts: jobs and what they fill in, days with their versions, and registers.
+//! The test of what no request to a store shows: a plan of claims, which the program makes claim by claim.
 #![tactic(auto)]
 
-#[cfg(test)]
-mod filling;
-#[cfg(test)]
-mod jobs;
-#[cfg(test)]
-mod like_days;
-#[cfg(test)]
-mod registers;
 #[cfg(test)]
 mod versions;

@@ -15,7 +15,7 @@ use Rattle.mds_world.specs.declared.facts.Detail.{Detail}
 use Rattle.mds_world.specs.declared.facts.Head.{Head}
 use Rattle.mds_world.specs.declared.facts.Key.{Key}
 use Rattle.mds_world.specs.Facts.Fact.{DetailIs, EventIs, HeadIs, PeriodIs, VersionIs}
-use Rattle.mds_world.specs.Sets.{split_and}
+use Rattle.mds_world.proofs.Sets.{split_and}
 use Rattle.mds_tables.specs.Cells.{body_text, detail_cells, event_cells, head_cells, letter_text, optional_cell, period_cells, version_cells}
 use Rattle.mds_tables.specs.RowFacts.{detail_fact, event_fact, head_fact, letter_in, optional, period_fact, quality_named, unit_named, version_fact}
 

@@ -78,6 +78,28 @@ pub fn version_cells<'a>(key: &'a Key, reading: &'a Reading, quality: &'a [u8]) 
     ]
 }
 
+/// The columns of a version behind those that name its day, as far as the text of its quality.
+pub fn slot_cells<'a>(interval: u16, update: Moment, quality: &'a [u8]) -> [ValueRef<'a>; 3]
+    ensures { bound result ≡ row.slot_cells interval update quality.now }
+{
+    [
+        ValueRef::Int(i64::from(interval)),
+        ValueRef::Int(update.seconds()),
+        ValueRef::Text(quality),
+    ]
+}
+
+/// The columns of a version behind its quality.
+pub fn reading_cells<'a>(reading: &'a Reading) -> [ValueRef<'a>; 3]
+    ensures { bound result ≡ row.reading_cells reading.now }
+{
+    [
+        ValueRef::Int(code_cell(reading)),
+        ValueRef::Text(reading.mark().reason.text().as_bytes()),
+        ValueRef::Int(amount_cell(reading)),
+    ]
+}
+
 /// The code of a reading's reason, and -1 where it has none.
 fn code_cell(reading: &Reading) -> i64
     ensures { Int result ≡ row.optional_cell reading.now.mark.reason.code }

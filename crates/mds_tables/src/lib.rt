@@ -8,7 +8,8 @@ mod readiness;
 
 pub use cells::{
     day_cells, detail_cells, event_cells, head_cells, holiday_cells, id_cells, job_cells,
-    letter_of, period_cells, period_key_cells, range_cells, stream_cells, version_cells,
+    letter_of, period_cells, period_key_cells, range_cells, reading_cells, slot_cells,
+    stream_cells, version_cells,
 };
 pub use known::has_schema_1;
 pub use making::make_tables;

@@ -1,3 +1,4 @@
 pub mod Joined
 pub mod ReadBack
+pub mod TermOrder
 pub mod Texts

@@ -168,7 +168,7 @@ impl Details {
     }
 
     /// A law: details are equal where they say the same, and their order goes field by field.
-    #[tactic(auto, using(crate::specs::TermOrder::details_decided))]
+    #[tactic(auto, using(crate::proofs::TermOrder::details_decided))]
     pub fn one_order()
         ensures equal { (a b : DetailsValue) → IsTrue (⟦<Details as PartialEq>⟧.eq a b) ↔ (a ≡ b) }
         ensures order { (a b : DetailsValue) → ⟦<Details as Ord>⟧.cmp a b ≡ details_cmp a b }
@@ -180,7 +180,7 @@ impl PartialEq for Details {
 
     ghost laws = { partial_equiv_from_equiv (eq_by_cmp_equiv details_total) };
 
-    #[tactic(auto, using(crate::specs::TermOrder::details_decided))]
+    #[tactic(auto, using(crate::proofs::TermOrder::details_decided))]
     fn eq(&self, other: &Details) -> bool {
         self.is_same(other)
     }

@@ -202,7 +202,7 @@ impl Event {
     }
 
     /// A law: events are equal where they say the same, and their order goes field by field.
-    #[tactic(auto, using(crate::specs::TermOrder::event_decided))]
+    #[tactic(auto, using(crate::proofs::TermOrder::event_decided))]
     pub fn one_order()
         ensures equal { (a b : EventValue) → IsTrue (⟦<Event as PartialEq>⟧.eq a b) ↔ (a ≡ b) }
         ensures order { (a b : EventValue) → ⟦<Event as Ord>⟧.cmp a b ≡ event_cmp a b }
@@ -214,7 +214,7 @@ impl PartialEq for Event {
 
     ghost laws = { partial_equiv_from_equiv (eq_by_cmp_equiv event_total) };
 
-    #[tactic(auto, using(crate::specs::TermOrder::event_decided))]
+    #[tactic(auto, using(crate::proofs::TermOrder::event_decided))]
     fn eq(&self, other: &Event) -> bool {
         self.is_same(other)
     }

@@ -88,7 +88,7 @@ impl PrintableString {
     }
 
     /// A law: texts are equal where they are the same, and their order is that of their bytes.
-    #[tactic(auto, using(crate::specs::TermOrder::text_decided))]
+    #[tactic(auto, using(crate::proofs::TermOrder::text_decided))]
     pub fn one_order()
         ensures equal { (a b : List ℕ) → IsTrue (⟦<PrintableString as PartialEq>⟧.eq a b) ↔ (a ≡ b) }
         ensures order { (a b : List ℕ) → ⟦<PrintableString as Ord>⟧.cmp a b ≡ slice_cmp nat_cmp a b }
@@ -100,7 +100,7 @@ impl PartialEq for PrintableString {
 
     ghost laws = { partial_equiv_from_equiv (eq_by_cmp_equiv nat_list_cmp_total) };
 
-    #[tactic(auto, using(crate::specs::TermOrder::text_decided))]
+    #[tactic(auto, using(crate::proofs::TermOrder::text_decided))]
     fn eq(&self, other: &PrintableString) -> bool {
         self.is_same(other)
     }

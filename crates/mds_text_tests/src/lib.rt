@@ -1,25 +1,14 @@
-//! Tests of the text: of lines and records, of days, of the readers of files and of holiday lists, and of exports.
+//! Tests of the base and of the text that no run of the program shows: of terms, records, runs and a source. The others are in
+//! `tests/text`.
 #![tactic(auto)]
 
 #[cfg(test)]
-mod accumulation;
-#[cfg(test)]
-mod days;
-#[cfg(test)]
-mod export;
-#[cfg(test)]
-mod files;
-#[cfg(test)]
-mod holidays;
-#[cfg(test)]
-mod lines;
-#[cfg(test)]
-mod made;
-#[cfg(test)]
-mod nem12;
-#[cfg(test)]
-mod nem13;
-#[cfg(test)]
-mod records;
+mod marks;
 #[cfg(test)]
 mod rows;
+#[cfg(test)]
+mod runs;
+#[cfg(test)]
+mod sources;
+#[cfg(test)]
+mod terms;

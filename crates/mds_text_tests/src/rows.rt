@@ -1,71 +1,130 @@
-//! Rows of a text and, behind a `=`, what is told of it.
+//! Rows: what a text is read as, a `:`, the text and, behind a `=`, what is told of it.
 
-use mds_terms::{Day, Moment};
-use std::alloc::{AllocError, Global};
-use std::process::Abort;
+use crate::terms::tell_term;
+use mds_marks::Reading;
+use std::alloc::Global;
+use std::mem::size_of;
 
-/// Who reads texts, one after the other, and tells what they are read as.
-pub trait Teller {
-    /// Appends what a text is read as.
-    fn tell(&mut self, alloc: Global, text: &str, out: &mut String) -> Result<(), AllocError>;
-}
+/// Rows of quantities and units, of days, moments and lengths, and of names.
+const TERMS: &str = "quantity:007.250000000=7.25
+quantity:.5=0.5
+quantity:5.=5
+quantity:-0=0
+quantity:-0.000001=-0.000001
+quantity:10.010=10.01
+quantity:999999999999.999999=999999999999.999999
+quantity:-999999999999.999999=-999999999999.999999
+quantity:=Form
+quantity:.=Form
+quantity:-.=Form
+quantity:+1=Form
+quantity:1e3=Form
+quantity:1.2.3=Form
+quantity:1000000000000.0000001x=Form
+quantity:0.0000001=Decimals
+quantity:1000000000000.0000001=Decimals
+quantity:1000000000000=Range
+quantity:-1000000000000.000000=Range
+quantity:99999999999999999999999999999999=Range
+sum:287999999999999999712=287999999999999.999712
+sum:-287999999999999999712=-287999999999999.999712
+sum:288000000000000000000=288000000000000
+sum:0=0
+sum:-1=-0.000001
+unit:KWH=kWh
+unit:kWhx=none
+day:20240229=20240229
+day:20230229=none
+moment:20240102010203=20240102010203
+moment:202401020102=none
+header moment:202401020102=20240102010200
+length:05=5
+length:030=none
+NMI:NEM1201009=NEM1201009
+NMI:nEM1201009=none
+suffix:E1=E1
+suffix:e1=none
+stream:NEM1201009|E1=NEM1201009,E1
+stream:NEM1201009|=none
+quality:F00=F00
+quality:A14=none";
+
+/// Rows of reasons, marks and readings.
+const MARKS: &str = "reason:|076|x=76,x
+reason:|1000|=none
+lent reason:|076|é=76,é
+lent reason:||a b=,a b
+lent reason:||a,b=none
+mark:F14|76|é=F14,76,é
+lent mark:F14|76|é|-0.25=F14,76,é,-0.25
+lent mark:N|079|lost|=N,79,lost,
+lent mark:N|||1=none
+lent mark:A|||=none
+lent mark:V|||1=none
+reading:A|||1.50=A,,,1.5
+reading:S52|||1=S52,,,1
+reading:N|079|lost|=N,79,lost,
+reading:F14|76|é|-0.25=F14,76,é,-0.25
+reading:N|||1=none
+reading:A|||=none
+reading:V|||=none
+reading:V|||1=none
+reading:A|||x=none";
+
+/// Rows of printable texts, details, events and records.
+const PARTS: &str = "printable: 01009~= 01009~,printable
+printable:1,2=none
+lent printable: 01009~= 01009~
+lent printable:1,2=none
+lent printable:é=none
+details:E1|10|N1|01009|20240202=E1,10,N1,01009,20240202
+details:E1,E2|1|N1|01009|=none
+lent details:|1|N1|01009|=,1,N1,01009,
+lent details:E1,E2|1|N1|01009|=none
+lent details:E1|1|N1|01009|20240230=none
+event:NEM1201009|E1|20240102|O||20240102000000|15.5=NEM1201009,E1,20240102,O,,20240102000000,15.5
+event:NEM1201009|E1|20240102|O|1,2||15.5=none
+lent event:NEM1201009|E1|20240102||S1||=NEM1201009,E1,20240102,,S1,,
+lent event:NEM1201009|E1|20240102|OO|||15.5=none
+lent event:NEM1201009|E1|20240102|O|1,2||15.5=none
+record:100,NEM12,202401030405,ACME,,,=good
+record:100,NEM13=WrongFile
+record:200,NEM1201009,E1Q1,1,E1,N1,01009,KWH,05,20240229=good
+record:200,NEM1201009,E1,1,E1,N1,01009,kWh,10,=Bad(9)
+record:300,20240101,1,1,1,1,1,1,1,1,1,1,1,1,1,1,1,1,1,1,1,1,1,1,1,1,1,1,1,1,1,1,1,1,1,1,1,1,1,1,1,1,1,1,1,1,1,1,1,1,A=good
+record:300,20240101,1,1,1,1,1,1,1,1,1,1,1,1,1,1,1,1,1,1,1,1,1,1,1,1,1,1,1,1,1,1,1,1,1,1,1,1,1,1,1,1,1,1,1,1,1,1,1,1=Count
+record:400,1,0020,F14,076,meter changed=good
+record:400,1,48,V=Bad(4)
+record:500,O,S 1,20240102030405,15.5=good
+record:500,o,,,,x=Count
+record:250,1234567890,,,11,,,I,,20031001103230,,007,,,20040201100030,F05,,read late,-00.50,KWH=good
+record:550,N,,A,=good
+record:550,n=Bad(2)
+record:900=good
+record:900,,x=Count";
 
 /// A text up to the first of these characters, and what stands behind it.
 pub fn cut(text: &str, at: char) -> (&str, &str) {
     text.split_once(at).unwrap_or((text, ""))
 }
 
-/// A row holds: what stands behind its `=` is told of the text before it.
-fn hold_row<T: Teller>(
-    rt: &impl Abort,
-    alloc: Global,
-    teller: &mut T,
-    row: &str,
-) -> Result<(), AllocError> {
+/// Whether a row holds.
+fn holds(alloc: Global, row: &str) -> bool {
     let (text, wanted) = cut(row, '=');
-    let mut told = String::new(alloc);
-    teller.tell(alloc, text, &mut told)?;
-    assert_eq!(rt; told.as_str(), wanted, "{row}");
-    Ok(())
-}
-
-/// Each row holds.
-pub fn hold<T: Teller>(
-    rt: &impl Abort,
-    alloc: Global,
-    teller: &mut T,
-    rows: &[&str],
-) -> Result<(), AllocError> {
-    for row in rows {
-        hold_row(rt, alloc, teller, row)?;
-    }
-    Ok(())
-}
-
-/// A row holds, and once more. One of the two has its memory where each allocation is refused in turn.
-pub fn hold_twice<T: Teller>(rt: &impl Abort, alloc: Global, teller: &mut T, row: &str) {
-    let first = hold_row(rt, alloc, teller, row).is_ok();
-    let second = hold_row(rt, alloc, teller, row).is_ok();
-    assert!(rt; first || second, "memory is wanting once at most");
-}
-
-/// Appends a moment, if there is one.
-pub fn push_moment(moment: &Option<Moment>, out: &mut String) -> Result<(), AllocError> {
-    match moment {
-        Some(moment) => moment.write_to(out),
-        None => Ok(()),
+    let (word, text) = cut(text, ':');
+    let mut out = String::new(alloc);
+    match tell_term(alloc, word, text, &mut out) {
+        Some(()) => out.as_str() == wanted,
+        None => wanted == "none",
     }
 }
 
-/// Appends the number of a day's line, its date, and its update, if there is one.
-pub fn push_dated(
-    line: u64,
-    date: Day,
-    update: &Option<Moment>,
-    out: &mut String,
-) -> Result<(), AllocError> {
-    write!(out, "{line} ")?;
-    date.write_to(out)?;
-    out.push(' ')?;
-    push_moment(update, out)
+#[test]
+fn rows_hold(rt: HostRuntime) {
+    for rows in [TERMS, MARKS, PARTS] {
+        for row in rows.split('\n') {
+            assert!(rt; holds(rt.alloc(), row), "{row}");
+        }
+    }
+    assert_eq!(rt; size_of::<Reading>(), 32);
 }

@@ -9,8 +9,9 @@ use Rattle.mds_world.specs.declared.facts.Head.{Head}
 use Rattle.mds_world.specs.declared.facts.Key.{Key}
 use Rattle.mds_world.specs.Facts.{Fact}
 use Rattle.mds_world.specs.Facts.Fact.{HeadIs, VersionIs}
-use Rattle.mds_world.specs.Lists.{Member, member_append, append_left, append_right, in_map, map_in}
-use Rattle.mds_world.specs.Members.{in_list, list_in, same_by}
+use Rattle.mds_world.proofs.Lists.{member_append, append_left, append_right, in_map, map_in}
+use Rattle.mds_world.specs.Lists.{Member}
+use Rattle.mds_world.proofs.Members.{in_list, list_in, same_by}
 use Rattle.mds_world.specs.Sets.{◌∈◌}
 use Rattle.mds_world.specs.World.{IsLawful, IsOn, World}
 use Rattle.mds_versions.specs.BookRows.{Fits, Misfits, OneEach}

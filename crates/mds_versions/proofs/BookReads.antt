@@ -6,7 +6,8 @@ use Rattle.std.proofs.lemmas.Bool.{cases_lt}
 use Rattle.std.proofs.lemmas.List.{get_or-take, length-take, length-take-le, get_or-drop, length-drop}
 use Rattle.mds_world.specs.Current.{HasNoVersion, IsLatest}
 use Rattle.mds_world.specs.Facts.Fact.{VersionIs}
-use Rattle.mds_world.specs.Lists.{Member, in_map, map_in}
+use Rattle.mds_world.proofs.Lists.{in_map, map_in}
+use Rattle.mds_world.specs.Lists.{Member}
 use Rattle.mds_world.specs.Sets.{◌∈◌}
 use Rattle.mds_world.specs.World.{IsCurrent}
 use Rattle.mds_versions.specs.Books.{BookValue, book_world}

@@ -12,9 +12,11 @@ use Rattle.mds_world.specs.Counts.{countable, is_counted}
 use Rattle.mds_world.specs.FactOrder.{exact, fact_cmp, total}
 use Rattle.mds_world.specs.Facts.{Fact}
 use Rattle.mds_world.specs.Facts.Fact.{HeadIs, DetailIs, EventIs, HolidayIs}
-use Rattle.mds_world.specs.Lists.{Apart, Member, member_append, append_right, flat_in, in_flat, in_map}
-use Rattle.mds_world.specs.Members.{same_by, in_union, union_left, union_right, in_list, list_in, len_list}
-use Rattle.mds_world.specs.Sets.{◌∈◌, decided, difference_in, in_difference, in_retain, list_append, retain_in, union_empty}
+use Rattle.mds_world.proofs.Lists.{member_append, append_right, flat_in, in_flat, in_map}
+use Rattle.mds_world.specs.Lists.{Apart, Member}
+use Rattle.mds_world.proofs.Members.{same_by, in_union, union_left, union_right, in_list, list_in, len_list}
+use Rattle.mds_world.proofs.Sets.{decided, difference_in, in_difference, in_retain, list_append, retain_in, union_empty}
+use Rattle.mds_world.specs.Sets.{◌∈◌}
 use Rattle.mds_world.specs.Stated.{day_facts}
 use Rattle.mds_world.specs.World.{Agrees, IsLawful, World, union}
 use Rattle.mds_versions.specs.Books.{BookValue, book_world}

@@ -16,9 +16,11 @@ use Rattle.mds_world.specs.Counts.{countable, is_counted}
 use Rattle.mds_world.specs.FactOrder.{exact, total}
 use Rattle.mds_world.specs.Facts.{Fact}
 use Rattle.mds_world.specs.Facts.Fact.{HeadIs, VersionIs}
-use Rattle.mds_world.specs.Lists.{Apart, Member, member_append, append_left, append_right, apart_append, in_map, map_in}
-use Rattle.mds_world.specs.Members.{same_by, in_list, list_in, len_list}
-use Rattle.mds_world.specs.Sets.{◌∈◌, difference_in, in_difference, in_intersection, intersection_in, in_retain, not_true, retain_in, true_not}
+use Rattle.mds_world.proofs.Lists.{member_append, append_left, append_right, apart_append, in_map, map_in}
+use Rattle.mds_world.specs.Lists.{Apart, Member}
+use Rattle.mds_world.proofs.Members.{same_by, in_list, list_in, len_list}
+use Rattle.mds_world.proofs.Sets.{difference_in, in_difference, in_intersection, intersection_in, in_retain, not_true, retain_in, true_not}
+use Rattle.mds_world.specs.Sets.{◌∈◌}
 use Rattle.mds_versions.specs.Books.{BookValue, book_world}
 use Rattle.mds_versions.specs.Claims.{AreShort, fresh_all, fresh_heads, fresh_versions, held_all, held_count, is_held, key_of}
 use Rattle.mds_versions.specs.Content.{day_versions, version_at, version_fact, versions_of}

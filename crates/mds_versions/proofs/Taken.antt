@@ -22,9 +22,11 @@ use Rattle.mds_world.specs.FactOrder.{exact, total}
 use Rattle.mds_world.specs.Facts.{Fact, PeriodContent}
 use Rattle.mds_statements.specs.declared.periods.PeriodKey.{PeriodKey}
 use Rattle.mds_world.specs.Facts.Fact.{HeadIs, VersionIs, PeriodIs}
-use Rattle.mds_world.specs.Lists.{Apart, Member, member_append, append_left, in_flat, flat_in, in_map, map_in}
-use Rattle.mds_world.specs.Members.{same_by, in_union, union_left, union_right, in_list, list_in}
-use Rattle.mds_world.specs.Sets.{◌∈◌, union_assoc, union_absorbs, union_empty}
+use Rattle.mds_world.proofs.Lists.{member_append, append_left, in_flat, flat_in, in_map, map_in}
+use Rattle.mds_world.specs.Lists.{Apart, Member}
+use Rattle.mds_world.proofs.Members.{same_by, in_union, union_left, union_right, in_list, list_in}
+use Rattle.mds_world.proofs.Sets.{union_assoc, union_absorbs, union_empty}
+use Rattle.mds_world.specs.Sets.{◌∈◌}
 use Rattle.mds_world.specs.Stated.{day_facts, versions_from}
 use Rattle.mds_world.specs.World.{Agrees, IsLawful, World, union}
 use Rattle.mds_versions.specs.Books.{BookValue, book_facts, book_world, head_facts, row_fact}

@@ -1,1 +1,4 @@
+pub mod Lists
+pub mod Members
+pub mod Sets
 pub mod Worlds

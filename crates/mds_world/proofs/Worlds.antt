@@ -11,7 +11,8 @@ use Rattle.mds_world.specs.Counts.{added_by, countable, counted, is_counted, kno
 use Rattle.mds_world.specs.FactOrder.{exact, fact_cmp, total}
 use Rattle.mds_world.specs.Facts.{Fact}
 use Rattle.mds_world.specs.Facts.Fact.{VersionIs}
-use Rattle.mds_world.specs.Sets.{◌∈◌, difference_none, in_retain, len_parts, len_union, list_append, retain_in, retain_union, union_absorbs, union_assoc, union_comm, union_right}
+use Rattle.mds_world.proofs.Sets.{difference_none, in_retain, len_parts, len_union, list_append, retain_in, retain_union, union_absorbs, union_assoc, union_comm, union_right}
+use Rattle.mds_world.specs.Sets.{◌∈◌}
 use Rattle.mds_world.specs.Stated.{facts_of, stated}
 use Rattle.mds_world.specs.World.{Agrees, IsCurrent, World, union}
 

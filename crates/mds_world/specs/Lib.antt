@@ -4,7 +4,6 @@ pub mod FactCodes
 pub mod FactOrder
 pub mod Facts
 pub mod Lists
-pub mod Members
 pub mod Order
 pub mod Sets
 pub mod Stated

@@ -1,7 +1,18 @@
-//! The program `mdstore`.
+//! The program `mdstore`: from the words that it is called with to what it prints and the status that it ends with.
+//!
+//! `call` does what words ask for, `inputs` and `queries` put files and questions to a store, and `commands` are those on a store in a
+//! file, which `store_file` opens and closes; `place` knows what stood at its path, so that a refusal leaves that.
 #![tactic(auto)]
 
-use mds_program::run;
+mod asking;
+mod call;
+mod commands;
+mod inputs;
+mod place;
+mod queries;
+mod store_file;
+
+use crate::call::run;
 use std::process::ExitCode;
 
 fn main(rt: HostRuntime) -> ExitCode {

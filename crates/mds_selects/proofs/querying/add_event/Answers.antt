@@ -1,5 +1,5 @@
 use Rattle.std.proofs.lemmas.Result.{on_ok_weaker}
-use Rattle.mds_terms.specs.TermOrder.{event_exact}
+use Rattle.mds_terms.proofs.TermOrder.{event_exact}
 use Rattle.mds_selects.specs.Added.{SaysEvent}
 use Rattle.mds_selects.proofs.Adding.{adds_one, one_event}
 use Rattle.mds_selects.proofs.querying.add_event.Goals as goal

@@ -3,7 +3,7 @@ use Rattle.mds_terms.specs.Event.{EventValue}
 use Rattle.mds_world.specs.Lists.{Apart}
 use Rattle.mds_world.specs.Facts.Fact.{EventIs}
 use Rattle.mds_service.proofs.Sifting.{apart_add, apart_left, apart_map, apart_pass, one_event, sift_add, sift_pass, sift_start, sifted, when}
-use Rattle.mds_terms.specs.TermOrder.{event_exact}
+use Rattle.mds_terms.proofs.TermOrder.{event_exact}
 use Rattle.mds_service.proofs.news.new_events.Goals as goal
 
 pub loop-event-init : goal.loop-event-init

@@ -1,0 +1,53 @@
+//! Reasons, marks and readings.
+
+use mds_marks::{Mark, MarkRef, Reading, Reason, ReasonRef};
+use mds_quantity::Quantity;
+use std::alloc::Global;
+
+/// Appends a reason, a mark or a reading of a quality, the code and the text of a reason, and a value.
+pub fn tell_mark(alloc: Global, word: &str, parts: [&[u8]; 7], out: &mut String) -> Option<()> {
+    let [quality, code, text, value, ..] = parts;
+    match word {
+        "reason" => tell_reason(alloc, code, text, out),
+        "lent reason" => tell_lent_reason(alloc, code, text, out),
+        "lent mark" => tell_lent_mark(alloc, parts, out),
+        "mark" => Mark::read(alloc, quality, code, text)
+            .ok()??
+            .write_to(out)
+            .ok(),
+        "reading" => Reading::read(alloc, quality, code, text, value)
+            .ok()??
+            .write_to(out)
+            .ok(),
+        _ => None,
+    }
+}
+
+/// Appends a copy of a reason.
+fn tell_reason(alloc: Global, code: &[u8], text: &[u8], out: &mut String) -> Option<()> {
+    let own = Reason::read(alloc, code, text).ok()??;
+    own.try_clone().ok()?.write_to(out).ok()
+}
+
+/// Appends a reason that is made again of the parts of what a lent one becomes.
+fn tell_lent_reason(alloc: Global, code: &[u8], text: &[u8], out: &mut String) -> Option<()> {
+    let Some(lent) = ReasonRef::read(code, text) else {
+        return None;
+    };
+    let own = lent.to_reason(alloc).ok()?;
+    Reason::new(alloc, own.code(), own.text())
+        .ok()??
+        .write_to(out)
+        .ok()
+}
+
+/// Appends a copy of the reading of what a lent mark becomes.
+fn tell_lent_mark(alloc: Global, parts: [&[u8]; 7], out: &mut String) -> Option<()> {
+    let [quality, code, text, value, ..] = parts;
+    let Some(lent) = MarkRef::read(quality, code, text) else {
+        return None;
+    };
+    let mark = lent.to_mark(alloc).ok()?;
+    let reading = Reading::new(mark.try_clone().ok()?, Quantity::read(value).ok())?;
+    reading.try_clone().ok()?.write_to(out).ok()
+}

@@ -1,0 +1,42 @@
+//! Runs of marks over a day.
+
+use mds_marks::Mark;
+use mds_rows::{RunRow, write_run};
+use mds_runs::{Cover, Run, gather, spread};
+use std::alloc::Global;
+
+/// Has a cover take a run of a quality.
+fn take(alloc: Global, cover: &mut Cover, first: u16, last: u16, quality: &[u8]) -> Option<()> {
+    let mark = Mark::read(alloc, quality, b"", b"").ok()??;
+    cover.push(Run { first, last, mark }).ok()
+}
+
+/// The 400 records of the runs of a cover.
+fn written(alloc: Global, cover: &Cover) -> Option<Vec<u8>> {
+    let mut out = Vec::new(alloc);
+    for run in cover.runs() {
+        let (first, last, mark) = (run.first, run.last, &run.mark);
+        write_run(&RunRow { first, last, mark }, &mut out).ok()?;
+    }
+    Some(out)
+}
+
+/// The 400 records that are gathered of the marks of a day: two runs, and an actual mark in the intervals between them.
+fn gathered(alloc: Global) -> Option<Vec<u8>> {
+    let mut cover = Cover::new(alloc, 48);
+    take(alloc, &mut cover, 1, 20, b"F14")?;
+    take(alloc, &mut cover, 47, 48, b"F14")?;
+    let default = Mark::read(alloc, b"A", b"", b"").ok()??;
+    let marks = spread(alloc, &cover, &default).ok()?;
+    if marks.len() > 288 {
+        return None;
+    }
+    written(alloc, &gather(alloc, &marks).ok()?)
+}
+
+#[test]
+fn runs_are_spread_and_gathered(rt: HostRuntime) {
+    let runs = gathered(rt.alloc());
+    let wanted = b"400,1,20,F14,,\r\n400,21,46,A,,\r\n400,47,48,F14,,\r\n";
+    assert!(rt; runs.as_deref() == Some(wanted.as_slice()));
+}

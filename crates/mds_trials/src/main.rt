@@ -1,0 +1,233 @@
+//! Tries the libraries without a store in a file: over the keeper in memory.
+//!
+//! Without words it makes the call that README shows, and prints the answers. `mds_trials serve PORT COUNT` serves so many
+//! connections to a port of 127.0.0.1 from an empty keeper, one after the other, and ends. The other words measure:
+//! `mds_trials deliver PATH` reads all that a NEM12 file states, `mds_trials imports PATH` takes it into an empty keeper, and
+//! again, and `mds_trials exports PATH FROM TO` takes it in and exports each of its streams in that range.
+#![tactic(auto)]
+
+use mds_answers::answer_json;
+use mds_arguments::{ExportArguments, read_export};
+use mds_http::StoreHandler;
+use mds_memory::MemoryKeeper;
+use mds_nem12::read_nem12;
+use mds_records::FileKind;
+use mds_server::{listen, serve_connections};
+use mds_service::{Answer, Request, apply, run};
+use mds_terms::{Day, Stream};
+use std::alloc::{AllocError, Global};
+use std::io::Write;
+use std::process::ExitCode;
+use std::time::Instant;
+use std::{env, fs, io};
+
+fn main(rt: HostRuntime) -> ExitCode {
+    match run_words(&rt) {
+        Ok(true) => ExitCode::from(0),
+        Ok(false) => ExitCode::from(2),
+        Err(_) => ExitCode::from(3),
+    }
+}
+
+/// Does what the words say, and answers whether it understood them.
+fn run_words(rt: &HostRuntime) -> io::Result<bool> {
+    let words: Vec<String> = env::args(rt)?.skip(1).collect(rt.alloc())?;
+    match words.as_slice() {
+        [] => call_of_the_readme(rt),
+        [what, path] if what.as_str() == "deliver" => time_delivery(rt, path.as_str()),
+        [what, path] if what.as_str() == "imports" => time_imports(rt, path.as_str()),
+        [what, port, count] if what.as_str() == "serve" => serve(rt, port.as_str(), count.as_str()),
+        [what, path, from, to] if what.as_str() == "exports" => {
+            time_exports(rt, path.as_str(), from.as_str(), to.as_str())
+        }
+        _ => usage(rt),
+    }
+}
+
+fn usage(rt: &HostRuntime) -> io::Result<bool> {
+    println!(rt;
+        "usage: mds_trials [serve PORT COUNT | deliver PATH | imports PATH | exports PATH FROM TO]"
+    )?;
+    Ok(false)
+}
+
+/// The call that README shows stands here between two marks, by which tests/program holds one against the other.
+fn call_of_the_readme(rt: &HostRuntime) -> io::Result<bool> {
+    let alloc = rt.alloc();
+    let (Some(stream), Some(day)) = (Stream::read(b"NEM1201009", b"E1"), Day::read(b"20240101"))
+    else {
+        return Ok(false);
+    };
+    let bytes = file_of_a_day(alloc, &stream)?;
+    // README begins.
+    let mut keeper = MemoryKeeper::new(alloc);
+    let requests = [
+        Request::Import {
+            kind: FileKind::Nem12,
+            bytes,
+        },
+        Request::Day { stream, day },
+        Request::Versions {
+            stream,
+            day,
+            interval: 7,
+        },
+    ];
+    let answers = run(alloc, &mut keeper, &requests)?;
+    // README ends.
+    for answer in &answers {
+        print_answer(rt, answer)?;
+    }
+    Ok(true)
+}
+
+/// The bytes of a NEM12 file of a day of 48 readings of a stream.
+fn file_of_a_day(alloc: Global, stream: &Stream) -> Result<Vec<u8>, AllocError> {
+    let mut file = Vec::new(alloc);
+    file.extend_from_slice(b"100,NEM12,202401030000,MDP1,RETAILER\n200,")?;
+    file.extend_from_slice(stream.nmi.text().as_bytes())?;
+    file.extend_from_slice(b",E1,1,E1,N1,01009,kWh,30,\n300,20240101")?;
+    for _ in 0..48 {
+        file.extend_from_slice(b",1.5")?;
+    }
+    file.extend_from_slice(b",A,,,20240102010203,\n900\n")?;
+    Ok(file)
+}
+
+/// Prints an answer as JSON. One that is a text of its own has none.
+fn print_answer(rt: &HostRuntime, answer: &Answer) -> io::Result<()> {
+    let mut text = Vec::new(rt.alloc());
+    match answer {
+        Answer::Gaps(_) | Answer::Finals(_) | Answer::Exported(_) => (),
+        _ => answer_json(rt.alloc(), answer, &mut text)?,
+    }
+    text.push(b'\n')?;
+    io::writer(rt).write_all(&text)
+}
+
+/// Serves so many connections to a port, one after the other, from an empty keeper.
+fn serve(rt: &HostRuntime, port: &str, count: &str) -> io::Result<bool> {
+    let (Ok(port), Ok(count)) = (port.parse::<u16>(), count.parse::<u32>()) else {
+        return usage(rt);
+    };
+    let listener = listen(rt, port)?;
+    let mut handler = StoreHandler {
+        keeper: MemoryKeeper::new(rt.alloc()),
+    };
+    serve_connections(rt, &mut handler, &listener, count);
+    Ok(true)
+}
+
+/// Reads all that a file states, and prints how fast.
+fn time_delivery(rt: &HostRuntime, path: &str) -> io::Result<bool> {
+    let text = fs::read(rt, path)?;
+    let start = Instant::now(rt)?;
+    let days = days_in(rt.alloc(), &text);
+    let micros = start.elapsed(rt)?.as_micros();
+    println!(rt;
+        "read_nem12: {} MB/s ({days} days)",
+        text.len() as u128 / micros.max(1)
+    )?;
+    Ok(true)
+}
+
+/// How many days a file states. None where it isn't well formed.
+fn days_in(alloc: Global, text: &[u8]) -> u64 {
+    let mut days = 0u64;
+    if let Ok(delivery) = read_nem12(alloc, text) {
+        for block in &delivery.blocks {
+            days = days.wrapping_add(block.days.len() as u64);
+        }
+    }
+    days
+}
+
+/// Reads a file, takes it into an empty keeper, and takes the same in again; prints the time for one of its days.
+fn time_imports(rt: &HostRuntime, path: &str) -> io::Result<bool> {
+    let bytes = fs::read(rt, path)?;
+    let start = Instant::now(rt)?;
+    let days = days_in(rt.alloc(), &bytes);
+    let time = start.elapsed(rt)?.as_nanos() / u128::from(days.max(1));
+    println!(rt; "read_nem12 of {days} days: {time} ns a day")?;
+    let request = Request::Import {
+        kind: FileKind::Nem12,
+        bytes,
+    };
+    let mut keeper = MemoryKeeper::new(rt.alloc());
+    time_import(rt, &mut keeper, &request, days, "into an empty store")?;
+    time_import(rt, &mut keeper, &request, days, "the same again")?;
+    Ok(true)
+}
+
+/// Takes a file in, and prints the time for one of its days.
+fn time_import(
+    rt: &HostRuntime,
+    keeper: &mut MemoryKeeper,
+    request: &Request,
+    days: u64,
+    what: &str,
+) -> io::Result<()> {
+    let start = Instant::now(rt)?;
+    let answer = apply(rt.alloc(), keeper, request);
+    let time = start.elapsed(rt)?.as_nanos() / u128::from(days.max(1));
+    print!(rt; "  {what}: {time} ns a day ")?;
+    print_answer(rt, &answer)
+}
+
+/// Takes a file in, exports each of its streams in a range of days, and prints how fast.
+fn time_exports(rt: &HostRuntime, path: &str, from: &str, to: &str) -> io::Result<bool> {
+    let mut keeper = MemoryKeeper::new(rt.alloc());
+    let request = Request::Import {
+        kind: FileKind::Nem12,
+        bytes: fs::read(rt, path)?,
+    };
+    apply(rt.alloc(), &mut keeper, &request);
+    let Answer::Streams(streams) = apply(rt.alloc(), &mut keeper, &Request::Streams) else {
+        return Ok(false);
+    };
+    let (mut bytes, mut time) = (0u128, 0u128);
+    for known in &streams {
+        let Some(request) = export_of(rt.alloc(), &known.stream, from, to)? else {
+            return usage(rt);
+        };
+        let start = Instant::now(rt)?;
+        let answer = apply(rt.alloc(), &mut keeper, &request);
+        time = time.wrapping_add(start.elapsed(rt)?.as_micros());
+        bytes = bytes.wrapping_add(size_of_export(&answer));
+    }
+    println!(rt;
+        "export of {} streams: {} MB/s ({bytes} bytes)",
+        streams.len(),
+        bytes / time.max(1)
+    )?;
+    Ok(true)
+}
+
+/// The request to export a stream in a range of days.
+fn export_of<'a>(
+    alloc: Global,
+    stream: &'a Stream,
+    from: &'a str,
+    to: &'a str,
+) -> Result<Option<Request>, AllocError> {
+    let mut suffixes = Vec::new(alloc);
+    suffixes.push(stream.suffix.text().as_bytes())?;
+    let arguments = ExportArguments {
+        nmi: stream.nmi.text().as_bytes(),
+        from: from.as_bytes(),
+        to: to.as_bytes(),
+        moment: b"20240104000000",
+        sender: b"MDP1",
+        receiver: b"RETAILER",
+        suffixes,
+    };
+    Ok(read_export(alloc, &arguments).ok())
+}
+
+/// How many bytes an export has; none where it was refused.
+fn size_of_export(answer: &Answer) -> u128 {
+    match answer {
+        Answer::Exported(text) => text.len() as u128,
+        _ => 0,
+    }
+}

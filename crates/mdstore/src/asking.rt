@@ -1,0 +1,61 @@
+//! What a store in a file is asked, and what that comes to.
+
+ghost use Rattle.std.specs.Prelude.{◌≡◌};
+ghost use Rattle.mdstore.specs.Refusals.{of_request_fault};
+
+use crate::store_file::StoreKeeper;
+use mds_desk::{Outcome, perform};
+use mds_lines::Counted;
+use mds_requests::{FileCommand, RequestFault, request_in};
+use mds_service::Request;
+use std::io;
+use std::io::{ErrorKind, Read};
+
+/// All that a reader gives, or what a call comes to where it can't be read to its end.
+pub(crate) fn read_whole<R: Read + Drop>(rt: &HostRuntime, reader: R) -> Result<Vec<u8>, Outcome> {
+    let mut reader = reader;
+    let mut bytes = Vec::new(rt.alloc());
+    match reader.read_to_end(&mut bytes) {
+        Ok(_) => Ok(bytes),
+        Err(error) if error.kind() == ErrorKind::OutOfMemory => Err(Outcome::Unavailable),
+        Err(_) => Err(Outcome::NoInput),
+    }
+}
+
+/// Asks a keeper for what was read. What couldn't be read asks for nothing.
+pub(crate) fn ask_keeper(
+    rt: &HostRuntime,
+    keeper: &mut StoreKeeper,
+    command: FileCommand,
+    bytes: Result<Vec<u8>, Outcome>,
+) -> Outcome {
+    let bytes = match bytes {
+        Ok(bytes) => bytes,
+        Err(outcome) => return outcome,
+    };
+    match request_in(rt.alloc(), command, bytes) {
+        Ok(request) => perform_request(rt, keeper, &request),
+        Err(fault) => of_request_fault(fault),
+    }
+}
+
+/// Does a request over a keeper, and prints its answer.
+pub(crate) fn perform_request(
+    rt: &HostRuntime,
+    keeper: &mut StoreKeeper,
+    request: &Request,
+) -> Outcome {
+    let mut writer = Counted::new(io::writer(rt));
+    Outcome::of_request(perform(rt.alloc(), keeper, request, &mut writer))
+}
+
+/// What a file comes to that asks for nothing.
+fn of_request_fault(fault: RequestFault) -> Outcome
+    ensures { result ≡ of_request_fault fault }
+{
+    match fault {
+        RequestFault::BadJob => Outcome::BadJob,
+        RequestFault::BadHolidays(row) => Outcome::BadHolidays(row),
+        RequestFault::Memory => Outcome::Unavailable,
+    }
+}

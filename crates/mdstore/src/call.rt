@@ -1,0 +1,161 @@
+//! A call of the program.
+
+ghost use Rattle.std.specs.Prelude.{◌≡◌};
+ghost use Rattle.std.specs.IoError.{error_kind};
+
+use crate::commands::{init, serve};
+use crate::inputs::{ask_input, check_input, import_inputs};
+use crate::queries::{query, query_export};
+use mds_arguments::{
+    ExportArguments, RangeArguments, read_day, read_finals, read_gaps, read_periods, read_versions,
+};
+use mds_desk::{Outcome, Status};
+use mds_requests::FileCommand;
+use mds_service::Request;
+use mds_words::{Words, WordsFault, read_words};
+use std::io::ErrorKind;
+use std::{env, io};
+
+/// Runs the program, and gives the status to end with.
+pub(crate) fn run(rt: &HostRuntime) -> Status {
+    let outcome = outcome_of_call(rt);
+    match print!(rt; "{outcome}") {
+        Ok(()) => outcome.status(),
+        Err(_) => Status::Unavailable,
+    }
+}
+
+/// Does what the words of the call ask for, but for printing the outcome.
+fn outcome_of_call(rt: &HostRuntime) -> Outcome {
+    let words = match env::args(rt) {
+        Ok(words) => words,
+        Err(error) => return without_words(&error),
+    };
+    let words: Result<Vec<String>, _> = words.skip(1).collect(rt.alloc());
+    let Ok(words) = words else {
+        return Outcome::Unavailable;
+    };
+    match read_words(rt.alloc(), words.as_slice()) {
+        Ok(words) => outcome_of_words(rt, words),
+        Err(WordsFault::Memory) => Outcome::Unavailable,
+        Err(WordsFault::Text(text)) => usage(rt, text.as_str()),
+    }
+}
+
+/// Does what words ask for.
+fn outcome_of_words(rt: &HostRuntime, words: Words<'_>) -> Outcome {
+    match words {
+        Words::Check { kind, input } => check_input(rt, kind, input),
+        Words::Init { store } => init(rt, store),
+        Words::Import {
+            store,
+            kind,
+            inputs,
+        } => import_inputs(rt, store, kind, &inputs),
+        Words::Substitute { store, input } => ask_input(rt, store, FileCommand::Substitute, input),
+        Words::Holidays { store, input } => ask_input(rt, store, FileCommand::Holidays, input),
+        Words::Streams { store } => query(rt, store, Ok(Request::Streams)),
+        Words::Day {
+            store,
+            nmi,
+            suffix,
+            date,
+        } => query(
+            rt,
+            store,
+            read_day(nmi.as_bytes(), suffix.as_bytes(), date.as_bytes()),
+        ),
+        Words::Versions {
+            store,
+            nmi,
+            suffix,
+            date,
+            interval,
+        } => query(
+            rt,
+            store,
+            read_versions(
+                nmi.as_bytes(),
+                suffix.as_bytes(),
+                date.as_bytes(),
+                interval.as_bytes(),
+            ),
+        ),
+        Words::Periods { store, nmi, suffix } => query(
+            rt,
+            store,
+            read_periods(nmi.as_bytes(), suffix.as_bytes()),
+        ),
+        Words::Gaps {
+            store,
+            nmi,
+            suffix,
+            from,
+            to,
+        } => query(rt, store, read_gaps(&range(nmi, suffix, from, to))),
+        Words::Finals {
+            store,
+            nmi,
+            suffix,
+            from,
+            to,
+        } => query(rt, store, read_finals(&range(nmi, suffix, from, to))),
+        Words::Export {
+            store,
+            nmi,
+            from,
+            to,
+            moment,
+            sender,
+            receiver,
+            suffixes,
+        } => {
+            let suffixes: Result<Vec<&[u8]>, _> = suffixes
+                .iter()
+                .map(|suffix| suffix.as_bytes())
+                .collect(rt.alloc());
+            let Ok(suffixes) = suffixes else {
+                return Outcome::Unavailable;
+            };
+            let arguments = ExportArguments {
+                nmi: nmi.as_bytes(),
+                from: from.as_bytes(),
+                to: to.as_bytes(),
+                moment: moment.as_bytes(),
+                sender: sender.as_bytes(),
+                receiver: receiver.as_bytes(),
+                suffixes,
+            };
+            query_export(rt, store, &arguments)
+        }
+        Words::Serve { store, port, count } => serve(rt, store, port, count),
+    }
+}
+
+/// The arguments of a range.
+fn range<'a>(nmi: &'a str, suffix: &'a str, from: &'a str, to: &'a str) -> RangeArguments<'a> {
+    RangeArguments {
+        nmi: nmi.as_bytes(),
+        suffix: suffix.as_bytes(),
+        from: from.as_bytes(),
+        to: to.as_bytes(),
+    }
+}
+
+/// What a call comes to whose words can't be had.
+fn without_words(error: &io::Error) -> Outcome
+    ensures memory { error_kind error.now ≡ ErrorKind.OutOfMemory → result ≡ Outcome.Unavailable }
+{
+    match error.kind() {
+        ErrorKind::OutOfMemory => Outcome::Unavailable,
+        _ => Outcome::NoText,
+    }
+}
+
+/// Prints what is wrong with the words, or the help that they ask for.
+fn usage(rt: &HostRuntime, text: &str) -> Outcome {
+    match print!(rt; "{text}") {
+        Ok(()) => Outcome::Usage,
+        Err(_) => Outcome::NoOutput,
+    }
+}

@@ -1,0 +1,27 @@
+//! Queries of a store, where their arguments are what they are to be.
+
+use crate::commands;
+use mds_arguments::{Argument, ArgumentsFault, ExportArguments, read_export};
+use mds_desk::Outcome;
+use mds_service::Request;
+
+/// Puts a request that was read to a store.
+pub(crate) fn query(rt: &HostRuntime, store: &str, read: Result<Request, Argument>) -> Outcome {
+    match read {
+        Ok(request) => commands::query(rt, store, &request),
+        Err(argument) => Outcome::BadArgument(argument),
+    }
+}
+
+/// Asks a store for an export.
+pub(crate) fn query_export(
+    rt: &HostRuntime,
+    store: &str,
+    arguments: &ExportArguments<'_>,
+) -> Outcome {
+    match read_export(rt.alloc(), arguments) {
+        Ok(request) => commands::query(rt, store, &request),
+        Err(ArgumentsFault::Bad(argument)) => Outcome::BadArgument(argument),
+        Err(ArgumentsFault::Memory) => Outcome::Unavailable,
+    }
+}

@@ -1,0 +1,105 @@
+"""A file at the limits of the format, what is asked of it, and the answers.
+
+It has a day of five minutes under quality V, with a run of its own for each interval and with many events; a day of five minutes under
+several updates; and days of one update, whose lines are as long as a line may be. All are of the first file's stream, but for a day of
+half hours of each of many others. A job with a reason that is as long as it may be comes behind it.
+"""
+
+import datetime
+
+from example_texts import *
+
+FILE_BYTES, LINE_BYTES = 8_388_608, 16_384
+
+# A printable text has at most so many bytes, and the text of a reason so many characters.
+FIELD = 240
+
+FIVE_MINUTES, HALF_HOURS = 288, 48
+UPDATES, EVENTS, LONG_DAYS, STREAMS = 6, 100, 260, 220
+VERSIONS = FIVE_MINUTES * (1 + UPDATES + LONG_DAYS) + HALF_HOURS * STREAMS
+
+MARKED_DAY, UPDATED_DAY, FILLED_DAY = "20240101", "20240102", "20240203"
+OTHER_NMIS = [f"NEM2{number:06}" for number in range(STREAMS)]
+LONG_DATES = [f"{2001 + number // 28}01{1 + number % 28:02}" for number in range(LONG_DAYS)]
+
+CONFIGURATION, REGISTER, DATASTREAM, METER = (FIELD * letter for letter in "crdm")
+
+
+def long_block(nmi, length):
+    """A 200 record, with texts as long as they may be."""
+    return f"200,{nmi},{CONFIGURATION},{REGISTER},E1,{DATASTREAM},{METER},kWh,{length},20240201\n"
+
+
+def reason(interval):
+    """A reason that is as long as it may be, each second one in characters of four bytes."""
+    return FIELD * ("x" if interval % 2 == 0 else "\U0001f50c")
+
+
+def is_final(interval):
+    """The first half of the day with runs is of quality F, the second of S."""
+    return interval <= FIVE_MINUTES // 2
+
+
+def quality(interval):
+    return "F14" if is_final(interval) else "S14"
+
+
+def marked_day():
+    """The day with a run for each interval."""
+    runs = [run(k, k, quality(k), k, reason(k)) for k in range(1, FIVE_MINUTES + 1)]
+    return [day(MARKED_DAY, FIVE_MINUTES * ["1"], "20240102000000", "V"), *runs]
+
+
+def long_event(number):
+    """The four fields of an event, with texts as long as they may be."""
+    return "O", f"{number:03}" + (FIELD - 3) * "t", "20240102000000", FIELD * "9"
+
+
+def long_day(date, count):
+    """A day of so many values 1, with as many zeros before the first as its line may have."""
+    plain = day(date, count * ["1"], "20240103000000")
+    zeros = "0" * (LINE_BYTES + 1 - len(plain))
+    return plain.replace(f"300,{date},", f"300,{date},{zeros}")
+
+
+def file_at_the_limits():
+    """The file: empty lines, which say nothing, fill it up to its size."""
+    lines = [header(), long_block(NMI, 5), *marked_day()]
+    lines += [event(*long_event(number)) for number in range(EVENTS, 0, -1)]
+    lines += [day(UPDATED_DAY, FIVE_MINUTES * [str(update)], f"{UPDATED_DAY}0000{update:02}") for update in range(1, UPDATES + 1)]
+    lines += [long_day(date, FIVE_MINUTES) for date in LONG_DATES]
+    for nmi in OTHER_NMIS:
+        lines += [long_block(nmi, 30), long_day(MARKED_DAY, HALF_HOURS)]
+    text = "".join([*lines, END])
+    return text + "\n" * (FILE_BYTES - len(text.encode()))
+
+
+def dates(first, last):
+    """The dates from a first to a last one."""
+    return [f"{first + datetime.timedelta(days):%Y%m%d}" for days in range((last - first).days + 1)]
+
+
+def limits():
+    """What is asked, and what is answered. A range of 400 days has no gap on its first two days, and the others aren't known."""
+    file = take_in(file_at_the_limits())
+    marks = {k: f"{quality(k)},{k},{reason(k)},1" for k in range(1, FIVE_MINUTES + 1)}
+    events = [",".join(long_event(number)) for number in range(1, EVENTS + 1)]
+    versions = [f"{UPDATED_DAY}0000{update:02},A,,,{update}" for update in range(1, UPDATES + 1)]
+    unknown = [f"{date},0,0" for date in dates(datetime.date(2024, 1, 3), datetime.date(2025, 2, 3))]
+    stretches = [f"{MARKED_DAY},{k},{k},14,{k},{reason(k)}" for k in range(1, FIVE_MINUTES + 1) if is_final(k)]
+    job = fill_in("LONG", FILLED_DAY, 1, HALF_HOURS, 19, "F", "20240204000000", nmi=OTHER_NMIS[0], code="76", text=reason(1))
+    details = f"E1,{CONFIGURATION},{REGISTER},{DATASTREAM},{METER},20240201"
+    return [
+        (file, added(VERSIONS, 0)),
+        (file, added(0, VERSIONS)),
+        (tell_day(MARKED_DAY), told_day(MARKED_DAY, marks, "20240102000000", 5, events)),
+        (tell_day(UPDATED_DAY), told_day(UPDATED_DAY, {1: f"A,,,{UPDATES}"}, f"{UPDATED_DAY}0000{UPDATES:02}", 5)),
+        (tell_versions(UPDATED_DAY, FIVE_MINUTES), told_versions(UPDATED_DAY, FIVE_MINUTES, *versions)),
+        (tell_day(LONG_DATES[-1]), told_day(LONG_DATES[-1], {1: "A,,,1"}, "20240103000000", 5)),
+        (tell_gaps("20240101", "20250203"), gaps(*unknown)),
+        (tell_finals(MARKED_DAY, MARKED_DAY), finals(*stretches)),
+        (export(MARKED_DAY, MARKED_DAY, "E1"), exported(long_block(NMI, 5), *marked_day())),
+        (job, filled(HALF_HOURS)),
+        (job, filled_before(HALF_HOURS)),
+        (TELL_STREAMS, told_streams(*(f"{nmi},{details}" for nmi in [NMI, *OTHER_NMIS]))),
+    ]

@@ -1,0 +1,344 @@
+"""Examples: lists of requests to a store that is empty at first, each with the answer that it has to get."""
+
+from example_texts import *
+
+# The first file, and others that several examples take in.
+
+FIRST_DAY = day("20240101", half_hours("1.5"), "20240102010203")
+FIRST = take_in(header(), block(), FIRST_DAY, END)
+EARLIER = take_in(header(), block(), day("20240101", half_hours("9"), "20240101230000"), END)
+TOLD_FIRST = told_day("20240101", {1: "A,,,1.5"}, "20240102010203")
+EXPORTED_FIRST = exported(block(), FIRST_DAY)
+FIVE_MINUTES = header() + block(5)
+LATER_DAY = day("20240103", half_hours("2"), "20240104000000")
+LIKE_DAYS = take_in(header(), block(), day("20240108", half_hours("1.000002"), "20240116000000"),
+                    day("20240115", half_hours("1.000001"), "20240116000000"), END)
+
+# Of accumulations, the one to 1 February 2004, the same with another quantity, that from there to 1 March, and that of another register.
+IN_OCTOBER, IN_FEBRUARY, IN_MARCH = "000021.2,20031001103230,A,,", "000534.5,20040201100030,E64,77,", "000600.0,20040301100030,A,,"
+FROM_FEBRUARY = "000534.5,20040201100030,A,,"
+HEADER_13 = header("200401011234", "NEM13")
+TO_FEBRUARY = accumulation(IN_OCTOBER, IN_FEBRUARY, "343.5", "01", "20040509", "20040202125010", "20040203000130") + note("N", "", "A")
+OTHER_QUANTITY = accumulation(IN_OCTOBER, IN_FEBRUARY, "344.5", "01", "20040509", "20040202125010", "20040203000130") + note("N", "", "A")
+TO_MARCH = accumulation(FROM_FEBRUARY, IN_MARCH, "65.5", "01", "", "20040302125010")
+OTHER_REGISTER = accumulation(FROM_FEBRUARY, IN_MARCH, "65.5", "02")
+TOLD_FEBRUARY = ("1141,01,11,11,METSER66,E,000021.2,20031001103230,A,,,000534.5,20040201100030,E64,77,,343.5,kWh,20040509,20040202125010",
+                 "N,,A,")
+TOLD_MARCH = ("1141,01,11,11,METSER66,E,000534.5,20040201100030,A,,,000600.0,20040301100030,A,,,65.5,kWh,,20040302125010",)
+TOLD_REGISTER = ("1141,02,11,11,METSER66,E,000534.5,20040201100030,A,,,000600.0,20040301100030,A,,,65.5,kWh,,",)
+
+
+# A file is taken in, once.
+TAKEN_IN = [
+    (FIRST, added(48, 0)),
+    (TELL_STREAMS, told_streams("NEM1201009,E1,E1,1,N1,01009,")),
+    (FIRST, added(0, 48)),
+    (take_in(header(), END), added(0, 0)),
+    (take_in(), refused("L9", line=1)),
+    (take_in(header()), refused("L9", line=2)),
+    (take_in(END), refused("L3", line=1)),
+]
+
+# So is a day of 5 minutes.
+DAY_OF_FIVE_MINUTES = [
+    (take_in(FIVE_MINUTES, "300,20240101," + 287 * "1," + "A\n", END), refused("L4", line=3)),
+    (take_in(FIVE_MINUTES, day("20240101", 287 * ["1"], "20240102010203"), END), refused("L5", line=3, field=290)),
+    (tell_day("20240101"), refused("M10")),
+    (take_in(FIVE_MINUTES, day("20240101", 288 * ["1"], "20240102010203"), END), added(288, 0)),
+    (tell_versions("20240101", 288), told_versions("20240101", 288, "20240102010203,A,,,1")),
+    (tell_versions("20240101", 289), refused("M10")),
+]
+
+# The latest update is current, whatever came last.
+LATEST_UPDATE = [
+    (FIRST, added(48, 0)),
+    (EARLIER, added(48, 0)),
+    (tell_day("20240101"), TOLD_FIRST),
+    (tell_versions("20240101", 1), told_versions("20240101", 1, "20240101230000,A,,,9", "20240102010203,A,,,1.5")),
+    (take_in(header(), block(), FIRST_DAY, event("O", "", "20240102000000", "15.5"), END), added(0, 48)),
+    (take_in(header(), block(), FIRST_DAY, event("O", "", "20240102000000", "15.5"), END), added(0, 48)),
+    (tell_day("20240101"), told_day("20240101", {1: "A,,,1.5"}, "20240102010203", events=["O,,20240102000000,15.5"])),
+    (tell_versions("20240101", 0), refused("M10")),
+]
+
+# A file that conflicts, with what is kept or with itself, changes nothing.
+CONFLICTS = [
+    (FIRST, added(48, 0)),
+    (take_in(header(), block(), LATER_DAY, day("20240101", 6 * ["1.5"] + ["9"] + 41 * ["1.5"], "20240102010203"), END),
+     refused("M3", line=4, interval=7)),
+    (tell_day("20240103"), refused("M10")),
+    (take_in(header(), block(15), day("20240101", 96 * ["1"], "20240102010203"), END), refused("M1", line=3)),
+    (take_in(header(), block(unit="MWh"), FIRST_DAY, END), refused("M2", line=3)),
+    (take_in(header(), block(), LATER_DAY, LATER_DAY, day("20240103", half_hours("9"), "20240104000000"), END),
+     refused("M3", line=5, interval=1)),
+    (tell_day("20240103"), refused("M10")),
+    (tell_day("20240101"), TOLD_FIRST),
+]
+
+# What comes twice in a file counts once.
+TWICE_NOTED = take_in(header(), *2 * [block(), LATER_DAY, event("N"), event("N")], END)
+TWICE = [
+    (TWICE_NOTED, added(48, 0)),
+    (tell_day("20240103"), told_day("20240103", {1: "A,,,2"}, "20240104000000", events=["N,,,"])),
+    (TWICE_NOTED, added(0, 48)),
+]
+
+# The details of the latest header are current, also where its file comes first.
+LATEST_DETAILS = [
+    (take_in(header("202401040000"), block(meter="LATER", next_read="20240203"), END), added(0, 0)),
+    (FIRST, added(48, 0)),
+    (take_in(header(), block(suffix="B1", meter="01010"), END), added(0, 0)),
+    (TELL_STREAMS, told_streams("NEM1201009,B1,B1,1,N1,01010,", "NEM1201009,E1,E1,1,N1,LATER,20240203")),
+    (tell_day("20240102"), refused("M10")),
+]
+
+# A day of null data, and the same day with all kinds of marks and a value below zero.
+MARKED = take_in(header(), block(), day("20240101", ["-1.5"] + 47 * ["1.5"], "20240103000000", "V"), run(1, 20, "A"),
+                 run(21, 21, "S14", "999", "Zähler gewechselt"), run(22, 47, "F52", "076"), run(48, 48, "N"), END)
+MARKS = [
+    (take_in(header(), block(), day("20240101", half_hours(""), "20240102010203", "N"), END), added(48, 0)),
+    (tell_day("20240101"), told_day("20240101", {1: "N,,,"}, "20240102010203")),
+    (tell_versions("20240101", 48), told_versions("20240101", 48, "20240102010203,N,,,")),
+    (MARKED, added(48, 0)),
+    (tell_day("20240101"), told_day("20240101", {1: "A,,,-1.5", 2: "A,,,1.5", 21: "S14,999,Zähler gewechselt,1.5", 22: "F52,76,,1.5",
+                                                 48: "N,,,"}, "20240103000000")),
+    (tell_versions("20240101", 21), told_versions("20240101", 21, "20240102010203,N,,,",
+                                                  "20240103000000,S14,999,Zähler gewechselt,1.5")),
+    (MARKED, added(0, 48)),
+]
+
+# A day of 5 minutes that comes with its correction.
+CORRECTED = take_in(FIVE_MINUTES, day("20240101", 288 * ["1"], "20240102010203"),
+                    day("20240101", 288 * ["1"], "20240103000000", "S14", "1"), END)
+TWO_UPDATES = [
+    (CORRECTED, added(576, 0)),
+    (tell_day("20240101"), told_day("20240101", {1: "S14,1,,1"}, "20240103000000", 5)),
+    (tell_versions("20240101", 288), told_versions("20240101", 288, "20240102010203,A,,,1", "20240103000000,S14,1,,1")),
+    (CORRECTED, added(0, 576)),
+]
+
+# Two days of a file are new. The events of a day stand in the order of their texts.
+BOTH_DAYS = take_in(header(), block(), FIRST_DAY, LATER_DAY, event("S"), event("", "B7", "20240104000000"), END)
+TWO_DAYS = [
+    (BOTH_DAYS, added(96, 0)),
+    (tell_day("20240101"), TOLD_FIRST),
+    (tell_day("20240103"), told_day("20240103", {1: "A,,,2"}, "20240104000000", events=[",B7,20240104000000,", "S,,,"])),
+    (BOTH_DAYS, added(0, 96)),
+]
+
+# All is of the first moment that there is, and of its day. The 300 record doesn't say when it was updated.
+OF_1970 = take_in(header("197001010000"), block(next_read="19700101"), day("19700101", half_hours("1.5"), ""),
+                  event("O", "", "19700101000000"), END)
+FIRST_MOMENT = [
+    (OF_1970, added(48, 0)),
+    (TELL_STREAMS, told_streams("NEM1201009,E1,E1,1,N1,01009,19700101")),
+    (tell_day("19700101"), told_day("19700101", {1: "A,,,1.5"}, "19700101000000", events=["O,,19700101000000,"])),
+    (tell_versions("19700101", 48), told_versions("19700101", 48, "19700101000000,A,,,1.5")),
+    (OF_1970, added(0, 48)),
+]
+
+# Like days are copied, their means are taken, and what a job filled in is protected. A job that comes again is known, though its like
+# days have other readings by then.
+SUBSTITUTED = [
+    (LIKE_DAYS, added(96, 0)),
+    (fill_in("J1", "20240122", 5, 8, 15, "F", "20240123000000", code="76"), filled(4)),
+    (tell_day("20240122"), told_day("20240122", {1: "N,,,", 5: "F15,76,,1.000002", 9: "N,,,"}, "20240123000000")),
+    (take_in(header(), block(), day("20240115", half_hours("5"), "20240125000000"), END), added(48, 0)),
+    (fill_in("J1", "20240122", 5, 8, 15, "F", "20240123000000", code="76"), filled_before(4)),
+    (fill_in("J1", "20240122", 5, 8, 15, "F", "20240123000000", code="77"), refused("M4")),
+    (fill_in("J2", "20240122", 5, 8, 15, "F", "20240123000000", code="76"), refused("M5", interval=5)),
+    (fill_in("J3", "20240122", 9, 9, 19, "S", "20240123000000"), filled(1)),
+    (fill_in("J4", "20240122", 9, 9, 19, "S", "20240123000000"), refused("M6", interval=9)),
+    (fill_in("J4", "20240122", 9, 9, 14, "E", "20240124000000"), filled(1)),
+    (tell_versions("20240122", 9), told_versions("20240122", 9, "20240123000000,S19,,,0", "20240124000000,E14,,,5")),
+    (fill_in("J5", "20240122", 9, 8, 19, "S", "20240124000000"), refused("M11")),
+    (fill_in("J5", "20240122", 1, 1, 19, "S", "20240124000000", length=15), refused("M1")),
+    (fill_in("J5", "20240122", 1, 1, 19, "S", "20240124000000", unit="MWh"), refused("M2")),
+    (fill_in("J5", "20240301", 1, 1, 14, "S", "20240302000000"), refused("M7")),
+    (fill_in("J5", "20240210", 1, 5, 17, "S", "20240211000000"), refused("M8")),
+    (fill_in("J5", "20240210", 1, 4, 17, "S", "20240211000000"), refused("M9")),
+    (LIKE_DAYS, added(0, 96)),
+]
+
+# A mean half way between two millionths is rounded away from zero.
+MEAN_BELOW_ZERO = [
+    (take_in(header(), block(), day("20240109", ["-1.000002"] + 47 * ["0"], "20240117000000"),
+             day("20240116", ["-1.000003"] + 47 * ["0"], "20240117000000"), END), added(96, 0)),
+    (fill_in("J1", "20240123", 1, 1, 15, "F", "20240124000000", code="76"), filled(1)),
+    (tell_versions("20240123", 1), told_versions("20240123", 1, "20240124000000,F15,76,,-1.000003")),
+]
+
+# Gaps are filled in by the line between their neighbours, also across midnight: one of two intervals at noon, and the end of a day.
+GAP_AT_NOON = day("20240201", 23 * ["0"] + ["", ""] + 23 * ["1"], "20240202000000", "V")
+INTERPOLATED = [
+    (take_in(header(), block(), GAP_AT_NOON, run(1, 23, "A"), run(24, 25, "S14"), run(26, 48, "A"), END), refused("L12", line=5)),
+    (take_in(header(), block(), GAP_AT_NOON, run(1, 23, "A"), run(24, 25, "N"), run(26, 48, "A"),
+             day("20240202", 47 * ["0"] + [""], "20240203000000", "V"), run(1, 47, "A"), run(48, 48, "N"), END), added(96, 0)),
+    (fill_in("K1", "20240201", 24, 25, 17, "S", "20240203000000"), filled(2)),
+    (fill_in("K2", "20240202", 48, 48, 17, "S", "20240204000000"), refused("M9")),
+    (tell_day("20240201"), told_day("20240201", {1: "A,,,0", 24: "S17,,,0.333333", 25: "S17,,,0.666667", 26: "A,,,1"},
+                                    "20240203000000")),
+    (take_in(header(), block(), day("20240203", half_hours("1"), "20240204000000"), END), added(48, 0)),
+    (fill_in("K2", "20240202", 48, 48, 17, "S", "20240204000000"), filled(1)),
+    (tell_versions("20240202", 48), told_versions("20240202", 48, "20240203000000,N,,,", "20240204000000,S17,,,0.5")),
+]
+
+# A holiday is listed once. Sundays are like it, and it isn't like the Fridays behind it.
+ON_HOLIDAYS = [
+    (list_holidays("20240126"), added(1, 0)),
+    (list_holidays("20240126"), added(0, 1)),
+    (list_holidays("20241225", "20240126", "20241225"), added(1, 1)),
+    (list_holidays(), added(0, 0)),
+    (take_in(header(), block(), day("20240114", half_hours("3"), "20240120000000"),
+             day("20240119", half_hours("8"), "20240120000000"), END), added(96, 0)),
+    (fill_in("H1", "20240126", 1, 2, 14, "S", "20240601000000"), filled(2)),
+    (tell_day("20240126"), told_day("20240126", {1: "S14,,,3", 3: "N,,,"}, "20240601000000")),
+    (take_in(header(), block(), day("20240126", half_hours("4"), "20240602000000"), END), added(48, 0)),
+    (fill_in("H2", "20240202", 1, 1, 14, "S", "20240601000000"), filled(1)),
+    (tell_versions("20240202", 1), told_versions("20240202", 1, "20240601000000,S14,,,8")),
+    (fill_in("H3", "20240301", 1, 1, 14, "S", "20240601000000"), refused("M7")),
+]
+
+# Accumulations are taken in, once. One that conflicts, with what is kept or with its file, changes nothing.
+ACCUMULATIONS = [
+    (tell_periods("1234567890", "11"), told_periods("1234567890", "11")),
+    (take_in_periods(HEADER_13, TO_FEBRUARY, END), added(1, 0)),
+    (take_in_periods(HEADER_13, TO_FEBRUARY, END), added(0, 1)),
+    (tell_periods("1234567890", "11"), told_periods("1234567890", "11", TOLD_FEBRUARY)),
+    (take_in_periods(HEADER_13, OTHER_QUANTITY, END), refused("M3", line=2)),
+    (take_in_periods(HEADER_13, TO_MARCH, TO_MARCH, OTHER_QUANTITY, END), refused("M3", line=4)),
+    (TELL_STREAMS, told_streams("1234567890,11,,,,,")),
+    (tell_periods(NMI, SUFFIX), told_periods(NMI, SUFFIX)),
+    (take_in_periods(HEADER_13, TO_MARCH, TO_FEBRUARY, TO_MARCH, END), added(1, 1)),
+    (take_in_periods(header(), END), refused("L11", line=1)),
+    (take_in(HEADER_13, TO_FEBRUARY, END), refused("L11", line=1)),
+    (take_in_periods(HEADER_13, END), added(0, 0)),
+    (FIRST, added(48, 0)),
+]
+
+# The accumulations of a stream stand in the order of their registers, and then of their reads, however they came. A file that conflicts
+# with itself changes nothing.
+DESCENDING_FILE = take_in_periods(HEADER_13, OTHER_REGISTER, TO_MARCH, TO_FEBRUARY, END)
+DESCENDING = [
+    (take_in_periods(HEADER_13, TO_FEBRUARY, OTHER_QUANTITY, END), refused("M3", line=4)),
+    (TELL_STREAMS, told_streams()),
+    (DESCENDING_FILE, added(3, 0)),
+    (tell_periods("1234567890", "11"), told_periods("1234567890", "11", TOLD_FEBRUARY, TOLD_MARCH, TOLD_REGISTER)),
+]
+
+# An export is a file that states what is current, and nothing of it is new. What isn't known isn't in it.
+EXPORTED = [
+    (export("20240101", "20240101", "E1"), exported()),
+    (FIRST, added(48, 0)),
+    (export("20240101", "20240101", "E1"), EXPORTED_FIRST),
+    (take_in(EXPORTED_FIRST[2]), added(0, 48)),
+    (EARLIER, added(48, 0)),
+    (export("20231231", "20240107", "B1", "E1", "E1"), EXPORTED_FIRST),
+    (export("20240102", "20240102", "E1"), exported()),
+]
+
+# A day that a job filled in in part has gaps and finals. What its export adds are the readings that weren't there, as null data: no
+# current reading is another then.
+FILLED_DAY = told_day("20240122", {1: "N,,,", 5: "F15,76,,1.000002", 9: "N,,,"}, "20240123000000")
+FILLED_GAPS = gaps("20240122,1,4", "20240122,9,48", "20240123,0,0")
+FILLED_FINALS = finals("20240122,5,8,15,76,")
+EXPORTED_FILLED = exported(block(), day("20240122", 4 * ["0"] + 4 * ["1.000002"] + 40 * ["0"], "20240123000000", "V"),
+                           run(1, 4, "N"), run(5, 8, "F15", "76"), run(9, 48, "N"))
+EXPORTED_SUBSTITUTION = [
+    (LIKE_DAYS, added(96, 0)),
+    (fill_in("J1", "20240122", 5, 8, 15, "F", "20240123000000", code="76"), filled(4)),
+    (tell_day("20240122"), FILLED_DAY),
+    (tell_gaps("20240122", "20240123"), FILLED_GAPS),
+    (tell_finals("20240122", "20240123"), FILLED_FINALS),
+    (export("20240122", "20240122", "E1"), EXPORTED_FILLED),
+    (take_in(EXPORTED_FILLED[2]), added(44, 4)),
+    (tell_day("20240122"), FILLED_DAY),
+    (tell_gaps("20240122", "20240123"), FILLED_GAPS),
+    (tell_finals("20240122", "20240123"), FILLED_FINALS),
+    (export("20240122", "20240122", "E1"), EXPORTED_FILLED),
+]
+
+# A range has at most 400 days, and an export at most eight streams, of which each counts once. One that ends before it begins has no day.
+WIDE_RANGES = [
+    (FIRST, added(48, 0)),
+    (tell_finals("20240101", "20250203"), finals()),
+    (tell_finals("20240101", "20250204"), refused("M12")),
+    (tell_gaps("20240101", "20250204"), refused("M12")),
+    (tell_gaps("20240101", "20240102"), gaps("20240102,0,0")),
+    (tell_gaps("20240102", "20240101"), gaps()),
+    (export("20240101", "20250203", "E1"), EXPORTED_FIRST),
+    (export("20240101", "20250204", "E1"), refused("M12")),
+    (export("20240101", "20240101", "E1", "E2", "E3", "E4", "E5", "E6", "E7", "E8", "E1", "E8"), EXPORTED_FIRST),
+    (export("20240101", "20240101", "E1", "E2", "E3", "E4", "E5", "E6", "E7", "E8", "E9"), refused("M12")),
+    (tell_day("20240101"), TOLD_FIRST),
+]
+
+# What a file states of a day agrees with what its lines before state, or it is refused with the least line that doesn't: for the length
+# first, then the unit, then the first interval with another reading.
+OTHER_THIRD = ["1", "1", "2"] + 45 * ["1"]
+ONES = day("20240101", half_hours("1"), "20240102000000")
+CLAIMS = [
+    (take_in(header(), block(), ONES, *5 * [event("O")], day("20240101", OTHER_THIRD, "20240102000000"), END),
+     refused("M3", line=9, interval=3)),
+    (take_in(header(), block(), ONES, block(15), day("20240101", 96 * ["1"], "20240103000000"), END), refused("M1", line=5)),
+    (take_in(header(), block(), ONES, block(15, "MWh"), day("20240101", 96 * ["1"], "20240103000000"), END), refused("M1", line=5)),
+    (take_in(header(), block(), ONES, block(unit="MWh"), day("20240101", OTHER_THIRD, "20240102000000"), END), refused("M2", line=5)),
+    (take_in(header(), block(), ONES, day("20240101", OTHER_THIRD, "20240102000000"), block(15), day("20240101", 96 * ["1"], ""), END),
+     refused("M3", line=4, interval=3)),
+    (tell_day("20240101"), refused("M10")),
+    (TELL_STREAMS, told_streams()),
+    (take_in(header(), block(), ONES, day("20240101", OTHER_THIRD, "20240102000010"), END), added(96, 0)),
+    (tell_versions("20240101", 3), told_versions("20240101", 3, "20240102000000,A,,,1", "20240102000010,A,,,2")),
+    (tell_day("20240101"), told_day("20240101", {1: "A,,,1", 3: "A,,,2", 4: "A,,,1"}, "20240102000010")),
+]
+
+# Gaps are stretches of null readings, and finals end where the mark changes. Of the three updates of the day the second is current: it
+# leaves the first four marks as they were, and after them come another method, another text, another code, and readings that aren't final.
+STRETCHES = [
+    (take_in(header(), block(), day("20240122", half_hours("1.5"), "19700101000010", "F04", "", 'a"b'),
+             day("20240122", half_hours("1.5"), "19700101000020", "V"), run(1, 1, "F04", "", 'a"b'), run(2, 3, "F04", "", 'a"b'),
+             run(4, 4, "F04", "", 'a"b'), run(5, 6, "F14", "", 'a"b'), run(7, 7, "F04", "", "ab"), run(8, 8, "F04", "7", 'a"b'),
+             run(9, 9, "S14", "", 'a"b'), run(10, 10, "A", "", 'a"b'), run(11, 11, "F04", "", 'a"b'), run(12, 13, "N", "", 'a"b'),
+             run(14, 48, "F04", "", 'a"b'), day("20240122", half_hours(""), "19700101000005", "N", "", 'a"b'), END), added(144, 0)),
+    (tell_finals("20240122", "20240122"),
+     finals('20240122,1,4,04,,"a""b"', '20240122,5,6,14,,"a""b"', "20240122,7,7,04,,ab", '20240122,8,8,04,7,"a""b"',
+            '20240122,11,11,04,,"a""b"', '20240122,14,48,04,,"a""b"')),
+    (tell_gaps("20240122", "20240122"), gaps("20240122,12,13")),
+    (tell_day("20240122"), told_day("20240122", {1: 'F04,,a"b,1.5', 5: 'F14,,a"b,1.5', 7: "F04,,ab,1.5", 8: 'F04,7,a"b,1.5',
+                                                 9: 'S14,,a"b,1.5', 10: 'A,,a"b,1.5', 11: 'F04,,a"b,1.5', 12: 'N,,a"b,',
+                                                 14: 'F04,,a"b,1.5'}, "19700101000020")),
+]
+
+# What is answered of the first file where its last interval has no version. The file is taken in again for it.
+WITHOUT_LAST = [
+    (tell_versions("20240101", 47), told_versions("20240101", 47, "20240102010203,A,,,1.5")),
+    (tell_versions("20240101", 48), told_versions("20240101", 48)),
+    (tell_day("20240101"), told_day("20240101", {1: "A,,,1.5", 48: "N,,,"}, "20240102010203")),
+    (tell_gaps("20240101", "20240101"), gaps("20240101,48,48")),
+    (FIRST, added(1, 47)),
+    (tell_day("20240101"), TOLD_FIRST),
+]
+
+EXAMPLES = {
+    "a file is taken in": TAKEN_IN,
+    "a day of 5 minutes": DAY_OF_FIVE_MINUTES,
+    "the latest update": LATEST_UPDATE,
+    "conflicts": CONFLICTS,
+    "what comes twice": TWICE,
+    "the latest details": LATEST_DETAILS,
+    "marks": MARKS,
+    "two updates": TWO_UPDATES,
+    "two days": TWO_DAYS,
+    "the first moment": FIRST_MOMENT,
+    "substitution": SUBSTITUTED,
+    "a mean below zero": MEAN_BELOW_ZERO,
+    "interpolation": INTERPOLATED,
+    "holidays": ON_HOLIDAYS,
+    "accumulations": ACCUMULATIONS,
+    "accumulations in descending order": DESCENDING,
+    "exports": EXPORTED,
+    "an export of a substitution": EXPORTED_SUBSTITUTION,
+    "wide ranges": WIDE_RANGES,
+    "claims of a day": CLAIMS,
+    "stretches": STRETCHES,
+}
