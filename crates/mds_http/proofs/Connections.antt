@@ -8,8 +8,8 @@ use Rattle.mds_service.specs.Machine.{Run}
 use Rattle.mds_service.specs.declared.request.Request.{Request}
 use Rattle.mds_service.specs.declared.request.Answer.{Answer as Told}
 use Rattle.mds_service.proofs.Runs.{leaves_more, run_more}
-use Rattle.mds_targets.specs.declared.targets.TargetFault.{TargetFault}
-use Rattle.mds_targets.specs.declared.targets.TargetFault.TheVariants as fault
+use Rattle.mds_requests.specs.declared.targets.TargetFault.{TargetFault}
+use Rattle.mds_requests.specs.declared.targets.TargetFault.TheVariants as fault
 use Rattle.mds_wire.specs.Laws.{HeadDecides, OnlySteps}
 use Rattle.mds_wire.specs.Meaning.{Answer, AnswersJudged}
 use Rattle.mds_wire.specs.declared.answer.Kind.{Kind}

@@ -9,9 +9,9 @@ use Rattle.mds_service.specs.declared.request.Request.{Request}
 use Rattle.mds_service.specs.declared.request.Answer.{Answer}
 use Rattle.mds_service.specs.declared.request.Answer.TheVariants as told
 use Rattle.mds_answers.specs.Json.{IsJson, refused}
-use Rattle.mds_targets.specs.Targets.{AsksAt, IsFaultAt}
-use Rattle.mds_targets.specs.declared.targets.TargetFault.{TargetFault}
-use Rattle.mds_targets.specs.declared.targets.TargetFault.TheVariants as fault
+use Rattle.mds_requests.specs.Targets.{AsksAt, IsFaultAt}
+use Rattle.mds_requests.specs.declared.targets.TargetFault.{TargetFault}
+use Rattle.mds_requests.specs.declared.targets.TargetFault.TheVariants as fault
 use Rattle.mds_wire.specs.Answers.{refusal_body}
 use Rattle.mds_wire.specs.Meaning.{StepOf}
 use Rattle.mds_wire.specs.declared.answer.Kind.{Kind}

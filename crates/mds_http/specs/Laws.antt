@@ -6,7 +6,7 @@ use Rattle.mds_service.specs.Crashes.{MayLeave}
 use Rattle.mds_service.specs.Machine.{Run}
 use Rattle.mds_service.specs.declared.request.Request.{Request}
 use Rattle.mds_service.specs.declared.request.Answer.{Answer as Told}
-use Rattle.mds_targets.specs.Targets.{AsksAt}
+use Rattle.mds_requests.specs.Targets.{AsksAt}
 use Rattle.mds_wire.specs.Heads.{most_fields}
 use Rattle.mds_wire.specs.Laws.{IsHeadOf, IsRefusedHead}
 use Rattle.mds_wire.specs.Meaning.{Answer, is_head_method, refused}

@@ -1,3 +1,4 @@
+pub mod Connections
 pub mod Handling
 pub mod Laws
 pub mod Serving

@@ -4,8 +4,8 @@ ghost use Rattle.mds_http.specs.Handling.{Handles};
 ghost use Rattle.mds_http.specs.Serving.{IsSame};
 
 use crate::telling::{refuse_holidays, refuse_target, tell};
+use mds_requests::{TargetFault, request_at};
 use mds_service::apply;
-use mds_targets::{TargetFault, request_at};
 use mds_versions::Keeper;
 use mds_wire::{Handler, Kind, Route, Status, Unavailable};
 use std::alloc::Global;

@@ -2,7 +2,7 @@
 
 ghost use Rattle.std.specs.Prelude.{◌≡◌, ◌≤◌, [], true, false, vec_capacity};
 ghost use Rattle.mds_answers.specs.Json.{has_list, has_text};
-ghost use Rattle.mds_targets.specs.declared.targets.TargetFault.TheVariants as fault;
+ghost use Rattle.mds_requests.specs.declared.targets.TargetFault.TheVariants as fault;
 ghost use Rattle.mds_wire.specs.Serving.{short_answer};
 ghost use Rattle.mds_http.specs.Handling.{TellsFault, status_of as status_of_answer, status_of_rule as status_of_code};
 ghost use Rattle.mds_http.specs.TellingSteps.{TellsOrNot, TellsWhole};

@@ -1,8 +1,8 @@
 -- What a file asks for that comes with a command (profile).
 use Rattle.std.specs.Prelude.{◌≡◌, ℕ, List}
 use Rattle.mds_jobs.specs.declared.job.Job.{Job}
-use Rattle.mds_json.specs.JobObjects.{IsJobText}
-use Rattle.mds_holidays.specs.Holidays.{DiffersFirst, IsListOf, rows_of}
+use Rattle.mds_inputs.specs.JobObjects.{IsJobText}
+use Rattle.mds_inputs.specs.Holidays.{DiffersFirst, IsListOf, rows_of}
 use Rattle.mds_service.specs.declared.request.Request.{Request}
 use Rattle.mds_service.specs.declared.request.Request.TheVariants as asked
 use Rattle.mds_requests.specs.declared.requests.FileCommand.{FileCommand}

@@ -1,1 +1,5 @@
 pub mod Asking
+pub mod Queries
+pub mod QuerySteps
+pub mod TargetSteps
+pub mod Targets

@@ -3,8 +3,7 @@
 ghost use Rattle.std.specs.Prelude.{MatchResult};
 ghost use Rattle.mds_requests.specs.Asking.{Asks, AsksNothing};
 
-use mds_holidays::{HolidaysFault, read_holidays};
-use mds_json::job_from_json;
+use mds_inputs::{HolidaysFault, job_from_json, read_holidays};
 use mds_records::FileKind;
 use mds_service::Request;
 use std::alloc::Global;

@@ -8,11 +8,10 @@
 
 use mds_answers::answer_json;
 use mds_arguments::{ExportArguments, read_export};
-use mds_http::StoreHandler;
+use mds_http::{StoreHandler, listen, serve_connections};
 use mds_memory::MemoryKeeper;
 use mds_nem12::read_nem12;
 use mds_records::FileKind;
-use mds_server::{listen, serve_connections};
 use mds_service::{Answer, Request, apply, run};
 use mds_terms::{Day, Stream};
 use std::alloc::{AllocError, Global};

@@ -3,8 +3,8 @@
 use crate::asking::read_whole;
 use crate::store_file::StoreFile;
 use mds_desk::Outcome;
+use mds_http::listen;
 use mds_requests::FileCommand;
-use mds_server::listen;
 use mds_service::Request;
 use std::io::Read;
 

@@ -1,2 +1,0 @@
-pub mod Holidays
-pub mod HolidaysSteps

@@ -1,0 +1,13 @@
+use Rattle.std.proofs.Common.{◌≡◌, [], refl, arith, subst}
+use Rattle.mds_http.specs.Connections.{HasServed}
+use Rattle.mds_http.proofs.Served.{more_served, most_served}
+use Rattle.mds_http.proofs.connections.serve_connections.Goals as goal
+
+pub loop-init : goal.loop-init
+loop-init g c = ([], omega arith, refl)
+
+pub loop-preserved : goal.loop-preserved
+loop-preserved g c = more_served _ _ _ _ _ _ _ _ c.loop.invariant c.serve_next.ensures
+
+pub returns : goal.returns
+returns g c = most_served _ _ _ _ _ _ _ _ c.loop.auto.counter-end c.loop.invariant

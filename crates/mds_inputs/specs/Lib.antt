@@ -1,0 +1,5 @@
+pub mod Holidays
+pub mod HolidaysSteps
+pub mod JobFields
+pub mod JobObjects
+pub mod JobSteps

@@ -1,3 +1,0 @@
-pub mod JobFields
-pub mod JobObjects
-pub mod JobSteps

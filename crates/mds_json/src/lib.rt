@@ -1,8 +1,0 @@
-//! Substitution jobs as JSON objects.
-#![tactic(auto)]
-
-mod fields;
-mod job;
-mod parts;
-
-pub use job::job_from_json;

@@ -1,0 +1,134 @@
+-- What a target and a body ask for, by their route (profile). The parts of a path aren't decoded. Each name that a query
+-- has stands in it once, save that a kind may be left out, and that an export has any number of suffixes; no other name
+-- stands in it.
+use Rattle.std.specs.Prelude.{◌≡◌, ◌≢◌, ℕ, true, if◌then◌else◌, List, [], ◌∷◌, codes, bytes_eq, Option, Some, None}
+use Rattle.mds_inputs.specs.Holidays.{DiffersFirst, rows_of}
+use Rattle.mds_records.specs.declared.file.FileKind.{FileKind}
+use Rattle.mds_records.specs.declared.file.FileKind.TheVariants.{Nem12, Nem13}
+use Rattle.mds_requests.specs.Asking.{Asks}
+use Rattle.mds_requests.specs.declared.requests.FileCommand.TheVariants as command
+use Rattle.mds_arguments.specs.Arguments.{AskForDay, AskForExport, AskForFinals, AskForGaps, AskForPeriods, AskForVersions, IsFirstBad, export_tests}
+use Rattle.mds_arguments.specs.declared.arguments.Argument.{Argument}
+use Rattle.mds_service.specs.declared.request.Request.{Request}
+use Rattle.mds_service.specs.declared.request.Request.TheVariants as asked
+use Rattle.mds_wire.specs.Judging.{path_of, query_of}
+use Rattle.mds_wire.specs.Routes.{part}
+use Rattle.mds_wire.specs.declared.route.Route.{Route}
+use Rattle.mds_wire.specs.declared.route.Route.TheVariants.{Imports, Substitutions, Holidays, Streams, Days, Versions, Periods, Gaps, Finals, Exports}
+use Rattle.mds_requests.specs.Queries.{has_only, only, pairs_of, values_named}
+use Rattle.mds_requests.specs.declared.targets.TargetFault.{TargetFault}
+use Rattle.mds_requests.specs.declared.targets.TargetFault.TheVariants as fault
+
+-- the kind of file that names mean: interval data where there is none
+abbrev pub kind_named : List (List ℕ) → Option FileKind
+kind_named [] = Some Nem12
+kind_named (name ∷ []) =
+    if bytes_eq name (codes "nem12") then Some Nem12
+    else if bytes_eq name (codes "nem13") then Some Nem13 else None
+kind_named (name ∷ other ∷ names) = None
+
+-- a query has this name, once, with this value
+abbrev pub Says : List (List ℕ × List ℕ) → List ℕ → List ℕ → Type 0
+Says pairs name value = only (values_named name pairs) ≡ Some value
+
+-- the names of an import, of a range, and of an export
+abbrev pub import_names : List (List ℕ)
+import_names = codes "kind" ∷ []
+
+abbrev pub range_names : List (List ℕ)
+range_names = codes "nmi" ∷ codes "suffix" ∷ codes "from" ∷ codes "to" ∷ []
+
+abbrev pub export_names : List (List ℕ)
+export_names =
+    codes "nmi" ∷ codes "suffix" ∷ codes "from" ∷ codes "to" ∷ codes "moment" ∷ codes "sender" ∷ codes "receiver" ∷ []
+
+-- the texts of a range that a query says
+abbrev pub SaysRange : List (List ℕ × List ℕ) → (nmi suffix from to : List ℕ) → Type 0
+SaysRange pairs nmi suffix from to =
+    (has_only range_names pairs ≡ true) × Says pairs (codes "nmi") nmi × Says pairs (codes "suffix") suffix
+    × Says pairs (codes "from") from × Says pairs (codes "to") to
+
+-- and those of an export, but for its suffixes
+abbrev pub SaysExport : List (List ℕ × List ℕ) → (nmi from to moment sender receiver : List ℕ) → Type 0
+SaysExport pairs nmi from to moment sender receiver =
+    (has_only export_names pairs ≡ true) × Says pairs (codes "nmi") nmi × Says pairs (codes "from") from
+    × Says pairs (codes "to") to × Says pairs (codes "moment") moment × Says pairs (codes "sender") sender
+    × Says pairs (codes "receiver") receiver
+
+-- The request that a query asks for: with a body, for an import of the kind that it names,
+abbrev pub AskForImportBy : List (List ℕ × List ℕ) → (body : List ℕ) → Request → Type 0
+AskForImportBy pairs body request =
+    (has_only import_names pairs ≡ true) × (kind : FileKind)
+    × (kind_named (values_named (codes "kind") pairs) ≡ Some kind) × Asks (command.Import kind) body request
+
+-- for the gaps of a range,
+abbrev pub AskForGapsBy : List (List ℕ × List ℕ) → Request → Type 0
+AskForGapsBy pairs request =
+    (nmi suffix from to : List ℕ) × SaysRange pairs nmi suffix from to × AskForGaps nmi suffix from to request
+
+-- for its finals,
+abbrev pub AskForFinalsBy : List (List ℕ × List ℕ) → Request → Type 0
+AskForFinalsBy pairs request =
+    (nmi suffix from to : List ℕ) × SaysRange pairs nmi suffix from to × AskForFinals nmi suffix from to request
+
+-- for an export
+abbrev pub AskForExportBy : List (List ℕ × List ℕ) → Request → Type 0
+AskForExportBy pairs request =
+    (nmi from to moment sender receiver : List ℕ) × SaysExport pairs nmi from to moment sender receiver
+    × AskForExport nmi from to moment sender receiver (values_named (codes "suffix") pairs) request
+
+-- a route with the path, the pairs of the query and the body asks for this request
+abbrev pub AsksBy : Route → (path : List ℕ) → List (List ℕ × List ℕ) → (body : List ℕ) → Request → Type 0
+AsksBy Imports path pairs body request = AskForImportBy pairs body request
+AsksBy Substitutions path pairs body request = (pairs ≡ []) × Asks command.Substitute body request
+AsksBy Holidays path pairs body request = (pairs ≡ []) × Asks command.Holidays body request
+AsksBy Streams path pairs body request = (pairs ≡ []) × (request ≡ asked.Streams)
+AsksBy Days path pairs body request = (pairs ≡ []) × AskForDay (part 3 path) (part 4 path) (part 5 path) request
+AsksBy Versions path pairs body request =
+    (pairs ≡ []) × AskForVersions (part 3 path) (part 4 path) (part 5 path) (part 6 path) request
+AsksBy Periods path pairs body request = (pairs ≡ []) × AskForPeriods (part 3 path) (part 4 path) request
+AsksBy Gaps path pairs body request = AskForGapsBy pairs request
+AsksBy Finals path pairs body request = AskForFinalsBy pairs request
+AsksBy Exports path pairs body request = AskForExportBy pairs request
+
+-- what takes memory: a query that has a pair, a job, and a list of holidays
+abbrev pub TakesMemory : Route → List (List ℕ × List ℕ) → Type 0
+TakesMemory Substitutions pairs = Unit {0}
+TakesMemory Holidays pairs = Unit {0}
+TakesMemory route pairs = pairs ≢ []
+
+-- Why there is no request that is asked for. Memory is wanting only where some is taken.
+abbrev pub AsksNothing : (takes : Type 0) → (Request → Type 0) → TargetFault → Type 0
+AsksNothing takes AsksFor fault.Memory = takes
+AsksNothing takes AsksFor fault.Bad = (request : Request) → ¬ AsksFor request
+AsksNothing takes AsksFor (fault.BadHolidays row) = ⊥
+
+-- A list of holidays differs from a row on, where there is no query. Of want of memory nothing is said.
+abbrev pub ListsNothing : List (List ℕ × List ℕ) → (body : List ℕ) → TargetFault → Type 0
+ListsNothing pairs body fault.Memory = Unit {0}
+ListsNothing pairs body fault.Bad = pairs ≢ []
+ListsNothing pairs body (fault.BadHolidays row) = (pairs ≡ []) × DiffersFirst (rows_of body) row
+
+-- Of an export that a query says one text isn't what it is to be. That is said of texts and not of requests, since a sender
+-- or a receiver that isn't printable is ruled out by their types alone.
+abbrev pub ExportsNothing : List (List ℕ × List ℕ) → TargetFault → Type 0
+ExportsNothing pairs fault.Memory = pairs ≢ []
+ExportsNothing pairs fault.Bad =
+    (nmi from to moment sender receiver : List ℕ) → SaysExport pairs nmi from to moment sender receiver
+    → (argument : Argument)
+    × IsFirstBad (export_tests nmi from to moment sender receiver (values_named (codes "suffix") pairs)) argument
+ExportsNothing pairs (fault.BadHolidays row) = ⊥
+
+-- why a route with the path, the pairs of the query and the body asks for nothing
+abbrev pub IsFaultBy : Route → (path : List ℕ) → List (List ℕ × List ℕ) → (body : List ℕ) → TargetFault → Type 0
+IsFaultBy Holidays path pairs body reason = ListsNothing pairs body reason
+IsFaultBy Exports path pairs body reason = ExportsNothing pairs reason
+IsFaultBy route path pairs body reason = AsksNothing (TakesMemory route pairs) (AsksBy route path pairs body) reason
+
+-- what a target and a body ask for
+abbrev pub AsksAt : Route → (target body : List ℕ) → Request → Type 0
+AsksAt route target body request = AsksBy route (path_of target) (pairs_of (query_of target)) body request
+
+-- and why they ask for nothing
+abbrev pub IsFaultAt : Route → (target body : List ℕ) → TargetFault → Type 0
+IsFaultAt route target body reason = IsFaultBy route (path_of target) (pairs_of (query_of target)) body reason

@@ -1,4 +1,0 @@
-pub mod Queries
-pub mod QuerySteps
-pub mod TargetSteps
-pub mod Targets
