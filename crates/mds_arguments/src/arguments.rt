@@ -1,10 +1,10 @@
 //! The arguments of a query, by their names.
 
-ghost use Rattle.std.specs.Prelude.{◌≡◌, ◌↔◌, IsTrue};
+ghost use Rattle.std.specs.Prelude.{◌≡◌};
 ghost use Rattle.mds_arguments.specs.Arguments.{argument_name};
 
 /// An argument of a query.
-#[derive(Clone, Copy, Debug, PartialEq, Eq)]
+#[derive(Clone, Copy)]
 pub enum Argument {
     /// A meter: ten capital letters and digits.
     Nmi,
@@ -48,13 +48,6 @@ pub struct ExportArguments<'a> {
 }
 
 impl Argument {
-    ghost use Rattle.mds_arguments.specs.declared.arguments.Argument.{Argument as AnArgument};
-
-    /// A law: arguments are equal where they are the same.
-    pub fn one_equality()
-        ensures { (a b : AnArgument) → IsTrue (⟦<Argument as PartialEq>⟧.eq a b) ↔ (a ≡ b) }
-    {}
-
     /// Its name in the usage of a command.
     pub fn name(self) -> &'static str
         ensures { result.now ≡ argument_name self }

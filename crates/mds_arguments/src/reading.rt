@@ -15,7 +15,7 @@ use mds_terms::{Day, Moment, Nmi, PrintableString, Stream, Suffix};
 use std::alloc::{AllocError, Global};
 
 /// Why arguments ask for nothing.
-#[derive(Clone, Copy, Debug, PartialEq, Eq)]
+#[derive(Clone, Copy)]
 pub enum ArgumentsFault {
     /// One isn't what it is to be: the first of them, in the order of the command's words.
     Bad(Argument),

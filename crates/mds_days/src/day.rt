@@ -42,7 +42,7 @@ pub struct DayData {
 }
 
 /// How many intervals of a day have a value, and the sum of these values in millionths.
-#[derive(Clone, Copy, Debug, PartialEq, Eq)]
+#[derive(Clone, Copy)]
 pub struct Tally {
     pub count: usize,
     pub total: i128,

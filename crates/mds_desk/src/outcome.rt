@@ -1,6 +1,6 @@
 //! What a run comes to, what is printed of it, and the status that it ends with.
 
-ghost use Rattle.std.specs.Prelude.{◌≡◌, ◌↔◌, IsTrue, Some};
+ghost use Rattle.std.specs.Prelude.{◌≡◌, Some};
 ghost use Rattle.mds_desk.specs.Program.{after_failed_close, of_check, of_request, outcome_text, status_code, status_of};
 
 use crate::performing::PerformFault;
@@ -10,7 +10,7 @@ use mds_records::FileFault;
 use std::fmt;
 
 /// The status that a run ends with.
-#[derive(Clone, Copy, Debug, PartialEq, Eq)]
+#[derive(Clone, Copy)]
 pub enum Status {
     /// All was done.
     Done,
@@ -23,7 +23,7 @@ pub enum Status {
 }
 
 /// What a run comes to.
-#[derive(Clone, Copy, Debug, PartialEq, Eq)]
+#[derive(Clone, Copy)]
 pub enum Outcome {
     /// All was done, and all that is to be printed was.
     Done,
@@ -56,13 +56,6 @@ pub enum Outcome {
 }
 
 impl Status {
-    ghost use Rattle.mds_desk.specs.declared.outcome.Status.{Status as AStatus};
-
-    /// A law: statuses are equal where they are the same.
-    pub fn one_equality()
-        ensures { (a b : AStatus) → IsTrue (⟦<Status as PartialEq>⟧.eq a b) ↔ (a ≡ b) }
-    {}
-
     /// Its number: 0, 1, 2 or 3, in the order above.
     pub fn code(self) -> u8
         ensures { result ≡ status_code self }
@@ -77,13 +70,6 @@ impl Status {
 }
 
 impl Outcome {
-    ghost use Rattle.mds_desk.specs.declared.outcome.Outcome.{Outcome as AnOutcome};
-
-    /// A law: outcomes are equal where they are the same.
-    pub fn one_equality()
-        ensures { (a b : AnOutcome) → IsTrue (⟦<Outcome as PartialEq>⟧.eq a b) ↔ (a ≡ b) }
-    {}
-
     /// What a run comes to that checked a file.
     pub fn of_check(answer: Result<(), CheckFault>) -> Outcome
         ensures { result ≡ of_check answer }

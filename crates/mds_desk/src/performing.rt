@@ -70,7 +70,7 @@ impl<'a> Printed<'a> {
 }
 
 /// Why not everything was printed.
-#[derive(Clone, Copy, Debug, PartialEq, Eq)]
+#[derive(Clone, Copy)]
 pub enum PerformFault {
     /// The writer failed. Some front of the text was written, and the request was done.
     Write,

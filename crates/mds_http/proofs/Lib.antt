@@ -1,2 +1,2 @@
-pub mod Connections
+pub mod Runs
 pub mod Served

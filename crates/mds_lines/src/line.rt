@@ -7,7 +7,7 @@ ghost use Rattle.mds_lines.specs.Kinds.{kind_named as named};
 use crate::fields::Fields;
 
 /// The kinds of records.
-#[derive(Clone, Copy, Debug, PartialEq, Eq)]
+#[derive(Clone, Copy)]
 pub enum Kind {
     /// 100, the header.
     Header,
@@ -28,30 +28,12 @@ pub enum Kind {
 }
 
 /// Why a line is no record of a known kind.
-#[derive(Clone, Copy, Debug, PartialEq, Eq)]
+#[derive(Clone, Copy)]
 pub enum KindFault {
     /// It isn't UTF-8.
     NotText,
     /// Its first field is no record indicator.
     Unknown,
-}
-
-impl Kind {
-    ghost use Rattle.mds_lines.specs.declared.line.Kind.{Kind as AKind};
-
-    /// A law: kinds are equal where they are the same.
-    pub fn one_equality()
-        ensures { (a b : AKind) → IsTrue (⟦<Kind as PartialEq>⟧.eq a b) ↔ (a ≡ b) }
-    {}
-}
-
-impl KindFault {
-    ghost use Rattle.mds_lines.specs.declared.line.KindFault.{KindFault as AFault};
-
-    /// A law: faults are equal where they are the same.
-    pub fn one_equality()
-        ensures { (a b : AFault) → IsTrue (⟦<KindFault as PartialEq>⟧.eq a b) ↔ (a ≡ b) }
-    {}
 }
 
 /// A line of a file with its number.

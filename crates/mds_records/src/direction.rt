@@ -4,7 +4,7 @@ ghost use Rattle.std.specs.Prelude.{◌≡◌, ◌↔◌, IsTrue};
 ghost use Rattle.mds_records.specs.Layouts.{direction_of, direction_text};
 
 /// Which way a register counts energy (MDFF Specification, DirectionIndicator).
-#[derive(Clone, Copy, Debug, PartialEq, Eq)]
+#[derive(Clone, Copy, PartialEq, Eq)]
 pub enum Direction {
     /// Import to the grid.
     Import,

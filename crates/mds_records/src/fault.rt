@@ -1,6 +1,6 @@
 //! The first fault of a record's fields.
 
-ghost use Rattle.std.specs.Prelude.{◌≡◌, ◌+◌, ◌^◌, ◌<◌, ◌&&◌, ◌↔◌, IsTrue, Some, None, MatchResult, length, option_copied, option_map};
+ghost use Rattle.std.specs.Prelude.{◌≡◌, ◌+◌, ◌^◌, ◌<◌, ◌&&◌, Some, None, MatchResult, length, option_copied, option_map};
 ghost use Rattle.mds_lines.specs.Rest.{fields_left, are_blank};
 ghost use Rattle.mds_records.specs.RecordSteps.{first_false, outcome};
 ghost use Rattle.mds_records.specs.declared.fault.FieldFault.TheVariants.{Bad};
@@ -8,7 +8,7 @@ ghost use Rattle.mds_records.specs.declared.fault.FieldFault.TheVariants.{Bad};
 use mds_lines::is_blank_from;
 
 /// Why the fields of a line spell no record: the first of these that stands.
-#[derive(Clone, Copy, Debug, PartialEq, Eq)]
+#[derive(Clone, Copy)]
 pub enum FieldFault {
     /// The header is that of the other kind of file.
     WrongFile,
@@ -16,15 +16,6 @@ pub enum FieldFault {
     Count,
     /// The field of this number, from 1, is the least that isn't what the layout says.
     Bad(usize),
-}
-
-impl FieldFault {
-    ghost use Rattle.mds_records.specs.declared.fault.FieldFault.{FieldFault as AFieldFault};
-
-    /// A law: faults are equal where they are the same.
-    pub fn one_equality()
-        ensures { (a b : AFieldFault) → IsTrue (⟦<FieldFault as PartialEq>⟧.eq a b) ↔ (a ≡ b) }
-    {}
 }
 
 /// The first fault of a line: that it is of the other kind of file, that it has a wrong number of

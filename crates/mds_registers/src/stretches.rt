@@ -14,7 +14,7 @@ use std::alloc::{AllocError, Global};
 
 /// Intervals `first` to `last` of a day, counted from 1, that have no reading: a longest run of those whose current
 /// flag is N. Of a day that isn't known it is 0 to 0.
-#[derive(Clone, Copy, Debug, PartialEq, Eq)]
+#[derive(Clone, Copy)]
 pub struct Gap {
     pub first: u16,
     pub last: u16,

@@ -16,7 +16,7 @@ use mds_terms::{Day, Stream};
 use std::alloc::{AllocError, Global};
 
 /// A gap of a day.
-#[derive(Clone, Copy, Debug, PartialEq, Eq)]
+#[derive(Clone, Copy)]
 pub struct GapRow {
     pub day: Day,
     pub gap: Gap,

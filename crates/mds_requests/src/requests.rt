@@ -9,7 +9,7 @@ use mds_service::Request;
 use std::alloc::Global;
 
 /// A command that takes a file to a store.
-#[derive(Clone, Copy, Debug, PartialEq, Eq)]
+#[derive(Clone, Copy)]
 pub enum FileCommand {
     /// The file is one of a kind, which is to be imported.
     Import(FileKind),
@@ -20,7 +20,7 @@ pub enum FileCommand {
 }
 
 /// Why a file asks for nothing.
-#[derive(Clone, Copy, Debug, PartialEq, Eq)]
+#[derive(Clone, Copy)]
 pub enum RequestFault {
     /// It says no substitution job.
     BadJob,

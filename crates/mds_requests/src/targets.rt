@@ -16,7 +16,7 @@ use mds_wire::{Route, part, path_of, query_of};
 use std::alloc::Global;
 
 /// Why a target and a body ask for nothing.
-#[derive(Clone, Copy, Debug, PartialEq, Eq)]
+#[derive(Clone, Copy)]
 pub enum TargetFault {
     /// A part of the path, the query or the JSON body isn't what it is to be.
     Bad,

@@ -22,7 +22,7 @@ pub struct Run {
 }
 
 /// Why a run isn't taken: the first of these that stands (profile).
-#[derive(Clone, Copy, Debug, PartialEq, Eq)]
+#[derive(Clone, Copy, PartialEq, Eq)]
 pub enum RunFault {
     /// It isn't within the day, or ends before it begins.
     Range,

@@ -32,7 +32,7 @@ use std::collections::BTreeMap;
 use std::marker::Model;
 
 /// Why a claim isn't taken.
-#[derive(Clone, Copy, Debug, PartialEq, Eq)]
+#[derive(Clone, Copy)]
 pub enum Stop {
     /// It breaks a rule.
     Refused(Refusal),
@@ -42,7 +42,7 @@ pub enum Stop {
 
 /// Of the versions that were claimed of a day, how many its book didn't have, which are added, and
 /// how many it had.
-#[derive(Clone, Copy, Debug, PartialEq, Eq)]
+#[derive(Clone, Copy)]
 pub struct MergeCounts {
     pub added: u64,
     pub known: u64,

@@ -25,7 +25,7 @@ pub enum Status {
 }
 
 /// The type of an answer's body.
-#[derive(Clone, Copy, Debug, PartialEq, Eq)]
+#[derive(Clone, Copy)]
 pub enum Kind {
     Json,
     Csv,

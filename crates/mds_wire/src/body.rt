@@ -7,7 +7,7 @@ use mds_lines::{Source, read_more};
 use std::alloc::{AllocError, Global};
 
 /// Why there is no body.
-#[derive(Clone, Copy, Debug, PartialEq, Eq)]
+#[derive(Clone, Copy)]
 pub(crate) enum BodyFault {
     /// The source failed.
     Read,

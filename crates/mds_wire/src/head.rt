@@ -9,14 +9,14 @@ use httparse::spans::{HeaderSpan, RequestSpans, parse_request};
 use mds_lines::{Source, read_more};
 
 /// A head that was read: how many bytes were, some of which may stand behind it, and where its parts are.
-#[derive(Clone, Copy, Debug, PartialEq, Eq)]
+#[derive(Clone, Copy)]
 pub(crate) struct HeadRead {
     pub(crate) filled: usize,
     pub(crate) spans: RequestSpans,
 }
 
 /// Why there is no head.
-#[derive(Clone, Copy, Debug, PartialEq, Eq)]
+#[derive(Clone, Copy)]
 pub(crate) enum HeadFault {
     /// The source failed.
     Read,
@@ -29,7 +29,7 @@ pub(crate) enum HeadFault {
 }
 
 /// The bytes begin no head.
-#[derive(Clone, Copy, Debug, PartialEq, Eq)]
+#[derive(Clone, Copy)]
 struct NoHead;
 
 /// Where the parts of the head are that the bytes begin with, or `None` where there may be one once more bytes come.

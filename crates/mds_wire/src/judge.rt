@@ -1,6 +1,6 @@
 //! The checks of a head, in their order: the first that stands gives the answer.
 
-ghost use Rattle.std.specs.Prelude.{◌≡◌, ◌≤◌, ℕ, List, length, map, take, min, All, slice_index_or, ◌==◌, nat_lt, ◌+◌, if◌then◌else◌, Option, Some, None};
+ghost use Rattle.std.specs.Prelude.{◌≡◌, ◌≤◌, ℕ, List, length, map, min, All, slice_index_or, ◌==◌, nat_lt, ◌+◌, if◌then◌else◌, Option, Some, None};
 ghost use Rattle.std.specs.Char.{is_ascii_digit};
 ghost use Rattle.std.specs.List.{list_all};
 ghost use Rattle.std.specs.Str.Parse.{digits_value};
@@ -15,7 +15,7 @@ use crate::target::path_of;
 use httparse::spans::{HeaderSpan, RequestSpans};
 
 /// What a head means.
-#[derive(Clone, Copy, Debug, PartialEq, Eq)]
+#[derive(Clone, Copy)]
 pub(crate) enum Judged {
     /// An answer that needs no body.
     Refused(Status),

@@ -23,7 +23,7 @@ impl Method {
 }
 
 /// What a request is about.
-#[derive(Clone, Copy, Debug, PartialEq, Eq)]
+#[derive(Clone, Copy)]
 pub enum Route {
     Imports,
     Substitutions,

@@ -18,7 +18,7 @@ use std::alloc::{AllocError, Global};
 use std::io;
 
 /// Memory, or what is kept, was unavailable.
-#[derive(Clone, Copy, Debug, PartialEq, Eq)]
+#[derive(Clone, Copy)]
 pub struct Unavailable;
 
 /// Whoever answers requests.
@@ -53,14 +53,14 @@ pub trait Handler {
 }
 
 /// What is answered: a refusal, and whether the request's method is `HEAD`; or what the handler tells.
-#[derive(Clone, Copy, Debug, PartialEq, Eq)]
+#[derive(Clone, Copy)]
 enum Reply {
     Refused(Status, bool),
     Told(Status, Kind),
 }
 
 /// Why there is nothing to answer.
-#[derive(Clone, Copy, Debug, PartialEq, Eq)]
+#[derive(Clone, Copy)]
 enum Unread {
     Read,
     Closed,

@@ -106,7 +106,7 @@ pub enum Words<'a> {
 }
 
 /// Why words ask for nothing.
-#[derive(Debug, Drop)]
+#[derive(Drop)]
 pub enum WordsFault {
     /// There was no memory to read them.
     Memory,

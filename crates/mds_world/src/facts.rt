@@ -7,14 +7,14 @@ use mds_terms::{Day, Details, Length, Moment, Stream};
 use std::alloc::AllocError;
 
 /// A day of a stream.
-#[derive(Clone, Copy, Debug, PartialEq, Eq, PartialOrd, Ord)]
+#[derive(Clone, Copy, PartialEq, Eq, PartialOrd, Ord)]
 pub struct StreamDay {
     pub stream: Stream,
     pub day: Day,
 }
 
 /// The head of a known day: the length of its intervals, and its unit.
-#[derive(Clone, Copy, Debug, PartialEq, Eq)]
+#[derive(Clone, Copy)]
 pub struct Head {
     pub stream: Stream,
     pub day: Day,
@@ -24,7 +24,7 @@ pub struct Head {
 
 /// Where a version of a reading stands: an interval of a day, numbered from 1, and when it was
 /// updated.
-#[derive(Clone, Copy, Debug, PartialEq, Eq)]
+#[derive(Clone, Copy)]
 pub struct Key {
     pub stream: Stream,
     pub day: Day,

@@ -98,7 +98,7 @@ fn import_named(
         },
     };
     let outcome = store.ask(rt, FileCommand::Import(kind), bytes);
-    if outcome == Outcome::NoOutput || print!(rt; "{outcome}").is_err() {
+    if matches!(outcome, Outcome::NoOutput) || print!(rt; "{outcome}").is_err() {
         return None;
     }
     Some(outcome.status())

@@ -137,7 +137,7 @@ fn close(rt: &HostRuntime, place: &Place, conn: StoreConnection, outcome: Outcom
         }
         Err((_, store)) => (store.close(), outcome.after_failed_close()),
     };
-    if outcome == Outcome::Unavailable {
+    if matches!(outcome, Outcome::Unavailable) {
         place.restore(rt, &files);
     }
     drop(files);

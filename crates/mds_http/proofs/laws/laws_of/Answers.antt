@@ -1,5 +1,5 @@
 use Rattle.std.proofs.Common.{inl, inr}
-use Rattle.mds_http.proofs.Connections.{connections_run, refused_none, unasked}
+use Rattle.mds_http.proofs.Runs.{connections_run, refused_none, unasked}
 use Rattle.mds_http.proofs.laws.laws_of.Goals as goal
 
 pub returns-clause-run : goal.returns-clause-run
