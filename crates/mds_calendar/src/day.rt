@@ -1,8 +1,7 @@
 //! A day of market time.
 
-ghost use Rattle.std.specs.Prelude.{codes, ◌≡◌, ◌↔◌, ℕ, ◌+◌, ◌-◌, ◌/◌, ◌%◌, ◌<◌, ◌≤◌, if◌then◌else◌, IfSome, IsTrue, List, set, length, pos, unsigned_abs, ◌≤ℤ◌, SomeIff, OnOk, OnErr, Some, None, string_bytes, string_capacity, string_len};
+ghost use Rattle.std.specs.Prelude.{codes, ◌≡◌, ◌↔◌, ℕ, ◌+◌, ◌-◌, ◌/◌, ◌%◌, ◌<◌, ◌≤◌, if◌then◌else◌, IfSome, IsTrue, List, set, length, pos, unsigned_abs, ◌≤ℤ◌, SomeIff, OnOk, OnErr, Some, None, string_bytes, string_capacity, string_len, ◌++◌};
 ghost use Rattle.std.specs.Ordering.{nat_cmp};
-ghost use Rattle.mds_quantity.specs.Append.{Appends};
 ghost use Rattle.mds_calendar.specs.Calendar.{is_date, day_number, day_of, last_day, weekday_of};
 ghost use Rattle.mds_calendar.specs.CalendarSteps.{digit};
 ghost use Rattle.jiff_core.specs.Date.{epoch_day};
@@ -117,7 +116,7 @@ impl Day {
     /// appended.
     pub fn write_to(self, out: &mut String) -> Result<(), AllocError>
         ensures done { OnOk result ((text : List ℕ) × (day_of text ≡ Some self)
-            × Appends (string_bytes out.old) (string_bytes out.new) text) }
+            × (string_bytes out.new ≡ string_bytes out.old ++ text)) }
         ensures kept { OnErr result (string_bytes out.new ≡ string_bytes out.old) }
         ensures full { OnErr result (string_capacity out.old < string_len out.old + 8) }
     {

@@ -1,8 +1,7 @@
 //! The length of an interval.
 
 ghost use Rattle.std.specs.Ordering.{nat_cmp};
-ghost use Rattle.std.specs.Prelude.{◌≡◌, ◌↔◌, ℕ, ◌*◌, length as text_length, pos, unsigned_abs, SomeIff, OnOk, OnErr, Some, None, IsTrue, string_bytes, string_capacity, string_len, decimal, ◌+◌, ◌<◌, ◌≤ℤ◌};
-ghost use Rattle.mds_quantity.specs.Append.{Appends};
+ghost use Rattle.std.specs.Prelude.{◌≡◌, ◌↔◌, ℕ, ◌*◌, length as text_length, pos, unsigned_abs, SomeIff, OnOk, OnErr, Some, None, IsTrue, string_bytes, string_capacity, string_len, decimal, ◌+◌, ◌<◌, ◌≤ℤ◌, ◌++◌};
 ghost use Rattle.mds_calendar.specs.Length.{is_length, length_of, count_of};
 
 use std::alloc::AllocError;
@@ -76,8 +75,7 @@ impl Length {
     /// Appends its one written text, `5`, `15` or `30`, which reads back (`lengths_read_back`).
     /// After an error nothing is appended.
     pub fn write_to(self, out: &mut String) -> Result<(), AllocError>
-        ensures done { OnOk result
-            (Appends (string_bytes out.old) (string_bytes out.new) (decimal self)) }
+        ensures done { OnOk result (string_bytes out.new ≡ string_bytes out.old ++ decimal self) }
         ensures kept { OnErr result (string_bytes out.new ≡ string_bytes out.old) }
         ensures full { OnErr result
             (string_capacity out.old < string_len out.old + text_length (decimal self)) }

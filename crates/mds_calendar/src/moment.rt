@@ -1,8 +1,7 @@
 //! A moment of market time.
 
-ghost use Rattle.std.specs.Prelude.{◌≡◌, ◌↔◌, IsTrue, ℕ, ◌*◌, ◌+◌, ◌<◌, List, pos, unsigned_abs, ◌≤ℤ◌, ◌<ℤ◌, SomeIff, OnOk, OnErr, Some, None, string_bytes, string_capacity, string_len};
+ghost use Rattle.std.specs.Prelude.{◌≡◌, ◌↔◌, IsTrue, ℕ, ◌*◌, ◌+◌, ◌<◌, List, pos, unsigned_abs, ◌≤ℤ◌, ◌<ℤ◌, SomeIff, OnOk, OnErr, Some, None, string_bytes, string_capacity, string_len, ◌++◌};
 ghost use Rattle.std.specs.Ordering.{nat_cmp};
-ghost use Rattle.mds_quantity.specs.Append.{Appends};
 ghost use Rattle.mds_calendar.specs.Calendar.{moment_of, date_time_of, last_day, day_seconds};
 
 use crate::day::{Day, number_in, write_pair};
@@ -102,7 +101,7 @@ impl Moment {
     /// After an error nothing is appended.
     pub fn write_to(self, out: &mut String) -> Result<(), AllocError>
         ensures done { OnOk result ((text : List ℕ) × (moment_of text ≡ Some self)
-            × Appends (string_bytes out.old) (string_bytes out.new) text) }
+            × (string_bytes out.new ≡ string_bytes out.old ++ text)) }
         ensures kept { OnErr result (string_bytes out.new ≡ string_bytes out.old) }
         ensures full { OnErr result (string_capacity out.old < string_len out.old + 14) }
     {

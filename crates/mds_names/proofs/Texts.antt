@@ -9,7 +9,6 @@ use Rattle.std.proofs.lemmas.Str.Ascii.{IsAscii-from_all}
 use Rattle.std.proofs.Math.Seq.{take-append_seam}
 use Rattle.std.specs.List.{All, list_all, slice_split}
 use Rattle.std.specs.Str.{IsUtf8}
-use Rattle.mds_quantity.specs.Append.{AppendsPart}
 use Rattle.mds_names.specs.Names.{is_name_char, is_name, stream_text, is_comma, comma}
 
 -- both of two tests hold where their conjunction does
@@ -45,9 +44,9 @@ stream_splits nmi suffix h k =
     ap (slice_split is_comma) (append_assoc nmi (codes ",") suffix) ∙ (slice_split_at is_comma nmi comma suffix (name_no_comma 10 nmi h) refl ∙ ap (λ t. nmi ∷ t) (slice_split_none is_comma suffix (name_no_comma 2 suffix k)))
 
 -- what stands after the first write, and after the second
-pub part_nmi : (old new nmi suffix : List ℕ) → new ≡ old ++ nmi → AppendsPart old new (stream_text nmi suffix)
+pub part_nmi : (old new nmi suffix : List ℕ) → new ≡ old ++ nmi → (n : ℕ) × (new ≡ old ++ take n (stream_text nmi suffix))
 part_nmi old new nmi suffix e = (length nmi, e ∙ ap (λ t. old ++ t) (sym (ap (take (length nmi)) (append_assoc nmi (codes ",") suffix) ∙ take-append_seam nmi (codes "," ++ suffix))))
 
-pub part_comma : (old new nmi suffix : List ℕ) → new ≡ (old ++ nmi) ++ codes "," → AppendsPart old new (stream_text nmi suffix)
+pub part_comma : (old new nmi suffix : List ℕ) → new ≡ (old ++ nmi) ++ codes "," → (n : ℕ) × (new ≡ old ++ take n (stream_text nmi suffix))
 part_comma old new nmi suffix e =
     (length (nmi ++ codes ","), e ∙ (append_assoc old nmi (codes ",") ∙ ap (λ t. old ++ t) (sym (take-append_seam (nmi ++ codes ",") suffix))))

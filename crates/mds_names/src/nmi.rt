@@ -1,9 +1,8 @@
 //! The identifier of a metering point.
 
-ghost use Rattle.std.specs.Prelude.{◌≡◌, ◌↔◌, ℕ, List, IsTrue, OnOk, OnErr, string_bytes, string_capacity, string_len, ◌+◌, ◌<◌};
+ghost use Rattle.std.specs.Prelude.{◌≡◌, ◌↔◌, ℕ, List, IsTrue, OnOk, OnErr, string_bytes, string_capacity, string_len, ◌+◌, ◌<◌, ◌++◌};
 ghost use Rattle.std.specs.Ordering.{nat_cmp};
 ghost use Rattle.std.specs.Cmp.Lexicographic.{slice_cmp};
-ghost use Rattle.mds_quantity.specs.Append.{Appends};
 ghost use Rattle.mds_names.specs.Names.{is_name, nmi_of, nmi_length};
 
 use crate::name::is_name;
@@ -45,7 +44,7 @@ impl Nmi {
 
     /// Appends its text, which reads back (`names_read_back`). After an error nothing is appended.
     pub fn write_to(self, out: &mut String) -> Result<(), AllocError>
-        ensures done { OnOk result (Appends (string_bytes out.old) (string_bytes out.new) self) }
+        ensures done { OnOk result (string_bytes out.new ≡ string_bytes out.old ++ self) }
         ensures kept { OnErr result (string_bytes out.new ≡ string_bytes out.old) }
         ensures full { OnErr result (string_capacity out.old < string_len out.old + nmi_length) }
     {

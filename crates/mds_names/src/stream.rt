@@ -1,9 +1,8 @@
 //! One datastream of one metering point.
 
-ghost use Rattle.std.specs.Prelude.{◌≡◌, ◌↔◌, ◌⊎◌, ℕ, List, IsTrue, IfSome, IfNone, OnOk, OnErr, Some, None, length, string_bytes, string_capacity, string_len, ◌+◌, ◌<◌};
+ghost use Rattle.std.specs.Prelude.{◌≡◌, ◌↔◌, ◌⊎◌, ℕ, List, IsTrue, IfSome, IfNone, OnOk, OnErr, Some, None, length, string_bytes, string_capacity, string_len, ◌+◌, ◌<◌, ◌++◌, take};
 ghost use Rattle.std.specs.Ordering.{nat_cmp, ordering_then};
 ghost use Rattle.std.specs.Cmp.Lexicographic.{slice_cmp};
-ghost use Rattle.mds_quantity.specs.Append.{Appends, AppendsPart};
 ghost use Rattle.mds_names.specs.Names.{is_name, nmi_of, nmi_length, suffix_of, suffix_length, stream_text};
 
 use crate::nmi::Nmi;
@@ -52,10 +51,10 @@ impl Stream {
     /// Appends its text, as `NEM1201009,E1`, whose pieces read back (`names_read_back`). After an
     /// error a front of it may be appended.
     pub fn write_to(self, out: &mut String) -> Result<(), AllocError>
-        ensures done { OnOk result (Appends (string_bytes out.old) (string_bytes out.new)
-            (stream_text self.nmi self.suffix)) }
-        ensures part { OnErr result (AppendsPart (string_bytes out.old) (string_bytes out.new)
-            (stream_text self.nmi self.suffix)) }
+        ensures done { OnOk result (string_bytes out.new ≡ string_bytes out.old
+            ++ stream_text self.nmi self.suffix) }
+        ensures part { OnErr result ((n : ℕ) × (string_bytes out.new ≡ string_bytes out.old
+            ++ take n (stream_text self.nmi self.suffix))) }
         ensures full { OnErr result (string_capacity out.old
             < string_len out.old + length (stream_text self.nmi self.suffix)) }
     {
