@@ -8,7 +8,7 @@ ghost use Rattle.mds_records.specs.declared.fault.FieldFault.TheVariants.{Bad};
 use mds_lines::is_blank_from;
 
 /// Why the fields of a line spell no record: the first of these that stands.
-#[derive(Clone, Copy)]
+#[derive(Clone, Copy, Debug)]
 pub enum FieldFault {
     /// The header is that of the other kind of file.
     WrongFile,

@@ -32,7 +32,7 @@ use std::collections::BTreeMap;
 use std::marker::Model;
 
 /// Why a claim isn't taken.
-#[derive(Clone, Copy)]
+#[derive(Clone, Copy, Debug)]
 pub enum Stop {
     /// It breaks a rule.
     Refused(Refusal),

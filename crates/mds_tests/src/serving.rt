@@ -1,10 +1,8 @@
 //! A request over HTTP, where each call of a reader or of a writer fails in turn, or the writer takes no byte more.
 
 use crate::failing::Failing;
-use mds_http::{StoreHandler, serve_one};
 use mds_lines::Counted;
-use mds_memory::MemoryKeeper;
-use mds_wire::{Status, WireFault};
+use mds_wire::{Handler, Kind, Route, Status, Unavailable, WireFault, serve_one};
 use std::alloc::Global;
 use std::io::{Read, Write};
 use std::test::Fail;
@@ -16,51 +14,83 @@ const LIST: &[u8] =
 /// How many bytes of it belong to the request.
 const LIST_SIZE: usize = 73;
 
-/// The answer where the day wasn't listed.
+/// The list itself.
+const BODY: &[u8] = b"date\n20240126\n";
+
+/// What the handler answers where it is asked for the first time.
+const FIRST: &[u8] = b"{\"added\":1,\"known\":0}";
+
+/// What it answers each time after that.
+const LATER: &[u8] = b"{\"added\":0,\"known\":1}";
+
+/// The whole of the first answer.
 const ADDED: &[u8] =
     b"HTTP/1.1 200 OK\r\nContent-Type: application/json\r\nContent-Length: 21\r\nConnection: close\r\n\r\n\
     {\"added\":1,\"known\":0}";
 
-/// How that ends where it was.
-const KNOWN: &[u8] = b"{\"added\":0,\"known\":1}";
+/// A handler that counts how often it is asked to take the list, which is all that it takes.
+#[derive(Drop)]
+struct Asked {
+    times: u64,
+}
 
-/// An empty store.
-fn empty_store(alloc: Global) -> StoreHandler<MemoryKeeper> {
-    StoreHandler {
-        keeper: MemoryKeeper::new(alloc),
+impl Handler for Asked {
+    ghost use Rattle.std.specs.Prelude.{◌≡◌, ⊤};
+
+    ghost step = { λ _ _ _ _ _ _ _ _. ⊤ };
+
+    ghost same = { λ old new. new ≡ old };
+
+    fn handle(
+        &mut self,
+        _: Global,
+        _: Route,
+        _: &[u8],
+        body: Vec<u8>,
+        answer: &mut Vec<u8>,
+    ) -> Result<(Status, Kind), Unavailable> {
+        if body.as_slice() != BODY {
+            return Err(Unavailable);
+        }
+        let text = if self.times == 0 { FIRST } else { LATER };
+        let Ok(()) = answer.extend_from_slice(text) else {
+            return Err(Unavailable);
+        };
+        self.times = self.times.saturating_add(1);
+        Ok((Status::Success, Kind::Json))
     }
 }
 
 /// What serving a request comes to, and how many calls of the reader and of the writer failed.
 fn served<R: Read + Drop, W: Write + Drop>(
     alloc: Global,
-    store: &mut StoreHandler<MemoryKeeper>,
+    handler: &mut Asked,
     reader: R,
     writer: W,
 ) -> (Result<Status, WireFault>, u64, u64) {
     let mut reader = Counted::new(reader);
     let mut writer = Counted::new(writer);
-    let answer = serve_one(alloc, store, &mut reader, &mut writer);
+    let answer = serve_one(alloc, handler, &mut reader, &mut writer);
     (answer, reader.failures(), writer.failures())
 }
 
-/// Each call of the reader fails in turn, and nothing is changed. No call is made once the request is whole, though more bytes are
-/// there.
+/// Each call of the reader fails in turn, and the handler isn't asked: asked after that, it answers as for the first time. No call is
+/// made once the request is whole, though more bytes are there.
 #[test]
 fn readers_fail(rt: HostRuntime) -> Result<(), Fail> {
     for calls in 0..LIST_SIZE + 2 {
-        let mut store = empty_store(rt.alloc());
+        let mut handler = Asked { times: 0 };
         let mut out = Vec::new(rt.alloc());
         let reader = Failing {
             inner: LIST,
             step: 1,
             calls,
         };
-        let told = served(rt.alloc(), &mut store, reader, &mut out);
+        let told = served(rt.alloc(), &mut handler, reader, &mut out);
         if calls < LIST_SIZE {
             assert_eq!(rt; told, (Err(WireFault::Read), 1, 0), "after {calls} calls");
             assert!(rt; out.is_empty(), "after {calls} calls");
-            let told = served(rt.alloc(), &mut store, LIST, &mut out);
+            let told = served(rt.alloc(), &mut handler, LIST, &mut out);
             assert_eq!(rt; told, (Ok(Status::Success), 0, 0));
         } else {
             assert_eq!(rt; told, (Ok(Status::Success), 0, 0), "after {calls} calls");
@@ -75,14 +105,14 @@ fn readers_fail(rt: HostRuntime) -> Result<(), Fail> {
 #[test]
 fn writers_fail(rt: HostRuntime) -> Result<(), Fail> {
     for calls in 0..ADDED.len() + 1 {
-        let mut store = empty_store(rt.alloc());
+        let mut handler = Asked { times: 0 };
         let mut out = Vec::new(rt.alloc());
         let writer = Failing {
             inner: &mut out,
             step: 1,
             calls,
         };
-        let told = served(rt.alloc(), &mut store, LIST, writer);
+        let told = served(rt.alloc(), &mut handler, LIST, writer);
         let wanted = if calls < ADDED.len() {
             (Err(WireFault::Write), 0, 1)
         } else {
@@ -90,8 +120,8 @@ fn writers_fail(rt: HostRuntime) -> Result<(), Fail> {
         };
         assert_eq!(rt; told, wanted, "after {calls} calls");
         assert_eq!(rt; out.as_slice(), &ADDED[..calls]);
-        let _ = served(rt.alloc(), &mut store, LIST, &mut out);
-        assert!(rt; out.as_slice().ends_with(KNOWN), "after {calls} calls");
+        let _ = served(rt.alloc(), &mut handler, LIST, &mut out);
+        assert!(rt; out.as_slice().ends_with(LATER), "after {calls} calls");
     }
     Ok(())
 }
@@ -100,10 +130,10 @@ fn writers_fail(rt: HostRuntime) -> Result<(), Fail> {
 #[test]
 fn writers_are_full(rt: HostRuntime) -> Result<(), Fail> {
     for room in 0..ADDED.len() {
-        let mut store = empty_store(rt.alloc());
+        let mut handler = Asked { times: 0 };
         let mut slots = vec![in rt.alloc(); 0; room]?;
         let slots: &mut [u8] = &mut slots;
-        let told = served(rt.alloc(), &mut store, LIST, slots);
+        let told = served(rt.alloc(), &mut handler, LIST, slots);
         assert_eq!(rt; told, (Err(WireFault::Write), 0, 1), "of {room} bytes");
     }
     Ok(())

@@ -1,0 +1,22 @@
+//! Tests of what no run of the program shows: readers and writers that fail in mid-stream, and calls that no program makes. What a run
+//! shows is tried by the scripts in `tests/`.
+#![tactic(auto)]
+
+#[cfg(test)]
+mod checking;
+#[cfg(test)]
+mod failing;
+#[cfg(test)]
+mod marks;
+#[cfg(test)]
+mod rows;
+#[cfg(test)]
+mod runs;
+#[cfg(test)]
+mod serving;
+#[cfg(test)]
+mod sources;
+#[cfg(test)]
+mod terms;
+#[cfg(test)]
+mod versions;
