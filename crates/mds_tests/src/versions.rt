@@ -6,7 +6,6 @@ use mds_quantity::Unit;
 use mds_terms::{Day, Length, Moment, Reading, Stream};
 use mds_versions::{Additions, Claim, DayBook, Stop};
 use std::alloc::Global;
-use std::test::Fail;
 
 /// Half-hourly readings of quality A: all are 1 but the third.
 fn readings_of(alloc: Global, third: &str) -> Option<Vec<Reading>> {
@@ -51,23 +50,31 @@ fn plan_of(alloc: Global, seconds: i64) -> Option<Result<Additions, Stop>> {
     Some(book.plan(alloc, &claims))
 }
 
-#[test]
-fn claims_are_planned(rt: HostRuntime) -> Result<(), Fail> {
-    let added = plan_of(rt.alloc(), 20).ok_or("no claims")??;
-    assert_eq!(rt; (added.heads.len(), added.days.len()), (1, 1));
-    let day = added.days.first().ok_or("no day")?;
-    let (interval, version) = day.rows.get(50).ok_or("no row")?;
-    let mut text = format!(in rt.alloc();
-        "{} {interval} {} ",
+/// What they add, as a text: how many heads, days and rows there are, and the row at place 50; or why they are refused.
+fn told(alloc: Global, seconds: i64) -> Option<String> {
+    let added = match plan_of(alloc, seconds)? {
+        Ok(added) => added,
+        Err(Stop::Refused(refusal)) => return format!(in alloc; "{refusal}").ok(),
+        Err(Stop::Memory) => return None,
+    };
+    let day = added.days.first()?;
+    let (interval, version) = day.rows.get(50)?;
+    let mut text = format!(in alloc;
+        "{} {} {} {interval} {} ",
+        added.heads.len(),
+        added.days.len(),
         day.rows.len(),
         version.update.seconds()
-    )?;
-    version.reading.write_to(&mut text)?;
-    assert_eq!(rt; text.as_str(), "96 3 20 A,,,2");
-    let Some(Err(Stop::Refused(refusal))) = plan_of(rt.alloc(), 10) else {
-        return Err(Fail::new("not refused"));
-    };
-    let text = format!(in rt.alloc(); "{refusal}")?;
-    assert_eq!(rt; text.as_str(), "M3 line 9 interval 3");
-    Ok(())
+    )
+    .ok()?;
+    version.reading.write_to(&mut text).ok()?;
+    Some(text)
+}
+
+#[test]
+fn claims_are_planned(rt: HostRuntime) {
+    let added = told(rt.alloc(), 20);
+    assert!(rt; added.as_deref() == Some("1 1 96 3 20 A,,,2"));
+    let refused = told(rt.alloc(), 10);
+    assert!(rt; refused.as_deref() == Some("M3 line 9 interval 3"));
 }
