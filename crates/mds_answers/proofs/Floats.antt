@@ -7,13 +7,14 @@ use Rattle.mds_marks.specs.Reading.{ReadingValue}
 use Rattle.mds_statements.specs.declared.periods.Period.{Period}
 use Rattle.mds_terms.specs.Event.{EventValue}
 use Rattle.mds_versions.specs.declared.day_book.Version.{Version}
-use Rattle.mds_service.specs.declared.request.Answer.{Answer}
-use Rattle.mds_service.specs.declared.request.Answer.TheVariants as told
-use Rattle.mds_service.specs.declared.request.DayAnswer.{DayAnswer}
-use Rattle.mds_service.specs.declared.request.PeriodAnswer.{PeriodAnswer}
-use Rattle.mds_service.specs.declared.request.StreamAnswer.{StreamAnswer}
-use Rattle.mds_service.specs.declared.request.VersionsAnswer.{VersionsAnswer}
-use Rattle.mds_answers.specs.Json.{AreEach, AreStreams, IsData, IsDayData, IsEvent, IsStream, IsVersion, IsVersionsData, has_list, period_data, periods_data, reading_texts, texts}
+use Rattle.mds_messages.specs.declared.answer.Answer.{Answer}
+use Rattle.mds_messages.specs.declared.answer.Answer.TheVariants as told
+use Rattle.mds_messages.specs.declared.answer.DayAnswer.{DayAnswer}
+use Rattle.mds_messages.specs.declared.answer.PeriodAnswer.{PeriodAnswer}
+use Rattle.mds_messages.specs.declared.answer.StreamAnswer.{StreamAnswer}
+use Rattle.mds_messages.specs.declared.answer.VersionsAnswer.{VersionsAnswer}
+use Rattle.mds_messages.specs.Answers.{has_list}
+use Rattle.mds_answers.specs.Json.{AreEach, AreStreams, IsData, IsDayData, IsEvent, IsStream, IsVersion, IsVersionsData, period_data, periods_data, reading_texts, texts}
 
 -- none in a list, where each is told without one
 none_in : {T : Type 0} (Is : T → Data → Type 0) → ((thing : T) (one : Data) → Is thing one → has_float one ≡ false)

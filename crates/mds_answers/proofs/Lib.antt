@@ -5,4 +5,3 @@ pub mod Lists
 pub mod OneText
 pub mod ShortTexts
 pub mod Texts
-pub mod Unavailable

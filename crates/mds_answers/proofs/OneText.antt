@@ -6,8 +6,8 @@ use Rattle.serde_json.specs.Written.{compact_text}
 use Rattle.mds_calendar.specs.Calendar.{day_of, moment_of}
 use Rattle.mds_terms.specs.Event.{trans_text}
 use Rattle.mds_terms.specs.Parts.{optional}
-use Rattle.mds_service.specs.declared.request.Answer.{Answer}
-use Rattle.mds_service.specs.declared.request.Answer.TheVariants as told
+use Rattle.mds_messages.specs.declared.answer.Answer.{Answer}
+use Rattle.mds_messages.specs.declared.answer.Answer.TheVariants as told
 use Rattle.mds_answers.specs.Json.{AreEach, IsData, IsDayData, IsEvent, IsJson, IsStream, IsVersion, IsVersionsData, reading_texts, texts}
 
 -- what a text is read as has one text

@@ -15,12 +15,12 @@ use Rattle.mds_records.specs.Printed.{code_text as fault_code_text}
 use Rattle.mds_statements.specs.declared.periods.Period.{Period}
 use Rattle.mds_versions.specs.Refusals.{code_text as rule_code_text}
 use Rattle.mds_versions.specs.declared.day_book.Version.{Version}
-use Rattle.mds_service.specs.declared.request.Answer.{Answer}
-use Rattle.mds_service.specs.declared.request.Answer.TheVariants as told
-use Rattle.mds_service.specs.declared.request.DayAnswer.{DayAnswer}
-use Rattle.mds_service.specs.declared.request.PeriodAnswer.{PeriodAnswer}
-use Rattle.mds_service.specs.declared.request.StreamAnswer.{StreamAnswer}
-use Rattle.mds_service.specs.declared.request.VersionsAnswer.{VersionsAnswer}
+use Rattle.mds_messages.specs.declared.answer.Answer.{Answer}
+use Rattle.mds_messages.specs.declared.answer.Answer.TheVariants as told
+use Rattle.mds_messages.specs.declared.answer.DayAnswer.{DayAnswer}
+use Rattle.mds_messages.specs.declared.answer.PeriodAnswer.{PeriodAnswer}
+use Rattle.mds_messages.specs.declared.answer.StreamAnswer.{StreamAnswer}
+use Rattle.mds_messages.specs.declared.answer.VersionsAnswer.{VersionsAnswer}
 
 -- a whole number
 abbrev pub whole : ℕ → Data
@@ -150,21 +150,6 @@ IsData told.Unavailable json = json ≡ refused (codes "U1") 0 0 0
 -- the JSON text of an answer
 abbrev pub IsJson : Answer → List ℕ → Type 0
 IsJson answer text = (json : Data) × IsData answer json × (text ≡ compact_text json)
-
--- an answer that is a text of its own
-abbrev pub has_text : Answer → Bool
-has_text (told.Gaps text) = true
-has_text (told.Finals text) = true
-has_text (told.Exported text) = true
-has_text answer = false
-
--- an answer with a list in it, whose text takes memory
-abbrev pub has_list : Answer → Bool
-has_list (told.Day answer) = true
-has_list (told.Versions answer) = true
-has_list (told.Period answer) = true
-has_list (told.Streams answers) = true
-has_list answer = false
 
 -- the room that the JSON text of every other answer fits in
 abbrev pub short_json : ℕ

@@ -11,7 +11,7 @@ ghost use Rattle.mds_answers.specs.Json.{IsDayData, IsEvent, IsVersion, IsVersio
 use crate::told::{
     ToJson, day_text, list_of, moment_text, optional_moment_text, push_texts, texts_of,
 };
-use mds_service::{DayAnswer, VersionsAnswer};
+use mds_messages::{DayAnswer, VersionsAnswer};
 use mds_terms::{Event, Reading, TransCode, readings_read_back};
 use mds_versions::Version;
 use serde_json::{Value, json};

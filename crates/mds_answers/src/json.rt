@@ -4,14 +4,15 @@ ghost use Rattle.std.specs.Prelude.{◌≡◌, ◌+◌, ◌≤◌, ◌++◌, ℕ
 ghost use Rattle.serde_json.specs.View.{view};
 ghost use Rattle.serde_json.specs.Written.{compact_text};
 ghost use Rattle.mds_quantity.specs.Append.{Appends};
-ghost use Rattle.mds_service.specs.declared.request.Answer.{Answer as AnAnswer};
-ghost use Rattle.mds_answers.specs.Json.{IsData, IsJson, has_list, has_text, refused, short_json};
+ghost use Rattle.mds_messages.specs.declared.answer.Answer.{Answer as AnAnswer};
+ghost use Rattle.mds_messages.specs.Answers.{has_list, has_text};
+ghost use Rattle.mds_answers.specs.Json.{IsData, IsJson, refused, short_json};
 
 use crate::days::{day_value, versions_value};
 use crate::periods::periods_value;
 use crate::short::{holidays_line, line_of};
 use crate::streams::streams_value;
-use mds_service::Answer;
+use mds_messages::Answer;
 use mds_terms::{one_day_text, one_moment_text};
 use serde_json::Value;
 use std::alloc::{AllocError, Global};

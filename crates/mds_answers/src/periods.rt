@@ -8,7 +8,7 @@ ghost use Rattle.mds_statements.specs.Contents.{is_line_feed, texts_of};
 ghost use Rattle.mds_answers.specs.Json.{period_data, periods_data, texts};
 
 use crate::told::{ToJson, list_of, texts_of};
-use mds_service::PeriodAnswer;
+use mds_messages::PeriodAnswer;
 use mds_statements::{Period, PeriodContent};
 use serde_json::{Value, json};
 use std::alloc::{AllocError, Global};

@@ -5,7 +5,7 @@ ghost use Rattle.serde_json.specs.View.{view};
 ghost use Rattle.mds_answers.specs.Json.{AreStreams, IsStream};
 
 use crate::told::{ToJson, list_of, optional_day_text};
-use mds_service::StreamAnswer;
+use mds_messages::StreamAnswer;
 use serde_json::{Value, json};
 use std::alloc::{AllocError, Global};
 

@@ -7,8 +7,8 @@ use Rattle.mds_calendar.specs.Calendar.{date_time_of, day_of}
 use Rattle.mds_names.specs.Names.{nmi_of, suffix_of}
 use Rattle.mds_names.specs.declared.stream.Stream.{Stream}
 use Rattle.mds_terms.specs.Printable.{is_printable}
-use Rattle.mds_service.specs.declared.request.Request.{Request}
-use Rattle.mds_service.specs.declared.request.Request.TheVariants as asked
+use Rattle.mds_messages.specs.declared.request.Request.{Request}
+use Rattle.mds_messages.specs.declared.request.Request.TheVariants as asked
 use Rattle.mds_arguments.specs.declared.arguments.Argument.{Argument}
 use Rattle.mds_arguments.specs.declared.arguments.Argument.TheVariants.{Nmi, Suffix, Date, Interval, From, To, Moment, Sender, Receiver}
 use Rattle.mds_arguments.specs.declared.reading.ArgumentsFault.{ArgumentsFault}

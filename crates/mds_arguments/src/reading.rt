@@ -9,7 +9,7 @@ ghost use Rattle.mds_names.specs.Names.{suffix_of};
 ghost use Rattle.mds_arguments.specs.Arguments.{AskForDay, AskForExport, AskForFinals, AskForGaps, AskForPeriods, AskForVersions, IsExportFault, IsFirstBad, SpellStream, day_tests, export_tests, interval_of, interval_tests, range_tests, stream_tests};
 
 use crate::arguments::{Argument, ExportArguments, RangeArguments};
-use mds_service::Request;
+use mds_messages::Request;
 use mds_statements::Header;
 use mds_terms::{Day, Moment, Nmi, PrintableString, Stream, Suffix};
 use std::alloc::{AllocError, Global};

@@ -2,11 +2,11 @@
 use Rattle.std.specs.Prelude.{◌≡◌, ◌<◌, ◌≤◌, List, [], ◌∷◌, length, Result, Ok, Err, IfErr, IfOk}
 use Rattle.std.proofs.Common.{inl, inr, sym, ap, subst, get_or, arith}
 use Rattle.mds_world.specs.World.{IsLawful, World}
-use Rattle.mds_service.specs.declared.request.Answer.{Answer}
-use Rattle.mds_service.specs.declared.request.Request.{Request}
+use Rattle.mds_messages.specs.declared.answer.Answer.{Answer}
+use Rattle.mds_messages.specs.declared.request.Request.{Request}
 use Rattle.mds_service.specs.Crashes.{MayLeave}
 use Rattle.mds_service.specs.Machine.{Run, Step}
-use Rattle.mds_answers.proofs.Unavailable.{may_be_unavailable_of}
+use Rattle.mds_service.proofs.Unavailable.{may_be_unavailable_of}
 use Rattle.mds_desk.specs.Performed.{Does, IsToldAs}
 
 -- a run of one request is its step

@@ -3,12 +3,13 @@ use Rattle.std.specs.Prelude.{◌≡◌, ◌⊎◌, ℕ, List, [], ◌∷◌, �
 use Rattle.mds_records.specs.Printed.{fault_text}
 use Rattle.mds_versions.specs.Refusals.{refusal_text}
 use Rattle.mds_world.specs.World.{IsLawful, World}
-use Rattle.mds_service.specs.declared.request.Request.{Request}
-use Rattle.mds_service.specs.declared.request.Answer.{Answer}
-use Rattle.mds_service.specs.declared.request.Answer.TheVariants as told
+use Rattle.mds_messages.specs.declared.request.Request.{Request}
+use Rattle.mds_messages.specs.declared.answer.Answer.{Answer}
+use Rattle.mds_messages.specs.declared.answer.Answer.TheVariants as told
 use Rattle.mds_service.specs.Crashes.{MayLeave}
 use Rattle.mds_service.specs.Machine.{Step}
-use Rattle.mds_answers.specs.Json.{IsJson, has_list}
+use Rattle.mds_messages.specs.Answers.{has_list}
+use Rattle.mds_answers.specs.Json.{IsJson}
 use Rattle.mds_desk.specs.declared.performing.PerformFault.{PerformFault}
 use Rattle.mds_desk.specs.declared.performing.PerformFault.TheVariants.{Memory, Write}
 use Rattle.mds_desk.specs.declared.outcome.Status.{Status}

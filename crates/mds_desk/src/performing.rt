@@ -2,11 +2,11 @@
 
 ghost use Rattle.std.specs.Prelude.{◌≡◌, ◌+◌, ◌-◌, ◌<◌, ◌≤◌, ◌^◌, ◌++◌, ℕ, List, true, Err, OnErr, IfErr, IfOk, if◌then◌else◌, is_ok, codes, decimal, length, take};
 ghost use Rattle.std.specs.Io.KnownBytes.{Appends as AppendsKnown, Keeps};
-ghost use Rattle.mds_service.specs.declared.request.Answer.{Answer as AnAnswer};
+ghost use Rattle.mds_messages.specs.declared.answer.Answer.{Answer as AnAnswer};
 ghost use Rattle.mds_world.specs.World.{IsLawful};
 ghost use Rattle.mds_records.specs.Printed.{fault_text};
 ghost use Rattle.mds_versions.specs.Refusals.{place_text, refusal_text};
-ghost use Rattle.mds_answers.specs.Json.{has_list};
+ghost use Rattle.mds_messages.specs.Answers.{has_list};
 ghost use Rattle.mds_desk.specs.Performed.{Does, IsAnswerText, IsJsonLine, IsToldAs, answer_status, is_write_failure};
 ghost use Rattle.mds_desk.specs.Printed.{printed_bytes};
 
@@ -15,8 +15,9 @@ use arrayvec::ArrayString;
 use itoa::Buffer;
 use mds_answers::answer_json;
 use mds_lines::{Sink, write_whole};
+use mds_messages::{Answer, Request};
 use mds_records::FileFault;
-use mds_service::{Answer, Request, run};
+use mds_service::run;
 use mds_versions::{Keeper, Refusal};
 use std::alloc::{AllocError, Global};
 

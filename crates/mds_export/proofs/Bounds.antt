@@ -17,12 +17,12 @@ use Rattle.mds_runs.proofs.RunFacts.{Meets-le}
 use Rattle.mds_rows.specs.ReadBack.{IsInBounds, IsLawful}
 use Rattle.mds_rows.specs.Rows.{RowValue}
 use Rattle.mds_rows.proofs.RowTexts.{unit_reads}
-use Rattle.mds_export.specs.Orderly.{IsWhole, days_of}
+use Rattle.mds_statements.specs.Selected.{IsWhole, days_of}
 use Rattle.mds_export.specs.Placed.{PlacedDay, is_governed, placed_after, placed_days}
 use Rattle.mds_export.specs.Rows.{AreDayRows, AreFewest, AreInTurn, day_row, details_row, details_rows, mark_of_all, marks_of, run_row, run_rows}
-use Rattle.mds_export.specs.declared.selected.SelectedDay.{SelectedDay}
-use Rattle.mds_export.specs.declared.selected.SelectedStream.{SelectedStream}
-use Rattle.mds_export.proofs.Ascents.{All-split}
+use Rattle.mds_statements.specs.declared.selected.SelectedDay.{SelectedDay}
+use Rattle.mds_statements.specs.declared.selected.SelectedStream.{SelectedStream}
+use Rattle.mds_statements.proofs.SelectedTests.{All-split}
 use Rattle.mds_export.proofs.Counts.{count_small}
 use Rattle.mds_export.proofs.InTurn.{turn_split}
 use Rattle.mds_export.proofs.Spelled.{AreSpelled, few_runs, spelled_fewest, spelled_own, spelled_rest}

@@ -12,14 +12,14 @@ use Rattle.mds_rows.specs.ReadBack.{IsLawful}
 use Rattle.mds_rows.specs.Rows.{IsRowText, RowValue, EndRow}
 use Rattle.mds_statements.specs.Statements.{HeaderValue}
 use Rattle.mds_export.specs.Lawful.{AreLawful, IsLawfulDay, IsLawfulStream}
-use Rattle.mds_export.specs.Orderly.{AreOrderly, days_of}
+use Rattle.mds_statements.specs.Selected.{AreOrderly, days_of}
 use Rattle.mds_export.specs.Placed.{PlacedDay, is_governed, placed_after, placed_days}
 use Rattle.mds_export.specs.Rows.{AreDayRows, AreInTurn, IsExport, day_row, details_row, details_rows, header_row, mark_of_all, marks_of, run_row, run_rows}
 use Rattle.mds_export.specs.Shows.{Shows}
 use Rattle.mds_export.specs.WriterSteps.{IsWritten}
-use Rattle.mds_export.specs.declared.selected.SelectedDay.{SelectedDay}
-use Rattle.mds_export.specs.declared.selected.SelectedStream.{SelectedStream}
-use Rattle.mds_export.proofs.Ascents.{All-split}
+use Rattle.mds_statements.specs.declared.selected.SelectedDay.{SelectedDay}
+use Rattle.mds_statements.specs.declared.selected.SelectedStream.{SelectedStream}
+use Rattle.mds_statements.proofs.SelectedTests.{All-split}
 use Rattle.mds_export.proofs.Bounds.{AreLawfulReadings}
 use Rattle.mds_export.proofs.InTurn.{turn_split}
 use Rattle.mds_export.proofs.Spelled.{AreSpelled, spelled_fewest, spelled_own, spelled_rest}

@@ -1,4 +1,3 @@
-pub mod Ascents
 pub mod Bounds
 pub mod Counts
 pub mod InTurn

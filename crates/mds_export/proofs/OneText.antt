@@ -12,7 +12,7 @@ use Rattle.mds_nem12.specs.Said.{bare_null}
 use Rattle.mds_rows.specs.Rows.{IsHeaderMoment, IsRowText, RowValue, HeaderRow, DetailsRow, DayRow, RunRow, EndRow, line_of, own_fields, value_field}
 use Rattle.mds_export.specs.Placed.{PlacedDay, placed_days}
 use Rattle.mds_export.specs.Rows.{AreDayRows, AreInTurn, IsExport, day_row, details_rows, header_row, mark_of_all, marks_of, run_rows}
-use Rattle.mds_export.specs.declared.selected.SelectedStream.{SelectedStream}
+use Rattle.mds_statements.specs.declared.selected.SelectedStream.{SelectedStream}
 use Rattle.mds_export.proofs.Shortest.{one_fewest}
 
 -- a moment has one text of a length

@@ -28,14 +28,14 @@ use Rattle.mds_nem12.proofs.States.{closed_at}
 use Rattle.mds_nem12.proofs.Taken.{governs}
 use Rattle.mds_rows.specs.ReadBack.{IsInBounds, IsLawful, ReadsAs, variable_mark}
 use Rattle.mds_rows.specs.Rows.{RowValue, EndRow}
-use Rattle.mds_export.specs.Orderly.{AreOrderly, IsWhole, days_of, most_days}
+use Rattle.mds_statements.specs.Selected.{AreOrderly, IsWhole, days_of, most_days}
 use Rattle.mds_export.specs.Placed.{PlacedDay, is_governed, placed_after, placed_days}
 use Rattle.mds_export.specs.Rows.{AreDayRows, AreFewest, AreInTurn, day_row, details_row, details_rows, header_row, mark_of_all, marks_of, run_row, run_rows}
 use Rattle.mds_export.specs.Shows.{Shows, day_selected, day_stated, details_selected, selection_stated, unlined}
 use Rattle.mds_export.specs.WriterSteps.{IsWritten, IsWrittenExport}
-use Rattle.mds_export.specs.declared.selected.SelectedDay.{SelectedDay}
-use Rattle.mds_export.specs.declared.selected.SelectedStream.{SelectedStream}
-use Rattle.mds_export.proofs.Ascents.{All-split}
+use Rattle.mds_statements.specs.declared.selected.SelectedDay.{SelectedDay}
+use Rattle.mds_statements.specs.declared.selected.SelectedStream.{SelectedStream}
+use Rattle.mds_statements.proofs.SelectedTests.{All-split}
 use Rattle.mds_export.proofs.Bounds.{AreLawfulReadings, IsMeasured, governed_same, known_rows, not_variable_at, streams_bounded}
 use Rattle.mds_export.proofs.InTurn.{turn_split}
 use Rattle.mds_export.proofs.Said.{Block, kind_of_row}

@@ -7,9 +7,9 @@ use Rattle.mds_marks.specs.Reading.{is_lawful}
 use Rattle.mds_terms.specs.Details.{is_details}
 use Rattle.mds_terms.specs.Printable.{is_printable}
 use Rattle.mds_statements.specs.Statements.{HeaderValue}
-use Rattle.mds_export.specs.Orderly.{days_of}
-use Rattle.mds_export.specs.declared.selected.SelectedDay.{SelectedDay}
-use Rattle.mds_export.specs.declared.selected.SelectedStream.{SelectedStream}
+use Rattle.mds_statements.specs.Selected.{days_of}
+use Rattle.mds_statements.specs.declared.selected.SelectedDay.{SelectedDay}
+use Rattle.mds_statements.specs.declared.selected.SelectedStream.{SelectedStream}
 
 -- the names of a stream, and the texts of its details
 abbrev pub IsLawfulStream : SelectedStream → Type 0

@@ -9,8 +9,8 @@ use Rattle.mds_runs.specs.declared.cover.Run.{Run}
 use Rattle.mds_statements.specs.Statements.{HeaderValue}
 use Rattle.mds_rows.specs.Rows.{IsRowText, RowValue, HeaderRow, DetailsRow, DayRow, RunRow, EndRow}
 use Rattle.mds_export.specs.Placed.{PlacedDay, is_governed, placed_days}
-use Rattle.mds_export.specs.declared.selected.SelectedDay.{SelectedDay}
-use Rattle.mds_export.specs.declared.selected.SelectedStream.{SelectedStream}
+use Rattle.mds_statements.specs.declared.selected.SelectedDay.{SelectedDay}
+use Rattle.mds_statements.specs.declared.selected.SelectedStream.{SelectedStream}
 
 -- a list is made of parts, one of each of some things, in their order
 abbrev pub AreInTurn : {T A : Type 0} → (T → List A → Type 0) → List T → List A → Type 0

@@ -7,7 +7,7 @@ use Rattle.mds_nem12.specs.Faults.{fault_of}
 use Rattle.mds_nem12.specs.Statements.{statements_of}
 use Rattle.mds_export.specs.Placed.{PlacedDay, is_governed, placed_days}
 use Rattle.mds_export.specs.Rows.{IsExport}
-use Rattle.mds_export.specs.declared.selected.SelectedStream.{SelectedStream}
+use Rattle.mds_statements.specs.declared.selected.SelectedStream.{SelectedStream}
 
 -- a statement, but for the number of its line
 abbrev pub unlined : Statement → Statement

@@ -6,8 +6,8 @@ use Rattle.mds_rows.specs.Rows.{IsRowText, RowValue, EndRow}
 use Rattle.mds_statements.specs.Statements.{HeaderValue}
 use Rattle.mds_export.specs.Placed.{PlacedDay, placed_days}
 use Rattle.mds_export.specs.Rows.{AreDayRows, AreFewest, AreInTurn, day_row, header_row, mark_of_all, marks_of, run_rows}
-use Rattle.mds_export.specs.declared.selected.SelectedDay.{SelectedDay}
-use Rattle.mds_export.specs.declared.selected.SelectedStream.{SelectedStream}
+use Rattle.mds_statements.specs.declared.selected.SelectedDay.{SelectedDay}
+use Rattle.mds_statements.specs.declared.selected.SelectedStream.{SelectedStream}
 
 -- the line of a row whose parts are lawful
 abbrev pub IsWritten : RowValue → List ℕ → Type 0

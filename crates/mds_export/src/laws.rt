@@ -3,10 +3,10 @@
 ghost use Rattle.std.specs.Prelude.{◌≡◌, ℕ, List};
 ghost use Rattle.mds_statements.specs.Statements.{HeaderValue};
 ghost use Rattle.mds_export.specs.Lawful.{AreLawful};
-ghost use Rattle.mds_export.specs.Orderly.{AreOrderly};
+ghost use Rattle.mds_statements.specs.Selected.{AreOrderly};
 ghost use Rattle.mds_export.specs.Rows.{IsExport};
 ghost use Rattle.mds_export.specs.Shows.{Shows};
-ghost use Rattle.mds_export.specs.declared.selected.SelectedStream.{SelectedStream};
+ghost use Rattle.mds_statements.specs.declared.selected.SelectedStream.{SelectedStream};
 
 /// A text of the form of a selection's has no fault, and states what was selected and nothing else.
 pub fn export_reads_back()

@@ -3,11 +3,7 @@
 #![tactic(auto)]
 
 mod laws;
-mod selected;
-mod selection;
 mod writer;
 
 pub use laws::{export_reads_back, one_export_text};
-pub use selected::{SelectedDay, SelectedStream};
-pub use selection::Selection;
 pub use writer::write_nem12;

@@ -5,13 +5,11 @@ ghost use Rattle.mds_quantity.specs.Append.{Appends};
 ghost use Rattle.mds_statements.specs.Delivered.{header_value};
 ghost use Rattle.mds_export.specs.Shows.{Shows};
 
-use crate::selected::{SelectedDay, SelectedStream};
-use crate::selection::Selection;
 use mds_rows::{
     DayRow, DetailsRow, HeaderRow, RunRow, write_day, write_details, write_end, write_header,
     write_run,
 };
-use mds_statements::Header;
+use mds_statements::{Header, SelectedDay, SelectedStream, Selection};
 use mds_terms::{Mark, Reading};
 use std::alloc::AllocError;
 
@@ -38,7 +36,7 @@ ghost use Rattle.std.specs.Prelude.{◌<◌, ◌≤◌, ◌≢◌, ◌^◌, [], 
 ghost use Rattle.std.specs.List.{All};
 ghost use Rattle.mds_runs.specs.declared.cover.Run.{Run};
 ghost use Rattle.mds_rows.specs.Begun.{Begins};
-ghost use Rattle.mds_export.specs.Orderly.{IsWhole, days_of};
+ghost use Rattle.mds_statements.specs.Selected.{IsWhole, days_of};
 ghost use Rattle.mds_export.specs.Placed.{is_governed, placed_after, placed_days};
 ghost use Rattle.mds_export.specs.Rows.{AreFewest, AreInTurn, day_row, details_rows, marks_of, run_row};
 ghost use Rattle.mds_export.specs.WriterSteps.{AreWritten, HasDayText, IsWritten, IsWrittenExport};

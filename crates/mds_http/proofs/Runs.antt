@@ -5,8 +5,8 @@ use Rattle.std.proofs.lemmas.List.{append-nil, append_assoc}
 use Rattle.mds_world.specs.World.{IsLawful, World}
 use Rattle.mds_service.specs.Crashes.{Goes, MayLeave}
 use Rattle.mds_service.specs.Machine.{Run}
-use Rattle.mds_service.specs.declared.request.Request.{Request}
-use Rattle.mds_service.specs.declared.request.Answer.{Answer as Told}
+use Rattle.mds_messages.specs.declared.request.Request.{Request}
+use Rattle.mds_messages.specs.declared.answer.Answer.{Answer as Told}
 use Rattle.mds_service.proofs.Runs.{leaves_more, run_more}
 use Rattle.mds_requests.specs.declared.targets.TargetFault.{TargetFault}
 use Rattle.mds_requests.specs.declared.targets.TargetFault.TheVariants as fault

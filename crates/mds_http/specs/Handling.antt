@@ -5,9 +5,9 @@ use Rattle.mds_versions.specs.declared.refusal.RefusalCode.{RefusalCode}
 use Rattle.mds_versions.specs.declared.refusal.RefusalCode.TheVariants.{LengthConflict, UnitConflict, VersionConflict, JobReused, Protected, StaleUpdate, NoLikeDay, TooLong, NoAnchor, UnknownDay, BadJob, RangeTooWide}
 use Rattle.mds_world.specs.World.{World}
 use Rattle.mds_service.specs.Crashes.{Goes}
-use Rattle.mds_service.specs.declared.request.Request.{Request}
-use Rattle.mds_service.specs.declared.request.Answer.{Answer}
-use Rattle.mds_service.specs.declared.request.Answer.TheVariants as told
+use Rattle.mds_messages.specs.declared.request.Request.{Request}
+use Rattle.mds_messages.specs.declared.answer.Answer.{Answer}
+use Rattle.mds_messages.specs.declared.answer.Answer.TheVariants as told
 use Rattle.mds_answers.specs.Json.{IsJson, refused}
 use Rattle.mds_requests.specs.Targets.{AsksAt, IsFaultAt}
 use Rattle.mds_requests.specs.declared.targets.TargetFault.{TargetFault}

@@ -4,8 +4,8 @@ use Rattle.httparse.specs.Grammar.{RequestHead, ReadsRequest, HasNoRequest}
 use Rattle.mds_world.specs.World.{IsLawful, World}
 use Rattle.mds_service.specs.Crashes.{MayLeave}
 use Rattle.mds_service.specs.Machine.{Run}
-use Rattle.mds_service.specs.declared.request.Request.{Request}
-use Rattle.mds_service.specs.declared.request.Answer.{Answer as Told}
+use Rattle.mds_messages.specs.declared.request.Request.{Request}
+use Rattle.mds_messages.specs.declared.answer.Answer.{Answer as Told}
 use Rattle.mds_requests.specs.Targets.{AsksAt}
 use Rattle.mds_wire.specs.Heads.{most_fields}
 use Rattle.mds_wire.specs.Laws.{IsHeadOf, IsRefusedHead}

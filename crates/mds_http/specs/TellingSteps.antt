@@ -1,8 +1,8 @@
 -- What the steps of telling do. No public contract cites it.
 use Rattle.std.specs.Prelude.{◌≡◌, ◌⊎◌, ℕ, List, true}
-use Rattle.mds_service.specs.declared.request.Answer.{Answer}
-use Rattle.mds_service.specs.declared.request.Answer.TheVariants as told
-use Rattle.mds_answers.specs.Json.{has_list}
+use Rattle.mds_messages.specs.declared.answer.Answer.{Answer}
+use Rattle.mds_messages.specs.declared.answer.Answer.TheVariants as told
+use Rattle.mds_messages.specs.Answers.{has_list}
 use Rattle.mds_wire.specs.declared.answer.Kind.{Kind}
 use Rattle.mds_wire.specs.declared.answer.Status.{Status}
 use Rattle.mds_http.specs.Handling.{Tells, status_of}

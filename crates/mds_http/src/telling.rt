@@ -1,14 +1,14 @@
 //! What is told of an answer, or of a target that asks for nothing.
 
 ghost use Rattle.std.specs.Prelude.{◌≡◌, ◌≤◌, [], true, false, vec_capacity};
-ghost use Rattle.mds_answers.specs.Json.{has_list, has_text};
+ghost use Rattle.mds_messages.specs.Answers.{has_list, has_text};
 ghost use Rattle.mds_requests.specs.declared.targets.TargetFault.TheVariants as fault;
 ghost use Rattle.mds_wire.specs.Serving.{short_answer};
 ghost use Rattle.mds_http.specs.Handling.{TellsFault, status_of as status_of_answer, status_of_rule as status_of_code};
 ghost use Rattle.mds_http.specs.TellingSteps.{TellsOrNot, TellsWhole};
 
 use mds_answers::{answer_json, holidays_json};
-use mds_service::Answer;
+use mds_messages::Answer;
 use mds_versions::RefusalCode;
 use mds_wire::{Kind, Status};
 use std::alloc::Global;

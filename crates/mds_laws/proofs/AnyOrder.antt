@@ -18,10 +18,10 @@ use Rattle.mds_world.specs.Stated.{stated}
 use Rattle.mds_world.specs.World.{Agrees, World, union}
 use Rattle.mds_versions.specs.Merge.{IsRefusal, upto}
 use Rattle.mds_versions.specs.declared.refusal.Refusal.{Refusal}
-use Rattle.mds_service.specs.declared.request.Request.{Request}
-use Rattle.mds_service.specs.declared.request.Request.TheVariants as asked
-use Rattle.mds_service.specs.declared.request.Answer.{Answer}
-use Rattle.mds_service.specs.declared.request.Answer.TheVariants as told
+use Rattle.mds_messages.specs.declared.request.Request.{Request}
+use Rattle.mds_messages.specs.declared.request.Request.TheVariants as asked
+use Rattle.mds_messages.specs.declared.answer.Answer.{Answer}
+use Rattle.mds_messages.specs.declared.answer.Answer.TheVariants as told
 use Rattle.mds_service.specs.Machine.{ImportStep, Run, Step, fault_in, stated_in}
 use Rattle.mds_laws.specs.AnyOrder.{AllAgree, AreParts, IsGiven, IsImported, IsWellFormed, facts_in, statements_in, together}
 use Rattle.mds_laws.specs.Kept.{came_in}

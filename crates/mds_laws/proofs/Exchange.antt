@@ -23,9 +23,9 @@ use Rattle.mds_versions.specs.Merge.{IsRefusal, upto}
 use Rattle.mds_versions.specs.declared.refusal.Refusal.{Refusal}
 use Rattle.mds_versions.proofs.Taken.{from_versions}
 use Rattle.mds_fill.specs.Fills.{AreSubstitutes}
-use Rattle.mds_service.specs.declared.request.Request.TheVariants as asked
-use Rattle.mds_service.specs.declared.request.Answer.{Answer}
-use Rattle.mds_service.specs.declared.request.Answer.TheVariants as told
+use Rattle.mds_messages.specs.declared.request.Request.TheVariants as asked
+use Rattle.mds_messages.specs.declared.answer.Answer.{Answer}
+use Rattle.mds_messages.specs.declared.answer.Answer.TheVariants as told
 use Rattle.mds_service.specs.Machine.{ImportStep, Run, fault_in, stated_in}
 use Rattle.mds_service.specs.Substitution.{SubstituteStep, SuitsDay, job_world}
 use Rattle.mds_laws.specs.Exchange.{LeavesAlone, MayLookAt}

@@ -26,10 +26,10 @@ use Rattle.mds_jobs.specs.Jobs.{content_of}
 use Rattle.mds_jobs.specs.declared.job.Job.{Job}
 use Rattle.mds_versions.proofs.Taken.{from_versions}
 use Rattle.mds_fill.specs.Fills.{AreSubstitutes, IsTarget, target_count}
-use Rattle.mds_service.specs.declared.request.Request.{Request}
-use Rattle.mds_service.specs.declared.request.Request.TheVariants as asked
-use Rattle.mds_service.specs.declared.request.Answer.{Answer}
-use Rattle.mds_service.specs.declared.request.Answer.TheVariants as told
+use Rattle.mds_messages.specs.declared.request.Request.{Request}
+use Rattle.mds_messages.specs.declared.request.Request.TheVariants as asked
+use Rattle.mds_messages.specs.declared.answer.Answer.{Answer}
+use Rattle.mds_messages.specs.declared.answer.Answer.TheVariants as told
 use Rattle.mds_service.specs.Holidays.{HolidaysStep, holidays_world}
 use Rattle.mds_service.specs.Machine.{ImportStep, Run, Step, TellsDay, TellsPeriods, TellsStreams, TellsVersions, stated_in}
 use Rattle.mds_service.specs.RangeAnswers.{TellsExport, TellsFinals, TellsGaps}

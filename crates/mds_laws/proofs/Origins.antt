@@ -14,10 +14,10 @@ use Rattle.mds_world.specs.World.{World}
 use Rattle.mds_versions.proofs.Taken.{from_versions}
 use Rattle.mds_service.proofs.FileKinds.{no_periods}
 use Rattle.mds_service.specs.Machine.{Run, stated_in}
-use Rattle.mds_service.specs.declared.request.Request.{Request}
-use Rattle.mds_service.specs.declared.request.Request.TheVariants as asked
-use Rattle.mds_service.specs.declared.request.Answer.{Answer}
-use Rattle.mds_service.specs.declared.request.Answer.TheVariants as told
+use Rattle.mds_messages.specs.declared.request.Request.{Request}
+use Rattle.mds_messages.specs.declared.request.Request.TheVariants as asked
+use Rattle.mds_messages.specs.declared.answer.Answer.{Answer}
+use Rattle.mds_messages.specs.declared.answer.Answer.TheVariants as told
 use Rattle.mds_laws.specs.Kept.{CameByFile, ComesBy, IsStepOf}
 use Rattle.mds_laws.proofs.Kept.{each_came_by_one}
 use Rattle.mds_laws.proofs.Members.{in_stated}

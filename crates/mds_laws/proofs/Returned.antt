@@ -13,9 +13,9 @@ use Rattle.mds_world.proofs.Sets.{union_comm, union_empty}
 use Rattle.mds_world.specs.Stated.{stated}
 use Rattle.mds_world.specs.World.{Agrees, IsKnownDay, IsLawful, World, union}
 use Rattle.mds_export.specs.Shows.{selection_stated}
-use Rattle.mds_service.specs.declared.request.Request.TheVariants as asked
-use Rattle.mds_service.specs.declared.request.Answer.{Answer}
-use Rattle.mds_service.specs.declared.request.Answer.TheVariants as told
+use Rattle.mds_messages.specs.declared.request.Request.TheVariants as asked
+use Rattle.mds_messages.specs.declared.answer.Answer.{Answer}
+use Rattle.mds_messages.specs.declared.answer.Answer.TheVariants as told
 use Rattle.mds_service.specs.Machine.{ImportStep, Step, stated_in}
 use Rattle.mds_laws.specs.AnyOrder.{IsGiven, IsImported}
 use Rattle.mds_laws.specs.Returns.{HasSameDetails, IsAskedFor, IsSameDay, ReturnsToAnEmptyStore, ReturnsToItsStore, intervals_in}

@@ -28,11 +28,11 @@ use Rattle.mds_world.specs.Stated.{facts_of, stated, versions_from}
 use Rattle.mds_world.specs.World.{World}
 use Rattle.mds_world.proofs.Worlds.{known_or_added}
 use Rattle.mds_versions.proofs.Taken.{from_versions}
-use Rattle.mds_export.specs.Orderly.{stream_cmp}
+use Rattle.mds_statements.specs.Selected.{stream_cmp}
 use Rattle.mds_export.specs.Placed.{PlacedDay, is_governed, placed_after, placed_days}
 use Rattle.mds_export.specs.Shows.{day_selected, day_stated, details_selected, selection_stated}
-use Rattle.mds_export.specs.declared.selected.SelectedDay.{SelectedDay}
-use Rattle.mds_export.specs.declared.selected.SelectedStream.{SelectedStream}
+use Rattle.mds_statements.specs.declared.selected.SelectedDay.{SelectedDay}
+use Rattle.mds_statements.specs.declared.selected.SelectedStream.{SelectedStream}
 use Rattle.mds_ranges.proofs.Pairs.{pairs_head, pairs_tail}
 use Rattle.mds_laws.specs.Returns.{intervals_in}
 use Rattle.mds_laws.proofs.Members.{in_stated, same_key, stated_in, versions_apart, versions_count}

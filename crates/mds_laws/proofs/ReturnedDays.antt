@@ -18,8 +18,8 @@ use Rattle.mds_world.specs.Sets.{◌∈◌}
 use Rattle.mds_world.specs.Stated.{stated}
 use Rattle.mds_world.specs.World.{HasHead, IsKnownDay, IsLawful, World}
 use Rattle.mds_export.specs.Shows.{selection_stated}
-use Rattle.mds_export.specs.declared.selected.SelectedDay.{SelectedDay}
-use Rattle.mds_export.specs.declared.selected.SelectedStream.{SelectedStream}
+use Rattle.mds_statements.specs.declared.selected.SelectedDay.{SelectedDay}
+use Rattle.mds_statements.specs.declared.selected.SelectedStream.{SelectedStream}
 use Rattle.mds_ranges.proofs.Pairs.{all_member}
 use Rattle.mds_ranges.specs.Selections.{IsSelectedDay, IsSelectedStream, IsSelection}
 use Rattle.mds_laws.proofs.ReturnedCounts.{intervals_counted}

@@ -22,8 +22,8 @@ use Rattle.mds_world.specs.Stated.{day_facts, facts_of, stated}
 use Rattle.mds_versions.proofs.Taken.{from_versions, to_versions}
 use Rattle.mds_export.specs.Placed.{PlacedDay, is_governed, placed_after, placed_days}
 use Rattle.mds_export.specs.Shows.{day_selected, day_stated, details_selected, selection_stated, unlined}
-use Rattle.mds_export.specs.declared.selected.SelectedDay.{SelectedDay}
-use Rattle.mds_export.specs.declared.selected.SelectedStream.{SelectedStream}
+use Rattle.mds_statements.specs.declared.selected.SelectedDay.{SelectedDay}
+use Rattle.mds_statements.specs.declared.selected.SelectedStream.{SelectedStream}
 use Rattle.mds_laws.specs.Returns.{intervals_in}
 use Rattle.mds_laws.proofs.Members.{in_stated, same_key, stated_in}
 use Rattle.mds_laws.proofs.ReturnedWorlds.{StatesTheSelection}

@@ -7,7 +7,7 @@ use Rattle.mds_world.specs.Stated.{stated}
 use Rattle.mds_world.specs.World.{Agrees, IsKnownDay, IsLawful, World, union}
 use Rattle.mds_nem12.specs.Statements.{statements_of}
 use Rattle.mds_export.specs.Shows.{Shows, selection_stated}
-use Rattle.mds_export.specs.declared.selected.SelectedStream.{SelectedStream}
+use Rattle.mds_statements.specs.declared.selected.SelectedStream.{SelectedStream}
 use Rattle.mds_ranges.specs.Selections.{IsSelection}
 use Rattle.mds_laws.specs.Returns.{HasSameDetails, IsAskedFor, IsSameDay, intervals_in}
 

@@ -7,10 +7,10 @@ use Rattle.mds_statements.specs.Statements.Statement.{HeaderOf, DetailsOf, DayOf
 use Rattle.mds_world.specs.Lists.{Member}
 use Rattle.mds_world.specs.Stated.{stated}
 use Rattle.mds_world.specs.World.{Agrees, World, union}
-use Rattle.mds_service.specs.declared.request.Request.{Request}
-use Rattle.mds_service.specs.declared.request.Request.TheVariants as asked
-use Rattle.mds_service.specs.declared.request.Answer.{Answer}
-use Rattle.mds_service.specs.declared.request.Answer.TheVariants as told
+use Rattle.mds_messages.specs.declared.request.Request.{Request}
+use Rattle.mds_messages.specs.declared.request.Request.TheVariants as asked
+use Rattle.mds_messages.specs.declared.answer.Answer.{Answer}
+use Rattle.mds_messages.specs.declared.answer.Answer.TheVariants as told
 use Rattle.mds_service.specs.Machine.{Run, Step, fault_in, stated_in}
 use Rattle.mds_laws.specs.Kept.{came_in}
 

@@ -12,8 +12,8 @@ use Rattle.mds_world.specs.World.{World}
 use Rattle.mds_jobs.specs.Jobs.{content_of}
 use Rattle.mds_jobs.specs.declared.job.Job.{Job}
 use Rattle.mds_fill.specs.Fills.{IsLike}
-use Rattle.mds_service.specs.declared.request.Request.TheVariants as asked
-use Rattle.mds_service.specs.declared.request.Answer.{Answer}
+use Rattle.mds_messages.specs.declared.request.Request.TheVariants as asked
+use Rattle.mds_messages.specs.declared.answer.Answer.{Answer}
 use Rattle.mds_service.specs.Machine.{Run, fault_in, stated_in}
 
 -- the days of its stream that a job may look at: its own, the days before and after it, and its candidates

@@ -18,10 +18,10 @@ use Rattle.mds_world.specs.World.{IsLawful, World}
 use Rattle.mds_jobs.specs.Jobs.{content_of}
 use Rattle.mds_jobs.specs.declared.job.Job.{Job}
 use Rattle.mds_fill.specs.Fills.{IsSubstitute, IsTarget}
-use Rattle.mds_service.specs.declared.request.Request.{Request}
-use Rattle.mds_service.specs.declared.request.Request.TheVariants as asked
-use Rattle.mds_service.specs.declared.request.Answer.{Answer}
-use Rattle.mds_service.specs.declared.request.Answer.TheVariants as told
+use Rattle.mds_messages.specs.declared.request.Request.{Request}
+use Rattle.mds_messages.specs.declared.request.Request.TheVariants as asked
+use Rattle.mds_messages.specs.declared.answer.Answer.{Answer}
+use Rattle.mds_messages.specs.declared.answer.Answer.TheVariants as told
 use Rattle.mds_service.specs.Machine.{Run, Step, stated_in}
 
 -- Whatever a World holds, a later one of the run holds.

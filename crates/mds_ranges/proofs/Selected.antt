@@ -15,9 +15,9 @@ use Rattle.mds_world.specs.World.{IsKnownDay, World}
 use Rattle.mds_versions.specs.Books.{BookValue, IsDay}
 use Rattle.mds_versions.specs.Queries.{AreDaysOf}
 use Rattle.mds_versions.proofs.BookPlaces.{member_at}
-use Rattle.mds_export.specs.Orderly.{AreOrderly, IsWhole, days_of, stream_cmp}
-use Rattle.mds_export.specs.declared.selected.SelectedDay.{SelectedDay}
-use Rattle.mds_export.specs.declared.selected.SelectedStream.{SelectedStream}
+use Rattle.mds_statements.specs.Selected.{AreOrderly, IsWhole, days_of, stream_cmp}
+use Rattle.mds_statements.specs.declared.selected.SelectedDay.{SelectedDay}
+use Rattle.mds_statements.specs.declared.selected.SelectedStream.{SelectedStream}
 use Rattle.mds_ranges.specs.Ranges.{IsTooWide}
 use Rattle.mds_ranges.specs.Selections.{AreDistinct, AreSelectedDays, Ascend, IsSelectedDay, IsSelectedStream, IsSelection}
 use Rattle.mds_ranges.proofs.DayFacts.{unknown_here}

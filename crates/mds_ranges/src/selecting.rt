@@ -9,7 +9,7 @@ ghost use Rattle.mds_ranges.specs.Ranges.{IsTooWide};
 ghost use Rattle.mds_ranges.specs.Selections.{AreSelectedDays, Ascend, IsSelectedDay, IsSelectedStream, IsSelection};
 
 use crate::readings::current_readings;
-use mds_export::{SelectedDay, SelectedStream, Selection};
+use mds_statements::{SelectedDay, SelectedStream, Selection};
 use mds_terms::{Day, Nmi, Stream, Suffix};
 use mds_versions::{DayBook, Keeper, Unavailable};
 use std::alloc::{AllocError, Global};

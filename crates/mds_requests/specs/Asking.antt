@@ -3,8 +3,8 @@ use Rattle.std.specs.Prelude.{◌≡◌, ℕ, List}
 use Rattle.mds_jobs.specs.declared.job.Job.{Job}
 use Rattle.mds_inputs.specs.JobObjects.{IsJobText}
 use Rattle.mds_inputs.specs.Holidays.{DiffersFirst, IsListOf, rows_of}
-use Rattle.mds_service.specs.declared.request.Request.{Request}
-use Rattle.mds_service.specs.declared.request.Request.TheVariants as asked
+use Rattle.mds_messages.specs.declared.request.Request.{Request}
+use Rattle.mds_messages.specs.declared.request.Request.TheVariants as asked
 use Rattle.mds_requests.specs.declared.requests.FileCommand.{FileCommand}
 use Rattle.mds_requests.specs.declared.requests.FileCommand.TheVariants as command
 use Rattle.mds_requests.specs.declared.requests.RequestFault.{RequestFault}

@@ -9,8 +9,8 @@ use Rattle.mds_requests.specs.Asking.{Asks}
 use Rattle.mds_requests.specs.declared.requests.FileCommand.TheVariants as command
 use Rattle.mds_arguments.specs.Arguments.{AskForDay, AskForExport, AskForFinals, AskForGaps, AskForPeriods, AskForVersions, IsFirstBad, export_tests}
 use Rattle.mds_arguments.specs.declared.arguments.Argument.{Argument}
-use Rattle.mds_service.specs.declared.request.Request.{Request}
-use Rattle.mds_service.specs.declared.request.Request.TheVariants as asked
+use Rattle.mds_messages.specs.declared.request.Request.{Request}
+use Rattle.mds_messages.specs.declared.request.Request.TheVariants as asked
 use Rattle.mds_wire.specs.Judging.{path_of, query_of}
 use Rattle.mds_wire.specs.Routes.{part}
 use Rattle.mds_wire.specs.declared.route.Route.{Route}

@@ -9,8 +9,8 @@ ghost use Rattle.mds_requests.specs.TargetSteps.{IsFileFault, IsLoneFileFault, f
 use crate::query::Query;
 use crate::requests::{FileCommand, RequestFault, request_in};
 use crate::targets::TargetFault;
+use mds_messages::Request;
 use mds_records::FileKind;
-use mds_service::Request;
 use std::alloc::Global;
 
 /// The request for an import of the kind that a query names.

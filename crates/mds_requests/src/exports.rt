@@ -7,7 +7,7 @@ ghost use Rattle.mds_requests.specs.Targets.{AskForExportBy, ExportsNothing, Say
 use crate::query::Query;
 use crate::targets::TargetFault;
 use mds_arguments::{ArgumentsFault, ExportArguments, read_export};
-use mds_service::Request;
+use mds_messages::Request;
 use std::alloc::Global;
 
 /// The request for the export that a query says.

@@ -6,7 +6,7 @@ ghost use Rattle.mds_requests.specs.QuerySteps.{texts_of};
 use crate::query::Query;
 use crate::targets::TargetFault;
 use mds_arguments::Argument;
-use mds_service::Request;
+use mds_messages::Request;
 
 /// The request that was read of a path, where there is no query.
 pub(crate) fn path_asked(

@@ -7,7 +7,7 @@ ghost use Rattle.mds_requests.specs.Targets.{AskForFinalsBy, AskForGapsBy, AsksN
 use crate::query::Query;
 use crate::targets::TargetFault;
 use mds_arguments::{RangeArguments, read_finals, read_gaps};
-use mds_service::Request;
+use mds_messages::Request;
 
 /// The request for the gaps of the range that a query says.
 pub(crate) fn gaps_asked(query: &Query<'_>) -> Result<Request, TargetFault>

@@ -4,8 +4,8 @@ ghost use Rattle.std.specs.Prelude.{MatchResult};
 ghost use Rattle.mds_requests.specs.Asking.{Asks, AsksNothing};
 
 use mds_inputs::{HolidaysFault, job_from_json, read_holidays};
+use mds_messages::Request;
 use mds_records::FileKind;
-use mds_service::Request;
 use std::alloc::Global;
 
 /// A command that takes a file to a store.

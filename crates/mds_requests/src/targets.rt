@@ -11,7 +11,7 @@ use crate::query::Query;
 use crate::ranges::{finals_asked, gaps_asked};
 use crate::requests::FileCommand;
 use mds_arguments::{read_day, read_periods, read_versions};
-use mds_service::Request;
+use mds_messages::Request;
 use mds_wire::{Route, part, path_of, query_of};
 use std::alloc::Global;
 

@@ -12,12 +12,12 @@ ghost use Rattle.mds_fill.specs.Fills.{IsContext};
 ghost use Rattle.mds_service.specs.Crashes.{Goes};
 ghost use Rattle.mds_service.specs.Substitution.{IsNewJob, head_of};
 ghost use Rattle.mds_service.specs.SubstitutionSteps.{IsBeside, IsPut, new_heads};
-ghost use Rattle.mds_service.specs.declared.request.Request.TheVariants as asked;
+ghost use Rattle.mds_messages.specs.declared.request.Request.TheVariants as asked;
 
-use crate::request::Answer;
 use mds_fill::{Context, candidates, fill};
 use mds_jobs::Job;
 use mds_marks::Reading;
+use mds_messages::Answer;
 use mds_quantity::Unit;
 use mds_terms::{Day, Length, Stream};
 use mds_versions::{

@@ -6,8 +6,8 @@ ghost use Rattle.mdstore.specs.Refusals.{of_request_fault};
 use crate::store_file::StoreKeeper;
 use mds_desk::{Outcome, perform};
 use mds_lines::Counted;
+use mds_messages::Request;
 use mds_requests::{FileCommand, RequestFault, request_in};
-use mds_service::Request;
 use std::io;
 use std::io::{ErrorKind, Read};
 

@@ -10,8 +10,8 @@ use mds_arguments::{
     ExportArguments, RangeArguments, read_day, read_finals, read_gaps, read_periods, read_versions,
 };
 use mds_desk::{Outcome, Status};
+use mds_messages::Request;
 use mds_requests::FileCommand;
-use mds_service::Request;
 use mds_words::{Words, WordsFault, read_words};
 use std::io::ErrorKind;
 use std::{env, io};

@@ -4,8 +4,8 @@ use crate::asking::read_whole;
 use crate::store_file::StoreFile;
 use mds_desk::Outcome;
 use mds_http::listen;
+use mds_messages::Request;
 use mds_requests::FileCommand;
-use mds_service::Request;
 use std::io::Read;
 
 /// Makes a store in the file of a path.

@@ -3,7 +3,7 @@
 use crate::commands;
 use mds_arguments::{Argument, ArgumentsFault, ExportArguments, read_export};
 use mds_desk::Outcome;
-use mds_service::Request;
+use mds_messages::Request;
 
 /// Puts a request that was read to a store.
 pub(crate) fn query(rt: &HostRuntime, store: &str, read: Result<Request, Argument>) -> Outcome {

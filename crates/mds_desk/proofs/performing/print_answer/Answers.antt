@@ -1,5 +1,5 @@
 use Rattle.std.proofs.Common.{◌∙◌, inr, refl}
-use Rattle.mds_service.specs.declared.request.Answer.TheVariants as told
+use Rattle.mds_messages.specs.declared.answer.Answer.TheVariants as told
 use Rattle.mds_desk.proofs.Requested.{if_done, if_not_done}
 use Rattle.mds_desk.proofs.performing.print_answer.Goals as goal
 

@@ -3,7 +3,7 @@ use Rattle.mds_records.specs.declared.file.FileKind.TheVariants.{Nem12}
 use Rattle.mds_world.specs.Stated.{stated}
 use Rattle.mds_world.specs.World.{IsLawful, World}
 use Rattle.mds_versions.specs.declared.additions.Additions.{Additions}
-use Rattle.mds_service.specs.declared.request.Answer.TheVariants as told
+use Rattle.mds_messages.specs.declared.answer.Answer.TheVariants as told
 use Rattle.mds_service.proofs.Committed.{are_new, comes, lawful_commit, refusal_as, taken_in}
 use Rattle.mds_service.proofs.importing.import_nem12.Goals as goal
 

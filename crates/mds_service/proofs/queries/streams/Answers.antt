@@ -1,5 +1,5 @@
 use Rattle.std.proofs.Common.{refl, sym, ◌∙◌, arith}
-use Rattle.mds_service.specs.declared.request.Request.TheVariants as asked
+use Rattle.mds_messages.specs.declared.request.Request.TheVariants as asked
 use Rattle.mds_service.proofs.DayFacts.{details_more, details_then, stream_answers, streams_more}
 use Rattle.mds_service.proofs.Steps.{failed, shown}
 use Rattle.mds_service.proofs.queries.streams.Goals as goal

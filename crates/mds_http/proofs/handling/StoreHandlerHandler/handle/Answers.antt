@@ -1,5 +1,5 @@
 use Rattle.std.proofs.Common.{inl, inr}
-use Rattle.mds_answers.proofs.Unavailable.{may_be_unavailable}
+use Rattle.mds_service.proofs.Unavailable.{may_be_unavailable}
 use Rattle.mds_http.proofs.handling.StoreHandlerHandler.handle.Goals as goal
 
 pub returns-clause-step : goal.returns-clause-step

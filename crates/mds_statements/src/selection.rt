@@ -1,7 +1,7 @@
 //! What is selected to be written.
 
 ghost use Rattle.std.specs.Prelude.{◌≡◌, ◌≤◌, ◌↔◌, IfNone, IfSome, IsTrue, length, option_map};
-ghost use Rattle.mds_export.specs.Orderly.{AreOrderly, days_of, most_days};
+ghost use Rattle.mds_statements.specs.Selected.{AreOrderly, days_of, most_days};
 
 use crate::selected::{SelectedDay, SelectedStream};
 
@@ -31,7 +31,7 @@ impl Selection {
 }
 
 ghost use Rattle.std.specs.Prelude.{None, ◌&&◌, nat_le};
-ghost use Rattle.mds_export.specs.OrderlySteps.{day_follows, days_follow, is_after, stream_follows, streams_follow};
+ghost use Rattle.mds_statements.specs.SelectedSteps.{day_follows, days_follow, is_after, stream_follows, streams_follow};
 
 /// Whether streams and days ascend, each day has a reading for each interval, and there are at most so many days.
 fn are_orderly(streams: &[SelectedStream]) -> bool

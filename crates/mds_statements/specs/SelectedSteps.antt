@@ -2,9 +2,9 @@
 use Rattle.std.specs.Prelude.{Bool, true, ◌&&◌, ◌==◌, List, [], ◌∷◌, length, nat_lt, Option, None, Some}
 use Rattle.std.specs.Ordering.{is_lt}
 use Rattle.mds_calendar.specs.Length.{count_of}
-use Rattle.mds_export.specs.Orderly.{stream_cmp}
-use Rattle.mds_export.specs.declared.selected.SelectedDay.{SelectedDay}
-use Rattle.mds_export.specs.declared.selected.SelectedStream.{SelectedStream}
+use Rattle.mds_statements.specs.Selected.{stream_cmp}
+use Rattle.mds_statements.specs.declared.selected.SelectedDay.{SelectedDay}
+use Rattle.mds_statements.specs.declared.selected.SelectedStream.{SelectedStream}
 
 -- a day has a reading for each interval
 abbrev pub has_all : SelectedDay → Bool

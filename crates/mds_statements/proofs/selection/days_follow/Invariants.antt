@@ -1,6 +1,6 @@
 use Rattle.std.proofs.Common.{◌≡◌, drop, None, option_map}
-use Rattle.mds_export.specs.OrderlySteps.{days_follow}
-use Rattle.mds_export.proofs.selection.days_follow.Given as goal
+use Rattle.mds_statements.specs.SelectedSteps.{days_follow}
+use Rattle.mds_statements.proofs.selection.days_follow.Given as goal
 
 abbrev pub invariant-loop-day : goal.invariant-loop-day
 invariant-loop-day l =

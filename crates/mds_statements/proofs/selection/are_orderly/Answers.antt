@@ -1,8 +1,8 @@
 use Rattle.std.proofs.Common.{◌≤◌, length, sym, arith}
 use Rattle.std.proofs.lemmas.Bool.Decides.{nat_tests}
-use Rattle.mds_export.specs.Orderly.{days_of, most_days}
-use Rattle.mds_export.proofs.Ascents.{orderly_tested}
-use Rattle.mds_export.proofs.selection.are_orderly.Goals as goal
+use Rattle.mds_statements.specs.Selected.{days_of, most_days}
+use Rattle.mds_statements.proofs.SelectedTests.{orderly_tested}
+use Rattle.mds_statements.proofs.selection.are_orderly.Goals as goal
 
 pub returns-then-are_few : goal.returns-then-are_few
 returns-then-are_few c =

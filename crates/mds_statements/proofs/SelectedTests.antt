@@ -10,10 +10,10 @@ use Rattle.std.proofs.lemmas.Bool.{and_from, and_parts, eq-eqb, eqb-true, lt-ltb
 use Rattle.std.proofs.lemmas.List.Elements.{All-append, All-cons, All-head, All-nil, All-tail}
 use Rattle.std.proofs.lemmas.List.Kept.{AllPairs-cons}
 use Rattle.mds_calendar.specs.Length.{count_of}
-use Rattle.mds_export.specs.Orderly.{AreOrderly, IsWhole, days_of, most_days, stream_cmp}
-use Rattle.mds_export.specs.OrderlySteps.{day_follows, days_follow, has_all, is_after, stream_follows, streams_follow}
-use Rattle.mds_export.specs.declared.selected.SelectedDay.{SelectedDay}
-use Rattle.mds_export.specs.declared.selected.SelectedStream.{SelectedStream}
+use Rattle.mds_statements.specs.Selected.{AreOrderly, IsWhole, days_of, most_days, stream_cmp}
+use Rattle.mds_statements.specs.SelectedSteps.{day_follows, days_follow, has_all, is_after, stream_follows, streams_follow}
+use Rattle.mds_statements.specs.declared.selected.SelectedDay.{SelectedDay}
+use Rattle.mds_statements.specs.declared.selected.SelectedStream.{SelectedStream}
 
 stream_total : IsTotalOrder stream_cmp
 stream_total = then_total (on_total (λ s. s.nmi) nat_list_cmp_total) (on_total (λ s. s.suffix) nat_list_cmp_total)

@@ -9,8 +9,8 @@ use Rattle.std.specs.declared.cmp.Ordering.{Ordering}
 use Rattle.std.specs.declared.cmp.Ordering.TheVariants.{Less}
 use Rattle.mds_calendar.specs.Length.{count_of}
 use Rattle.mds_names.specs.declared.stream.Stream.{Stream}
-use Rattle.mds_export.specs.declared.selected.SelectedDay.{SelectedDay}
-use Rattle.mds_export.specs.declared.selected.SelectedStream.{SelectedStream}
+use Rattle.mds_statements.specs.declared.selected.SelectedDay.{SelectedDay}
+use Rattle.mds_statements.specs.declared.selected.SelectedStream.{SelectedStream}
 
 -- by the bytes of the NMI, and then of the suffix
 abbrev pub stream_cmp : Stream → Stream → Ordering

@@ -1,6 +1,6 @@
 use Rattle.std.proofs.Common.{◌≡◌, drop, None, option_map}
-use Rattle.mds_export.specs.OrderlySteps.{streams_follow}
-use Rattle.mds_export.proofs.selection.are_in_order.Given as goal
+use Rattle.mds_statements.specs.SelectedSteps.{streams_follow}
+use Rattle.mds_statements.proofs.selection.are_in_order.Given as goal
 
 abbrev pub invariant-loop-selected : goal.invariant-loop-selected
 invariant-loop-selected l =

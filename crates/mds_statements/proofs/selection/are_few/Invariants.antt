@@ -1,6 +1,6 @@
 use Rattle.std.proofs.Common.{◌≡◌, ◌≤◌, ◌+◌, length, drop}
-use Rattle.mds_export.specs.Orderly.{days_of, most_days}
-use Rattle.mds_export.proofs.selection.are_few.Given as goal
+use Rattle.mds_statements.specs.Selected.{days_of, most_days}
+use Rattle.mds_statements.proofs.selection.are_few.Given as goal
 
 abbrev pub invariant-loop-selected : goal.invariant-loop-selected
 invariant-loop-selected l = record {
