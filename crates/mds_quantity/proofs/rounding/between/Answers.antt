@@ -16,16 +16,30 @@ widened z value start is small cast =
     let same : start ≡ value = cast ∙ to_z-of_z w64 value (fits_signed_from_abs w64 value (omega arith)) in
     rw same (to_z-of_z w128 value (fits_signed_from_abs w128 value (omega arith)) ∙ is)
 
--- what the code adds up is the value on the line: nothing on the way is too large
+-- nothing on the way is too large
+rise_fits : (a b : ℤ) → unsigned_abs a < limit → unsigned_abs b < limit → FitsSigned w128 (b -ℤ a)
+rise_fits a b small_a small_b = fits_signed_from_abs w128 (b -ℤ a) (omega (arith, ints))
+
+start_fits : (a : ℤ) (n : ℕ) → n ≤ 1000 → unsigned_abs a < limit → FitsSigned w128 (a *ℤ pos (n + 1))
+start_fits a n few small = fits_signed_mul w128 a (pos (n + 1)) limit 1001 (omega arith) (omega arith) (omega arith)
+
+place_fits : (a b : ℤ) (j : ℕ) → j ≤ 1000 → unsigned_abs a < limit → unsigned_abs b < limit → FitsSigned w128 ((b -ℤ a) *ℤ pos j)
+place_fits a b j few small_a small_b =
+    let apart : unsigned_abs (b -ℤ a) ≤ 2 * limit = omega (arith, ints) in
+    fits_signed_mul w128 (b -ℤ a) (pos j) (2 * limit) 1000 apart (omega arith) (omega arith)
+
+wide_small : (n : ℕ) → n ≤ 1001 → wide (pos n) ≡ pos n
+wide_small n few = to_z-of_z w128 (pos n) (omega (arith, ints))
+
+-- what the code adds up is the value on the line
 added : (a b : ℤ) (j n : ℕ) → j ≤ n → n ≤ 1000 → unsigned_abs a < limit → unsigned_abs b < limit →
     wide (a *ℤ wide (pos (n + 1))) +ℤ wide (wide (b -ℤ a) *ℤ wide (pos j)) ≡ line_times_steps a b j n
 added a b j n within few small_a small_b =
-    let steps = to_z-of_z w128 (pos (n + 1)) (omega (arith, ints)) in
-    let place = to_z-of_z w128 (pos j) (omega (arith, ints)) in
-    let apart : unsigned_abs (b -ℤ a) ≤ 2 * limit = omega (arith, ints) in
-    let rise = to_z-of_z w128 (b -ℤ a) (fits_signed_from_abs w128 (b -ℤ a) (omega arith)) in
-    let first = to_z-of_z w128 (a *ℤ pos (n + 1)) (fits_signed_mul w128 a (pos (n + 1)) limit 1001 (omega arith) (omega arith) (omega arith)) in
-    let second = to_z-of_z w128 ((b -ℤ a) *ℤ pos j) (fits_signed_mul w128 (b -ℤ a) (pos j) (2 * limit) 1000 apart (omega arith) (omega arith)) in
+    let steps = wide_small (n + 1) (omega arith) in
+    let place = wide_small j (omega arith) in
+    let rise = to_z-of_z w128 (b -ℤ a) (rise_fits a b small_a small_b) in
+    let first = to_z-of_z w128 (a *ℤ pos (n + 1)) (start_fits a n few small_a) in
+    let second = to_z-of_z w128 ((b -ℤ a) *ℤ pos j) (place_fits a b j (omega arith) small_a small_b) in
     rw (steps, place, rise, first, second)
 
 -- the value on the line, times the number of steps
@@ -59,3 +73,29 @@ rounded-requires-clause-of_quantities c = let sum = sum_of c in rw (sum.is, to_z
 
 pub returns : goal.returns
 returns c = let sum = sum_of c.before in rw (sum.is, to_z-of_z w128 (line c.before) sum.fits) at c.rounded.ensures
+
+pub overflow_sub-rise : goal.overflow_sub-rise
+overflow_sub-rise c =
+    let before = widened c.args.before _ _ c.millionths.ensures.value c.millionths.ensures.small c.from-start.ensures in
+    let after = widened c.args.after _ _ c.millionths-2.ensures.value c.millionths-2.ensures.small c.from.ensures in
+    let small_a : unsigned_abs c.args.before < limit = rw c.millionths.ensures.value at c.millionths.ensures.small in
+    let small_b : unsigned_abs c.args.after < limit = rw c.millionths-2.ensures.value at c.millionths-2.ensures.small in
+    rw (before, after) (rise_fits c.args.before c.args.after small_a small_b)
+
+pub overflow_mul-start : goal.overflow_mul-start
+overflow_mul-start c =
+    let before = widened c.args.before _ _ c.millionths.ensures.value c.millionths.ensures.small c.from-start.ensures in
+    let small_a : unsigned_abs c.args.before < limit = rw c.millionths.ensures.value at c.millionths.ensures.small in
+    rw (before, c.from-2.ensures, wide_small (c.args.count + 1) (omega (arith, c.requires.few)))
+    (start_fits c.args.before c.args.count c.requires.few small_a)
+
+pub overflow_mul-rise : goal.overflow_mul-rise
+overflow_mul-rise c =
+    let before = widened c.args.before _ _ c.millionths.ensures.value c.millionths.ensures.small c.from-start.ensures in
+    let after = widened c.args.after _ _ c.millionths-2.ensures.value c.millionths-2.ensures.small c.from.ensures in
+    let small_a : unsigned_abs c.args.before < limit = rw c.millionths.ensures.value at c.millionths.ensures.small in
+    let small_b : unsigned_abs c.args.after < limit = rw c.millionths-2.ensures.value at c.millionths-2.ensures.small in
+    let few : c.args.place ≤ 1000 = omega (arith, c.requires.last, c.requires.few) in
+    rw (before, after, to_z-of_z w128 (c.args.after -ℤ c.args.before) (rise_fits c.args.before c.args.after small_a small_b),
+        c.from-3.ensures, wide_small c.args.place (omega (arith, few)))
+    (place_fits c.args.before c.args.after c.args.place few small_a small_b)
