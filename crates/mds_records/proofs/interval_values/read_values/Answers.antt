@@ -1,4 +1,4 @@
-use Rattle.std.proofs.Common.{rules, ◌≡◌, ℕ, ◌+◌, ◌≤◌, ◌||◌, Bool, not, eqb, [], length, take, set, get_or, is_some, is_ok, Option, Some, sym, ◌∙◌, ap, arith, if◌then◌else◌, ◌+ℤ◌, to_z, unsigned_abs, ◌^◌}
+use Rattle.std.proofs.Common.{rules, ◌≡◌, ℕ, ◌+◌, ◌≤◌, ◌||◌, Bool, not, eqb, [], length, take, set, get_or, is_some, is_ok, Option, Some, refl, sym, ◌∙◌, ap, arith, if◌then◌else◌, ◌+ℤ◌, to_z, unsigned_abs, ◌^◌}
 use Rattle.std.specs.Int.{w128}
 use Rattle.std.specs.Result.{result_ok}
 use Rattle.std.proofs.lemmas.List.{take_all}
@@ -10,6 +10,22 @@ use Rattle.mds_records.specs.RecordSteps.{is_empty_or_quantity, is_there}
 use Rattle.mds_records.proofs.Tallies.{field_at, tested, quantity_is_there, slot_more, no_bad, no_empty, bad_noted, sum_of_more, first_false_more, left_means_more}
 use Rattle.mds_records.proofs.interval_values.read_values.Goals as goal
 use Rattle.mds_records.proofs.interval_values.read_values.Goals.{in-Ok, in-Err}
+
+pub loop-k-init : goal.loop-k-init
+loop-k-init c = record { within = omega arith; left = refl; held = refl; sum = refl; small = omega arith; bad = refl; empty = refl }
+
+pub split_at-requires : goal.split_at-requires
+split_at-requires c = c.loop-k.invariant.within
+
+pub overflow_add-at : goal.overflow_add-at
+overflow_add-at c =
+    let f = field_at c.args.text.now (fields_of c.args.text.now) c.loop-k.at c.loop-k.k c.read_field-value.result.1 c.loop-k.invariant.within c.loop-k.invariant.left (rw (← c.split_at.ensures.back) c.read_field-value.ensures.length) in
+    omega (arith, f.within, c.if-end-text.false)
+
+pub overflow_add-end : goal.overflow_add-end
+overflow_add-end c =
+    let f = field_at c.args.text.now (fields_of c.args.text.now) c.loop-k.at c.loop-k.k c.read_field-value.result.1 c.loop-k.invariant.within c.loop-k.invariant.left (rw (← c.split_at.ensures.back) c.read_field-value.ensures.length) in
+    omega (arith, f.within)
 
 pub returns-then-end-text-clause-none : goal.returns-then-end-text-clause-none
 returns-then-end-text-clause-none c =
