@@ -96,6 +96,11 @@ overflow_mul-rise c =
     let small_a : unsigned_abs c.args.before < limit = rw c.millionths.ensures.value at c.millionths.ensures.small in
     let small_b : unsigned_abs c.args.after < limit = rw c.millionths-2.ensures.value at c.millionths-2.ensures.small in
     let few : c.args.place ≤ 1000 = omega (arith, c.requires.last, c.requires.few) in
-    rw (before, after, to_z-of_z w128 (c.args.after -ℤ c.args.before) (rise_fits c.args.before c.args.after small_a small_b),
-        c.from-3.ensures, wide_small c.args.place (omega (arith, few)))
+    rw (
+      before,
+      after,
+      to_z-of_z w128 (c.args.after -ℤ c.args.before) (rise_fits c.args.before c.args.after small_a small_b),
+      c.from-3.ensures,
+      wide_small c.args.place (omega (arith, few)),
+    )
     (place_fits c.args.before c.args.after c.args.place few small_a small_b)
