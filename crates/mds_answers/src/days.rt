@@ -1,20 +1,20 @@
 //! Days and versions as JSON.
 
-ghost use Rattle.std.specs.Prelude.{◌≡◌, IfOk, map, string_bytes};
+ghost use Rattle.std.specs.Prelude.{◌≡◌, [], IfOk, OnOk, map, string_bytes};
 ghost use Rattle.std.specs.List.{slice_split};
-ghost use Rattle.serde_json.specs.Data.{array};
-ghost use Rattle.serde_json.specs.View.{items_of, view};
+ghost use Rattle.serde_json.specs.Data.{array, object};
+ghost use Rattle.serde_json.specs.View.{items_of, members_view, view};
 ghost use Rattle.mds_names.specs.Names.{is_comma};
 ghost use Rattle.mds_terms.specs.Event.{trans_text as text_of_trans};
 ghost use Rattle.mds_answers.specs.Json.{IsDayData, IsEvent, IsVersion, IsVersionsData, reading_texts, texts};
 
 use crate::told::{
-    ToJson, day_text, list_of, moment_text, optional_moment_text, push_texts, texts_of,
+    ToJson, day_text, list_of, moment_text, optional_moment_text, push_texts, put_text, texts_of,
 };
 use mds_messages::{DayAnswer, VersionsAnswer};
 use mds_terms::{Event, Reading, TransCode, readings_read_back};
 use mds_versions::Version;
-use serde_json::{Value, json};
+use serde_json::{Map, Value, push, put};
 use std::alloc::{AllocError, Global};
 
 /// The texts of its quality, of the code and of the text of its reason, and of its value.
@@ -57,10 +57,23 @@ impl ToJson for Event {
     ghost told_as = { IsEvent };
 
     fn to_json(&self, alloc: Global) -> Result<Value, AllocError> {
-        let trans = trans_text(alloc, self.trans())?;
-        let moment = optional_moment_text(alloc, self.moment())?;
-        json!(in alloc; [trans, self.ticket(), moment, self.reading()])
+        let mut list = Vec::new(alloc);
+        push_event(&mut list, alloc, self)?;
+        Ok(Value::from(list))
     }
+}
+
+/// Appends the texts of an event. The list is lent, so that nothing is dropped where memory is refused.
+fn push_event(list: &mut Vec<Value>, alloc: Global, event: &Event) -> Result<(), AllocError>
+    requires none { list.old.items ≡ [] }
+    ensures { OnOk result (IsEvent event.now (array (items_of (map view list.new.items)))) }
+{
+    let trans = trans_text(alloc, event.trans())?;
+    push(list, Value::from(trans))?;
+    push(list, Value::try_from_str(alloc, event.ticket())?)?;
+    let moment = optional_moment_text(alloc, event.moment())?;
+    push(list, Value::from(moment))?;
+    push(list, Value::try_from_str(alloc, event.reading())?)
 }
 
 /// The text of a transaction code, or the empty text where there is none.
@@ -86,33 +99,58 @@ fn readings_list(alloc: Global, readings: &[Reading]) -> Result<Value, AllocErro
 pub(crate) fn day_value(alloc: Global, answer: &DayAnswer) -> Result<Value, AllocError>
     ensures { IfOk result (λ value. IsDayData answer.now (view value)) }
 {
+    let mut members = Map::new(alloc);
+    put_day(&mut members, alloc, answer)?;
+    Ok(Value::Object(members))
+}
+
+/// Puts the members of a known day. The object is lent, so that nothing is dropped where memory is refused.
+fn put_day(
+    members: &mut Map<String, Value>,
+    alloc: Global,
+    answer: &DayAnswer,
+) -> Result<(), AllocError>
+    requires none { members.old.entries ≡ [] }
+    ensures { OnOk result (IsDayData answer.now (object (members_view members.new.entries))) }
+{
     let date = day_text(alloc, answer.day)?;
+    put(members, alloc, "date", Value::from(date))?;
     let events = list_of(alloc, &answer.events)?;
+    put(members, alloc, "events", events)?;
+    let length = answer.length.minutes() as u64;
+    put(members, alloc, "length", Value::from(length))?;
+    put_text(members, alloc, "nmi", answer.stream.nmi.text())?;
     let readings = readings_list(alloc, &answer.readings)?;
+    put(members, alloc, "readings", readings)?;
+    put_text(members, alloc, "suffix", answer.stream.suffix.text())?;
+    put_text(members, alloc, "unit", answer.unit.text())?;
     let update = moment_text(alloc, answer.update)?;
-    json!(in alloc; {
-        "date": date,
-        "events": events,
-        "length": answer.length.minutes() as u64,
-        "nmi": answer.stream.nmi.text(),
-        "readings": readings,
-        "suffix": answer.stream.suffix.text(),
-        "unit": answer.unit.text(),
-        "update": update,
-    })
+    put(members, alloc, "update", Value::from(update))
 }
 
 /// The versions of an interval.
 pub(crate) fn versions_value(alloc: Global, answer: &VersionsAnswer) -> Result<Value, AllocError>
     ensures { IfOk result (λ value. IsVersionsData answer.now (view value)) }
 {
+    let mut members = Map::new(alloc);
+    put_versions(&mut members, alloc, answer)?;
+    Ok(Value::Object(members))
+}
+
+/// Puts the members of the versions of an interval.
+fn put_versions(
+    members: &mut Map<String, Value>,
+    alloc: Global,
+    answer: &VersionsAnswer,
+) -> Result<(), AllocError>
+    requires none { members.old.entries ≡ [] }
+    ensures { OnOk result (IsVersionsData answer.now (object (members_view members.new.entries))) }
+{
     let date = day_text(alloc, answer.day)?;
+    put(members, alloc, "date", Value::from(date))?;
+    put(members, alloc, "interval", Value::from(answer.interval))?;
+    put_text(members, alloc, "nmi", answer.stream.nmi.text())?;
+    put_text(members, alloc, "suffix", answer.stream.suffix.text())?;
     let versions = list_of(alloc, &answer.versions)?;
-    json!(in alloc; {
-        "date": date,
-        "interval": answer.interval,
-        "nmi": answer.stream.nmi.text(),
-        "suffix": answer.stream.suffix.text(),
-        "versions": versions,
-    })
+    put(members, alloc, "versions", versions)
 }

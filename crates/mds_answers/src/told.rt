@@ -2,15 +2,15 @@
 
 ghost use Rattle.std.specs.Prelude.{◌≡◌, ◌++◌, List, map, Some, IfOk, OnOk, string_bytes};
 ghost use Rattle.std.specs.List.{slice_split};
-ghost use Rattle.serde_json.specs.Data.{Data, array, string};
-ghost use Rattle.serde_json.specs.View.{items_of, view};
+ghost use Rattle.serde_json.specs.Data.{Data, array, put as with_member, string};
+ghost use Rattle.serde_json.specs.View.{items_of, members_view, view};
 ghost use Rattle.mds_calendar.specs.Calendar.{day_of, moment_of};
 ghost use Rattle.mds_names.specs.Names.{is_comma};
 ghost use Rattle.mds_terms.specs.Parts.{optional};
 ghost use Rattle.mds_answers.specs.Json.{AreEach, texts};
 
 use mds_terms::{Day, Moment};
-use serde_json::Value;
+use serde_json::{Map, Value, put};
 use std::alloc::{AllocError, Global};
 
 /// What is told as JSON.
@@ -53,6 +53,19 @@ pub(crate) fn push_texts(alloc: Global, text: &str, list: &mut Vec<Value>) -> Re
         list.push(Value::try_from_str(alloc, part)?)?;
     }
     Ok(())
+}
+
+/// Puts a text under a name.
+pub(crate) fn put_text(
+    members: &mut Map<String, Value>,
+    alloc: Global,
+    name: &str,
+    text: &str,
+) -> Result<(), AllocError>
+    ensures { OnOk result (members_view members.new.entries
+        ≡ with_member name.now (string text.now) (members_view members.old.entries)) }
+{
+    put(members, alloc, name, Value::try_from_str(alloc, text)?)
 }
 
 /// The text of a day, CCYYMMDD.

@@ -1,11 +1,11 @@
 -- The rows of a text, as they are read one after the other: each takes a byte at least, so `records` has them all.
 use Rattle.std.proofs.Common.{◌≡◌, ℕ, zero, suc, ◌+◌, ◌-◌, ◌<◌, ◌≤◌, List, [], ◌∷◌, ◌++◌, length, Some, None, Bool, true, false, ◌||◌, ◌==◌, cond, refl, sym, ap, ◌∙◌, arith, Bor, inl, inr}
 use Rattle.std.proofs.lemmas.Bool.{false≢true}
-use Rattle.std.proofs.lemmas.List.{append-nil}
-use Rattle.std.specs.Prelude.{MatchBool}
+use Rattle.std.proofs.lemmas.List.{append-nil, length-append}
+use Rattle.std.specs.Prelude.{MatchBool, unwrap_or}
 use Rattle.csv.proofs.ReadFacts.{rows-end, rows-more}
 use Rattle.csv.specs.Machine.{Read, ends_at_end, field_after, fields_after, is_end, next_record, step}
-use Rattle.csv.specs.Reading.{Reached, default_config, ReadRecord, is_bom, names_headers, reader_config, reader_headers, reader_state, reader_trim, records, records_from, source_of, strip_bom, took_first}
+use Rattle.csv.specs.Reading.{Reached, default_config, ReadRecord, names_headers, reader_config, reader_headers, reader_state, reader_trim, records, records_from, source_of, strip_bom, took_first}
 use Rattle.csv.specs.declared.reader.Reader.{Reader}
 use Rattle.csv.specs.declared.reader.Trim.TheVariants as trim
 use Rattle.mds_inputs.specs.Holidays.{rows_of}
@@ -120,18 +120,6 @@ all_rows s text ys rows h e =
     let few = few_rows st.StartRecord s text ys rows refl h in
     rows_front (length text + 1) (length text + 1 - length rows) st.StartRecord s text ys rows (omega arith) h ∙ ap (λ (l : List (List (List ℕ))). rows ++ l) (none_left (length text + 1 - length rows) s ys e) ∙ append-nil rows
 
--- a byte order mark makes a text longer
-pub without_bom : (text : List ℕ) → length (strip_bom text) ≤ length text
-unfolding strip_bom
-without_bom [] = omega arith
-without_bom (a ∷ []) = omega arith
-without_bom (a ∷ b ∷ []) = omega arith
-without_bom (a ∷ b ∷ c ∷ rest) = by (is_bom a b c)
-  where
-    by : (mark : Bool) → length (cond mark rest (a ∷ b ∷ c ∷ rest)) ≤ length (a ∷ b ∷ c ∷ rest)
-    by true = omega arith
-    by false = omega arith
-
 -- what one more read shows of the rows of a text
 pub read_on : (text : List ℕ) (old new : Reader (Bor (List ℕ))) (rows : List (List (List ℕ))) (found : Bool) (fields : List (List ℕ)) → HasRead text old rows
     → took_first new ≡ true → ReadRecord (λ (s : Bor (List ℕ)). Some s.now) old new found fields
@@ -163,12 +151,23 @@ before_rows text reader plain named headers config state source = record {
   rows_so_far = (sym state, refl);
 }
 
--- what was read is the front of the rows, and there are no more of them than bytes
+-- what was read is the front of the rows
 pub front_read : (text : List ℕ) (reader : Reader (Bor (List ℕ))) (rows : List (List (List ℕ))) → HasRead text reader rows → (later : List (List (List ℕ))) × (rows_of text ≡ rows ++ later)
 front_read text reader rows so_far = front_rows _ (strip_bom text) so_far.left rows so_far.rows_so_far
 
-pub rows_bound : (text : List ℕ) (reader : Reader (Bor (List ℕ))) (rows : List (List (List ℕ))) → HasRead text reader rows → length rows ≤ length text
-rows_bound text reader rows so_far =
+-- and no more rows than a reader that had read none had bytes before it
+abbrev pub bytes_before : Reader (Bor (List ℕ)) → ℕ
+bytes_before reader = length (unwrap_or (source_of (λ (s : Bor (List ℕ)). Some s.now) reader) [])
+
+rows_bound : (text : List ℕ) (start reader : Reader (Bor (List ℕ))) (rows : List (List (List ℕ))) → HasRead text start [] → HasRead text reader rows → length rows ≤ bytes_before start
+unfolding Reached
+rows_bound text start reader rows none so_far =
     let few = few_rows st.StartRecord _ (strip_bom text) so_far.left rows refl so_far.rows_so_far in
-    let marked = without_bom text in
-    omega arith
+    rw none.source (omega (arith, ap length none.rows_so_far.1))
+
+-- one more row leaves fewer bytes to come
+pub fewer_left : (text : List ℕ) (start reader : Reader (Bor (List ℕ))) (rows : List (List (List ℕ))) (row : List (List ℕ)) (number : ℕ) → HasRead text start []
+    → HasRead text reader (rows ++ row ∷ []) → number ≡ length rows → bytes_before start - (number + 1) < bytes_before start - number
+fewer_left text start reader rows row number none so_far counted =
+    let bound = rows_bound text start reader (rows ++ row ∷ []) none so_far in
+    omega (arith, length-append rows (row ∷ []))

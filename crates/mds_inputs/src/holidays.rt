@@ -41,17 +41,30 @@ pub fn read_holidays(alloc: Global, text: &[u8]) -> Result<Vec<Day>, HolidaysFau
 {
     let mut reader = reader_of(alloc, text);
     let mut row = ByteRecord::new(alloc);
-    if !next_row(&mut reader, &mut row)? {
+    read_days(alloc, &mut reader, &mut row)
+}
+
+/// The same of a reader that has read nothing so far. Each row is read into `row`.
+fn read_days(
+    alloc: Global,
+    reader: &mut Reader<&[u8]>,
+    row: &mut ByteRecord,
+) -> Result<Vec<Day>, HolidaysFault>
+    requires { (text : List ℕ) × HasRead text reader.old [] }
+    ensures days { (text : List ℕ) → HasRead text reader.old [] → IfOk result (λ days. IsListOf (rows_of text) days.items) }
+    ensures refused { (text : List ℕ) → HasRead text reader.old [] → IfErr result (λ fault. IsRefusal text fault) }
+{
+    if !next_row(reader, row)? {
         return Err(HolidaysFault::BadHolidays(1));
     }
-    if !is_head(&row) {
+    if !is_head(row) {
         return Err(HolidaysFault::BadHolidays(1));
     }
     let mut days = Vec::new(alloc);
     let mut number = 1;
-    while next_row(&mut reader, &mut row)? {
+    while next_row(reader, row)? {
         number += 1;
-        let Some(day) = day_in(&row) else {
+        let Some(day) = day_in(row) else {
             return Err(HolidaysFault::BadHolidays(number));
         };
         if days.push(day).is_err() {

@@ -1,5 +1,5 @@
 -- What CREATE TABLE makes, and that it isn't refused.
-use Rattle.std.proofs.Common.{◌≡◌, inl, inr, ℕ, ◌+◌, ◌≤◌, List, [], ◌∷◌, ◌++◌, take, false, None, Some, Option, Ok, Err, sym, ap, subst, ◌∙◌, arith}
+use Rattle.std.proofs.Common.{◌≡◌, inl, inr, ℕ, ◌+◌, ◌-◌, ◌≤◌, List, [], ◌∷◌, ◌++◌, length, take, take_all, le_refl, false, None, Some, Option, Ok, Err, refl, sym, ap, subst, ◌∙◌, arith}
 use Rattle.std.proofs.lemmas.Bool.{both_ways}
 use Rattle.std.specs.List.{AllByRecursion}
 use Rattle.sqlite.specs.Change.{KeepsRows, created, is_used, next_tree}
@@ -13,7 +13,7 @@ use Rattle.sqlite.specs.State.{Executes, ExecutesInside, HasCleanDisk, State, Wr
 use Rattle.sqlite.specs.Table.{Table}
 use Rattle.sqlite.specs.declared.error.Error.{Error}
 use Rattle.sqlite.specs.declared.run.Mode.{Mode}
-use Rattle.sqlite.proofs.Callers.{runs_as, statement_of}
+use Rattle.sqlite.proofs.Callers.{IsPlain, command_of, runs_as, statement_of}
 use Rattle.sqlite_catalog.specs.Calls.{IsLongTable, RefusesTable}
 use Rattle.sqlite_catalog.specs.declared.error.Refusal.{Refusal}
 use Rattle.sqlite_catalog.specs.declared.error.Refusal.TheVariants.{Invalid, NameTaken, BadName, TooBig, BadKey, BadText, Violates}
@@ -22,8 +22,8 @@ use Rattle.sqlite_trees.specs.View.{doubt}
 use Rattle.mds_tables.specs.Causes.{StoreFails}
 use Rattle.mds_tables.specs.Making.{AreEmpty, MakesThere, schema_of}
 use Rattle.mds_tables.specs.Tables.{tables_1}
-use Rattle.mds_tables.proofs.CauseLemmas.{fails_until, stopped_as}
-use Rattle.mds_tables.proofs.CreateTexts.{IsMakeable, IsText}
+use Rattle.mds_tables.proofs.CauseLemmas.{IsWhole, fails_until, stopped_as}
+use Rattle.mds_tables.proofs.CreateTexts.{IsMakeable, IsText, read_whole}
 use Rattle.mds_tables.proofs.InsertLemmas.{same_value, went}
 
 -- there is a table without rows more, and the others have the rows that they had
@@ -81,10 +81,25 @@ module _ (schema : Schema) (text : List ℕ) (table : Table) (it : IsMakeable sc
 -- ---- the n-th text
 
 module _ (n : ℕ) (text : List ℕ) (table : Table) (it : IsText n text table) where
+  command : command_of (understood (schema_of n) text) ≡ CreateTable
+  command = ap command_of it.is_read
+
+  statement : statement_of text (understood (schema_of n) text) ≡ text
+  statement =
+      let from_first : length text - 0 ≡ length text = omega arith in
+      let all : statement_of text (Ok (read_whole text)) ≡ text = rw from_first (take_all (length text) text (le_refl (length text))) in
+      ap (statement_of text) it.is_read ∙ all
+
+  plain : IsPlain (understood (schema_of n) text)
+  plain = subst IsPlain (sym it.is_read) (refl, refl)
+
+  whole : IsWhole text 0 (understood (schema_of n) text)
+  whole = subst (IsWhole text 0) (sym it.is_read) (omega arith, refl, refl)
+
   makes : (old new : State) (count : ℕ) → old.now.schema ≡ schema_of n → Executes text [] old new (Ok count)
       → Makes (schema_of n) (schema_of (n + 1)) table.tree old.now new.now
   makes old new count has h =
-      let w = subst (λ t. Writes old new None CreateTable t [] count) it.statement (runs_as text [] old new (schema_of n) has CreateTable it.command it.plain count h) in
+      let w = subst (λ t. Writes old new None CreateTable t [] count) statement (runs_as text [] old new (schema_of n) has CreateTable command plain count h) in
       let all = went w.changed in
       let first = went all.1 in
       let made = first.1 in
@@ -130,8 +145,8 @@ module _ (n : ℕ) (text : List ℕ) (table : Table) (it : IsText n text table) 
   pub fails : (old new : State) (e : Error) → old.now.schema ≡ schema_of n → ExecutesInside 0 text [] old new (Err e) → StoreFails old new ⊥ e
   fails old new e has h =
       let none = λ (stop : Option Error) (refused : Does old.step_limit (mode_of old) [] old.now (statement_of text (understood (schema_of n) text)) None CreateTable (Err stop)).
-      never old.step_limit (mode_of old) old.now has stop (subst (λ t. Does old.step_limit (mode_of old) [] old.now t None CreateTable (Err stop)) it.statement refused) in
-      elim (stopped_as text [] old new (schema_of n) has CreateTable it.command it.plain it.whole tt e h) [
+      never old.step_limit (mode_of old) old.now has stop (subst (λ t. Does old.step_limit (mode_of old) [] old.now t None CreateTable (Err stop)) statement refused) in
+      elim (stopped_as text [] old new (schema_of n) has CreateTable command plain whole tt e h) [
         | inl refused ↦ absurd (none (Some e) refused)
         | inr failed ↦ fails_until old new new _ ⊥ (none None) (omega arith) e failed
       ]

@@ -1,5 +1,5 @@
 -- What the texts that make the tables mean.
-use Rattle.std.proofs.Common.{◌≡◌, ◌<◌, ◌+◌, ◌*◌, ◌^◌, ◌++◌, ℕ, List, [], ◌∷◌, codes, false, true, length, take, refl, Ok, IsUtf8, arith}
+use Rattle.std.proofs.Common.{◌≡◌, ◌<◌, ◌+◌, ◌*◌, ◌^◌, ◌++◌, ℕ, List, [], ◌∷◌, codes, false, true, length, take, refl, None, Ok, IsUtf8, arith}
 use Rattle.std.specs.List.{AllByRecursion}
 use Rattle.sqlite.specs.Change.{automatics, created, is_reserved, is_used, next_tree}
 use Rattle.sqlite.specs.Command.TheVariants.{CreateTable}
@@ -9,8 +9,8 @@ use Rattle.sqlite.specs.Listing.{understood}
 use Rattle.sqlite.specs.Schema.{Schema}
 use Rattle.sqlite.specs.Table.{Table}
 use Rattle.sqlite.specs.declared.types.Value.TheVariants.{Text}
-use Rattle.sqlite.proofs.Callers.{IsPlain, command_of, statement_of}
 use Rattle.sqlite_catalog.specs.Listing.{is_fit, is_formed}
+use Rattle.sqlite_resolve.specs.declared.compiled.Compiled.{Compiled}
 use Rattle.sqlite_schema.specs.Rules.{index_reals, table_reals}
 use Rattle.sqlite_schema.specs.declared.schema.Index.{Index}
 use Rattle.sqlite_tied.specs.Compute.{everything}
@@ -19,7 +19,6 @@ use Rattle.sqlite_value.specs.Order.{value_cmp}
 use Rattle.mds_tables.specs.Making.{schema_of}
 use Rattle.mds_tables.specs.Texts.{create_schema, create_head, create_version, create_detail, create_event, create_period, create_holiday, create_job}
 use Rattle.mds_tables.specs.Tables.{schema_table, head_table, version_table, detail_table, event_table, period_table, holiday_table, job_table, tables_1}
-use Rattle.mds_tables.proofs.CauseLemmas.{IsWhole}
 
 -- no rule of the library is against a table with this text under this schema
 pub record IsMakeable (schema : Schema) (text : List ℕ) (table : Table) : Type 0 where
@@ -36,12 +35,14 @@ pub record IsMakeable (schema : Schema) (text : List ℕ) (table : Table) : Type
   pub fit : is_fit (Text (codes "table")) (Text table.name) (Text table.name) (Text text) ≡ true
   pub short : 2 * length table.name + length text + 200 < 10 ^ 9
 
+-- what a text is read as that makes a table, from its first character to its last
+abbrev pub read_whole : List ℕ → Compiled
+read_whole text =
+    record { command = CreateTable; returning = None; names = []; formats = []; start = 0; end = length text; tail = length text }
+
 -- the text makes the n-th table, where the tables before it are made
 pub record IsText (n : ℕ) (text : List ℕ) (table : Table) : Type 0 where
-  pub command : command_of (understood (schema_of n) text) ≡ CreateTable
-  pub statement : statement_of text (understood (schema_of n) text) ≡ text
-  pub plain : IsPlain (understood (schema_of n) text)
-  pub whole : IsWhole text 0 (understood (schema_of n) text)
+  pub is_read : understood (schema_of n) text ≡ Ok (read_whole text)
   pub makeable : IsMakeable (schema_of n) text (record table { tree = 0 })
   pub makes : created (schema_of n) (record table { tree = 0 }) ≡ schema_of (n + 1)
   pub uncounted : lacks_sequence (schema_of (n + 1)) ≡ false
@@ -51,10 +52,7 @@ pub record IsText (n : ℕ) (text : List ℕ) (table : Table) : Type 0 where
 pub schema_text : IsText 0 create_schema schema_table
 unfolding understood everything fits_kind is_free_name begins same_name value_cmp lib.Utf8.encode lib.Ieee.is_nan lib.Ieee.lt
 schema_text = record {
-  command = refl;
-  statement = refl;
-  plain = (refl, refl);
-  whole = (omega arith, refl, refl);
+  is_read = refl;
   makeable = record {
     utf8 = (create_schema, (refl, refl));
     named = (schema_table.name, (refl, refl));
@@ -78,10 +76,7 @@ schema_text = record {
 pub head_text : IsText 1 create_head head_table
 unfolding understood everything fits_kind is_free_name begins same_name value_cmp lib.Utf8.encode lib.Ieee.is_nan lib.Ieee.lt
 head_text = record {
-  command = refl;
-  statement = refl;
-  plain = (refl, refl);
-  whole = (omega arith, refl, refl);
+  is_read = refl;
   makeable = record {
     utf8 = (create_head, (refl, refl));
     named = (head_table.name, (refl, refl));
@@ -105,10 +100,7 @@ head_text = record {
 pub version_text : IsText 2 create_version version_table
 unfolding understood everything fits_kind is_free_name begins same_name value_cmp lib.Utf8.encode lib.Ieee.is_nan lib.Ieee.lt
 version_text = record {
-  command = refl;
-  statement = refl;
-  plain = (refl, refl);
-  whole = (omega arith, refl, refl);
+  is_read = refl;
   makeable = record {
     utf8 = (create_version, (refl, refl));
     named = (version_table.name, (refl, refl));
@@ -132,10 +124,7 @@ version_text = record {
 pub detail_text : IsText 3 create_detail detail_table
 unfolding understood everything fits_kind is_free_name begins same_name value_cmp lib.Utf8.encode lib.Ieee.is_nan lib.Ieee.lt
 detail_text = record {
-  command = refl;
-  statement = refl;
-  plain = (refl, refl);
-  whole = (omega arith, refl, refl);
+  is_read = refl;
   makeable = record {
     utf8 = (create_detail, (refl, refl));
     named = (detail_table.name, (refl, refl));
@@ -159,10 +148,7 @@ detail_text = record {
 pub event_text : IsText 4 create_event event_table
 unfolding understood everything fits_kind is_free_name begins same_name value_cmp lib.Utf8.encode lib.Ieee.is_nan lib.Ieee.lt
 event_text = record {
-  command = refl;
-  statement = refl;
-  plain = (refl, refl);
-  whole = (omega arith, refl, refl);
+  is_read = refl;
   makeable = record {
     utf8 = (create_event, (refl, refl));
     named = (event_table.name, (refl, refl));
@@ -186,10 +172,7 @@ event_text = record {
 pub period_text : IsText 5 create_period period_table
 unfolding understood everything fits_kind is_free_name begins same_name value_cmp lib.Utf8.encode lib.Ieee.is_nan lib.Ieee.lt
 period_text = record {
-  command = refl;
-  statement = refl;
-  plain = (refl, refl);
-  whole = (omega arith, refl, refl);
+  is_read = refl;
   makeable = record {
     utf8 = (create_period, (refl, refl));
     named = (period_table.name, (refl, refl));
@@ -213,10 +196,7 @@ period_text = record {
 pub holiday_text : IsText 6 create_holiday holiday_table
 unfolding understood everything fits_kind is_free_name begins same_name value_cmp lib.Utf8.encode lib.Ieee.is_nan lib.Ieee.lt
 holiday_text = record {
-  command = refl;
-  statement = refl;
-  plain = (refl, refl);
-  whole = (omega arith, refl, refl);
+  is_read = refl;
   makeable = record {
     utf8 = (create_holiday, (refl, refl));
     named = (holiday_table.name, (refl, refl));
@@ -240,10 +220,7 @@ holiday_text = record {
 pub job_text : IsText 7 create_job job_table
 unfolding understood everything fits_kind is_free_name begins same_name value_cmp lib.Utf8.encode lib.Ieee.is_nan lib.Ieee.lt
 job_text = record {
-  command = refl;
-  statement = refl;
-  plain = (refl, refl);
-  whole = (omega arith, refl, refl);
+  is_read = refl;
   makeable = record {
     utf8 = (create_job, (refl, refl));
     named = (job_table.name, (refl, refl));

@@ -13,6 +13,12 @@ use Rattle.mds_terms.specs.Details.{DetailsValue, details_cmp}
 use Rattle.mds_terms.specs.Event.{EventValue, event_cmp}
 use Rattle.mds_terms.specs.TermOrder.{details_total, event_total}
 
+-- orders that follow each other may be read from the front or from the end
+pub in_turn : (a b c : Ordering) → ordering_then (ordering_then a b) c ≡ ordering_then a (ordering_then b c)
+in_turn Less b c = refl
+in_turn Equal b c = refl
+in_turn Greater b c = refl
+
 -- where two orders that follow each other tie, both do, and the first at one value
 tie : {K : Type 0} {R : K → K → Ordering} → IsAntisymmetric R → (x y : K) (rest : Ordering) → ordering_then (R x y) rest ≡ Equal → (x ≡ y) × (rest ≡ Equal)
 tie {K} {R} same x y rest e = by (R x y) refl e

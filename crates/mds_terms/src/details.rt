@@ -157,14 +157,11 @@ impl Details {
     }
 
     /// Whether both say the same.
+    #[tactic(auto, using(crate::proofs::TermOrder::details_decided))]
     pub fn is_same(&self, other: &Details) -> bool
         ensures { IsTrue result ↔ (self.now ≡ other.now) }
     {
-        self.configuration() == other.configuration()
-            && self.register() == other.register()
-            && self.datastream() == other.datastream()
-            && self.meter() == other.meter()
-            && self.next() == other.next()
+        self.cmp(other).is_eq()
     }
 
     /// A law: details are equal where they say the same, and their order goes field by field.
@@ -209,14 +206,13 @@ impl Ord for Details {
 
     ghost matches_eq = { λ _ _. refl };
 
-    #[tactic(auto, unfolding(crate::specs::Details::details_cmp))]
     fn cmp(&self, other: &Details) -> Ordering {
         self.configuration()
             .cmp(other.configuration())
-            .then_with(|| self.register().cmp(other.register()))
-            .then_with(|| self.datastream().cmp(other.datastream()))
-            .then_with(|| self.meter().cmp(other.meter()))
-            .then_with(|| self.next().cmp(&other.next()))
+            .then(self.register().cmp(other.register()))
+            .then(self.datastream().cmp(other.datastream()))
+            .then(self.meter().cmp(other.meter()))
+            .then(self.next().cmp(&other.next()))
     }
 }
 

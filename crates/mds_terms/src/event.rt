@@ -189,16 +189,11 @@ impl Event {
     }
 
     /// Whether both say the same.
+    #[tactic(auto, using(crate::proofs::TermOrder::event_decided))]
     pub fn is_same(&self, other: &Event) -> bool
         ensures { IsTrue result ↔ (self.now ≡ other.now) }
     {
-        self.nmi() == other.nmi()
-            && self.suffix() == other.suffix()
-            && self.day() == other.day()
-            && self.trans() == other.trans()
-            && self.ticket() == other.ticket()
-            && self.moment() == other.moment()
-            && self.reading() == other.reading()
+        self.cmp(other).is_eq()
     }
 
     /// A law: events are equal where they say the same, and their order goes field by field.
@@ -243,16 +238,15 @@ impl Ord for Event {
 
     ghost matches_eq = { λ _ _. refl };
 
-    #[tactic(auto, unfolding(crate::specs::Event::event_cmp))]
     fn cmp(&self, other: &Event) -> Ordering {
         self.nmi()
             .cmp(&other.nmi())
-            .then_with(|| self.suffix().cmp(&other.suffix()))
-            .then_with(|| self.day().cmp(&other.day()))
-            .then_with(|| self.trans().cmp(&other.trans()))
-            .then_with(|| self.ticket().cmp(other.ticket()))
-            .then_with(|| self.moment().cmp(&other.moment()))
-            .then_with(|| self.reading().cmp(other.reading()))
+            .then(self.suffix().cmp(&other.suffix()))
+            .then(self.day().cmp(&other.day()))
+            .then(self.trans().cmp(&other.trans()))
+            .then(self.ticket().cmp(other.ticket()))
+            .then(self.moment().cmp(&other.moment()))
+            .then(self.reading().cmp(other.reading()))
     }
 }
 

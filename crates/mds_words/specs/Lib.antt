@@ -2,3 +2,4 @@ pub mod Asked
 pub mod Grammar
 pub mod Commands
 pub mod Refused
+pub mod Singles

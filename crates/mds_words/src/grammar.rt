@@ -7,7 +7,9 @@ ghost use Rattle.clap.specs.Walk.{texts};
 ghost use Rattle.clap.specs.Words.{App, Text, found_of, kind_of, rows_of, takes};
 ghost use Rattle.mds_words.specs.Asked.{Asks, IsAskedBy, input_of, input_value, kind_of_name, number_of, value_of, values_of};
 ghost use Rattle.mds_words.specs.Commands.{has_command};
-ghost use Rattle.mds_words.specs.Grammar.{IsMdstore, export_command, finals_command, gaps_command, mdstore_app, serve_command, store_commands};
+ghost use Rattle.mds_words.specs.Singles.{AreSingle};
+ghost use Rattle.mds_words.specs.Grammar.{IsMdstore, mdstore_app, check_command, init_command, substitute_command, holidays_command, streams_command};
+ghost use Rattle.mds_words.specs.Grammar.{day_command, versions_command, periods_command, gaps_command, finals_command, serve_command};
 
 use crate::commands::{grammar, kinds};
 use crate::words::{Input, Words, WordsFault};
@@ -64,106 +66,139 @@ fn asked<'a>(alloc: Global, name: &str, found: &ArgMatches<'a>) -> Result<Words<
         → has_command (mdstore_app kinds) name.now ≡ true
         → Asks (Some (name.now, rows_of (found_of found.now))) words) }
 {
+    let single = single_words(found);
     match name {
-        "check" => Ok(Words::Check {
-            kind: kind(found),
-            input: Input::new(word(found, "file")),
-        }),
-        "init" => Ok(Words::Init {
-            store: word(found, "store"),
-        }),
         "import" => Ok(Words::Import {
-            store: word(found, "store"),
+            store: single.store,
             kind: kind(found),
             inputs: inputs(alloc, found)?,
         }),
-        "substitute" => Ok(Words::Substitute {
-            store: word(found, "store"),
-            input: Input::new(word(found, "file")),
-        }),
-        "holidays" => Ok(Words::Holidays {
-            store: word(found, "store"),
-            input: Input::new(word(found, "file")),
-        }),
-        _ => asked_of_store(alloc, name, found),
-    }
-}
-
-/// The same of a command on a store alone.
-fn asked_of_store<'a>(
-    alloc: Global,
-    name: &str,
-    found: &ArgMatches<'a>,
-) -> Result<Words<'a>, AllocError>
-    ensures { IfOk result (λ words. list_any (λ shape. bytes_eq shape.name name.now) store_commands ≡ true
-        → Asks (Some (name.now, rows_of (found_of found.now))) words) }
-{
-    match name {
-        "streams" => Ok(Words::Streams {
-            store: word(found, "store"),
-        }),
-        "day" => Ok(Words::Day {
-            store: word(found, "store"),
-            nmi: word(found, "nmi"),
-            suffix: word(found, "suffix"),
-            date: word(found, "date"),
-        }),
-        "versions" => Ok(Words::Versions {
-            store: word(found, "store"),
-            nmi: word(found, "nmi"),
-            suffix: word(found, "suffix"),
-            date: word(found, "date"),
-            interval: word(found, "interval"),
-        }),
-        "periods" => Ok(Words::Periods {
-            store: word(found, "store"),
-            nmi: word(found, "nmi"),
-            suffix: word(found, "suffix"),
-        }),
-        _ => asked_of_range(alloc, name, found),
-    }
-}
-
-/// The same of a command on a range of days, or of the service.
-fn asked_of_range<'a>(
-    alloc: Global,
-    name: &str,
-    found: &ArgMatches<'a>,
-) -> Result<Words<'a>, AllocError>
-    ensures { IfOk result (λ words.
-        list_any (λ shape. bytes_eq shape.name name.now) (gaps_command ∷ finals_command ∷ export_command ∷ serve_command ∷ []) ≡ true
-        → Asks (Some (name.now, rows_of (found_of found.now))) words) }
-{
-    match name {
-        "gaps" => Ok(Words::Gaps {
-            store: word(found, "store"),
-            nmi: word(found, "nmi"),
-            suffix: word(found, "suffix"),
-            from: word(found, "from"),
-            to: word(found, "to"),
-        }),
-        "finals" => Ok(Words::Finals {
-            store: word(found, "store"),
-            nmi: word(found, "nmi"),
-            suffix: word(found, "suffix"),
-            from: word(found, "from"),
-            to: word(found, "to"),
-        }),
         "export" => Ok(Words::Export {
-            store: word(found, "store"),
-            nmi: word(found, "nmi"),
-            from: word(found, "from"),
-            to: word(found, "to"),
-            moment: word(found, "moment"),
-            sender: word(found, "sender"),
-            receiver: word(found, "receiver"),
+            store: single.store,
+            nmi: single.nmi,
+            from: single.from,
+            to: single.to,
+            moment: single.moment,
+            sender: single.sender,
+            receiver: single.receiver,
             suffixes: all_words(alloc, found, "suffixes")?,
         }),
-        _ => Ok(Words::Serve {
-            store: word(found, "store"),
+        _ => Ok(asked_without_memory(name, found, single)),
+    }
+}
+
+/// The same of a command whose arguments take one word each.
+fn asked_without_memory<'a>(name: &str, found: &ArgMatches<'a>, single: Single<'a>) -> Words<'a>
+    requires { AreSingle (rows_of (found_of found.now)) single }
+    ensures { (kinds : Bor (List (Bor Text)))
+        → list_any (λ shape. bytes_eq shape.name name.now) (check_command kinds ∷ init_command ∷ substitute_command
+        ∷ holidays_command ∷ streams_command ∷ day_command ∷ versions_command ∷ periods_command ∷ gaps_command
+        ∷ finals_command ∷ serve_command ∷ []) ≡ true
+        → Asks (Some (name.now, rows_of (found_of found.now))) result }
+{
+    match name {
+        "check" => Words::Check {
+            kind: kind(found),
+            input: Input::new(single.file),
+        },
+        "init" => Words::Init {
+            store: single.store,
+        },
+        "substitute" => Words::Substitute {
+            store: single.store,
+            input: Input::new(single.file),
+        },
+        "holidays" => Words::Holidays {
+            store: single.store,
+            input: Input::new(single.file),
+        },
+        "streams" => Words::Streams {
+            store: single.store,
+        },
+        _ => asked_of_stream(name, found, single),
+    }
+}
+
+/// The same of a command on a stream, or of the service.
+fn asked_of_stream<'a>(name: &str, found: &ArgMatches<'a>, single: Single<'a>) -> Words<'a>
+    requires { AreSingle (rows_of (found_of found.now)) single }
+    ensures { list_any (λ shape. bytes_eq shape.name name.now) (day_command ∷ versions_command ∷ periods_command
+        ∷ gaps_command ∷ finals_command ∷ serve_command ∷ []) ≡ true
+        → Asks (Some (name.now, rows_of (found_of found.now))) result }
+{
+    match name {
+        "day" => Words::Day {
+            store: single.store,
+            nmi: single.nmi,
+            suffix: single.suffix,
+            date: single.date,
+        },
+        "versions" => Words::Versions {
+            store: single.store,
+            nmi: single.nmi,
+            suffix: single.suffix,
+            date: single.date,
+            interval: single.interval,
+        },
+        "periods" => Words::Periods {
+            store: single.store,
+            nmi: single.nmi,
+            suffix: single.suffix,
+        },
+        "gaps" => Words::Gaps {
+            store: single.store,
+            nmi: single.nmi,
+            suffix: single.suffix,
+            from: single.from,
+            to: single.to,
+        },
+        "finals" => Words::Finals {
+            store: single.store,
+            nmi: single.nmi,
+            suffix: single.suffix,
+            from: single.from,
+            to: single.to,
+        },
+        _ => Words::Serve {
+            store: single.store,
             port: port(found),
             count: count(found),
-        }),
+        },
+    }
+}
+
+/// The word of each argument that takes one. It is empty where the command has no such argument.
+#[derive(Clone, Copy)]
+struct Single<'a> {
+    store: &'a str,
+    file: &'a str,
+    nmi: &'a str,
+    suffix: &'a str,
+    date: &'a str,
+    interval: &'a str,
+    from: &'a str,
+    to: &'a str,
+    moment: &'a str,
+    sender: &'a str,
+    receiver: &'a str,
+}
+
+/// These words, of the arguments that were found.
+fn single_words<'a>(found: &ArgMatches<'a>) -> Single<'a>
+    ensures { AreSingle (rows_of (found_of found.now)) result }
+{
+    Single {
+        store: word(found, "store"),
+        file: word(found, "file"),
+        nmi: word(found, "nmi"),
+        suffix: word(found, "suffix"),
+        date: word(found, "date"),
+        interval: word(found, "interval"),
+        from: word(found, "from"),
+        to: word(found, "to"),
+        moment: word(found, "moment"),
+        sender: word(found, "sender"),
+        receiver: word(found, "receiver"),
     }
 }
 

@@ -3,11 +3,11 @@
 ghost use Rattle.std.specs.Prelude.{◌≡◌};
 ghost use Rattle.mdstore.specs.Refusals.{of_request_fault};
 
-use crate::store_file::StoreKeeper;
 use mds_desk::{Outcome, perform};
 use mds_lines::Counted;
 use mds_messages::Request;
 use mds_requests::{FileCommand, RequestFault, request_in};
+use mds_versions::Keeper;
 use std::io;
 use std::io::{ErrorKind, Read};
 
@@ -23,9 +23,9 @@ pub(crate) fn read_whole<R: Read + Drop>(rt: &HostRuntime, reader: R) -> Result<
 }
 
 /// Asks a keeper for what was read. What couldn't be read asks for nothing.
-pub(crate) fn ask_keeper(
+pub(crate) fn ask_keeper<K: Keeper>(
     rt: &HostRuntime,
-    keeper: &mut StoreKeeper,
+    keeper: &mut K,
     command: FileCommand,
     bytes: Result<Vec<u8>, Outcome>,
 ) -> Outcome {
@@ -40,9 +40,9 @@ pub(crate) fn ask_keeper(
 }
 
 /// Does a request over a keeper, and prints its answer.
-pub(crate) fn perform_request(
+pub(crate) fn perform_request<K: Keeper>(
     rt: &HostRuntime,
-    keeper: &mut StoreKeeper,
+    keeper: &mut K,
     request: &Request,
 ) -> Outcome {
     let mut writer = Counted::new(io::writer(rt));

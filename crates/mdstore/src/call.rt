@@ -3,9 +3,10 @@
 ghost use Rattle.std.specs.Prelude.{◌≡◌};
 ghost use Rattle.std.specs.IoError.{error_kind};
 
-use crate::commands::{init, serve};
+use crate::commands::serve;
 use crate::inputs::{ask_input, check_input, import_inputs};
 use crate::queries::{query, query_export};
+use crate::store_file::make_store;
 use mds_arguments::{
     ExportArguments, RangeArguments, read_day, read_finals, read_gaps, read_periods, read_versions,
 };
@@ -46,7 +47,7 @@ fn outcome_of_call(rt: &HostRuntime) -> Outcome {
 fn outcome_of_words(rt: &HostRuntime, words: Words<'_>) -> Outcome {
     match words {
         Words::Check { kind, input } => check_input(rt, kind, input),
-        Words::Init { store } => init(rt, store),
+        Words::Init { store } => make_store(rt, store),
         Words::Import {
             store,
             kind,

@@ -1,20 +1,13 @@
 //! The commands on a store in a file.
 
-use crate::asking::read_whole;
-use crate::store_file::StoreFile;
+use crate::asking::{ask_keeper, perform_request, read_whole};
+use crate::store_file::{Task, in_store};
 use mds_desk::Outcome;
-use mds_http::listen;
+use mds_http::{StoreHandler, listen, serve_connections};
 use mds_messages::Request;
 use mds_requests::FileCommand;
+use mds_versions::Keeper;
 use std::io::Read;
-
-/// Makes a store in the file of a path.
-pub(crate) fn init(rt: &HostRuntime, path: &str) -> Outcome {
-    match StoreFile::make(rt, path) {
-        Ok(store) => store.close(rt, Outcome::Created),
-        Err(outcome) => outcome,
-    }
-}
 
 /// Asks the store of a path, which isn't made where there is none, for what a reader gives. That is read before the store is
 /// opened, so that it may come from another command on the same store; a fault of the store is told first all the same.
@@ -25,35 +18,65 @@ pub(crate) fn ask<R: Read + Drop>(
     reader: R,
 ) -> Outcome {
     let bytes = read_whole(rt, reader);
-    match StoreFile::open(rt, path) {
-        Ok(store) => {
-            let mut store = store;
-            let outcome = store.ask(rt, command, bytes);
-            store.close(rt, outcome)
-        }
-        Err(outcome) => outcome,
+    in_store(rt, path, Asking { command, bytes })
+}
+
+/// To ask for what was read.
+#[derive(Drop)]
+struct Asking {
+    command: FileCommand,
+    bytes: Result<Vec<u8>, Outcome>,
+}
+
+impl Task for Asking {
+    fn perform<K: Keeper>(self, rt: &HostRuntime, keeper: K) -> (K, Outcome) {
+        let Asking { command, bytes } = self;
+        let mut keeper = keeper;
+        let outcome = ask_keeper(rt, &mut keeper, command, bytes);
+        (keeper, outcome)
     }
 }
 
 /// Puts a request to the store of a path, which isn't made where there is none.
 pub(crate) fn query(rt: &HostRuntime, path: &str, request: &Request) -> Outcome {
-    match StoreFile::open(rt, path) {
-        Ok(store) => {
-            let mut store = store;
-            let outcome = store.perform(rt, request);
-            store.close(rt, outcome)
-        }
-        Err(outcome) => outcome,
+    in_store(rt, path, Querying { request })
+}
+
+/// To put a request.
+#[derive(Drop)]
+struct Querying<'a> {
+    request: &'a Request,
+}
+
+impl<'a> Task for Querying<'a> {
+    fn perform<K: Keeper>(self, rt: &HostRuntime, keeper: K) -> (K, Outcome) {
+        let mut keeper = keeper;
+        let outcome = perform_request(rt, &mut keeper, self.request);
+        (keeper, outcome)
     }
 }
 
 /// Serves so many connections to a port of 127.0.0.1, one after the other, from the store of a path.
 pub(crate) fn serve(rt: &HostRuntime, path: &str, port: u16, count: u32) -> Outcome {
-    match StoreFile::open(rt, path) {
-        Ok(store) => match listen(rt, port) {
-            Ok(listener) => store.serve(rt, &listener, count),
-            Err(_) => store.close(rt, Outcome::NoPort),
-        },
-        Err(outcome) => outcome,
+    in_store(rt, path, Serving { port, count })
+}
+
+/// To serve connections.
+#[derive(Drop)]
+struct Serving {
+    port: u16,
+    count: u32,
+}
+
+impl Task for Serving {
+    fn perform<K: Keeper>(self, rt: &HostRuntime, keeper: K) -> (K, Outcome) {
+        match listen(rt, self.port) {
+            Ok(listener) => {
+                let mut handler = StoreHandler { keeper };
+                serve_connections(rt, &mut handler, &listener, self.count);
+                (handler.keeper, Outcome::Done)
+            }
+            Err(_) => (keeper, Outcome::NoPort),
+        }
     }
 }

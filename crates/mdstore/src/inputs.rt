@@ -1,13 +1,14 @@
 //! What is done with inputs: files, and standard input.
 
-use crate::asking::read_whole;
+use crate::asking::{ask_keeper, read_whole};
 use crate::commands::ask;
-use crate::store_file::StoreFile;
+use crate::store_file::{Task, in_store};
 use mds_check::check;
 use mds_desk::{Outcome, Status};
 use mds_lines::Counted;
 use mds_records::FileKind;
 use mds_requests::FileCommand;
+use mds_versions::Keeper;
 use mds_words::Input;
 use std::io::Read;
 use std::{fs, io};
@@ -46,7 +47,8 @@ pub(crate) fn ask_input(
     }
 }
 
-/// Imports inputs of a kind into a store, one after the other. Of several each line begins with the name of its input.
+/// Imports inputs of a kind into a store, one after the other, with one open of it. Of several each line begins with the name of its
+/// input.
 pub(crate) fn import_inputs(
     rt: &HostRuntime,
     store: &str,
@@ -55,31 +57,36 @@ pub(crate) fn import_inputs(
 ) -> Outcome {
     match inputs {
         [input] => ask_input(rt, store, FileCommand::Import(kind), *input),
-        _ => import_several(rt, store, kind, inputs),
+        _ => in_store(rt, store, Importing { kind, inputs }),
     }
 }
 
-/// Imports several inputs with one open of the store. All are tried, and the run ends with the greatest of their statuses; where
-/// one can't be printed it ends there.
-fn import_several(rt: &HostRuntime, store: &str, kind: FileKind, inputs: &[Input<'_>]) -> Outcome {
-    let mut open = match StoreFile::open(rt, store) {
-        Ok(open) => open,
-        Err(outcome) => return outcome,
-    };
-    let mut status = Status::Done;
-    for input in inputs {
-        match import_named(rt, &mut open, kind, *input) {
-            Some(ended) => status = greater(status, ended),
-            None => return open.close(rt, Outcome::NoOutput),
+/// To import several inputs. All are tried, and the run ends with the greatest of their statuses; where one can't be printed it ends
+/// there.
+#[derive(Drop)]
+struct Importing<'a> {
+    kind: FileKind,
+    inputs: &'a [Input<'a>],
+}
+
+impl<'a> Task for Importing<'a> {
+    fn perform<K: Keeper>(self, rt: &HostRuntime, keeper: K) -> (K, Outcome) {
+        let mut keeper = keeper;
+        let mut status = Status::Done;
+        for input in self.inputs {
+            match import_named(rt, &mut keeper, self.kind, *input) {
+                Some(ended) => status = greater(status, ended),
+                None => return (keeper, Outcome::NoOutput),
+            }
         }
+        (keeper, Outcome::Answered(status))
     }
-    open.close(rt, Outcome::Answered(status))
 }
 
 /// Imports an input, and prints what that comes to behind the input's name. Where that can't be printed there is no status.
-fn import_named(
+fn import_named<K: Keeper>(
     rt: &HostRuntime,
-    store: &mut StoreFile,
+    keeper: &mut K,
     kind: FileKind,
     input: Input<'_>,
 ) -> Option<Status> {
@@ -97,7 +104,7 @@ fn import_named(
             Err(_) => Err(Outcome::NoInput),
         },
     };
-    let outcome = store.ask(rt, FileCommand::Import(kind), bytes);
+    let outcome = ask_keeper(rt, keeper, FileCommand::Import(kind), bytes);
     if matches!(outcome, Outcome::NoOutput) || print!(rt; "{outcome}").is_err() {
         return None;
     }

@@ -3,101 +3,82 @@
 ghost use Rattle.std.specs.Prelude.{◌≡◌};
 ghost use Rattle.mdstore.specs.Refusals.{of_store};
 
-use crate::asking::{ask_keeper, perform_request};
 use crate::place::{Place, Standing};
 use mds_desk::Outcome;
-use mds_http::{StoreHandler, serve_connections};
-use mds_messages::Request;
-use mds_requests::FileCommand;
-use mds_store::{RowKeeper, StoreFault, adopt, create};
-use sqlite::{Connection, Error, ErrorCode, FileFrom, FileStore, Files, Wary};
-use std::net::TcpListener;
+use mds_store::{StoreFault, adopt, create};
+use mds_versions::Keeper;
+use sqlite::{Alter, Connection, Error, ErrorCode, FileFrom, FileStore, Files, Wary};
 
-/// A torn write may leave anything on the disk, so each commit syncs twice.
-type StoreConnection = Connection<FileStore<FileFrom<Wary>>>;
-
-/// The keeper of a store in a file.
-pub(crate) type StoreKeeper = RowKeeper<FileStore<FileFrom<Wary>>>;
-
-/// The file and its log, which are locked until they are dropped.
-pub(crate) type LockedFiles = Files<FileFrom<Wary>>;
-
-/// An open store.
-pub(crate) struct StoreFile {
-    keeper: StoreKeeper,
-    place: Place,
+/// What is done with an open store. It is written over any keeper, so that it is proved without all that the library says of files.
+pub(crate) trait Task {
+    /// Does it, and gives the keeper back and what the run comes to.
+    fn perform<K: Keeper>(self, rt: &HostRuntime, keeper: K) -> (K, Outcome);
 }
 
-impl StoreFile {
-    /// Makes a store where nothing is, or in a file that has no bytes or is an empty database.
-    pub(crate) fn make(rt: &HostRuntime, path: &str) -> Result<StoreFile, Outcome> {
-        let Ok(place) = Place::to_make(rt, path) else {
-            return Err(Outcome::Unavailable);
-        };
-        match place.standing() {
-            Standing::Nothing | Standing::Files => (),
-            Standing::LogAlone => {
-                place.take_away_file(rt);
-                return Err(Outcome::OtherSchema);
-            }
-            Standing::NoDatabase => return Err(Outcome::Unavailable),
+/// The file of a database and its log, which are locked until they are dropped.
+pub(crate) type LockedFiles = Files<FileFrom<Wary>>;
+
+/// Makes a store where nothing is, or in a file that has no bytes or is an empty database.
+pub(crate) fn make_store(rt: &HostRuntime, path: &str) -> Outcome {
+    let Ok(place) = Place::to_make(rt, path) else {
+        return Outcome::Unavailable;
+    };
+    match place.standing() {
+        Standing::Nothing | Standing::Files => in_database(rt, path, &place, Make),
+        Standing::LogAlone => {
+            place.take_away_file(rt);
+            Outcome::OtherSchema
         }
-        let Some(conn) = connect(rt, path, &place) else {
-            return Err(Outcome::Unavailable);
-        };
+        Standing::NoDatabase => Outcome::Unavailable,
+    }
+}
+
+/// Opens the store of a path, which isn't made where there is none, does something with it, and closes it.
+pub(crate) fn in_store<T: Task + Drop>(rt: &HostRuntime, path: &str, task: T) -> Outcome {
+    let Ok(place) = Place::of_file(rt, path) else {
+        return Outcome::Unavailable;
+    };
+    match place.standing() {
+        Standing::Files => in_database(rt, path, &place, Adopt { task }),
+        Standing::Nothing | Standing::LogAlone => Outcome::OtherSchema,
+        Standing::NoDatabase => Outcome::Unavailable,
+    }
+}
+
+/// What is done with an open database, whatever it lies in.
+trait DatabaseTask {
+    /// Does it, and gives the connection back and what the run comes to.
+    fn run<S: Alter>(self, rt: &HostRuntime, conn: Connection<S>) -> (Connection<S>, Outcome);
+}
+
+/// To make a store in it.
+#[derive(Drop)]
+struct Make;
+
+impl DatabaseTask for Make {
+    fn run<S: Alter>(self, rt: &HostRuntime, conn: Connection<S>) -> (Connection<S>, Outcome) {
         match create(rt.alloc(), conn) {
-            Ok(keeper) => Ok(StoreFile { keeper, place }),
-            Err((fault, conn)) => Err(close(rt, &place, conn, of_store(fault))),
+            Ok(keeper) => (keeper.into_connection(), Outcome::Created),
+            Err((fault, conn)) => (conn, of_store(fault)),
         }
     }
+}
 
-    /// Opens the store of a path, which isn't made where there is none.
-    pub(crate) fn open(rt: &HostRuntime, path: &str) -> Result<StoreFile, Outcome> {
-        let Ok(place) = Place::of_file(rt, path) else {
-            return Err(Outcome::Unavailable);
-        };
-        match place.standing() {
-            Standing::Files => (),
-            Standing::Nothing | Standing::LogAlone => return Err(Outcome::OtherSchema),
-            Standing::NoDatabase => return Err(Outcome::Unavailable),
-        }
-        let Some(conn) = connect(rt, path, &place) else {
-            return Err(Outcome::Unavailable);
-        };
+/// To do something with the store that it is.
+#[derive(Drop)]
+struct Adopt<T> {
+    task: T,
+}
+
+impl<T: Task + Drop> DatabaseTask for Adopt<T> {
+    fn run<S: Alter>(self, rt: &HostRuntime, conn: Connection<S>) -> (Connection<S>, Outcome) {
         match adopt(rt.alloc(), conn) {
-            Ok(keeper) => Ok(StoreFile { keeper, place }),
-            Err((fault, conn)) => Err(close(rt, &place, conn, of_store(fault))),
+            Ok(keeper) => {
+                let (keeper, outcome) = self.task.perform(rt, keeper);
+                (keeper.into_connection(), outcome)
+            }
+            Err((fault, conn)) => (conn, of_store(fault)),
         }
-    }
-
-    /// Asks it for what was read. What couldn't be read asks for nothing.
-    pub(crate) fn ask(
-        &mut self,
-        rt: &HostRuntime,
-        command: FileCommand,
-        bytes: Result<Vec<u8>, Outcome>,
-    ) -> Outcome {
-        ask_keeper(rt, &mut self.keeper, command, bytes)
-    }
-
-    /// Puts a request to it.
-    pub(crate) fn perform(&mut self, rt: &HostRuntime, request: &Request) -> Outcome {
-        perform_request(rt, &mut self.keeper, request)
-    }
-
-    /// Serves so many connections from it, one after the other, and closes it.
-    pub(crate) fn serve(self, rt: &HostRuntime, listener: &TcpListener, count: u32) -> Outcome {
-        let StoreFile { keeper, place } = self;
-        let mut handler = StoreHandler { keeper };
-        serve_connections(rt, &mut handler, listener, count);
-        let StoreHandler { keeper } = handler;
-        close(rt, &place, keeper.into_connection(), Outcome::Done)
-    }
-
-    /// Closes it after something was done, and says what the run comes to.
-    pub(crate) fn close(self, rt: &HostRuntime, outcome: Outcome) -> Outcome {
-        let StoreFile { keeper, place } = self;
-        close(rt, &place, keeper.into_connection(), outcome)
     }
 }
 
@@ -111,25 +92,39 @@ fn of_store(fault: StoreFault) -> Outcome
     }
 }
 
-/// Opens the database of a path. Where that fails, what it made is taken away.
-fn connect(rt: &HostRuntime, path: &str, place: &Place) -> Option<StoreConnection> {
+/// Opens the database of a path, does something with it, and closes it. Where it can't be opened, what that made is taken away. A torn
+/// write may leave anything on the disk, so each commit syncs twice.
+fn in_database<T: DatabaseTask + Drop>(
+    rt: &HostRuntime,
+    path: &str,
+    place: &Place,
+    task: T,
+) -> Outcome {
     match Connection::open_from(rt, path, false, Wary) {
-        Ok(conn) => Some(conn),
+        Ok(conn) => {
+            let (conn, outcome) = task.run(rt, conn);
+            close(rt, place, conn, outcome)
+        }
         Err((_, Some(left))) => {
             place.restore(rt, &left.into_files());
-            None
+            Outcome::Unavailable
         }
         // Another process has the file: what it finds there is its own.
-        Err((Error::SqliteFailure(ErrorCode::DatabaseBusy), None)) => None,
+        Err((Error::SqliteFailure(ErrorCode::DatabaseBusy), None)) => Outcome::Unavailable,
         Err((_, None)) => {
             place.take_away_file(rt);
-            None
+            Outcome::Unavailable
         }
     }
 }
 
 /// Closes a database, so that all of it is in its one file, and says what the run comes to.
-fn close(rt: &HostRuntime, place: &Place, conn: StoreConnection, outcome: Outcome) -> Outcome {
+fn close(
+    rt: &HostRuntime,
+    place: &Place,
+    conn: Connection<FileStore<FileFrom<Wary>>>,
+    outcome: Outcome,
+) -> Outcome {
     let (files, outcome) = match conn.close_files() {
         Ok(files) => {
             place.remove_log(rt, &files);

@@ -1,69 +1,10 @@
-use Rattle.std.proofs.Common.{◌≡◌, ◌≤◌, ◌++◌, ◌∷◌, [], ℕ, length, ◌+◌, ◌-◌, ◌<◌, true, refl, sym, ◌∙◌, arith, rules}
-use Rattle.std.specs.Result.{is_ok}
-use Rattle.std.proofs.lemmas.Bool.{false≢true}
-use Rattle.std.proofs.lemmas.List.{length-append}
-use Rattle.csv.specs.Records.{fields_of}
-use Rattle.mds_inputs.specs.Holidays.{head_row}
-use Rattle.mds_inputs.proofs.Lists.{bad_row, named_more, no_head, other_head}
-use Rattle.mds_inputs.proofs.Rows.{front_read, rows_bound}
 use Rattle.mds_inputs.proofs.holidays.read_holidays.Goals as goal
 
-pub returns-then-not-branch-clause-refused : goal.returns-then-not-branch-clause-refused
-returns-then-not-branch-clause-refused c =
-    let none = rw c.if-not-branch.true at (c.in_ok-next_row.ensures.reads c.args.text.now [] c.reader_of-reader.ensures) in
-    no_head _ none
-
-pub returns-then-not-is_head-clause-refused : goal.returns-then-not-is_head-clause-refused
-returns-then-not-is_head-clause-refused c =
-    let read = rw c.if-not-branch.false at (c.in_ok-next_row.ensures.reads c.args.text.now [] c.reader_of-reader.ensures) in
-    let front = front_read _ _ _ read in
-    let other = rw c.if-not-is_head.true at c.is_head.ensures in
-    other_head _ front.0 _ front.1 (λ same. false≢true (other.1 same))
-
-pub loop-days-init : goal.loop-days-init
-loop-days-init c =
-    let read = rw c.if-not-branch.false at (c.in_ok-next_row.ensures.reads c.args.text.now [] c.reader_of-reader.ensures) in
-    let head = rw c.if-not-is_head.false at c.is_head.ensures in
-    record {
-      others = [];
-      so_far = rw (head.0 refl) at read;
-      named = rw c.new-days.ensures.items refl;
-      counted = omega arith;
-    }
-
-pub returns-in_default-clause-refused : goal.returns-in_default-clause-refused
-returns-in_default-clause-refused c =
-    let inv = c.loop-days.invariant in
-    let read = rw c.if-branch.true at (c.in_ok-next_row-2.ensures.reads c.args.text.now (head_row ∷ inv.others) inv.so_far) in
-    let front = front_read _ _ _ read in
-    bad_row _ inv.others front.0 c.loop-days.days.items _ c.loop-days.number front.1 inv.named (sym c.day_in.ensures ∙ c.in_default.is) inv.counted
-
--- one more row leaves fewer bytes to come
-fewer_left : (size number : ℕ) → number + 1 ≤ size → size - (number + 1) < size - number
-fewer_left size number within = omega arith
-
-pub loop-days-smaller : goal.loop-days-smaller
-loop-days-smaller c =
-    let inv = c.loop-days.invariant in
-    let read = rw c.if-branch.true at (c.in_ok-next_row-2.ensures.reads c.args.text.now (head_row ∷ inv.others) inv.so_far) in
-    let bound = rows_bound _ _ _ read in
-    fewer_left (length c.args.text.now) c.loop-days.number (omega (arith, inv.counted, simp length-append at bound))
-
-pub loop-days-preserved : goal.loop-days-preserved
-loop-days-preserved c =
-    let inv = c.loop-days.invariant in
-    let read = rw c.if-branch.true at (c.in_ok-next_row-2.ensures.reads c.args.text.now (head_row ∷ inv.others) inv.so_far) in
-    let kept : is_ok c.push.result ≡ true = search rules in
-    let items = rw kept at c.push.ensures.items in
-    record {
-      others = inv.others ++ fields_of c.next_row-in-loop-days.new.row ∷ [];
-      so_far = read;
-      named = rw items (named_more inv.others c.loop-days.days.items _ c.in-Some.day inv.named (sym c.day_in.ensures ∙ c.in-Some.is));
-      counted = simp length-append (omega (arith, inv.counted));
-    }
+pub read_days-requires : goal.read_days-requires
+read_days-requires c = (c.args.text.now, c.reader_of-reader.ensures)
 
 pub returns-clause-days : goal.returns-clause-days
-returns-clause-days c =
-    let inv = c.loop-days.invariant in
-    let all = rw c.if-branch.false at (c.in_ok-next_row-2.ensures.reads c.args.text.now (head_row ∷ inv.others) inv.so_far) in
-    (inv.others, all, inv.named)
+returns-clause-days c = c.read_days.ensures.days c.args.text.now c.reader_of-reader.ensures
+
+pub returns-clause-refused : goal.returns-clause-refused
+returns-clause-refused c = c.read_days.ensures.refused c.args.text.now c.reader_of-reader.ensures

@@ -1,6 +1,7 @@
 use Rattle.std.proofs.Common.{◌≡◌, [], ◌∷◌, map, ap, sym, subst, ◌∙◌}
 use Rattle.sqlite.specs.Held.{state}
 use Rattle.sqlite.specs.Values.{bound}
+use Rattle.mds_tables.proofs.CallLemmas.{keeps}
 use Rattle.mds_tables.specs.Cells.{day_and_versions}
 use Rattle.mds_versions.specs.Content.{version_at}
 use Rattle.mds_inserts.proofs.EightCells.{eight_got}
@@ -68,3 +69,8 @@ returns-clause-refused g c clean =
     let old = state g.S.Store c.args.tx.now.conn.now in
     untouched _ _ old (state g.S.Store c.execute.new.self.conn.now) c.execute.result clean
     (λ over. rw (c.execute.ensures.ended over).1 (itself old)) c.execute.ensures.runs
+
+pub returns-clause-kept : goal.returns-clause-kept
+returns-clause-kept g c clean =
+    keeps (state g.S.Store c.args.tx.now.conn.now) (state g.S.Store c.execute.new.self.conn.now) _ _ c.execute.result
+    (λ over. ap (state g.S.Store) (c.execute.ensures.ended over).1) (c.execute.ensures.runs clean)

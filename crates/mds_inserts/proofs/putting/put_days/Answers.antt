@@ -1,9 +1,11 @@
-use Rattle.std.proofs.Common.{arith, refl, rules}
+use Rattle.std.proofs.Common.{arith, refl, rules, ap, subst, take_all}
 use Rattle.std.proofs.lemmas.Result.{err_from_is_err_and}
 use Rattle.sqlite.specs.Held.{state}
 use Rattle.sqlite.proofs.InsideLemmas.{keeps_then}
 use Rattle.mds_tables.proofs.CallLemmas.{keeps_same, survives_more, survives_same}
+use Rattle.mds_versions.specs.Content.{versions_of}
 use Rattle.mds_inserts.specs.Parts.{version_part}
+use Rattle.mds_inserts.specs.Writing.{PutsThere}
 use Rattle.mds_inserts.proofs.PutLemmas.{next_day_fails, next_day_there, none_there}
 use Rattle.mds_inserts.proofs.putting.put_days.Goals as goal
 
@@ -53,3 +55,8 @@ returns-in_err-put_day-clause-cause g c clean is_open inside has sound =
     (state g.S.Store c.put_day.new.tx.conn.now) c.args.days.now c.loop-added.added-index c.added-item.result (omega arith)
     c.added-item.is c.put_day.ensures.survives.clean before.survives.limit before.survives.counts before.puts clean is_open
     inside has sound _ (c.in_err-put_day.ensures.cause clean))
+
+pub returns-clause-ok : goal.returns-clause-ok
+returns-clause-ok g c =
+    subst (PutsThere version_part (state g.S.Store c.args.tx.now.conn.now) (state g.S.Store c.loop-added.tx.conn.now))
+    (ap versions_of (take_all c.loop-added.added-index c.args.days.now (omega arith))) c.loop-added.invariant.puts

@@ -1,8 +1,9 @@
-use Rattle.std.proofs.Common.{arith, refl, rules}
+use Rattle.std.proofs.Common.{arith, refl, rules, subst, take_all}
 use Rattle.std.proofs.lemmas.Result.{err_from_is_err_and}
 use Rattle.sqlite.specs.Held.{state}
 use Rattle.sqlite.proofs.InsideLemmas.{keeps_then}
 use Rattle.mds_tables.proofs.CallLemmas.{keeps_same, survives_more, survives_same}
+use Rattle.mds_inserts.specs.Writing.{PutsThere}
 use Rattle.mds_inserts.proofs.PutLemmas.{next_fails, next_there, none_there}
 use Rattle.mds_inserts.proofs.putting.put_each.Goals as goal
 
@@ -52,3 +53,8 @@ returns-in_err-put-clause-cause g c clean is_open inside has sound =
     (state g.S.Store c.put.new.tx.conn.now) c.args.items.now c.loop-item.item-index c.item-item.result (omega arith)
     c.item-item.is c.put.ensures.survives.clean before.survives.limit before.survives.counts before.puts clean is_open
     inside has sound _ (c.in_err-put.ensures.cause clean))
+
+pub returns-clause-ok : goal.returns-clause-ok
+returns-clause-ok g c =
+    subst (PutsThere g.T.Put.part (state g.S.Store c.args.tx.now.conn.now) (state g.S.Store c.loop-item.tx.conn.now))
+    (take_all c.loop-item.item-index c.args.items.now (omega arith)) c.loop-item.invariant.puts

@@ -1,4 +1,4 @@
-use Rattle.std.proofs.Common.{arith, map, refl, rules}
+use Rattle.std.proofs.Common.{arith, map, refl, rules, subst, take_all}
 use Rattle.std.proofs.lemmas.List.{length-map}
 use Rattle.std.proofs.lemmas.Result.{err_from_is_err_and}
 use Rattle.sqlite.specs.Held.{state}
@@ -6,6 +6,7 @@ use Rattle.sqlite.proofs.InsideLemmas.{keeps_then}
 use Rattle.mds_tables.proofs.CallLemmas.{keeps_same, survives_more, survives_same}
 use Rattle.mds_versions.specs.Content.{version_at}
 use Rattle.mds_inserts.specs.Parts.{version_part}
+use Rattle.mds_inserts.specs.Writing.{PutsThere}
 use Rattle.mds_inserts.proofs.PutLemmas.{version_here, next_fails, next_there, none_there}
 use Rattle.mds_inserts.proofs.putting.put_rows.Goals as goal
 
@@ -61,3 +62,10 @@ returns-in_err-put_version-clause-cause g c clean is_open inside has sound =
     (version_here c.args.stream.now c.args.day c.args.rows.now _ _ c.row-item.is)
     c.put_version.ensures.survives.clean before.survives.limit before.survives.counts before.puts clean is_open
     inside has sound _ (c.in_err-put_version.ensures.cause clean))
+
+pub returns-clause-ok : goal.returns-clause-ok
+returns-clause-ok g c =
+    let versions = map (version_at c.args.stream.now c.args.day) c.args.rows.now in
+    subst (PutsThere version_part (state g.S.Store c.args.tx.now.conn.now) (state g.S.Store c.loop-row.tx.conn.now))
+    (take_all c.loop-row.row-index versions (omega (arith, length-map c.args.rows.now (version_at c.args.stream.now c.args.day))))
+    c.loop-row.invariant.puts

@@ -1,4 +1,4 @@
-use Rattle.std.proofs.Common.{◌<◌, List, ℕ, take, length, ap, sym, subst}
+use Rattle.std.proofs.Common.{rules, ◌<◌, List, ℕ, take, length, ap, sym, subst}
 use Rattle.std.specs.Io.KnownBytes.{Appends}
 use Rattle.mds_wire.specs.Serving.{text_of}
 use Rattle.mds_wire.specs.ServeSteps.{answer_of}
@@ -31,3 +31,13 @@ returns-clause-serves g c =
       read = u.read;
       is = (answer_of c.in-Ok-understand.reply c.understand.new.answer.items, u.is, part.0, part.1, part.2);
     }
+
+pub returns-in-Err-Read-clause-serves : goal.returns-in-Err-Read-clause-serves
+returns-in-Err-Read-clause-serves g c =
+    let u = rw c.in-Err-Read.field-0-is at c.in-Err-Read.ensures.understands in
+    record { bytes = u.bytes; few = u.few; read = u.read; is = (u.is, search rules) }
+
+pub returns-in-Err-Closed-clause-serves : goal.returns-in-Err-Closed-clause-serves
+returns-in-Err-Closed-clause-serves g c =
+    let u = rw c.in-Err-Closed.field-0-is at c.in-Err-Closed.ensures.understands in
+    record { bytes = u.bytes; few = u.few; read = u.read; is = (u.is.0, search rules, u.is.1, u.is.2) }

@@ -1,8 +1,8 @@
-use Rattle.std.proofs.Common.{rules, w64}
+use Rattle.std.proofs.Common.{ap, rules, w64}
 use Rattle.std.proofs.lemmas.Int.{to_z-of_z}
 use Rattle.std.proofs.lemmas.Result.{err_from_is_err_and}
 use Rattle.sqlite.specs.Held.{state}
-use Rattle.mds_tables.proofs.CallLemmas.{still}
+use Rattle.mds_tables.proofs.CallLemmas.{keeps, still}
 use Rattle.mds_inserts.proofs.PutLemmas.{fails_job, puts_job}
 use Rattle.mds_inserts.proofs.putting.JobRowPut.put.Goals as goal
 
@@ -19,3 +19,13 @@ returns-clause-ok g c =
     c.in_ok-execute.field-0
     (λ clean. rw (c.job_cells.ensures, c.as_bytes.ensures.value, to_z-of_z w64 c.args.self.now.count (search rules)) at (c.in_ok-execute.ensures.runs clean
     (still _ _ _ _ c.execute.ensures.ended c.in_ok-execute.was)))
+
+pub returns-in_err-execute-clause-kept : goal.returns-in_err-execute-clause-kept
+returns-in_err-execute-clause-kept g c clean =
+    keeps (state g.S.Store c.args.tx.now.conn.now) (state g.S.Store c.execute.new.self.conn.now) _ _ c.execute.result
+    (λ over. ap (state g.S.Store) (c.execute.ensures.ended over).1) (c.execute.ensures.runs clean)
+
+pub returns-clause-kept : goal.returns-clause-kept
+returns-clause-kept g c clean =
+    keeps (state g.S.Store c.args.tx.now.conn.now) (state g.S.Store c.execute.new.self.conn.now) _ _ c.execute.result
+    (λ over. ap (state g.S.Store) (c.execute.ensures.ended over).1) (c.execute.ensures.runs clean)

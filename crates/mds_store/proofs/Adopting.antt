@@ -1,0 +1,34 @@
+-- Whether a database that has the tables of a store is one, from what was asked of it.
+use Rattle.std.specs.Prelude.{◌≡◌, ℤ, pos, List, [], ◌∷◌, map, IsTrue}
+use Rattle.std.proofs.Common.{sym, ap, subst, ◌∙◌, arith}
+use Rattle.sqlite.specs.Effect.{Database}
+use Rattle.sqlite.specs.State.{HasCleanDisk, KeepsCommit, State, Survives}
+use Rattle.mds_tables.specs.RowFacts.{int_at}
+use Rattle.mds_tables.specs.Stores.{AreOpen, Holds, HoldsTables, IsStore}
+use Rattle.mds_store.specs.Starting.{IsAdopted}
+
+-- what its mds_schema says
+abbrev pub said : Database → List ℤ
+said db = map (λ row. int_at row 1) (db.trees 0)
+
+module _ (old new : State) (held : HoldsTables old) (survives : Survives old new (λ _. ⊥))
+    (kept : HasCleanDisk new → KeepsCommit old new) where
+  a_store : HasCleanDisk new → IsTrue old.is_open → said old.committed ≡ pos 1 ∷ [] → IsStore old.committed
+  a_store clean was_open says = record { schema = held (omega (arith, survives.clean)) was_open; version = says }
+
+  pub is_adopted : HasCleanDisk new → AreOpen old new → said old.committed ≡ pos 1 ∷ [] → IsAdopted old new
+  is_adopted clean are_open says = record {
+    was_open = are_open.was_open;
+    is_open = are_open.is_open;
+    store = a_store clean are_open.was_open says;
+    same = (kept clean).committed are_open.is_open;
+  }
+
+  pub still_holds : (HasCleanDisk new → said old.committed ≡ pos 1 ∷ []) → Holds new
+  still_holds says clean is_open =
+      subst IsStore (sym ((kept clean).committed is_open)) (a_store clean ((kept clean).was_open is_open) (says clean))
+
+  pub is_none : HasCleanDisk new → (IsTrue old.is_open → old.now ≡ old.committed) → ¬ (said old.committed ≡ pos 1 ∷ [])
+      → IsTrue new.is_open → ¬ IsStore old.now
+  is_none clean settled other is_open store =
+      other (ap said (sym (settled ((kept clean).was_open is_open))) ∙ store.version)
