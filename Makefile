@@ -1,10 +1,12 @@
 # `make` builds the program and imports a sample into a store; `make test` runs the gate; `make bench` measures.
 .PHONY: all test bench
 
-all: bin/mdstore
-	bin/mdstore init --store week.db || true
+all: bin/mdstore week.db
 	bin/mdstore import --store week.db examples/week.nem12
 	@if command -v sqlite3 > /dev/null; then sqlite3 week.db < examples/days.sql; fi
+
+week.db: | bin/mdstore
+	bin/mdstore init --store week.db
 
 SOURCES := $(shell tools/build --sources)
 

@@ -12,7 +12,7 @@ use Rattle.jiff_core.specs.declared.civil.date.Date.{Date}
 use Rattle.jiff_core.specs.Date.{epoch_day}
 use Rattle.jiff_core.specs.Calendar.{day_count, days_from_civil, days_in_month, IsEpochDay, IsYear, IsCivilDate, IsDate}
 use Rattle.jiff_core.proofs.SignedLemmas.{signed_arith}
-use Rattle.jiff_core.proofs.CalendarLemmas.{days_from_civil-day_count, day_count-epoch, day_count-lt_year, day_count-day_of_year, days_in_month_bounds, weekday_number-add}
+use Rattle.jiff_core.proofs.CalendarLemmas.{days_from_civil-day_count, day_count-epoch, day_count-lt_year, day_count-day_of_year, days_in_month_bounds, weekday_number-add, weekday_number_bound}
 use Rattle.jiff_core.proofs.DateLemmas.{civil, epoch_day_injective, epoch_day_range, days_from_civil-max, weekday_number-week}
 use Rattle.jiff_core.proofs.StandardFacts.{known_days}
 use Rattle.mds_calendar.specs.Calendar.{day_of, day_number, is_date, are_digits, number_at, last_day, weekday_of}
@@ -277,3 +277,10 @@ next_weekday day = weekday_number-add (pos day) (pos (day + 1)) 1 refl
 
 pub same_weekday : (day : ℕ) → weekday_of (day + 7) ≡ weekday_of day
 same_weekday day = weekday_number-week (pos day)
+
+-- the weekday of a day that comes so many days later, and the greatest number of a weekday
+pub weekday_later : (day later days : ℕ) → later ≡ day + days → weekday_of later ≡ (weekday_of day + days) % 7
+weekday_later day later days e = weekday_number-add (pos day) (pos later) days (ap pos e)
+
+pub weekday_bound : (day : ℕ) → weekday_of day < 7
+weekday_bound day = weekday_number_bound (pos day)

@@ -1,3 +1,4 @@
 pub mod Calendar
 pub mod CalendarSteps
 pub mod Length
+pub mod Weekdays

@@ -5,12 +5,14 @@ ghost use Rattle.std.specs.Ordering.{nat_cmp};
 ghost use Rattle.mds_calendar.specs.Calendar.{is_date, day_number, day_of, last_day, weekday_of};
 ghost use Rattle.mds_calendar.specs.CalendarSteps.{digit};
 ghost use Rattle.jiff_core.specs.Date.{epoch_day};
-ghost use Rattle.jiff_core.specs.Weekday.{monday_zero};
+ghost use Rattle.mds_calendar.specs.Weekdays.{monday_zero};
+ghost use Rattle.mds_calendar.specs.declared.weekday.Weekday.TheVariants.{Thursday};
 ghost use Rattle.std.specs.Char.{is_ascii_digit};
 ghost use Rattle.std.specs.List.{list_all};
 ghost use Rattle.std.specs.Str.Parse.{digits_value};
 
-use jiff_core::civil::{Date, Weekday};
+use crate::weekday::{Weekday, weekday_of as own_weekday};
+use jiff_core::civil::Date;
 use std::alloc::AllocError;
 use std::marker::Model;
 use std::str;
@@ -68,11 +70,11 @@ impl Day {
         i64::from(self.number)
     }
 
-    /// Its day of the week, in the calendar of `jiff`.
+    /// Its day of the week.
     pub fn weekday(self) -> Weekday
         ensures { monday_zero result ≡ weekday_of self }
     {
-        self.date().weekday()
+        own_weekday(self.date().weekday())
     }
 
     /// The day so many days before, or `None` where that is before 1 January 1970.
@@ -159,7 +161,7 @@ pub fn one_day_text()
 /// Day 0, 1 January 1970, is a Thursday, each day's weekday is the one after that of the day
 /// before, and after a week it is the same.
 pub fn weekdays_go_on()
-    ensures first { weekday_of 0 ≡ monday_zero Weekday.Thursday }
+    ensures first { weekday_of 0 ≡ monday_zero Thursday }
     ensures next { (day : ℕ) → weekday_of (day + 1) ≡ (weekday_of day + 1) % 7 }
     ensures week { (day : ℕ) → weekday_of (day + 7) ≡ weekday_of day }
 {}

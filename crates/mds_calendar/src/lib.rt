@@ -5,8 +5,9 @@
 mod day;
 mod length;
 mod moment;
+mod weekday;
 
 pub use day::{Day, first_and_last_day, one_day_text, weekdays_go_on};
-pub use jiff_core::civil::Weekday;
 pub use length::{Length, lengths_read_back};
 pub use moment::{Moment, one_moment_text};
+pub use weekday::Weekday;

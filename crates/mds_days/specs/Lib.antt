@@ -1,4 +1,3 @@
 pub mod Days
-pub mod DaySteps
 pub mod Readings
 pub mod RunFaults

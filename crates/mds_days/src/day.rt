@@ -7,11 +7,11 @@ ghost use Rattle.mds_marks.specs.Quality.{variable};
 ghost use Rattle.mds_marks.specs.Reading.{is_reading};
 ghost use Rattle.mds_runs.specs.Runs.{is_in_range};
 ghost use Rattle.mds_days.specs.Days.{AreValuesOf, IsWhole, run_value};
-ghost use Rattle.mds_days.specs.DaySteps.{null_mark};
 ghost use Rattle.mds_days.specs.Readings.{amounts, leaves_gap, reading_by, readings_of, total};
 ghost use Rattle.mds_days.specs.RunFaults.{lacks_value, run_fault};
 
-use mds_marks::{Mark, Quality, Reading, Reason};
+use mds_marks::flags::{NULL, VARIABLE};
+use mds_marks::{Mark, Reading};
 use mds_quantity::Quantity;
 use mds_records::{FaultCode, IntervalDataRecord, IntervalEventRecord, IntervalValues};
 use mds_runs::{Cover, Run, RunFault, mark_from};
@@ -19,12 +19,6 @@ use mds_terms::{Day, Moment};
 use std::alloc::{AllocError, Global};
 use std::marker::Model;
 use std::mem;
-
-/// The flag of null data, under which an interval has no value.
-const NULL: u8 = b'N';
-
-/// The flag of a day whose 400 records mark each interval.
-const VARIABLE: u8 = b'V';
 
 /// A day as its 300 record and the 400 records after it give it. One is kept for all days of a
 /// file, so that a day takes no memory but for its runs and the text of a reason.
@@ -85,7 +79,7 @@ impl DayData {
             line: 0,
             date: Day::from_number(0).unwrap(),
             update: None,
-            mark: null_mark(),
+            mark: Mark::bare_null(),
             sum: 0,
             values: IntervalValues::new(alloc)?,
             cover: Cover::new(alloc, 0),
@@ -336,15 +330,5 @@ fn reading(mark: &Mark, value: Option<Quantity>) -> Result<Reading, AllocError>
     match Reading::new(mark.try_clone()?, value) {
         Some(reading) => Ok(reading),
         None => unreachable!(),
-    }
-}
-
-/// The mark of no data: quality N, without a reason.
-fn null_mark() -> Mark
-    ensures { result ≡ null_mark }
-{
-    Mark {
-        quality: Quality::new(NULL, 0).unwrap(),
-        reason: Reason::none(),
     }
 }

@@ -7,7 +7,7 @@ use Rattle.mds_marks.specs.Mark.{is_mark}
 use Rattle.mds_marks.specs.Reading.{ReadingValue, is_lawful, is_reading, is_value}
 use Rattle.mds_marks.specs.declared.mark.Mark.{Mark}
 use Rattle.mds_runs.specs.declared.cover.Run.{Run}
-use Rattle.mds_nem12.specs.Said.{bare_null}
+use Rattle.mds_marks.specs.Mark.{bare_null}
 use Rattle.mds_rows.specs.ReadBack.{IsLawful}
 use Rattle.mds_rows.specs.Rows.{IsRowText, RowValue, EndRow}
 use Rattle.mds_statements.specs.Statements.{HeaderValue}

@@ -12,7 +12,8 @@ use Rattle.mds_records.specs.Records.{value_count}
 use Rattle.mds_runs.specs.declared.cover.Run.{Run}
 use Rattle.mds_reading.specs.Governing.{record_kind}
 use Rattle.mds_statements.specs.Statements.{HeaderValue}
-use Rattle.mds_nem12.specs.Said.{bare_null, count_in, details_in, header_in, length_in, run_in, stream_in, unit_in}
+use Rattle.mds_marks.specs.Mark.{bare_null}
+use Rattle.mds_nem12.specs.Said.{count_in, details_in, header_in, length_in, run_in, stream_in, unit_in}
 use Rattle.mds_rows.specs.ReadBack.{ReadsAs, Says, row_kind}
 use Rattle.mds_rows.specs.Rows.{DetailsRow, RowValue}
 use Rattle.mds_export.specs.Rows.{header_row, run_row}

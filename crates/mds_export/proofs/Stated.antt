@@ -19,7 +19,8 @@ use Rattle.mds_nem12.specs.Faults.{fault_of_run, nem12}
 use Rattle.mds_nem12.specs.Governing.{Governors, governors, has_gap}
 use Rattle.mds_nem12.specs.OpenDays.{IsOpen}
 use Rattle.mds_nem12.specs.Place.{is_in_place}
-use Rattle.mds_nem12.specs.Said.{bare_null, count_in, date_in, header_in, length_in, mark_in, run_in, stream_in, unit_in, update_in, values_in}
+use Rattle.mds_marks.specs.Mark.{bare_null}
+use Rattle.mds_nem12.specs.Said.{count_in, date_in, header_in, length_in, mark_in, run_in, stream_in, unit_in, update_in, values_in}
 use Rattle.mds_nem12.specs.Statements.{day_statement, stated_by, statements, stream_statement}
 use Rattle.mds_nem12.proofs.Governs.{advance, day_within}
 use Rattle.mds_nem12.proofs.Lasts.{last_or_push}

@@ -22,7 +22,8 @@ use Rattle.mds_statements.specs.Statements.{HeaderValue, Statement}
 use Rattle.mds_statements.specs.Statements.Statement.{HeaderOf, DetailsOf, DayOf}
 use Rattle.mds_nem12.specs.Faults.{fault_of, nem12}
 use Rattle.mds_nem12.specs.Governing.{governors, has_gap, is_this}
-use Rattle.mds_nem12.specs.Said.{bare_null, count_in}
+use Rattle.mds_marks.specs.Mark.{bare_null}
+use Rattle.mds_nem12.specs.Said.{count_in}
 use Rattle.mds_nem12.specs.Statements.{statements, statements_of}
 use Rattle.mds_nem12.proofs.States.{closed_at}
 use Rattle.mds_nem12.proofs.Taken.{governs}

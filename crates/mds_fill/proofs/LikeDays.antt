@@ -1,10 +1,10 @@
 -- The Sundays before a day, and days in a list.
-use Rattle.std.proofs.Common.{◌≡◌, ◌+◌, ◌-◌, ◌*◌, ◌<◌, ◌≤◌, ℕ, zero, suc, slice_get, pos, Bool, true, false, ◌||◌, ◌==◌, List, [], ◌∷◌, Option, Some, None, SomeIff, IfSome, IfNone, refl, sym, ap, subst, inl, inr, arith}
+use Rattle.std.proofs.Common.{◌≡◌, ◌+◌, ◌-◌, ◌*◌, ◌<◌, ◌≤◌, ℕ, zero, suc, slice_get, Bool, true, false, ◌||◌, ◌==◌, List, [], ◌∷◌, Option, Some, None, SomeIff, IfSome, IfNone, refl, sym, subst, inl, inr, arith}
 use Rattle.std.proofs.lemmas.Bool.Decides.{nat_tests}
 use Rattle.std.specs.Bool.{MatchBool}
 use Rattle.std.specs.List.{list_any}
-use Rattle.jiff_core.proofs.CalendarLemmas.{weekday_number-add, weekday_number_bound}
 use Rattle.mds_calendar.specs.Calendar.{weekday_of}
+use Rattle.mds_calendar.proofs.Days.{weekday_bound, weekday_later}
 use Rattle.mds_world.specs.Lists.{Member}
 use Rattle.mds_world.proofs.Sets.{split_or}
 use Rattle.mds_fill.specs.Candidates.{IsSunday}
@@ -24,9 +24,9 @@ pub sunday_there : (day n place : ℕ) → n ≡ weekday_of day + 1 → n + 7 * 
     × (day ≤ day - (n + 7 * place) + 7 * place + 7)
 sunday_there day n place e le =
     let whole : day ≡ day - (n + 7 * place) + (n + 7 * place) = omega arith in
-    let later = weekday_number-add (pos (day - (n + 7 * place))) (pos day) (n + 7 * place) (ap pos whole) in
-    let small = weekday_number_bound (pos (day - (n + 7 * place))) in
-    let bound = weekday_number_bound (pos day) in
+    let later = weekday_later (day - (n + 7 * place)) day (n + 7 * place) whole in
+    let small = weekday_bound (day - (n + 7 * place)) in
+    let bound = weekday_bound day in
     (omega (arith, later, small, bound, e), omega (arith, e, bound), omega (arith, e, bound))
 
 -- a Sunday within a week before the place is that one
@@ -34,7 +34,7 @@ pub no_other_sunday : (day n place sunday : ℕ) → n ≡ weekday_of day + 1 �
     → sunday + 7 * place < day → day ≤ sunday + 7 * place + 7 → ⊥
 no_other_sunday day n place sunday e none is below within =
     let whole : day ≡ sunday + (day - sunday) = omega arith in
-    let later = weekday_number-add (pos sunday) (pos day) (day - sunday) (ap pos whole) in
+    let later = weekday_later sunday day (day - sunday) whole in
     none (omega (arith, later, e, is, below, within))
 
 -- a day is found in a list just where it is one of it

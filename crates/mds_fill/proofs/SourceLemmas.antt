@@ -1,10 +1,10 @@
 -- Where the values of a job come from.
-use Rattle.std.proofs.Common.{◌≡◌, ◌+◌, ◌-◌, ◌<◌, ◌≤◌, ℕ, ℤ, pos, Option, Some, None, inl, inr, refl, sym, ap, subst, arith}
+use Rattle.std.proofs.Common.{◌≡◌, ◌+◌, ◌-◌, ◌<◌, ◌≤◌, ℕ, ℤ, Option, Some, None, inl, inr, refl, sym, subst, arith}
 use Rattle.std.specs.Prelude.{List, [], ◌∷◌, IsSomeAnd, MatchOption, get_or, length, slice_get, zero, suc}
 use Rattle.std.proofs.lemmas.Bool.{cases_lt}
 use Rattle.mds_calendar.specs.Calendar.{last_day}
 use Rattle.mds_calendar.specs.Length.{count_of}
-use Rattle.jiff_core.proofs.CalendarLemmas.{weekday_number-add}
+use Rattle.mds_calendar.proofs.Days.{weekday_later}
 use Rattle.mds_world.specs.Facts.{JobContent}
 use Rattle.mds_world.specs.Facts.Fact.{HolidayIs}
 use Rattle.mds_world.specs.Sets.{◌∈◌}
@@ -20,7 +20,7 @@ use Rattle.mds_fill.proofs.TargetLemmas.{finds_as}
 one_sunday : (a b : ℕ) → IsSunday a → IsSunday b → a ≤ b → b < a + 7 → a ≡ b
 one_sunday a b is_a is_b le within =
     let whole : b ≡ a + (b - a) = omega arith in
-    let later = weekday_number-add (pos a) (pos b) (b - a) (ap pos whole) in
+    let later = weekday_later a b (b - a) whole in
     omega (arith, later, is_a, is_b, within)
 
 -- a place has one candidate

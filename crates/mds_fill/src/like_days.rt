@@ -59,7 +59,7 @@ fn days_since_sunday(day: Day) -> u32
     ensures value { result ≡ weekday_of day + 1 }
     ensures week { result ≤ 7 }
 {
-    day.weekday().to_monday_one_offset() as u32
+    day.weekday().number_from_monday()
 }
 
 /// Whether a day is one of these.

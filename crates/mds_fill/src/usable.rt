@@ -8,6 +8,7 @@ ghost use Rattle.mds_jobs.specs.Jobs.{content_of};
 ghost use Rattle.mds_fill.specs.Fills.{Finds, HasAll, IsActualOrFinal, IsBookOf, IsLikeBook, IsLikeValue, IsUsable};
 
 use mds_jobs::Job;
+use mds_marks::flags::{ACTUAL, FINAL};
 use mds_quantity::Quantity;
 use mds_terms::Reading;
 use mds_versions::DayBook;
@@ -71,5 +72,5 @@ pub(crate) fn is_actual_or_final(reading: &Reading) -> bool
         (IsActualOrFinal reading.now.mark.quality.flag → ⊥) }
 {
     let mark = reading.mark();
-    matches!(mark.quality.flag(), b'A' | b'F')
+    matches!(mark.quality.flag(), ACTUAL | FINAL)
 }

@@ -5,6 +5,7 @@ ghost use Rattle.serde_json.specs.View.{view};
 ghost use Rattle.mds_inputs.specs.JobFields.{flag_of, keys_of, number_at, text_at};
 ghost use Rattle.mds_inputs.specs.JobObjects.{job_keys};
 
+use mds_marks::flags::{ACTUAL, ESTIMATED, FINAL, NULL, SUBSTITUTED, VARIABLE};
 use serde_json::Value;
 
 /// The text at a key.
@@ -28,7 +29,7 @@ pub(crate) fn flag_of(text: &str) -> Option<u8>
     ensures { result ≡ flag_of text.now }
 {
     match text.as_bytes() {
-        [flag @ (b'A' | b'E' | b'F' | b'N' | b'S' | b'V')] => Some(*flag),
+        [flag @ (ACTUAL | ESTIMATED | FINAL | NULL | SUBSTITUTED | VARIABLE)] => Some(*flag),
         _ => None,
     }
 }

@@ -7,6 +7,7 @@ ghost use Rattle.mds_jobs.specs.Jobs.{HasPlaceOf, IsBad, content_of, flags, meth
 
 use crate::job_id::JobId;
 use mds_marks::Reason;
+use mds_marks::flags::{ESTIMATED, FINAL, SUBSTITUTED};
 use mds_quantity::Unit;
 use mds_terms::{Day, Length, Moment, Stream};
 use std::alloc::AllocError;
@@ -24,7 +25,7 @@ pub struct Job {
     pub unit: Unit,
     /// 14 copies a like day, 15 takes the mean of like days, 17 interpolates, and 19 puts zeros.
     pub method: u8,
-    /// The quality flag of what is filled in, as an ASCII letter.
+    /// The quality flag of what is filled in, one of `mds_marks::flags`, or any other byte, with which no store can do it.
     pub flag: u8,
     pub reason: Reason,
     /// The update under which the new readings stand.
@@ -100,7 +101,7 @@ fn is_method(method: u8) -> bool
 fn is_flag(flag: u8) -> bool
     ensures { MatchBool result (Member flag flags) (Member flag flags → ⊥) }
 {
-    matches!(flag, b'E' | b'F' | b'S')
+    matches!(flag, ESTIMATED | FINAL | SUBSTITUTED)
 }
 
 /// Whether two ids are the same.

@@ -7,7 +7,7 @@ ghost use Rattle.mds_world.specs.World.{World};
 ghost use Rattle.mds_versions.specs.Books.{IsDay};
 ghost use Rattle.mds_ranges.specs.Readings.{AreReadings};
 
-use mds_terms::{Length, Mark, Quality, Reading, Reason};
+use mds_terms::{Length, Mark, Reading};
 use mds_versions::DayBook;
 use std::alloc::{AllocError, Global};
 
@@ -40,13 +40,9 @@ fn current_reading(book: &DayBook, interval: u16) -> Result<Reading, AllocError>
     }
 }
 
-/// Bare N: quality N, without a method, a reason or a value.
+/// Bare N, without a value.
 fn no_reading() -> Reading
     ensures { result ≡ bare_n }
 {
-    let mark = Mark {
-        quality: Quality::new(b'N', 0).unwrap(),
-        reason: Reason::none(),
-    };
-    Reading::new(mark, None).unwrap()
+    Reading::new(Mark::bare_null(), None).unwrap()
 }

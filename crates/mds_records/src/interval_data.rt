@@ -13,6 +13,7 @@ use crate::fault::{FieldFault, least_bad};
 use crate::interval_values::{IntervalValues, ValueFaults};
 use crate::term::{mark_parts, optional_moment};
 use mds_lines::{is_blank_from, next_field};
+use mds_marks::flags::{ACTUAL, ESTIMATED, FINAL, SUBSTITUTED};
 use mds_terms::{Day, MarkRef, Moment, Quality};
 
 /// A 300 record, the interval data of a day.
@@ -142,7 +143,7 @@ fn means_values(quality: Option<Quality>) -> bool
     ensures { result ≡ has_flag (codes "AEFS") quality }
 {
     match quality {
-        Some(quality) => matches!(quality.flag(), b'A' | b'E' | b'F' | b'S'),
+        Some(quality) => matches!(quality.flag(), ACTUAL | ESTIMATED | FINAL | SUBSTITUTED),
         None => false,
     }
 }

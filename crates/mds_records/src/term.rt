@@ -13,6 +13,7 @@ ghost use Rattle.mds_records.specs.Layouts.{has_flag, interval_number_of};
 ghost use Rattle.mds_terms.specs.Event.{letter_of};
 ghost use Rattle.mds_terms.specs.Parts.{optional};
 
+use mds_marks::flags::{ACTUAL, ESTIMATED, FINAL, NULL, SUBSTITUTED};
 use mds_terms::{Day, MarkRef, Moment, Quality, ReasonRef, TransCode};
 
 /// What is good of the fields of a mark.
@@ -103,7 +104,10 @@ pub(crate) fn is_single_quality(quality: &Option<Quality>) -> bool
     ensures { result ≡ has_flag (codes "AEFNS") quality.now }
 {
     match quality {
-        Some(quality) => matches!(quality.flag(), b'A' | b'E' | b'F' | b'N' | b'S'),
+        Some(quality) => matches!(
+            quality.flag(),
+            ACTUAL | ESTIMATED | FINAL | NULL | SUBSTITUTED
+        ),
         None => false,
     }
 }

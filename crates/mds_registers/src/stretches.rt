@@ -9,6 +9,7 @@ ghost use Rattle.mds_registers.specs.Stretches.{AreFinals, AreGaps, HasFinal, Is
 ghost use Rattle.mds_registers.specs.StretchesSteps.{GoesOn, TakesInFinal, TakesInNull};
 
 use mds_marks::Mark;
+use mds_marks::flags::{FINAL, NULL};
 use mds_versions::DayBook;
 use std::alloc::{AllocError, Global};
 
@@ -28,12 +29,6 @@ pub struct Final {
     pub last: u16,
     pub mark: Mark,
 }
-
-/// The flag of readings without a value.
-const NULL: u8 = b'N';
-
-/// The flag of final substituted readings.
-const FINAL: u8 = b'F';
 
 /// The gap that a day is which isn't known.
 const WHOLE_DAY: Gap = Gap { first: 0, last: 0 };

@@ -25,6 +25,7 @@ ghost use Rattle.mds_terms.specs.Printable.{is_printable};
 ghost use Rattle.mds_selects.specs.Shown.{IsDetailRow, amount_in, shown_details, shown_key, shown_reading};
 ghost use Rattle.mds_selects.specs.Written.{BeginsWith, IsDay, IsMoment, IsRowOfDetail, IsRowOfEvent, IsRowOfHead, IsRowOfVersion, text_length};
 
+use mds_marks::flags::NULL;
 use mds_marks::{Mark, Quality, Reading, Reason, qualities_read_back};
 use mds_quantity::{Quantity, Unit, units_read_back};
 use mds_terms::{
@@ -168,7 +169,7 @@ fn value_in(quality: Quality, amount: i64) -> Option<Option<Quantity>>
     ensures some { IfSome result (λ value. value ≡ amount_in quality amount) }
     ensures none { IfNone result ((quality.flag ≢ null) × (limit ≤ unsigned_abs amount)) }
 {
-    if quality.flag() == b'N' {
+    if quality.flag() == NULL {
         return Some(None);
     }
     Some(Some(Quantity::from_millionths(amount)?))

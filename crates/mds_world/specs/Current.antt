@@ -3,7 +3,7 @@
 use Rattle.std.specs.Prelude.{◌≡◌, ◌⊎◌, ◌≤◌, ℕ, [], None, true}
 use Rattle.std.specs.Ordering.{is_le, nat_cmp, ordering_then}
 use Rattle.mds_names.specs.declared.stream.Stream.{Stream}
-use Rattle.mds_marks.specs.Quality.{null}
+use Rattle.mds_marks.specs.Mark.{bare_null}
 use Rattle.mds_marks.specs.Reading.{ReadingValue}
 use Rattle.mds_terms.specs.Details.{DetailsValue, details_cmp}
 use Rattle.mds_world.specs.Facts.Fact.{DetailIs, VersionIs}
@@ -16,10 +16,10 @@ HasNoVersion w stream day interval =
     (update : ℕ) (reading : ReadingValue)
     → VersionIs (record { stream = stream; day = day; interval = interval; update = update }) reading ∈ w → ⊥
 
--- bare N: quality N without a method, no code, no text and no value
+-- bare N, without a value
 abbrev pub no_reading : ReadingValue
 no_reading = record {
-  mark = record { quality = record { flag = null; method = 0 }; reason = record { code = None; text = [] } };
+  mark = bare_null;
   value = None;
 }
 
