@@ -25,7 +25,7 @@ pub struct Job {
     pub unit: Unit,
     /// 14 copies a like day, 15 takes the mean of like days, 17 interpolates, and 19 puts zeros.
     pub method: u8,
-    /// The quality flag of what is filled in, one of `mds_marks::flags`, or any other byte, with which no store can do it.
+    /// The quality flag of what is filled in: E, F or S (`mds_marks::flags`). A job of any other byte is bad.
     pub flag: u8,
     pub reason: Reason,
     /// The update under which the new readings stand.
