@@ -230,26 +230,8 @@ fn kept_rows(
     };
     Ok(Rows {
         head: book.head(),
-        versions: copied(alloc, book.rows())?,
+        versions: book.copied_rows(alloc)?,
     })
-}
-
-/// A copy of versions.
-fn copied(alloc: Global, rows: &[(u16, Version)]) -> Result<Vec<(u16, Version)>, AllocError>
-    ensures { IfOk result (λ copy. copy.items ≡ rows.now) }
-{
-    let mut copy = Vec::with_capacity(alloc, rows.len())?;
-    for (interval, version) in rows {
-        let reading = version.reading.try_clone()?;
-        copy.push((
-            *interval,
-            Version {
-                update: version.update,
-                reading,
-            },
-        ))?;
-    }
-    Ok(copy)
 }
 
 /// The books of days that were changed.
@@ -265,7 +247,9 @@ fn books_of(
         let Some(book) = DayBook::new(place.stream, place.day, rows.head, rows.versions) else {
             unreachable!();
         };
-        books.insert(place, book)?;
+        // Whoever asks for a day gets a copy.
+        let shared = book.into_shared(alloc)?;
+        books.insert(place, shared)?;
     }
     Ok(books)
 }

@@ -1,3 +1,10 @@
 pub mod Adopting
+pub mod Ascending
+pub mod BookLemmas
 pub mod Causes
 pub mod Days
+pub mod ListTexts
+pub mod Listed
+pub mod PeriodLemmas
+pub mod RangeLemmas
+pub mod RowsFound

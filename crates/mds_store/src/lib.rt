@@ -1,8 +1,13 @@
-//! A store in the tables of an SQL database.
+//! A store in the tables of an SQL database: the keeper, and what it lists by queries: the holidays, the substitution jobs,
+//! the accumulations of a stream, and the days of a range.
 #![tactic(auto)]
 
 mod laws;
+mod periods;
+mod querying;
+mod ranges;
 mod row_keeper;
+mod rows;
 mod starting;
 
 pub use laws::a_keeper_is_its_tables;

@@ -8,9 +8,11 @@ ghost use Rattle.mds_tables.specs.RowFacts.{world_in};
 ghost use Rattle.mds_tables.specs.Stores.{Holds, world_of};
 ghost use Rattle.mds_store.specs.Props.{Holds-prop, settles};
 
+use crate::periods::{content_of_period, periods_of};
+use crate::querying::{holidays_of, job_of};
+use crate::ranges::days_of;
 use mds_inserts::{commit, job_rows};
 use mds_jobs::{Job, JobId};
-use mds_lists::{content_of_period, days_of, holidays_of, job_of, periods_of};
 use mds_selects::{
     current_details, events_of, has_details, has_event, head_of, streams, versions_of,
 };

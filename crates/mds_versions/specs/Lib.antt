@@ -6,6 +6,7 @@ pub mod Claims
 pub mod Content
 pub mod DayMergeSteps
 pub mod DayMerges
+pub mod KeptRows
 pub mod Merge
 pub mod Queries
 pub mod Refusals

@@ -10,6 +10,7 @@ ghost use Rattle.mds_versions.specs.BookRows.{AreVersionsOf, Fits, IsBefore, Mis
 ghost use Rattle.mds_versions.specs.BookOrder.{HasStep, IsInOrder, IsOutside, IsWithin, SameMembers, TwoReadings, row_cmp};
 ghost use Rattle.mds_versions.specs.BookPlaces.{EndsAt, StartsAt};
 
+use crate::book_rows::{BookRows, copied};
 use mds_marks::Reading;
 use mds_quantity::Unit;
 use mds_terms::{Day, Length, Moment, Stream};
@@ -32,7 +33,7 @@ pub struct DayBook {
     day: Day,
     head: Option<(Length, Unit)>,
     /// By interval, from 1, and then by update; no two are of one interval and update.
-    rows: Vec<(u16, Version)>,
+    rows: BookRows,
 }
 
 impl Model for DayBook {
@@ -41,9 +42,9 @@ impl Model for DayBook {
 
     ghost Value = { BookValue };
 
-    ghost view = { λ b. record { stream = b.stream; day = b.day; head = b.head; rows = b.rows.items } };
+    ghost view = { λ b. record { stream = b.stream; day = b.day; head = b.head; rows = b.rows } };
 
-    ghost invariant = { λ b. IsBook (record { stream = b.stream; day = b.day; head = b.head; rows = b.rows.items }) };
+    ghost invariant = { λ b. IsBook (record { stream = b.stream; day = b.day; head = b.head; rows = b.rows }) };
 }
 
 impl DayBook {
@@ -73,7 +74,7 @@ impl DayBook {
             stream,
             day,
             head,
-            rows,
+            rows: BookRows::own(rows),
         })
     }
 
@@ -112,8 +113,9 @@ impl DayBook {
             version.now.update version.now.reading) }
         ensures none { IfNone result (HasNoVersion (book_world self.now) self.now.stream self.now.day interval) }
     {
-        let end = end_of(&self.rows, interval);
-        let Some((number, version)) = self.rows[..end].last() else {
+        let rows = self.rows.as_slice();
+        let end = end_of(rows, interval);
+        let Some((number, version)) = rows[..end].last() else {
             return None;
         };
         if *number == interval {
@@ -130,23 +132,22 @@ impl DayBook {
         ensures none { IfNone result ((interval : ℕ)
             → HasNoVersion (book_world self.now) self.now.stream self.now.day interval) }
     {
-        greatest_update(&self.rows)
+        greatest_update(self.rows.as_slice())
     }
 
     /// The versions of an interval, by ascending update, each with the interval's number.
     pub fn versions(&self, interval: u16) -> &[(u16, Version)]
         ensures { AreVersionsOf (book_world self.now) self.now.stream self.now.day interval result.now }
     {
-        let start = start_of(&self.rows, interval);
-        let end = end_of(&self.rows, interval);
-        &self.rows[start..end]
+        let rows = self.rows.as_slice();
+        &rows[start_of(rows, interval)..end_of(rows, interval)]
     }
 
     /// All its versions, by interval and then by update, each with the interval's number.
     pub fn rows(&self) -> &[(u16, Version)]
         ensures { result.now ≡ self.now.rows }
     {
-        &self.rows
+        self.rows.as_slice()
     }
 
     /// The same, which ascend.
@@ -154,29 +155,44 @@ impl DayBook {
         ensures value { result.now ≡ self.now.rows }
         ensures ascending { AllPairs IsBefore result.now }
     {
-        &self.rows
+        self.rows.as_slice()
     }
 
-    /// A copy. It takes memory only where there is a row.
+    /// A copy of all its versions, which is the caller's own.
+    pub fn copied_rows(&self, alloc: Global) -> Result<Vec<(u16, Version)>, AllocError>
+        ensures { IfOk result (λ rows. rows.items ≡ self.now.rows) }
+    {
+        copied(alloc, self.rows.as_slice())
+    }
+
+    /// The same day, whose copies share its versions from now on.
+    pub fn into_shared(self, alloc: Global) -> Result<DayBook, AllocError>
+        ensures { IfOk result (λ book. book ≡ self) }
+    {
+        let DayBook {
+            stream,
+            day,
+            head,
+            rows,
+        } = self;
+        Ok(DayBook {
+            stream,
+            day,
+            head,
+            rows: rows.into_shared(alloc)?,
+        })
+    }
+
+    /// A copy. It takes memory only where there is a row, and none where the rows are shared.
     pub fn try_clone(&self, alloc: Global) -> Result<DayBook, AllocError>
         ensures value { IfOk result (λ book. book ≡ self.now) }
         ensures memory { OnErr result (0 < length self.now.rows) }
     {
-        let mut rows = Vec::with_capacity(alloc, self.rows.len())?;
-        for row in &self.rows {
-            rows.push((
-                row.0,
-                Version {
-                    update: row.1.update,
-                    reading: row.1.reading.try_clone()?,
-                },
-            ))?;
-        }
         Ok(DayBook {
             stream: self.stream,
             day: self.day,
             head: self.head,
-            rows,
+            rows: self.rows.try_clone(alloc)?,
         })
     }
 }

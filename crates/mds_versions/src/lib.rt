@@ -3,6 +3,7 @@
 #![tactic(auto)]
 
 mod additions;
+mod book_rows;
 mod claim;
 mod day_book;
 mod day_merge;

@@ -1,3 +1,6 @@
+use Rattle.std.proofs.Common.{◌∙◌, ap}
+use Rattle.std.specs.BTreeMap.{insert_entry}
+use Rattle.mds_memory.specs.Stored.{place_cmp}
 use Rattle.mds_memory.proofs.Changed.{making_end, making_lawful, making_start, making_step}
 use Rattle.mds_memory.proofs.stored_days.books_of.Goals as goal
 
@@ -12,13 +15,15 @@ loop-place-init c = making_start c.args.closed _ _ c.into_iter-place-iterator.en
 pub loop-place-preserved : goal.loop-place-preserved
 loop-place-preserved c =
     making_step c.args.closed _ _ c.loop-place.books c.insert.new.self c.in-Some.place c.in-Some.rows c.in-Some-new.book c.loop-place.invariant
-    c.in-Some.ensures.steps c.in_ok-insert.ensures.entries c.insert.ensures.ordered
+    c.in-Some.ensures.steps (c.in_ok-insert.ensures.entries
+    ∙ ap (insert_entry place_cmp c.loop-place.books.entries c.in-Some.place) c.in_ok-shared.ensures) c.insert.ensures.ordered
     (c.in-Some-new.ensures.some.0, c.in-Some-new.ensures.some.1) c.in-Some-new.ensures.some.3
 
 pub loop-place-preserved-in_ok-insert : goal.loop-place-preserved-in_ok-insert
 loop-place-preserved-in_ok-insert c =
     making_step c.args.closed _ _ c.loop-place.books c.insert.new.self c.in-Some.place c.in-Some.rows c.in-Some-new.book c.loop-place.invariant
-    c.in-Some.ensures.steps c.in_ok-insert.ensures.entries c.insert.ensures.ordered
+    c.in-Some.ensures.steps (c.in_ok-insert.ensures.entries
+    ∙ ap (insert_entry place_cmp c.loop-place.books.entries c.in-Some.place) c.in_ok-shared.ensures) c.insert.ensures.ordered
     (c.in-Some-new.ensures.some.0, c.in-Some-new.ensures.some.1) c.in-Some-new.ensures.some.3
 
 pub returns : goal.returns

@@ -13,13 +13,13 @@ returns-in_default-clause-none c =
       stream = c.self.inside.stream;
       day = c.self.inside.day;
       head = c.self.inside.head;
-      rows = c.self.inside.rows.items;
+      rows = c.self.inside.rows;
     } in
     let item = c.in_default.ensures.item in
     subst (λ (b : BookValue). HasNoVersion (book_world b) b.stream b.day c.args.interval) c.self.view_is
     (none_before book c.args.interval c.end_of-end.result
-    (subst (λ r. EndsAt r c.args.interval c.end_of-end.result) c.deref.ensures.value c.end_of-end.ensures)
-    (subst (λ (r : List (ℕ × Version)). length (take c.end_of-end.result r) ≤ 0) c.deref-2.ensures.value item.3))
+    (subst (λ r. EndsAt r c.args.interval c.end_of-end.result) c.as_slice-rows.ensures c.end_of-end.ensures)
+    (subst (λ (r : List (ℕ × Version)). length (take c.end_of-end.result r) ≤ 0) c.as_slice-rows.ensures item.3))
 
 pub returns-then-number-interval-clause-some : goal.returns-then-number-interval-clause-some
 returns-then-number-interval-clause-some c =
@@ -27,17 +27,17 @@ returns-then-number-interval-clause-some c =
       stream = c.self.inside.stream;
       day = c.self.inside.day;
       head = c.self.inside.head;
-      rows = c.self.inside.rows.items;
+      rows = c.self.inside.rows;
     } in
     let row : ℕ × Version = c.in-Some.field-0.now in
     let item = c.in-Some.ensures.item in
     subst (λ (b : BookValue). IsCurrent (book_world b) b.stream b.day c.args.interval row.1.update row.1.reading)
     c.self.view_is
     (current_last book c.self.invariant.ascending c.args.interval c.end_of-end.result row
-    (subst (λ r. EndsAt r c.args.interval c.end_of-end.result) c.deref.ensures.value c.end_of-end.ensures)
-    (subst (λ (r : List (ℕ × Version)). 0 < length (take c.end_of-end.result r)) c.deref-2.ensures.value item.3.0)
+    (subst (λ r. EndsAt r c.args.interval c.end_of-end.result) c.as_slice-rows.ensures c.end_of-end.ensures)
+    (subst (λ (r : List (ℕ × Version)). 0 < length (take c.end_of-end.result r)) c.as_slice-rows.ensures item.3.0)
     (subst (λ (r : List (ℕ × Version)). row ≡ get_or (take c.end_of-end.result r)
-    (length (take c.end_of-end.result r) - 1) row) c.deref-2.ensures.value item.1)
+    (length (take c.end_of-end.result r) - 1) row) c.as_slice-rows.ensures item.1)
     c.if-number-interval.true)
 
 pub returns-else-number-interval-clause-none : goal.returns-else-number-interval-clause-none
@@ -46,14 +46,14 @@ returns-else-number-interval-clause-none c =
       stream = c.self.inside.stream;
       day = c.self.inside.day;
       head = c.self.inside.head;
-      rows = c.self.inside.rows.items;
+      rows = c.self.inside.rows;
     } in
     let row : ℕ × Version = c.in-Some.field-0.now in
     let item = c.in-Some.ensures.item in
     subst (λ (b : BookValue). HasNoVersion (book_world b) b.stream b.day c.args.interval) c.self.view_is
     (none_last book c.self.invariant.ascending c.args.interval c.end_of-end.result row
-    (subst (λ r. EndsAt r c.args.interval c.end_of-end.result) c.deref.ensures.value c.end_of-end.ensures)
-    (subst (λ (r : List (ℕ × Version)). 0 < length (take c.end_of-end.result r)) c.deref-2.ensures.value item.3.0)
+    (subst (λ r. EndsAt r c.args.interval c.end_of-end.result) c.as_slice-rows.ensures c.end_of-end.ensures)
+    (subst (λ (r : List (ℕ × Version)). 0 < length (take c.end_of-end.result r)) c.as_slice-rows.ensures item.3.0)
     (subst (λ (r : List (ℕ × Version)). row ≡ get_or (take c.end_of-end.result r)
-    (length (take c.end_of-end.result r) - 1) row) c.deref-2.ensures.value item.1)
+    (length (take c.end_of-end.result r) - 1) row) c.as_slice-rows.ensures item.1)
     c.if-number-interval.false)

@@ -8,10 +8,10 @@ use Rattle.mds_versions.specs.declared.day_book.Version.{Version}
 use Rattle.mds_versions.proofs.day_book.DayBook.latest_update.Goals as goal
 
 found : (c : goal.After-greatest_update) → c.greatest_update.result
-    ≡ reduce max (map (λ (row : ℕ × Version). row.1.update) c.self.inside.rows.items)
+    ≡ reduce max (map (λ (row : ℕ × Version). row.1.update) c.self.inside.rows)
 found c =
     c.greatest_update.ensures
-    ∙ ap (λ (rows : List (ℕ × Version)). reduce max (map (λ (row : ℕ × Version). row.1.update) rows)) c.deref.ensures.value
+    ∙ ap (λ (rows : List (ℕ × Version)). reduce max (map (λ (row : ℕ × Version). row.1.update) rows)) c.as_slice.ensures
 
 pub returns-clause-some : goal.returns-clause-some
 returns-clause-some c =
@@ -19,7 +19,7 @@ returns-clause-some c =
       stream = c.self.inside.stream;
       day = c.self.inside.day;
       head = c.self.inside.head;
-      rows = c.self.inside.rows.items;
+      rows = c.self.inside.rows;
     } in
     subst (λ (b : BookValue). IfSome c.greatest_update.result
     (λ update. IsLatest (book_world b) b.stream b.day update)) c.self.view_is
@@ -31,7 +31,7 @@ returns-clause-none c =
       stream = c.self.inside.stream;
       day = c.self.inside.day;
       head = c.self.inside.head;
-      rows = c.self.inside.rows.items;
+      rows = c.self.inside.rows;
     } in
     subst (λ (b : BookValue). IfNone c.greatest_update.result
     ((interval : ℕ) → HasNoVersion (book_world b) b.stream b.day interval)) c.self.view_is

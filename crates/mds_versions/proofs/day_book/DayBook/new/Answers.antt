@@ -1,5 +1,6 @@
-use Rattle.std.proofs.Common.{refl, subst}
-use Rattle.mds_versions.specs.BookRows.{Fits, Misfits}
+use Rattle.std.proofs.Common.{◌∙◌, ap, refl, subst, sym}
+use Rattle.mds_versions.specs.Books.{book_world}
+use Rattle.mds_versions.specs.BookRows.{Fits, IsBook, Misfits}
 use Rattle.mds_versions.proofs.BooksMade.{is_book, misfit_refused, same_world, two_refused}
 use Rattle.mds_versions.proofs.day_book.DayBook.new.Goals as goal
 
@@ -19,17 +20,29 @@ returns-then-not-fit-clause-none c =
 
 pub invariant_of-result : goal.invariant_of-result
 invariant_of-result c =
-    is_book (record {
+    subst (λ rows. IsBook (record {
+      stream = c.args.stream;
+      day = c.args.day;
+      head = c.args.head;
+      rows = rows;
+    })) (sym c.own.ensures)
+    (is_book (record {
       stream = c.args.stream;
       day = c.args.day;
       head = c.args.head;
       rows = c.in-Some.rows.items;
-    }) c.in-Some.ensures.some.0 (subst (Fits c.args.head) c.deref.ensures.value c.if-not-fit.ensures)
+    }) c.in-Some.ensures.some.0 (subst (Fits c.args.head) c.deref.ensures.value c.if-not-fit.ensures))
 
 pub returns-clause-some : goal.returns-clause-some
 returns-clause-some c = (
   refl,
   refl,
   refl,
-  same_world c.args.stream c.args.day c.args.head c.args.versions.items c.in-Some.rows.items c.in-Some.ensures.some.1,
+  ap (λ rows. book_world (record {
+    stream = c.args.stream;
+    day = c.args.day;
+    head = c.args.head;
+    rows = rows;
+  })) c.own.ensures
+      ∙ same_world c.args.stream c.args.day c.args.head c.args.versions.items c.in-Some.rows.items c.in-Some.ensures.some.1,
 )

@@ -8,15 +8,15 @@ use Rattle.mds_versions.proofs.day_book.DayBook.versions.Goals as goal
 
 pub slice_bounds-result-count : goal.slice_bounds-result-count
 slice_bounds-result-count c =
-    start_before_end c.self.inside.rows.items c.args.interval _ _
-    (subst (λ r. StartsAt r c.args.interval c.start_of-start.result) c.deref.ensures.value c.start_of-start.ensures)
-    (subst (λ r. EndsAt r c.args.interval c.end_of-end.result) c.deref-2.ensures.value c.end_of-end.ensures)
+    start_before_end c.self.inside.rows c.args.interval _ _
+    (subst (λ r. StartsAt r c.args.interval c.start_of.result) c.as_slice-rows.ensures c.start_of.ensures)
+    (subst (λ r. EndsAt r c.args.interval c.end_of.result) c.as_slice-rows.ensures c.end_of.ensures)
 
 pub slice_bounds-result-start : goal.slice_bounds-result-start
 slice_bounds-result-start c =
-    start_before_end c.self.inside.rows.items c.args.interval _ _
-    (subst (λ r. StartsAt r c.args.interval c.start_of-start.result) c.deref.ensures.value c.start_of-start.ensures)
-    (subst (λ r. EndsAt r c.args.interval c.end_of-end.result) c.deref-2.ensures.value c.end_of-end.ensures)
+    start_before_end c.self.inside.rows c.args.interval _ _
+    (subst (λ r. StartsAt r c.args.interval c.start_of.result) c.as_slice-rows.ensures c.start_of.ensures)
+    (subst (λ r. EndsAt r c.args.interval c.end_of.result) c.as_slice-rows.ensures c.end_of.ensures)
 
 pub returns : goal.returns
 returns c =
@@ -24,14 +24,14 @@ returns c =
       stream = c.self.inside.stream;
       day = c.self.inside.day;
       head = c.self.inside.head;
-      rows = c.self.inside.rows.items;
+      rows = c.self.inside.rows;
     } in
     subst (λ (rows : List (ℕ × Version)). AreVersionsOf (book_world c.args.self.now) c.args.self.now.stream
-    c.args.self.now.day c.args.interval (take (c.end_of-end.result - c.start_of-start.result)
-    (drop c.start_of-start.result rows))) (sym c.deref-3.ensures.value)
+    c.args.self.now.day c.args.interval (take (c.end_of.result - c.start_of.result)
+    (drop c.start_of.result rows))) (sym c.as_slice-rows.ensures)
     (subst (λ (b : BookValue). AreVersionsOf (book_world b) b.stream b.day c.args.interval
-    (take (c.end_of-end.result - c.start_of-start.result) (drop c.start_of-start.result c.self.inside.rows.items)))
+    (take (c.end_of.result - c.start_of.result) (drop c.start_of.result c.self.inside.rows)))
     c.self.view_is
     (versions_between book c.self.invariant.ascending c.args.interval _ _
-    (subst (λ r. StartsAt r c.args.interval c.start_of-start.result) c.deref.ensures.value c.start_of-start.ensures)
-    (subst (λ r. EndsAt r c.args.interval c.end_of-end.result) c.deref-2.ensures.value c.end_of-end.ensures)))
+    (subst (λ r. StartsAt r c.args.interval c.start_of.result) c.as_slice-rows.ensures c.start_of.ensures)
+    (subst (λ r. EndsAt r c.args.interval c.end_of.result) c.as_slice-rows.ensures c.end_of.ensures)))

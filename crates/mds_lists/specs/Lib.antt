@@ -1,3 +1,0 @@
-pub mod Said
-pub mod Periods
-pub mod Ranges

@@ -1,0 +1,227 @@
+//! The accumulations of a store. A store that can't answer, or holds a row that the store didn't write, is unavailable.
+
+ghost use Rattle.std.specs.Prelude.{◌≡◌, ◌<◌, ◌^◌, ◌↔◌, ℕ, List, false, length, IfOk, IsTrue, OnErr, OnOk};
+ghost use Rattle.std.specs.List.{AllPairs};
+ghost use Rattle.std.specs.declared.cmp.Ordering.TheVariants.{Less};
+ghost use Rattle.std.specs.Str.{is_utf8};
+ghost use Rattle.sqlite.specs.declared.types.Value.TheVariants.{Text};
+ghost use Rattle.sqlite.specs.Held.{state};
+ghost use Rattle.sqlite.specs.Order.{column};
+ghost use Rattle.sqlite.specs.State.{HasCleanDisk, KeepsCommit, Survives};
+ghost use Rattle.mds_terms.specs.Printable.{is_printable};
+ghost use Rattle.mds_statements.specs.declared.periods.Period.{Period as PeriodValue};
+ghost use Rattle.mds_versions.specs.Queries.{ArePeriodsOf, IsContentOf, period_cmp};
+ghost use Rattle.mds_tables.specs.Stores.{AreOpen, Holds, world_of};
+ghost use Rattle.mds_store.specs.Periods.{ArePeriodsIn, IsOnlyContent, IsRowOfPeriod, SaysContent, SaysPeriod, shown_key, text_length};
+
+use crate::rows::{content_rows, period_rows};
+use mds_selects::{copy_of, moment_at, str_at, stream_in, text_at};
+use mds_statements::{Period, PeriodContent, PeriodKey};
+use mds_tables::ready;
+use mds_terms::{PrintableString, Stream};
+use mds_versions::Unavailable;
+use sqlite::{Alter, Connection, Row};
+use std::alloc::Global;
+use std::cmp::Ordering;
+
+/// The accumulations of a stream, by register, previous read, current read and update, each once.
+pub(crate) fn periods_of<S: Alter>(
+    alloc: Global,
+    conn: &mut Connection<S>,
+    stream: &Stream,
+) -> Result<Vec<Period>, Unavailable>
+    requires { conn.old.in_transaction ≡ false }
+    ensures found { HasCleanDisk (state S.Store conn.new) → Holds (state S.Store conn.old)
+        → IfOk result (λ periods. ArePeriodsOf (world_of (state S.Store conn.old)) stream.now periods.items) }
+    ensures open { HasCleanDisk (state S.Store conn.new) → Holds (state S.Store conn.old)
+        → OnOk result (AreOpen (state S.Store conn.old) (state S.Store conn.new)) }
+    ensures kept { HasCleanDisk (state S.Store conn.new) → Holds (state S.Store conn.old)
+        → KeepsCommit (state S.Store conn.old) (state S.Store conn.new) }
+    ensures mode { conn.new.in_transaction ≡ false }
+    ensures survives { Holds (state S.Store conn.old) → Survives (state S.Store conn.old) (state S.Store conn.new) (λ _. ⊥) }
+{
+    let Ok(_) = ready(conn) else {
+        return Err(Unavailable);
+    };
+    let Ok(rows) = period_rows(conn, stream) else {
+        return Err(Unavailable);
+    };
+    all_periods(alloc, &rows)
+}
+
+/// The accumulations of rows, which ascend.
+fn all_periods(alloc: Global, rows: &[Row]) -> Result<Vec<Period>, Unavailable>
+    ensures each { IfOk result (λ periods. ArePeriodsIn rows.now periods.items) }
+    ensures ascending { IfOk result (λ periods. AllPairs (λ a b. period_cmp a.key b.key ≡ Less) periods.items) }
+{
+    let Ok(periods) = read_periods(alloc, rows) else {
+        return Err(Unavailable);
+    };
+    // The query gives them in this order, and there is one row of a key.
+    if do_ascend(&periods) {
+        Ok(periods)
+    } else {
+        Err(Unavailable)
+    }
+}
+
+/// Each row's accumulation.
+fn read_periods(alloc: Global, rows: &[Row]) -> Result<Vec<Period>, Unavailable>
+    ensures { IfOk result (λ periods. ArePeriodsIn rows.now periods.items) }
+{
+    let Ok(mut periods) = Vec::with_capacity(alloc, rows.len()) else {
+        return Err(Unavailable);
+    };
+    for i in 0..rows.len() {
+        let Ok(period) = period_in(alloc, &rows[i]) else {
+            return Err(Unavailable);
+        };
+        let Ok(_) = periods.push(period) else {
+            return Err(Unavailable);
+        };
+    }
+    Ok(periods)
+}
+
+/// Whether each accumulation stands before the next.
+fn do_ascend(periods: &[Period]) -> bool
+    ensures { IsTrue result ↔ AllPairs (λ a b. period_cmp a.key b.key ≡ Less) periods.now }
+{
+    periods.is_sorted_by(|a, b| order_of(a, b).is_lt())
+}
+
+/// The order of two accumulations of a stream.
+fn order_of(a: &Period, b: &Period) -> Ordering
+    ensures { result ≡ period_cmp a.now.key b.now.key }
+{
+    let (a, b) = (&a.key, &b.key);
+    let updates = a.update.cmp(&b.update);
+    let finishes = a.finish.cmp(&b.finish).then(updates);
+    a.register
+        .cmp(&b.register)
+        .then(a.start.cmp(&b.start).then(finishes))
+}
+
+/// The accumulation of a row. It takes memory only for its texts.
+fn period_in(alloc: Global, row: &Row) -> Result<Period, Unavailable>
+    ensures ok { IfOk result (SaysPeriod row.now) }
+    ensures err { OnErr result ((period : PeriodValue) → IsRowOfPeriod row.now period → 0 < text_length period) }
+{
+    let Ok(key) = key_in(alloc, row) else {
+        return Err(Unavailable);
+    };
+    let Ok(content) = content_at(alloc, row, 6) else {
+        return Err(Unavailable);
+    };
+    Ok(Period { key, content })
+}
+
+/// What the accumulation of a row is of. It takes memory only for the register.
+fn key_in(alloc: Global, row: &Row) -> Result<PeriodKey, Unavailable>
+    ensures ok { IfOk result (λ key. key ≡ shown_key row.now) }
+    ensures err { OnErr result ((period : PeriodValue) → IsRowOfPeriod row.now period → 0 < length period.key.register) }
+{
+    let Some(stream) = stream_in(row) else {
+        return Err(Unavailable);
+    };
+    let Some(start) = moment_at(row, 3) else {
+        return Err(Unavailable);
+    };
+    let Some(finish) = moment_at(row, 4) else {
+        return Err(Unavailable);
+    };
+    let Some(update) = moment_at(row, 5) else {
+        return Err(Unavailable);
+    };
+    let Ok(register) = register_at(alloc, row, 2) else {
+        return Err(Unavailable);
+    };
+    Ok(PeriodKey {
+        stream,
+        register,
+        start,
+        finish,
+        update,
+    })
+}
+
+/// The printable text in a column. An empty one takes no memory.
+fn register_at(alloc: Global, row: &Row, at: usize) -> Result<PrintableString, Unavailable>
+    ensures ok { IfOk result (λ register. column row.now at ≡ Text register) }
+    ensures err { OnErr result ((register : List ℕ) → IsTrue (is_printable register) → column row.now at ≡ Text register → 0 < length register) }
+{
+    let Some(text) = text_at(row, at) else {
+        return Err(Unavailable);
+    };
+    match PrintableString::read(alloc, text) {
+        Ok(Some(register)) => Ok(register),
+        _ => Err(Unavailable),
+    }
+}
+
+/// The content that the text in a column says. An empty one takes no memory.
+fn content_at(alloc: Global, row: &Row, at: usize) -> Result<PeriodContent, Unavailable>
+    ensures ok { IfOk result (SaysContent row.now at) }
+    ensures err { OnErr result ((body : List ℕ) → IsTrue (is_utf8 body) → column row.now at ≡ Text body → 0 < length body) }
+{
+    let Some(body) = str_at(row, at) else {
+        return Err(Unavailable);
+    };
+    let Ok(text) = copy_of(alloc, body) else {
+        return Err(Unavailable);
+    };
+    Ok(PeriodContent::new(text))
+}
+
+/// What is kept of the accumulation of a key. `None` where there is none.
+pub(crate) fn content_of_period<S: Alter>(
+    alloc: Global,
+    conn: &mut Connection<S>,
+    key: &PeriodKey,
+) -> Result<Option<PeriodContent>, Unavailable>
+    requires { conn.old.in_transaction ≡ false }
+    ensures found { HasCleanDisk (state S.Store conn.new) → Holds (state S.Store conn.old)
+        → IfOk result (IsContentOf (world_of (state S.Store conn.old)) key.now) }
+    ensures open { HasCleanDisk (state S.Store conn.new) → Holds (state S.Store conn.old)
+        → OnOk result (AreOpen (state S.Store conn.old) (state S.Store conn.new)) }
+    ensures kept { HasCleanDisk (state S.Store conn.new) → Holds (state S.Store conn.old)
+        → KeepsCommit (state S.Store conn.old) (state S.Store conn.new) }
+    ensures mode { conn.new.in_transaction ≡ false }
+    ensures survives { Holds (state S.Store conn.old) → Survives (state S.Store conn.old) (state S.Store conn.new) (λ _. ⊥) }
+{
+    let Ok(_) = ready(conn) else {
+        return Err(Unavailable);
+    };
+    let Ok(rows) = content_rows(conn, key) else {
+        return Err(Unavailable);
+    };
+    has_small_moments(key);
+    only_content(alloc, &rows)
+}
+
+/// The content of the one row among rows.
+fn only_content(alloc: Global, rows: &[Row]) -> Result<Option<PeriodContent>, Unavailable>
+    ensures { IfOk result (IsOnlyContent rows.now) }
+{
+    match rows {
+        [] => Ok(None),
+        [row] => match content_at(alloc, row, 0) {
+            Ok(content) => Ok(Some(content)),
+            Err(_) => Err(Unavailable),
+        },
+        _ => Err(Unavailable),
+    }
+}
+
+/// The moments of a key are far below the greatest number that a column can hold.
+fn has_small_moments(key: &PeriodKey)
+    ensures start { key.now.start < 2 ^ 63 }
+    ensures finish { key.now.finish < 2 ^ 63 }
+    ensures update { key.now.update < 2 ^ 63 }
+{
+    let _ = (
+        key.start.seconds(),
+        key.finish.seconds(),
+        key.update.seconds(),
+    );
+}

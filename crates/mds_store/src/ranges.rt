@@ -1,0 +1,162 @@
+//! The days of a range, found by two queries, whatever its length. A store that can't answer, or holds a row that the store
+//! didn't write, is unavailable.
+
+ghost use Rattle.std.specs.Prelude.{◌≡◌, ◌≢◌, ◌<◌, ◌≤◌, ◌↔◌, false, List, [], ◌∷◌, drop, length, take, IfOk, IsTrue, OnOk};
+ghost use Rattle.std.specs.Bool.{OnFalse};
+ghost use Rattle.std.specs.List.{AllPairs};
+ghost use Rattle.sqlite.specs.Held.{state};
+ghost use Rattle.sqlite.specs.State.{HasCleanDisk, KeepsCommit, Survives};
+ghost use Rattle.sqlite_value.specs.Order.{Row as RowValue, column};
+ghost use Rattle.mds_versions.specs.Queries.{AreDaysOf};
+ghost use Rattle.mds_tables.specs.Cells.{number_cell};
+ghost use Rattle.mds_tables.specs.RowFacts.{natural_at};
+ghost use Rattle.mds_tables.specs.Stores.{AreOpen, Holds, world_of};
+ghost use Rattle.mds_store.specs.Ranges.{AreBooksIn, AreOfDay, IsBookOf};
+
+use crate::rows::{head_range_rows, version_range_rows};
+use mds_selects::{all_versions, day_at, head_in};
+use mds_tables::ready;
+use mds_terms::{Day, Stream};
+use mds_versions::{DayBook, Unavailable};
+use mds_world::Head;
+use sqlite::{Alter, Connection, Row};
+use std::alloc::Global;
+
+/// The known days of a stream from a first to a last one, ascending, each with all its versions.
+pub(crate) fn days_of<S: Alter>(
+    alloc: Global,
+    conn: &mut Connection<S>,
+    stream: &Stream,
+    first: Day,
+    last: Day,
+) -> Result<Vec<DayBook>, Unavailable>
+    requires { conn.old.in_transaction ≡ false }
+    ensures found { HasCleanDisk (state S.Store conn.new) → Holds (state S.Store conn.old)
+        → IfOk result (λ books. AreDaysOf (world_of (state S.Store conn.old)) stream.now first last books.items) }
+    ensures open { HasCleanDisk (state S.Store conn.new) → Holds (state S.Store conn.old)
+        → OnOk result (AreOpen (state S.Store conn.old) (state S.Store conn.new)) }
+    ensures kept { HasCleanDisk (state S.Store conn.new) → Holds (state S.Store conn.old)
+        → KeepsCommit (state S.Store conn.old) (state S.Store conn.new) }
+    ensures mode { conn.new.in_transaction ≡ false }
+    ensures survives { Holds (state S.Store conn.old) → Survives (state S.Store conn.old) (state S.Store conn.new) (λ _. ⊥) }
+{
+    let Ok(_) = ready(conn) else {
+        return Err(Unavailable);
+    };
+    let Ok(heads) = head_range_rows(conn, stream, first, last) else {
+        return Err(Unavailable);
+    };
+    let Ok(versions) = version_range_rows(conn, stream, first, last) else {
+        return Err(Unavailable);
+    };
+    let _ = last.number();
+    all_books(alloc, stream, &heads, &versions)
+}
+
+/// The days of heads, which ascend, with all of these versions.
+fn all_books(
+    alloc: Global,
+    stream: &Stream,
+    heads: &[Row],
+    versions: &[Row],
+) -> Result<Vec<DayBook>, Unavailable>
+    ensures each { IfOk result (λ books. AreBooksIn stream.now heads.now versions.now [] books.items) }
+    ensures ascending { IfOk result (λ books. AllPairs (λ a b. a.day < b.day) books.items) }
+{
+    let Ok(books) = cut_by_day(alloc, stream, heads, versions) else {
+        return Err(Unavailable);
+    };
+    // The query gives them in this order, and there is one row of a day.
+    if do_ascend(&books) {
+        Ok(books)
+    } else {
+        Err(Unavailable)
+    }
+}
+
+/// A day for each head, with the versions that stand in front by then, so far as they are of it. No version is left.
+fn cut_by_day(
+    alloc: Global,
+    stream: &Stream,
+    heads: &[Row],
+    versions: &[Row],
+) -> Result<Vec<DayBook>, Unavailable>
+    ensures { IfOk result (λ books. AreBooksIn stream.now heads.now versions.now [] books.items) }
+{
+    let Ok(mut books) = Vec::with_capacity(alloc, heads.len()) else {
+        return Err(Unavailable);
+    };
+    let mut left = versions;
+    for i in 0..heads.len() {
+        let Some(head) = head_in(&heads[i]) else {
+            return Err(Unavailable);
+        };
+        let (mine, later) = left.split_at(count_of_day(left, head.day));
+        let Ok(book) = book_of(alloc, stream, &head, mine) else {
+            return Err(Unavailable);
+        };
+        let Ok(_) = books.push(book) else {
+            return Err(Unavailable);
+        };
+        left = later;
+    }
+    if left.is_empty() {
+        Ok(books)
+    } else {
+        Err(Unavailable)
+    }
+}
+
+/// The book of a head, with the versions of rows of its day.
+fn book_of(
+    alloc: Global,
+    stream: &Stream,
+    head: &Head,
+    rows: &[Row],
+) -> Result<DayBook, Unavailable>
+    requires { AreOfDay head.now.day rows.now }
+    ensures { IfOk result (IsBookOf stream.now head.now rows.now) }
+{
+    let Ok(versions) = all_versions(alloc, rows) else {
+        return Err(Unavailable);
+    };
+    let form = Some((head.length, head.unit));
+    match DayBook::new(*stream, head.day, form, versions) {
+        Some(book) => Ok(book),
+        None => Err(Unavailable),
+    }
+}
+
+/// How many rows of versions at the front are of a day.
+fn count_of_day(rows: &[Row], day: Day) -> usize
+    ensures few { result ≤ length rows.now }
+    ensures alike { AreOfDay day (take result rows.now) }
+    ensures next { (row : RowValue) (later : List RowValue) → drop result rows.now ≡ row ∷ later → column row 2 ≢ number_cell day }
+{
+    for i in 0..rows.len() {
+        let is_alike = is_of_day(&rows[i], day);
+        if !is_alike {
+            return i;
+        }
+    }
+    rows.len()
+}
+
+/// Whether a row of a version is of a day.
+fn is_of_day(row: &Row, day: Day) -> bool
+    ensures yes { IsTrue result → natural_at row.now 2 ≡ day }
+    ensures no { OnFalse result (column row.now 2 ≢ number_cell day) }
+{
+    let _ = day.number();
+    match day_at(row, 2) {
+        Some(found) => found == day,
+        None => false,
+    }
+}
+
+/// Whether each book's day is before the next one's.
+fn do_ascend(books: &[DayBook]) -> bool
+    ensures { IsTrue result ↔ AllPairs (λ a b. a.day < b.day) books.now }
+{
+    books.is_sorted_by(|a, b| a.day() < b.day())
+}
