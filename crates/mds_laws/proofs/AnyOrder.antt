@@ -1,7 +1,7 @@
 -- Files that agree, in a run.
 use Rattle.std.specs.Prelude.{◌≡◌, ℕ, ◌+◌, Some, None, List, [], ◌∷◌, map}
 use Rattle.std.proofs.Common.{sym, ap, ◌∙◌, subst, inl, inr, arith, refl}
-use Rattle.std.specs.List.{All, sum_by}
+use Rattle.std.specs.List.{All}
 use Rattle.std.proofs.lemmas.List.Elements.{All-cons, All-head, All-nil, All-tail}
 use Rattle.std.specs.declared.alloc.Global.{Global}
 use Rattle.std.specs.declared.vec.Vec.{Vec}
@@ -23,8 +23,9 @@ use Rattle.mds_messages.specs.declared.request.Request.TheVariants as asked
 use Rattle.mds_messages.specs.declared.answer.Answer.{Answer}
 use Rattle.mds_messages.specs.declared.answer.Answer.TheVariants as told
 use Rattle.mds_service.specs.Machine.{ImportStep, Run, Step, fault_in, stated_in}
-use Rattle.mds_laws.specs.AnyOrder.{AllAgree, AreParts, IsGiven, IsImported, IsWellFormed, facts_in, statements_in, together}
-use Rattle.mds_laws.specs.Kept.{came_in}
+use Rattle.mds_laws.specs.Answered.{IsGiven, answered, given}
+use Rattle.mds_laws.specs.AnyOrder.{AllAgree, EachIsTakenIn, IsImported, IsWellFormed, PartsEndAsTheWhole, SameFactsEndAlike, facts_in, statements_in, together}
+use Rattle.mds_laws.proofs.Answered.{all_given, unanswered_stand_aside}
 use Rattle.mds_laws.proofs.Conflicts.{agrees_within, breaks_none, union_within, upto_within}
 use Rattle.mds_laws.proofs.Kept.{counts_of_run, step_counts}
 use Rattle.mds_laws.proofs.Members.{none_in}
@@ -55,10 +56,10 @@ module _ (w : World) (files : List Request) (agree : AllAgree w files) where
         (agree x.0 y.0 x.1 y.1).one_content key a b (union_left x.0 y.0 _ x.2) (union_right x.0 y.0 _ y.2);
   }
 
-no_fault : {A : Type 0} (fault : A) (found : _) → found ≡ Some fault → found ≡ None → ⊥
+pub no_fault : {A : Type 0} (fault : A) (found : _) → found ≡ Some fault → found ≡ None → ⊥
 no_fault fault found e n = cc
 
-no_refusal : (w : World) (kind : FileKind) (text : List ℕ) (refusal : Refusal)
+pub no_refusal : (w : World) (kind : FileKind) (text : List ℕ) (refusal : Refusal)
     → Agrees (union w (stated (stated_in kind text))) → IsRefusal w (λ line. upto line (stated_in kind text)) refusal → ⊥
 no_refusal w kind text refusal agrees is =
     let xs = stated_in kind text in
@@ -123,28 +124,22 @@ all_taken old new (file ∷ files) (answer ∷ answers) well agrees steps given 
     (subst Agrees (sym grouped) agrees) steps.2 (All-tail IsGiven answer answers given) in
     (All-cons IsImported answer answers one.0 others.0, others.1 ∙ grouped)
 
-pub each_is_taken_in : (old new : World) (files : List Request) (answers : List Answer) → All IsWellFormed files
-    → AllAgree old files → Run old files answers new → All IsGiven answers
-    → All IsImported answers × (new ≡ union old (together (map facts_in files)))
-each_is_taken_in old new files answers well agree steps given =
-    all_taken old new files answers well (as_a_whole old files agree) steps given
+pub each_is_taken_in : EachIsTakenIn
+each_is_taken_in old new files answers steps well agree =
+    all_taken old new (answered files answers) (given answers) well (as_a_whole old (answered files answers) agree)
+    (unanswered_stand_aside old new files answers steps) (all_given answers)
 
 same_sum : (a b w x y : ℕ) → a ≡ w + x → b ≡ w + y → a ≡ b → x ≡ y
 same_sum a b w x y p q e = omega (arith, p, q, e)
 
-pub same_facts_end_alike : (old new other_new : World) (files others : List Request) (answers other_answers : List Answer)
-    → All IsWellFormed files → All IsWellFormed others
-    → together (map facts_in files) ≡ together (map facts_in others) → AllAgree old files
-    → Run old files answers new → Run old others other_answers other_new
-    → All IsGiven answers → All IsGiven other_answers
-    → All IsImported answers × All IsImported other_answers × (new ≡ other_new)
-    × (sum_by came_in answers ≡ sum_by came_in other_answers)
-same_facts_end_alike old new other_new files others answers other_answers well other_well same agree steps other_steps given
-    other_given =
-    let agrees = as_a_whole old files agree in
-    let one = all_taken old new files answers well agrees steps given in
-    let two = all_taken old other_new others other_answers other_well (subst (λ u. Agrees (union old u)) same agrees)
-    other_steps other_given in
+pub same_facts_end_alike : SameFactsEndAlike
+same_facts_end_alike old new other_new files others answers other_answers steps other_steps well other_well same agree =
+    let agrees = as_a_whole old (answered files answers) agree in
+    let one = all_taken old new (answered files answers) (given answers) well agrees
+    (unanswered_stand_aside old new files answers steps) (all_given answers) in
+    let two = all_taken old other_new (answered others other_answers) (given other_answers) other_well
+    (subst (λ u. Agrees (union old u)) same agrees)
+    (unanswered_stand_aside old other_new others other_answers other_steps) (all_given other_answers) in
     let alike : new ≡ other_new = one.1 ∙ ap (union old) same ∙ sym two.1 in (
       one.0,
       two.0,
@@ -171,17 +166,15 @@ facts_of_requests : (requests : List Request) → map facts_in requests ≡ map 
 facts_of_requests [] = refl
 facts_of_requests (request ∷ requests) = λ i. facts_of_request request i ∷ facts_of_requests requests i
 
-pub parts_end_as_the_whole : (old new other_new : World) (whole : Request) (parts : List Request) (answer : Answer)
-    (answers : List Answer) → IsWellFormed whole → All IsWellFormed parts
-    → AreParts (statements_in whole) (map statements_in parts) → Agrees (union old (facts_in whole))
-    → Step old whole answer new → Run old parts answers other_new → IsGiven answer → All IsGiven answers
-    → IsImported answer × All IsImported answers × (new ≡ other_new) × (came_in answer ≡ sum_by came_in answers)
-parts_end_as_the_whole old new other_new whole parts answer answers well part_well are agrees step steps given part_given =
-    let same : together (map facts_in parts) ≡ facts_in whole =
-    ap together (facts_of_requests parts) ∙ parts_state_the_whole (statements_in whole) (map statements_in parts) are
+pub parts_end_as_the_whole : PartsEndAsTheWhole
+parts_end_as_the_whole old new other_new whole parts answer answers step steps is_given well part_well are agrees =
+    let those = answered parts answers in
+    let same : together (map facts_in those) ≡ facts_in whole =
+    ap together (facts_of_requests those) ∙ parts_state_the_whole (statements_in whole) (map statements_in those) are
     ∙ sym (facts_of_request whole) in
-    let one = taken old whole answer new well agrees step given in
-    let more = all_taken old other_new parts answers part_well (subst (λ u. Agrees (union old u)) (sym same) agrees) steps part_given in
+    let one = taken old whole answer new well agrees step is_given in
+    let more = all_taken old other_new those (given answers) part_well (subst (λ u. Agrees (union old u)) (sym same) agrees)
+    (unanswered_stand_aside old other_new parts answers steps) (all_given answers) in
     let alike : new ≡ other_new = one.1 ∙ ap (union old) (sym same) ∙ sym more.1 in (
       one.0,
       more.0,

@@ -1,24 +1,22 @@
 -- An export comes back, by steps of the machine.
-use Rattle.std.proofs.Common.{◌≡◌, ◌↔◌, ◌+◌, ℕ, List, refl, sym, ap, ◌∙◌, subst}
+use Rattle.std.proofs.Common.{◌≡◌, ◌↔◌, ◌+◌, ℕ, refl, sym, ap, ◌∙◌, subst}
 use Rattle.std.specs.FinSet as set
 use Rattle.std.specs.declared.alloc.Global.{Global}
 use Rattle.std.specs.declared.vec.Vec.{Vec}
-use Rattle.mds_names.specs.declared.stream.Stream.{Stream}
 use Rattle.mds_records.specs.declared.file.FileKind.TheVariants.{Nem12}
 use Rattle.mds_statements.specs.Delivered.{header_value}
-use Rattle.mds_statements.specs.declared.blocks.Header.{Header}
 use Rattle.mds_world.specs.Counts.{added_by, known_by}
 use Rattle.mds_world.specs.FactOrder.{exact, total}
 use Rattle.mds_world.proofs.Sets.{union_comm, union_empty}
 use Rattle.mds_world.specs.Stated.{stated}
-use Rattle.mds_world.specs.World.{Agrees, IsKnownDay, IsLawful, World, union}
+use Rattle.mds_world.specs.World.{Agrees, IsKnownDay, World, union}
 use Rattle.mds_export.specs.Shows.{selection_stated}
 use Rattle.mds_messages.specs.declared.request.Request.TheVariants as asked
 use Rattle.mds_messages.specs.declared.answer.Answer.{Answer}
 use Rattle.mds_messages.specs.declared.answer.Answer.TheVariants as told
 use Rattle.mds_service.specs.Machine.{ImportStep, Step, stated_in}
-use Rattle.mds_laws.specs.AnyOrder.{IsGiven, IsImported}
-use Rattle.mds_laws.specs.Returns.{HasSameDetails, IsAskedFor, IsSameDay, ReturnsToAnEmptyStore, ReturnsToItsStore, intervals_in}
+use Rattle.mds_laws.specs.AnyOrder.{IsImported}
+use Rattle.mds_laws.specs.Returns.{HasSameDetails, IsAskedFor, IsSameDay, ReturnsToAnEmptyStore, ReturnsToItsStore}
 use Rattle.mds_laws.proofs.AnyOrder.{file_taken}
 use Rattle.mds_laws.proofs.ReturnedDays.{comes_back_alone, comes_back_home}
 use Rattle.mds_laws.proofs.ReturnedFacts.{states_the_selection}

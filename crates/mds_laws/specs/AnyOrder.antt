@@ -1,5 +1,5 @@
 -- Files that agree end in one state in every order, and so do the parts that a file is split into (profile).
-use Rattle.std.specs.Prelude.{◌≡◌, ◌≢◌, ◌⊎◌, None, List, [], ◌∷◌, map}
+use Rattle.std.specs.Prelude.{◌≡◌, ◌⊎◌, None, List, [], ◌∷◌, map}
 use Rattle.std.specs.FinSet as set
 use Rattle.std.specs.List.{All, sum_by}
 use Rattle.mds_statements.specs.Statements.{Statement}
@@ -12,6 +12,7 @@ use Rattle.mds_messages.specs.declared.request.Request.TheVariants as asked
 use Rattle.mds_messages.specs.declared.answer.Answer.{Answer}
 use Rattle.mds_messages.specs.declared.answer.Answer.TheVariants as told
 use Rattle.mds_service.specs.Machine.{Run, Step, fault_in, stated_in}
+use Rattle.mds_laws.specs.Answered.{IsGiven, answered, given}
 use Rattle.mds_laws.specs.Kept.{came_in}
 
 -- to take in a well formed file
@@ -34,33 +35,30 @@ abbrev pub AllAgree : World → List Request → Type 0
 AllAgree w files =
     (a b : World) → Member a (w ∷ map facts_in files) → Member b (w ∷ map facts_in files) → Agrees (union a b)
 
--- an answer, and that of a file that was taken in
-abbrev pub IsGiven : Answer → Type 0
-IsGiven answer = answer ≢ told.Unavailable
-
+-- the answer of a file that was taken in
 abbrev pub IsImported : Answer → Type 0
 IsImported (told.Imported added known) = Unit {0}
 IsImported answer = ⊥
 
--- Of files that all agree, each is taken in where it has an answer, in any order, and all of them make one World.
+-- Where the files that were answered are well formed and all agree, each of them is taken in, in any order, and the World in
+-- the end is the old one with what they state. What had no answer may be any request.
 abbrev pub EachIsTakenIn : Type 0
 EachIsTakenIn =
-    (old new : World) (files : List Request) (answers : List Answer)
-    → All IsWellFormed files → AllAgree old files
-    → Run old files answers new → All IsGiven answers
-    → All IsImported answers × (new ≡ union old (together (map facts_in files)))
+    (old new : World) (files : List Request) (answers : List Answer) → Run old files answers new
+    → All IsWellFormed (answered files answers) → AllAgree old (answered files answers)
+    → All IsImported (given answers) × (new ≡ union old (together (map facts_in (answered files answers))))
 
--- Two lists of files that together state the same and of which those of one all agree: what the one ends in, the other
--- does, each file is taken in, and as many versions and accumulations are added.
+-- Two lists of files: those that were answered of the one, which all agree, together state what those that were answered of
+-- the other do. What the one ends in, the other does, each file that was answered is taken in, and as many versions and
+-- accumulations are added.
 abbrev pub SameFactsEndAlike : Type 0
 SameFactsEndAlike =
     (old new other_new : World) (files others : List Request) (answers other_answers : List Answer)
-    → All IsWellFormed files → All IsWellFormed others
-    → together (map facts_in files) ≡ together (map facts_in others)
-    → AllAgree old files
     → Run old files answers new → Run old others other_answers other_new
-    → All IsGiven answers → All IsGiven other_answers
-    → All IsImported answers × All IsImported other_answers × (new ≡ other_new)
+    → All IsWellFormed (answered files answers) → All IsWellFormed (answered others other_answers)
+    → together (map facts_in (answered files answers)) ≡ together (map facts_in (answered others other_answers))
+    → AllAgree old (answered files answers)
+    → All IsImported (given answers) × All IsImported (given other_answers) × (new ≡ other_new)
     × (sum_by came_in answers ≡ sum_by came_in other_answers)
 
 -- a statement without its line
@@ -98,12 +96,15 @@ abbrev pub statements_in : Request → List Statement
 statements_in (asked.Import kind bytes) = stated_in kind bytes.items
 statements_in request = []
 
--- A file that agrees with the World and the files that are its parts: each is taken in where it has an answer, what the whole
--- ends in the parts do in any order, and as many versions and accumulations are added.
+-- A file that agrees with the World and was answered, and files of which those that were answered are its parts. It is taken
+-- in and so is each of these, what the whole ends in the parts do in any order, and as many versions and accumulations are
+-- added.
 abbrev pub PartsEndAsTheWhole : Type 0
 PartsEndAsTheWhole =
     (old new other_new : World) (whole : Request) (parts : List Request) (answer : Answer) (answers : List Answer)
-    → IsWellFormed whole → All IsWellFormed parts → AreParts (statements_in whole) (map statements_in parts)
+    → Step old whole answer new → Run old parts answers other_new → IsGiven answer
+    → IsWellFormed whole → All IsWellFormed (answered parts answers)
+    → AreParts (statements_in whole) (map statements_in (answered parts answers))
     → Agrees (union old (facts_in whole))
-    → Step old whole answer new → Run old parts answers other_new → IsGiven answer → All IsGiven answers
-    → IsImported answer × All IsImported answers × (new ≡ other_new) × (came_in answer ≡ sum_by came_in answers)
+    → IsImported answer × All IsImported (given answers) × (new ≡ other_new)
+    × (came_in answer ≡ sum_by came_in answers)

@@ -1,4 +1,6 @@
+pub mod Answered
 pub mod AnyOrder
+pub mod Determined
 pub mod Exchange
 pub mod Kept
 pub mod Returns

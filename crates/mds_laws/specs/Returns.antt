@@ -21,7 +21,8 @@ use Rattle.mds_messages.specs.declared.request.Request.TheVariants as asked
 use Rattle.mds_messages.specs.declared.answer.Answer.{Answer}
 use Rattle.mds_messages.specs.declared.answer.Answer.TheVariants as told
 use Rattle.mds_service.specs.Machine.{Step, stated_in}
-use Rattle.mds_laws.specs.AnyOrder.{IsGiven, IsImported}
+use Rattle.mds_laws.specs.Answered.{IsGiven}
+use Rattle.mds_laws.specs.AnyOrder.{IsImported}
 
 -- a known day of the range, of a stream that was asked for
 abbrev pub IsAskedFor : World → List ℕ → List (List ℕ) → ℕ → ℕ → Stream → ℕ → Type 0

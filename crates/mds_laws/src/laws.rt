@@ -1,7 +1,9 @@
 //! The laws. The functions do nothing.
 
 ghost use Rattle.mds_laws.specs.AnyOrder.{EachIsTakenIn, PartsEndAsTheWhole, PartsStateTheWhole, SameFactsEndAlike};
-ghost use Rattle.mds_laws.specs.Exchange.{MayChangePlaces};
+ghost use Rattle.mds_laws.specs.Answered.{AnsweredAreAll, UnansweredStandAside};
+ghost use Rattle.mds_laws.specs.Determined.{AnswersAreDetermined, RunsAreDetermined};
+ghost use Rattle.mds_laws.specs.Exchange.{ChangePlaces, MayChangePlaces};
 ghost use Rattle.mds_laws.specs.Returns.{ReturnsToAnEmptyStore, ReturnsToItsStore};
 ghost use Rattle.mds_laws.specs.Kept.{AnswersTellHowMany, EachCameByOne, EachPeriodCameByFile, LawStays, NothingIsAltered, NothingIsMissing};
 
@@ -16,9 +18,19 @@ pub fn nothing_is_lost()
     ensures periods { EachPeriodCameByFile }
 {}
 
-/// Files that agree are taken in whatever their order, and what is kept in the end, and how much was
-/// added, turns on what they state together alone; the parts of a file together state what it does, and
-/// end as it does.
+/// What a request is answered, and what it leaves, follow from what it asks and what is kept before it. It may be
+/// told that there is no answer now, and then it changes nothing. Two runs of which the requests that were answered
+/// ask the same have the same answers, and end alike.
+pub fn an_answer_is_determined()
+    ensures answers { AnswersAreDetermined }
+    ensures runs { RunsAreDetermined }
+    ensures aside { UnansweredStandAside }
+    ensures all { AnsweredAreAll }
+{}
+
+/// Files that were answered and agree are taken in, whatever their order. What is kept in the end, and how much was
+/// added, turns on what they state together alone. The parts of a file together state what it does, and end as it
+/// does.
 pub fn files_come_in_any_order()
     ensures each { EachIsTakenIn }
     ensures alike { SameFactsEndAlike }
@@ -26,10 +38,12 @@ pub fn files_come_in_any_order()
     ensures split { PartsEndAsTheWhole }
 {}
 
-/// A job and a file that states nothing of the days that the job may look at: both answers and what
-/// is kept in the end may be the same, whichever comes first.
+/// A job and a file that states nothing of the days that the job may look at: where both are answered, both answers
+/// and what is kept in the end are the same, whichever comes first. Whatever answers the one order has, the other may
+/// have.
 pub fn a_job_and_a_file_change_places()
-    ensures { MayChangePlaces }
+    ensures both { ChangePlaces }
+    ensures either { MayChangePlaces }
 {}
 
 /// The text of an export is a file that an empty store takes in, and then has what was selected; and that the store which it

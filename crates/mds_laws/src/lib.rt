@@ -1,10 +1,11 @@
-//! Laws of the machine, over every World and every run: what any list of requests keeps, and where
-//! their order doesn't matter. The statements stand in `specs`, over the `Step` and `Run` that
+//! Laws of the machine, over every World and every run: what any list of requests keeps, that its answers are
+//! determined, and where their order doesn't matter. The statements stand in `specs`, over the `Step` and `Run` that
 //! `mds_service::run` keeps to. The functions do nothing.
 #![tactic(auto)]
 
 mod laws;
 
 pub use laws::{
-    a_job_and_a_file_change_places, an_export_comes_back, files_come_in_any_order, nothing_is_lost,
+    a_job_and_a_file_change_places, an_answer_is_determined, an_export_comes_back,
+    files_come_in_any_order, nothing_is_lost,
 };
