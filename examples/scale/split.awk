@@ -1,11 +1,21 @@
-# Splits a NEM12 file over stores by the NMI: each part gets the 100 and the 900, and the blocks of its NMIs. A store's number is the
-# place of the NMI's last character among the digits and letters, by the number of stores.
-#     awk -v stores=2 -v out=part -f split.awk FILE        writes part0, part1, ..
-BEGIN { FS = "," }
-function name(k) { return out k }
-$1 == "100" || $1 == "900" {
-    for (k = 0; k < stores; k++) print > name(k)
-    next
+# Splits a NEM12 file into parts, one for each NMI: the 100, the NMI's 200 records with what stands behind them, and the 900.
+#     LC_ALL=C awk -v stores=2 -v out=DIR -f split.awk FILE        writes DIR/STORE-NMI
+# STORE is the place of the NMI's last character among the digits and letters, by the number of stores. What stands behind no NMI goes
+# to DIR/0-none, where the store refuses it.
+BEGIN { FS = ","; part = out "/0-none" }
+function place(nmi) { return index("0123456789ABCDEFGHIJKLMNOPQRSTUVWXYZ", substr(nmi, 10, 1)) - 1 }
+function part_of(nmi) {
+    return length(nmi) == 10 && nmi !~ /[^0-9A-Z]/ ? out "/" place(nmi) % stores "-" nmi : out "/0-none"
 }
-$1 == "200" { store = (index("0123456789ABCDEFGHIJKLMNOPQRSTUVWXYZ", substr($2, 10, 1)) - 1) % stores }
-{ print > name(store) }
+# A file is closed before the next: there may be more NMIs than files that may be open.
+function add(line, to) {
+    if (!(to in begun)) { begun[to]; if (header != "") print header > to; close(to) }
+    print line >> to
+    if (to != last) { close(last); last = to }
+}
+{ kind = $1; sub(/\r$/, "", kind) }
+NF < 2 && kind == "" { next }
+kind == "100" && header == "" { header = $0; next }
+kind == "900" { for (each in begun) add($0, each); next }
+kind == "200" { part = part_of($2) }
+{ add($0, part) }

@@ -4,29 +4,34 @@ ghost use Rattle.mds_http.specs.Connections.{HasServed};
 
 use crate::handling::StoreHandler;
 use crate::serving::serve_one;
-use crate::timely::Timely;
+use crate::timely::{Timely, TimelyRequest};
 use mds_lines::Counted;
 use mds_versions::Keeper;
 use mds_wire::Status;
-use std::io;
 use std::io::Read;
 use std::net::{Ipv4Addr, Shutdown, SocketAddr, TcpListener, TcpStream};
+use std::time::Duration;
+use std::{io, thread};
 
-/// How many seconds a peer may take for its request.
-const REQUEST_SECONDS: u64 = 10;
-
-/// How many it may take for the answer.
+/// How many seconds a peer may take for the answer.
 const ANSWER_SECONDS: u64 = 60;
 
 /// For how many it is waited for whatever else a peer sends whose request was refused.
 const REST_SECONDS: u64 = 1;
+
+/// How often in a row no connection may be accepted before the service ends.
+const MOST_FAILURES: u32 = 1_000;
+
+/// How many milliseconds it waits after each such failure.
+const FAILURE_PAUSE: u64 = 100;
 
 /// Listens to a port of 127.0.0.1.
 pub fn listen(rt: &HostRuntime, port: u16) -> io::Result<TcpListener> {
     TcpListener::bind(rt, SocketAddr::from((Ipv4Addr::LOCALHOST, port)))
 }
 
-/// Serves so many connections, one after the other. A fault ends its connection alone.
+/// Serves so many connections, one after the other. A fault ends its connection alone. One that can't be accepted is none; where
+/// that goes on for too long, the service ends.
 ///
 /// Nothing changes the store but what the bytes of these connections mean, so that all of it is one run of the machine
 /// (`laws_of`).
@@ -39,25 +44,29 @@ pub fn serve_connections<K: Keeper>(
     ensures { HasServed K.honest K.sound K.world K.may_leave handler.old count handler.new }
 {
     for _ in 0..count {
-        serve_next(rt, handler, listener);
+        match accept(rt, listener) {
+            Some(stream) => serve_connection(rt, handler, &stream),
+            None => return,
+        }
     }
 }
 
-/// Serves the next connection. One that can't be accepted is none.
-fn serve_next<K: Keeper>(rt: &HostRuntime, handler: &mut StoreHandler<K>, listener: &TcpListener)
-    ensures { HasServed K.honest K.sound K.world K.may_leave handler.old 1 handler.new }
-{
-    match listener.accept() {
-        Ok((stream, _)) => serve_connection(rt, handler, &stream),
-        Err(_) => (),
+/// The next connection, or none where so many calls in a row failed, each with a pause behind it.
+fn accept(rt: &HostRuntime, listener: &TcpListener) -> Option<TcpStream> {
+    for _ in 0..MOST_FAILURES {
+        match listener.accept() {
+            Ok((stream, _)) => return Some(stream),
+            Err(_) => thread::sleep(rt, Duration::from_millis(FAILURE_PAUSE)),
+        }
     }
+    None
 }
 
 /// Serves the one request of a connection.
 fn serve_connection<K: Keeper>(rt: &HostRuntime, handler: &mut StoreHandler<K>, stream: &TcpStream)
     ensures { HasServed K.honest K.sound K.world K.may_leave handler.old 1 handler.new }
 {
-    let mut reader = Counted::new(Timely::new(rt, stream, REQUEST_SECONDS));
+    let mut reader = Counted::new(TimelyRequest::new(rt, stream));
     let mut writer = Counted::new(Timely::new(rt, stream, ANSWER_SECONDS));
     match serve_one(rt.alloc(), handler, &mut reader, &mut writer) {
         Ok(Status::Success) | Err(_) => (),
