@@ -3,6 +3,9 @@
 It has a day of five minutes under quality V, with a run of its own for each interval and with many events; a day of five minutes under
 several updates; and days of one update, whose lines are as long as a line may be. All are of the first file's stream, but for a day of
 half hours of each of many others. A job with a reason that is as long as it may be comes behind it.
+
+Beside it stand what else is large: a file of accumulations of that size, whose texts are as long as they may be; days with a gap in every
+second interval; and a target that is nearly as long as a head may be.
 """
 
 import datetime
@@ -102,4 +105,49 @@ def limits():
         (job, filled(HALF_HOURS)),
         (job, filled_before(HALF_HOURS)),
         (TELL_STREAMS, told_streams(*(f"{nmi},{details}" for nmi in [NMI, *OTHER_NMIS]))),
+    ]
+
+
+def accumulation(number):
+    """The fields of an accumulation, from the configuration to the update, with texts as long as they may be."""
+    register = f"{number:06}" + (FIELD - 6) * "r"
+    read, text = FIELD * "9", FIELD * "\U0001f50c"
+    return ",".join([CONFIGURATION, register, "E1", DATASTREAM, METER, "E", read, "20240101000000", "S52", "76", text, read, "20240201000000",
+                     "F64", "77", text, "343.5", "kWh", "20240509", "20240202125010"])
+
+
+def file_of_accumulations():
+    """A file of accumulations, as many as go into its size, and their fields."""
+    front, end = "100,NEM13,202402021250,MDP1,RETAILER\n", "900\n"
+    lines, fields, size = [], [], len(front + end)
+    while True:
+        line = f"250,{NMI},{accumulation(len(fields))},\n"
+        if size + len(line.encode()) > FILE_BYTES:
+            return front + "".join(lines) + end, fields
+        size += len(line.encode())
+        fields.append(accumulation(len(fields)))
+        lines.append(line)
+
+
+def gappy_day(date):
+    """A day of five minutes, of which every second interval has no value."""
+    runs = [run(k, k, "N" if k % 2 == 0 else "A") for k in range(1, FIVE_MINUTES + 1)]
+    return [day(date, FIVE_MINUTES // 2 * ["1", "0"], "20240202000000", "V"), *runs]
+
+
+def large():
+    """What is asked of these, and what is answered."""
+    text, accumulations = file_of_accumulations()
+    file = take_in_periods(text)
+    gappy = ["20240101", "20240102", "20240103", "20240104"]
+    days = take_in(header(), long_block(NMI, 5), *[line for date in gappy for line in gappy_day(date)], END)
+    stretches = [f"{date},{k},{k}" for date in gappy for k in range(2, FIVE_MINUTES + 1, 2)]
+    method, target, body = export(gappy[0], gappy[0], *(1550 * ["E1"]))
+    return [
+        (file, added(len(accumulations), 0)),
+        (file, added(0, len(accumulations))),
+        (tell_periods(NMI, "E1"), told_periods(NMI, "E1", *([fields] for fields in accumulations))),
+        (days, added(len(gappy) * FIVE_MINUTES, 0)),
+        (tell_gaps(gappy[0], gappy[-1]), gaps(*stretches)),
+        ((method, target, body), exported(long_block(NMI, 5), *gappy_day(gappy[0]))),
     ]

@@ -352,6 +352,7 @@ IMPORTS = [
 JOB_FRONT = ('{"id":"JOB-1","nmi":"NEM1201009","suffix":"E1","date":"20240126","unit":"kwh","code":"089","text":"no read",'
              '"update":"20240602000000","first":1,"last":48,"length":30,"method":14')
 WHOLE_JOB = JOB_FRONT + ',"flag":"S"}'
+NUMBER_AS_CODE, NO_TEXT = WHOLE_JOB.replace('"code":"089"', '"code":89'), WHOLE_JOB.replace('"text":"no read"', '"text":null')
 HOLIDAYS, NO_HOLIDAYS = "date\n20240126\n20240101\n", "date\n20240230\n20240101\n"
 POSTS = [("POST", target, EMPTY_FILE, wanted) for target, wanted in IMPORTS] + [
     ("POST", "/v1/imports", "{}", refused(UNPROCESSABLE, error="L2", line=1)),
@@ -367,6 +368,8 @@ POSTS = [("POST", target, EMPTY_FILE, wanted) for target, wanted in IMPORTS] + [
     ("POST", "/v1/substitutions", "date\n20240101\n", BAD),
     ("POST", "/v1/substitutions?id=JOB-1", "date\n20240101\n", BAD),
     ("POST", "/v1/substitutions", JOB_FRONT, BAD),
+    ("POST", "/v1/substitutions", NUMBER_AS_CODE, BAD),
+    ("POST", "/v1/substitutions", NO_TEXT, BAD),
     ("POST", "/v1/substitutions?id=JOB-1", JOB_FRONT, BAD),
     ("POST", "/v1/holidays", HOLIDAYS, told(added=2, known=0)),
     ("POST", "/v1/holidays?&", HOLIDAYS, told(added=0, known=2)),

@@ -2,12 +2,8 @@
 use Rattle.std.specs.Prelude.{◌≡◌, ◌⊎◌, ℕ, List, [], ◌∷◌, ◌++◌, codes, decimal, Bool, true, false, Result, Ok, Err}
 use Rattle.mds_records.specs.Printed.{fault_text}
 use Rattle.mds_versions.specs.Refusals.{refusal_text}
-use Rattle.mds_world.specs.World.{IsLawful, World}
-use Rattle.mds_messages.specs.declared.request.Request.{Request}
 use Rattle.mds_messages.specs.declared.answer.Answer.{Answer}
 use Rattle.mds_messages.specs.declared.answer.Answer.TheVariants as told
-use Rattle.mds_service.specs.Crashes.{MayLeave}
-use Rattle.mds_service.specs.Machine.{Step}
 use Rattle.mds_messages.specs.Answers.{has_list}
 use Rattle.mds_answers.specs.Json.{IsJson}
 use Rattle.mds_desk.specs.declared.performing.PerformFault.{PerformFault}
@@ -57,13 +53,6 @@ answer_status (told.Streams answers) = status.Done
 answer_status (told.Gaps text) = status.Done
 answer_status (told.Finals text) = status.Done
 answer_status (told.Exported text) = status.Done
-
--- From a World the machine does one step, to a lawful World that is kept where the keeper is sound; and a crash leaves that, or
--- that with the whole request where the answer was Unavailable.
-abbrev pub Does : World → Request → Answer → Type 0 → World → (World → Type 0) → Type 0
-Does old request answer is_sound new may_leave =
-    (w : World) × IsLawful w × Step old request answer w × (is_sound → new ≡ w)
-    × ((left : World) → may_leave left → MayLeave w (request ∷ []) (answer ∷ []) left)
 
 -- it answers that the writer failed
 abbrev pub is_write_failure : {T : Type 0} → Result T PerformFault → Bool

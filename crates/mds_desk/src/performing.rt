@@ -3,11 +3,11 @@
 ghost use Rattle.std.specs.Prelude.{◌≡◌, ◌+◌, ◌-◌, ◌<◌, ◌≤◌, ◌^◌, ◌++◌, ℕ, List, true, Err, OnErr, IfErr, IfOk, if◌then◌else◌, is_ok, codes, decimal, length, take};
 ghost use Rattle.std.specs.Io.KnownBytes.{Appends as AppendsKnown, Keeps};
 ghost use Rattle.mds_messages.specs.declared.answer.Answer.{Answer as AnAnswer};
-ghost use Rattle.mds_world.specs.World.{IsLawful};
 ghost use Rattle.mds_records.specs.Printed.{fault_text};
 ghost use Rattle.mds_versions.specs.Refusals.{place_text, refusal_text};
 ghost use Rattle.mds_messages.specs.Answers.{has_list};
-ghost use Rattle.mds_desk.specs.Performed.{Does, IsAnswerText, IsJsonLine, IsToldAs, answer_status, is_write_failure};
+ghost use Rattle.mds_service.specs.Crashes.{Goes};
+ghost use Rattle.mds_desk.specs.Performed.{IsAnswerText, IsJsonLine, IsToldAs, answer_status, is_write_failure};
 ghost use Rattle.mds_desk.specs.Printed.{printed_bytes};
 
 use crate::outcome::Status;
@@ -92,17 +92,18 @@ pub fn perform<K: Keeper, W: Sink>(
     ensures outside { K.honest keeper.new → K.honest keeper.old }
     ensures before { K.sound keeper.new → K.sound keeper.old }
 
-    // A step of the machine was done, and its answer printed, whole and nothing else.
-    ensures done { IfOk result (λ status. K.honest keeper.new → K.sound keeper.old → IsLawful (K.world keeper.old)
-        → (answer : AnAnswer)
-        × Does (K.world keeper.old) request.now answer (K.sound keeper.new) (K.world keeper.new) (K.may_leave keeper.new)
+    // A step of the machine was done, and its answer printed, whole and nothing else: from every lawful World that is kept
+    // where the keeper is sound, so also after a fault that shut it.
+    ensures done { IfOk result (λ status. K.honest keeper.new → (answer : AnAnswer)
+        × Goes (K.sound keeper.old) (K.sound keeper.new) (K.world keeper.old) (K.world keeper.new)
+        (K.may_leave keeper.old) (K.may_leave keeper.new) request.now answer
         × (status ≡ answer_status answer) × (text : List ℕ) × IsAnswerText answer text
         × AppendsKnown (W.contents writer.old) (W.contents writer.new) text) }
 
     // Where the writer fails the step was done all the same, and a part of its answer was printed.
-    ensures part { result ≡ Err PerformFault.Write → K.honest keeper.new → K.sound keeper.old
-        → IsLawful (K.world keeper.old) → (answer : AnAnswer)
-        × Does (K.world keeper.old) request.now answer (K.sound keeper.new) (K.world keeper.new) (K.may_leave keeper.new)
+    ensures part { result ≡ Err PerformFault.Write → K.honest keeper.new → (answer : AnAnswer)
+        × Goes (K.sound keeper.old) (K.sound keeper.new) (K.world keeper.old) (K.world keeper.new)
+        (K.may_leave keeper.old) (K.may_leave keeper.new) request.now answer
         × (text : List ℕ) × IsAnswerText answer text × (n : ℕ) × (n < length text)
         × AppendsKnown (W.contents writer.old) (W.contents writer.new) (take n text) }
 

@@ -1,5 +1,7 @@
 -- Connections are a run of the machine.
-use Rattle.std.specs.Prelude.{◌≡◌, ◌⊎◌, ℕ, List, [], ◌∷◌, ◌++◌, refl}
+use Rattle.std.specs.Prelude.{◌≡◌, ◌≢◌, ◌⊎◌, ℕ, List, [], ◌∷◌, ◌++◌, take, refl}
+use Rattle.httparse.specs.Grammar.{RequestHead, ReadsRequest}
+use Rattle.httparse.proofs.GrammarLemmas.{request_unique}
 use Rattle.std.proofs.Common.{inl, inr, sym, ap, subst}
 use Rattle.std.proofs.lemmas.List.{append-nil, append_assoc}
 use Rattle.mds_world.specs.World.{IsLawful, World}
@@ -10,14 +12,17 @@ use Rattle.mds_messages.specs.declared.answer.Answer.{Answer as Told}
 use Rattle.mds_service.proofs.Runs.{leaves_more, run_more}
 use Rattle.mds_requests.specs.declared.targets.TargetFault.{TargetFault}
 use Rattle.mds_requests.specs.declared.targets.TargetFault.TheVariants as fault
-use Rattle.mds_wire.specs.Laws.{HeadDecides, OnlySteps}
+use Rattle.mds_requests.specs.Targets.{IsFaultAt}
+use Rattle.mds_wire.proofs.Meant.{one_order}
+use Rattle.mds_wire.specs.Laws.{HeadDecides, IsHeadOf, OnlySteps}
 use Rattle.mds_wire.specs.Meaning.{Answer, AnswersJudged}
 use Rattle.mds_wire.specs.declared.answer.Kind.{Kind}
+use Rattle.mds_wire.specs.declared.route.Route.{Route}
 use Rattle.mds_wire.specs.declared.answer.Status.{Status}
-use Rattle.mds_wire.specs.declared.answer.Status.TheVariants.{Success}
+use Rattle.mds_wire.specs.declared.answer.Status.TheVariants.{Success, Unavailable}
 use Rattle.mds_http.specs.declared.handling.StoreHandler.{StoreHandler}
 use Rattle.mds_http.specs.Handling.{Handles, TellsFault}
-use Rattle.mds_http.specs.Laws.{AreDone, AreServed, AskFor, ConnectionsRun, IsTold, RefusedNoChange, UnaskedNoChange}
+use Rattle.mds_http.specs.Laws.{AreDone, AreServed, AskFor, AskForNone, ConnectionsRun, IsTold, RefusedNoChange, UnaskedNoChange}
 use Rattle.mds_http.specs.Serving.{IsSame, MeansOver}
 
 -- a target that asks for nothing isn't told 200
@@ -27,6 +32,28 @@ fault_is_no_success fault.Bad status kind text tells e = let is = tells.0 in cc
 fault_is_no_success (fault.BadHolidays row) status kind text tells e = let is = tells.0 in cc
 fault_is_no_success fault.Memory status kind text tells e = tells
 
+-- nor is it for want of memory that it asks for nothing
+tells_no_memory : (f : TargetFault) (status : Status) (kind : Kind) (text : List ℕ) → TellsFault f status kind text
+    → f ≢ fault.Memory
+tells_no_memory fault.Bad status kind text tells e = cc
+tells_no_memory (fault.BadHolidays row) status kind text tells e = cc
+tells_no_memory fault.Memory status kind text tells e = tells
+
+-- bytes whose one head has a target that asks for nothing with its body
+asks_for_none : (bytes : List ℕ) (head : RequestHead) (rest : List ℕ) (route : Route) (size : ℕ) (reason : TargetFault)
+    → ReadsRequest bytes head rest → IsHeadOf head route size → IsFaultAt route head.target (take size rest) reason
+    → reason ≢ fault.Memory → AskForNone bytes
+asks_for_none bytes head rest route size reason reads is is_fault no_memory other more other_route other_size wants whole =
+    let same = request_unique bytes other head more rest wants.0 reads in
+    let order = subst (λ (h : RequestHead). IsHeadOf h other_route other_size) same.0 wants.2 in
+    let one = one_order head route other_route size other_size is order in (
+      reason,
+      no_memory,
+      subst (λ (t : List ℕ). IsFaultAt other_route other.target t reason) (λ i. take (one.1 i) (sym same.1 i))
+          (subst (λ (t : List ℕ). IsFaultAt other_route t (take size rest) reason) (λ i. (sym same.0 i).target)
+          (subst (λ (r : Route). IsFaultAt r head.target (take size rest) reason) one.0 is_fault)),
+    )
+
 module _ {K : Type 0} (honest sound : K → Type 0) (world : K → World) (may_leave : K → World → Type 0) where
   -- how a request went
   abbrev Went : StoreHandler K → StoreHandler K → Request → Told → Type 0
@@ -34,12 +61,12 @@ module _ {K : Type 0} (honest sound : K → Type 0) (world : K → World) (may_l
       honest new.keeper → Goes (sound old.keeper) (sound new.keeper) (world old.keeper) (world new.keeper)
       (may_leave old.keeper) (may_leave new.keeper) request told
 
-  -- by a connection a request was done, and is told; or nothing was, and it isn't told 200
+  -- by a connection a request was done, and is told; or nothing was, since its bytes ask for nothing or it was told 503
   abbrev Effect : List ℕ → StoreHandler K → Answer → StoreHandler K → Type 0
   Effect bytes old answer new =
       ((request : Request) × (told : Told) × AskFor bytes request × IsTold told answer × Went old new request told
       × (honest new.keeper → honest old.keeper))
-      ⊎ ((answer.status ≡ Success → ⊥) × (new ≡ old))
+      ⊎ ((AskForNone bytes ⊎ (answer.status ≡ Unavailable)) × (new ≡ old))
 
   effect : OnlySteps (Handles honest sound world may_leave) IsSame → (bytes : List ℕ) (old new : StoreHandler K)
       (answer : Answer) → MeansOver honest sound world may_leave bytes old answer new → Effect bytes old answer new
@@ -56,9 +83,16 @@ module _ {K : Type 0} (honest sound : K → Type 0) (world : K → World) (may_l
                 asked.3,
                 done.0,
               )
-          | inr none ↦ inr (fault_is_no_success none.0 _ _ _ none.2, none.3)
+          | inr none ↦
+              inr (inl (asks_for_none bytes it.0 it.1 it.2 it.3 none.0 it.4 it.6 none.1 (tells_no_memory none.0 _ _ _ none.2)), none.3)
         ]
-    | inr idle ↦ inr (idle.0, elim idle.1 [ inl same ↦ same | inr same ↦ same ])
+    | inr idle ↦ inr (
+      elim idle.0 [
+        | inl none ↦ inl (λ head rest route size wants whole. absurd (none head rest route size wants.0 wants.1 wants.2))
+        | inr unavailable ↦ inr unavailable
+      ],
+      elim idle.2 [ inl same ↦ same | inr same ↦ same ],
+    )
   ]
 
   -- a keeper that is honest in the end was so before

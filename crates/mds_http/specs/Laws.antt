@@ -6,12 +6,14 @@ use Rattle.mds_service.specs.Crashes.{MayLeave}
 use Rattle.mds_service.specs.Machine.{Run}
 use Rattle.mds_messages.specs.declared.request.Request.{Request}
 use Rattle.mds_messages.specs.declared.answer.Answer.{Answer as Told}
-use Rattle.mds_requests.specs.Targets.{AsksAt}
+use Rattle.mds_requests.specs.Targets.{AsksAt, IsFaultAt}
+use Rattle.mds_requests.specs.declared.targets.TargetFault.{TargetFault}
+use Rattle.mds_requests.specs.declared.targets.TargetFault.TheVariants as fault
 use Rattle.mds_wire.specs.Heads.{most_fields}
 use Rattle.mds_wire.specs.Laws.{IsHeadOf, IsRefusedHead}
 use Rattle.mds_wire.specs.Meaning.{Answer, is_head_method, refused}
 use Rattle.mds_wire.specs.declared.answer.Status.{Status}
-use Rattle.mds_wire.specs.declared.answer.Status.TheVariants.{Success, BadRequest, FieldsTooLarge}
+use Rattle.mds_wire.specs.declared.answer.Status.TheVariants.{Success, BadRequest, FieldsTooLarge, Unavailable}
 use Rattle.mds_wire.specs.declared.route.Route.{Route}
 use Rattle.mds_http.specs.declared.handling.StoreHandler.{StoreHandler}
 use Rattle.mds_http.specs.Handling.{Tells, status_of}
@@ -33,12 +35,18 @@ abbrev pub IsTold : Told → Answer → Type 0
 IsTold told answer =
     (answer.status ≡ status_of told) × Tells told answer.kind answer.body × (answer.is_head ≡ false)
 
--- The requests that were done, and their answers: by each connection the one that its bytes ask for, whose answer it was told;
--- or none, and it wasn't told 200.
+-- the bytes are no whole request, or one whose target and body ask for nothing
+abbrev pub AskForNone : List ℕ → Type 0
+AskForNone bytes =
+    (head : RequestHead) (rest : List ℕ) (route : Route) (size : ℕ) → Wants bytes head rest route size → size ≤ length rest
+    → (reason : TargetFault) × (reason ≢ fault.Memory) × IsFaultAt route head.target (take size rest) reason
+
+-- The requests that were done, and their answers: by each connection the one that its bytes ask for, whose answer it was told.
+-- It was none where the bytes ask for none, or the connection was told 503.
 abbrev pub AreDone : List (List ℕ × Answer) → List Request → List Told → Type 0
 AreDone [] requests answers = (requests ≡ []) × (answers ≡ [])
 AreDone (connection ∷ connections) requests answers =
-    ((connection.1.status ≢ Success) × AreDone connections requests answers)
+    ((AskForNone connection.0 ⊎ (connection.1.status ≡ Unavailable)) × AreDone connections requests answers)
     ⊎ ((request : Request) × (later : List Request) × (told : Told) × (more : List Told)
     × (requests ≡ request ∷ later) × (answers ≡ told ∷ more) × AskFor connection.0 request × IsTold told connection.1
     × AreDone connections later more)

@@ -5,7 +5,7 @@ use Rattle.std.proofs.lemmas.List.{append-nil, length-append}
 use Rattle.std.specs.Prelude.{MatchBool, unwrap_or}
 use Rattle.csv.proofs.ReadFacts.{rows-end, rows-more}
 use Rattle.csv.specs.Machine.{Read, ends_at_end, field_after, fields_after, is_end, next_record, step}
-use Rattle.csv.specs.Reading.{Reached, default_config, ReadRecord, names_headers, reader_config, reader_headers, reader_state, reader_trim, records, records_from, source_of, strip_bom, took_first}
+use Rattle.csv.specs.Reading.{Reached, default_config, is_flexible, ReadRecord, names_headers, reader_config, reader_headers, reader_state, reader_trim, records, records_from, source_of, strip_bom, took_first}
 use Rattle.csv.specs.declared.reader.Reader.{Reader}
 use Rattle.csv.specs.declared.reader.Trim.TheVariants as trim
 use Rattle.mds_inputs.specs.Holidays.{rows_of}
@@ -122,30 +122,32 @@ all_rows s text ys rows h e =
 
 -- what one more read shows of the rows of a text
 pub read_on : (text : List ℕ) (old new : Reader (Bor (List ℕ))) (rows : List (List (List ℕ))) (found : Bool) (fields : List (List ℕ)) → HasRead text old rows
-    → took_first new ≡ true → ReadRecord (λ (s : Bor (List ℕ)). Some s.now) old new found fields
+    → took_first new ≡ true → is_flexible new ≡ is_flexible old → ReadRecord (λ (s : Bor (List ℕ)). Some s.now) old new found fields
     → MatchBool found (HasRead text new (rows ++ fields ∷ [])) (rows_of text ≡ rows)
-read_on text old new rows true fields so_far took read =
+read_on text old new rows true fields so_far took long read =
     let more = rows-more (λ (s : Bor (List ℕ)). Some s.now) old new fields default_config st.StartRecord (strip_bom text) so_far.left rows so_far.config so_far.source so_far.rows_so_far read in record {
       plain = read.3 ∙ so_far.plain;
       ready = inl took;
       config = read.2 ∙ so_far.config;
+      flexible = long ∙ so_far.flexible;
       left = more.0;
       source = more.1;
       rows_so_far = more.2;
     }
-read_on text old new rows false fields so_far took read =
+read_on text old new rows false fields so_far took long read =
     let end = rows-end (λ (s : Bor (List ℕ)). Some s.now) old new fields default_config so_far.left so_far.config so_far.source read in
     all_rows _ (strip_bom text) so_far.left rows so_far.rows_so_far end
 
 -- before the first row
 pub before_rows : (text : List ℕ) (reader : Reader (Bor (List ℕ))) → reader_trim reader ≡ trim.None → names_headers reader ≡ false → reader_headers reader ≡ None
-    → reader_config reader ≡ default_config → reader_state reader ≡ st.StartRecord → source_of (λ (s : Bor (List ℕ)). Some s.now) reader ≡ Some (strip_bom text)
+    → reader_config reader ≡ default_config → is_flexible reader ≡ true → reader_state reader ≡ st.StartRecord → source_of (λ (s : Bor (List ℕ)). Some s.now) reader ≡ Some (strip_bom text)
     → HasRead text reader []
 unfolding Reached
-before_rows text reader plain named headers config state source = record {
+before_rows text reader plain named headers config long state source = record {
   plain = plain;
   ready = inr (inr (named, headers));
   config = config;
+  flexible = long;
   left = strip_bom text;
   source = source;
   rows_so_far = (sym state, refl);

@@ -1,7 +1,8 @@
 //! The parts of a job, each at its key.
 
-ghost use Rattle.std.specs.Prelude.{◌≡◌, IfOk};
+ghost use Rattle.std.specs.Prelude.{◌≡◌, IfOk, IsSome, OnErr, codes};
 ghost use Rattle.serde_json.specs.View.{view};
+ghost use Rattle.mds_inputs.specs.JobFields.{text_at};
 ghost use Rattle.mds_inputs.specs.JobObjects.{day_in, first_in, flag_in, id_in, last_in, length_in, method_in, nmi_in, reason_in, suffix_in, unit_in, update_in};
 
 use crate::fields::{flag_of, number_at, text_at};
@@ -92,7 +93,9 @@ pub(crate) fn flag_in(value: &Value) -> Option<u8>
 
 /// Its reason.
 pub(crate) fn reason_in(alloc: Global, value: &Value) -> Result<Option<Reason>, AllocError>
-    ensures { IfOk result (λ reason. reason ≡ reason_in (view value.now)) }
+    ensures value { IfOk result (λ reason. reason ≡ reason_in (view value.now)) }
+    // Memory is wanted only where both texts are there.
+    ensures only { OnErr result (IsSome (text_at (codes "code") (view value.now)) × IsSome (text_at (codes "text") (view value.now))) }
 {
     let Some(code) = text_at(value, "code") else {
         return Ok(None);

@@ -1,7 +1,7 @@
 //! What is asked of a store, found by queries. A store that can't answer, or holds a row that the store didn't write,
 //! is unavailable.
 
-ghost use Rattle.std.specs.Prelude.{◌≡◌, ◌≢◌, ◌⊎◌, ◌<◌, ◌^◌, ◌↔◌, ℕ, List, [], ◌∷◌, false, length, map, pos, All, IfOk, IsOkAnd, IsTrue, OnErr, OnOk, Some};
+ghost use Rattle.std.specs.Prelude.{◌≡◌, ◌≢◌, ◌⊎◌, ◌<◌, ◌^◌, ◌↔◌, ℕ, List, [], ◌∷◌, false, length, map, pos, All, IfErr, IfOk, IsOkAnd, IsTrue, OnErr, OnOk, Some};
 ghost use Rattle.std.specs.Bool.{MatchBool, OnFalse};
 ghost use Rattle.std.specs.FinSet.{IsAntisymmetric};
 ghost use Rattle.std.specs.List.{AllPairs};
@@ -14,7 +14,7 @@ ghost use Rattle.mds_world.specs.Facts.Fact.{DetailIs, EventIs};
 ghost use Rattle.mds_world.specs.Lists.{Apart, Member};
 ghost use Rattle.mds_world.specs.Sets.{◌∈◌};
 ghost use Rattle.mds_versions.specs.Queries.{AreEventsOf, AreKnownStreams, stream_cmp};
-ghost use Rattle.mds_tables.specs.Causes.{FailsForCause};
+ghost use Rattle.mds_tables.specs.Causes.{HasFailed};
 ghost use Rattle.mds_tables.specs.RowFacts.{int_at};
 ghost use Rattle.mds_tables.specs.Stores.{AreOpen, Holds, HoldsTables, world_of};
 ghost use Rattle.mds_selects.specs.Found.{AreRowsOf, IsHeadOf};
@@ -38,13 +38,13 @@ use mds_terms::{Day, Details, Event, Length, Moment, Stream, TransCode};
 use mds_versions::{Unavailable, Version};
 use mds_world::Detail;
 use sqlite::types::ValueRef;
-use sqlite::{Alter, Connection, Row};
+use sqlite::{Alter, Connection, Error, Row};
 use std::alloc::Global;
 use std::collections::BTreeSet;
 
-/// Whether mds_schema says 1 and nothing else, in a database that has the tables of schema 1. It is unavailable only
-/// where the store failed, or the limit of steps was reached.
-pub fn is_version_1<S: Alter>(conn: &mut Connection<S>) -> Result<bool, Unavailable>
+/// Whether mds_schema says 1 and nothing else, in a database that has the tables of schema 1. An error is the library's: the
+/// store failed with a cause, or the limit of steps was reached.
+pub fn is_version_1<S: Alter>(conn: &mut Connection<S>) -> Result<bool, Error>
     requires { conn.old.in_transaction ≡ false }
     ensures found { HasCleanDisk (state S.Store conn.new) → HoldsTables (state S.Store conn.old)
         → IfOk result (λ is. MatchBool is
@@ -55,16 +55,12 @@ pub fn is_version_1<S: Alter>(conn: &mut Connection<S>) -> Result<bool, Unavaila
     ensures kept { HasCleanDisk (state S.Store conn.new) → HoldsTables (state S.Store conn.old)
         → KeepsCommit (state S.Store conn.old) (state S.Store conn.new) }
     ensures cause { HasCleanDisk (state S.Store conn.new) → HoldsTables (state S.Store conn.old)
-        → OnErr result (FailsForCause (state S.Store conn.old) (state S.Store conn.new)) }
+        → IfErr result (HasFailed (state S.Store conn.old) (state S.Store conn.new)) }
     ensures mode { conn.new.in_transaction ≡ false }
     ensures survives { HoldsTables (state S.Store conn.old) → Survives (state S.Store conn.old) (state S.Store conn.new) (λ _. ⊥) }
 {
-    let Ok(_) = ready(conn) else {
-        return Err(Unavailable);
-    };
-    let Ok(rows) = version_numbers(conn) else {
-        return Err(Unavailable);
-    };
+    ready(conn)?;
+    let rows = version_numbers(conn)?;
     Ok(is_one(&rows))
 }
 

@@ -1,7 +1,6 @@
 pub mod Adopting
 pub mod Ascending
 pub mod BookLemmas
-pub mod Causes
 pub mod Days
 pub mod ListTexts
 pub mod Listed

@@ -1,10 +1,9 @@
 //! How a store is made in a database, and known in one.
 
-ghost use Rattle.std.specs.Prelude.{◌≡◌, ◌≢◌, ◌⊎◌, true, IfErr, IfOk, MatchResult};
+ghost use Rattle.std.specs.Prelude.{◌≡◌, ◌≢◌, true, IfErr, IfOk, MatchResult};
 ghost use Rattle.std.specs.Bool.{MatchBool};
 ghost use Rattle.sqlite.specs.Held.{state};
 ghost use Rattle.sqlite.specs.State.{HasCleanDisk, Survives};
-ghost use Rattle.mds_tables.specs.Causes.{FailsForCause};
 ghost use Rattle.mds_tables.specs.Making.{LeavesMade};
 ghost use Rattle.mds_tables.specs.Stores.{IsStore};
 ghost use Rattle.mds_tables.specs.Tables.{no_schema};
@@ -13,24 +12,26 @@ ghost use Rattle.mds_store.specs.Starting.{IsAdopted, IsCreated, IsRefused};
 use crate::row_keeper::RowKeeper;
 use mds_selects::is_version_1;
 use mds_tables::{has_schema_1, make_tables};
-use sqlite::{Alter, Connection};
+use sqlite::{Alter, Connection, Error};
 use sqlite_schema::schema::Schema;
 use std::alloc::Global;
 
 /// Why a database isn't a store that can be used.
 #[derive(Clone, Copy, Debug, PartialEq, Eq)]
 pub enum StoreFault {
-    /// The store can't answer now, for want of memory or a fault of the disk, or its connection is in a transaction
-    /// (U1).
-    Unavailable,
+    /// The connection is in a transaction, which is the caller's (U1).
+    InTransaction,
+    /// The store failed with this error of the library, for want of memory or a fault of the disk, or the limit of steps
+    /// was reached (U1).
+    Unavailable(Error),
     /// The database isn't a store of schema 1; or a store was to be made, and it isn't empty (U3).
     OtherSchema,
 }
 
 /// Makes a store, which keeps nothing, in a database that is empty. On a refusal the connection comes back, and nothing
 /// was changed: one that is in a transaction comes back as it was, and one that isn't is in none. It is unavailable only
-/// in a transaction, or where the store failed or the limit of steps was reached; the limit stays. A crash leaves what
-/// was there, or the store that keeps nothing.
+/// where the store failed or the limit of steps was reached, and tells that error; the limit stays. A crash leaves what was
+/// there, or the store that keeps nothing.
 pub fn create<S: Alter>(
     alloc: Global,
     conn: Connection<S>,
@@ -40,9 +41,7 @@ pub fn create<S: Alter>(
     ensures err { IfErr result (λ e. HasCleanDisk (state S.Store e.1)
         → IsRefused ((state S.Store conn).now.schema ≡ no_schema) (state S.Store conn) (state S.Store e.1) e.0) }
     ensures busy { conn.in_transaction ≡ true
-        → MatchResult result (λ keeper. ⊥) (λ e. (e.0 ≡ StoreFault.Unavailable) × (e.1 ≡ conn)) }
-    ensures cause { IfErr result (λ e. HasCleanDisk (state S.Store e.1) → e.0 ≡ StoreFault.Unavailable
-        → (conn.in_transaction ≡ true) ⊎ FailsForCause (state S.Store conn) (state S.Store e.1)) }
+        → MatchResult result (λ keeper. ⊥) (λ e. (e.0 ≡ StoreFault.InTransaction) × (e.1 ≡ conn)) }
     ensures limit { MatchResult result (λ keeper. keeper.conn.step_limit ≡ conn.step_limit) (λ e. e.1.step_limit ≡ conn.step_limit) }
     ensures mode { IfErr result (λ e. e.1.in_transaction ≡ conn.in_transaction) }
     ensures survives { MatchResult result
@@ -51,14 +50,14 @@ pub fn create<S: Alter>(
 {
     let mut conn = conn;
     if !conn.is_autocommit() {
-        return Err((StoreFault::Unavailable, conn));
+        return Err((StoreFault::InTransaction, conn));
     }
     if !is_empty(conn.schema()) {
         return Err((StoreFault::OtherSchema, conn));
     }
     match make_tables(&mut conn) {
         Ok(()) => Ok(RowKeeper::over(alloc, conn)),
-        Err(_) => Err((StoreFault::Unavailable, conn)),
+        Err(error) => Err((StoreFault::Unavailable(error), conn)),
     }
 }
 
@@ -71,8 +70,8 @@ fn is_empty(schema: &Schema) -> bool
 
 /// Takes a database that is a store of schema 1: it keeps the World that its rows name, whoever wrote them. On a refusal
 /// the connection comes back, and nothing was changed: one that is in a transaction comes back as it was, and one that
-/// isn't is in none. It is unavailable only in a transaction, or where the store failed or the limit of steps was reached;
-/// the limit stays. A crash leaves what was there.
+/// isn't is in none. It is unavailable only where the store failed or the limit of steps was reached, and tells
+/// that error; the limit stays. A crash leaves what was there.
 pub fn adopt<S: Alter>(
     alloc: Global,
     conn: Connection<S>,
@@ -82,9 +81,7 @@ pub fn adopt<S: Alter>(
     ensures err { IfErr result (λ e. HasCleanDisk (state S.Store e.1)
         → IsRefused (IsStore (state S.Store conn).now) (state S.Store conn) (state S.Store e.1) e.0) }
     ensures busy { conn.in_transaction ≡ true
-        → MatchResult result (λ keeper. ⊥) (λ e. (e.0 ≡ StoreFault.Unavailable) × (e.1 ≡ conn)) }
-    ensures cause { IfErr result (λ e. HasCleanDisk (state S.Store e.1) → e.0 ≡ StoreFault.Unavailable
-        → (conn.in_transaction ≡ true) ⊎ FailsForCause (state S.Store conn) (state S.Store e.1)) }
+        → MatchResult result (λ keeper. ⊥) (λ e. (e.0 ≡ StoreFault.InTransaction) × (e.1 ≡ conn)) }
     ensures limit { MatchResult result (λ keeper. keeper.conn.step_limit ≡ conn.step_limit) (λ e. e.1.step_limit ≡ conn.step_limit) }
     ensures mode { IfErr result (λ e. e.1.in_transaction ≡ conn.in_transaction) }
     ensures survives { MatchResult result
@@ -93,7 +90,7 @@ pub fn adopt<S: Alter>(
 {
     let mut conn = conn;
     if !conn.is_autocommit() {
-        return Err((StoreFault::Unavailable, conn));
+        return Err((StoreFault::InTransaction, conn));
     }
     if !has_schema_1(conn.schema()) {
         return Err((StoreFault::OtherSchema, conn));
@@ -101,6 +98,6 @@ pub fn adopt<S: Alter>(
     match is_version_1(&mut conn) {
         Ok(true) => Ok(RowKeeper::over(alloc, conn)),
         Ok(false) => Err((StoreFault::OtherSchema, conn)),
-        Err(_) => Err((StoreFault::Unavailable, conn)),
+        Err(error) => Err((StoreFault::Unavailable(error), conn)),
     }
 }

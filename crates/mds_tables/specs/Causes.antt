@@ -29,7 +29,3 @@ IsCutOff s e = (e ≡ SqliteFailure OperationInterrupted) × IsSome s.step_limit
 -- The store failed, and nothing was too big; or there is a limit of steps, and it was reached.
 abbrev pub HasFailed : State → State → Error → Type 0
 HasFailed old new e = StoreFails old new ⊥ e ⊎ IsCutOff old e
-
--- some failure of that kind came
-abbrev pub FailsForCause : State → State → Type 0
-FailsForCause old new = (e : Error) × HasFailed old new e

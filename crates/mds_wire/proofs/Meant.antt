@@ -12,7 +12,7 @@ use Rattle.httparse.specs.declared.spans.RequestSpans.{RequestSpans}
 use Rattle.httparse.proofs.GrammarLemmas.{ReadsRequest-append, request_unique}
 use Rattle.mds_wire.specs.Heads.{IsWhole, IsNoHead, most_fields, longest_head}
 use Rattle.mds_wire.specs.Judging.{Parts, is_host_fault, judge, judge_body, judge_length, judge_route, longest_body, parts_of, parts_at, path_of, values_in}
-use Rattle.mds_wire.specs.Laws.{OnlySteps}
+use Rattle.mds_wire.specs.Laws.{HaveNoOrder, OnlySteps}
 use Rattle.mds_wire.specs.Routes.{method_of, method_text, route_of, slash}
 use Rattle.mds_wire.specs.declared.route.Method.{Method}
 use Rattle.mds_wire.specs.declared.route.Method.TheVariants.{Get, Post}
@@ -117,6 +117,23 @@ judge_refuses parts =
     (either (not (slice_index_or parts.target 0 0 == slash)) _ _ (λ e. cc)
     (route_refuses parts (route_of (path_of parts.target)))))
 
+-- a head asks for one route and one size of a body
+pub one_order : (head : RequestHead) (route other : Route) (size more : ℕ) → judge (parts_of head) ≡ Wanted route size
+    → judge (parts_of head) ≡ Wanted other more → (route ≡ other) × (size ≡ more)
+one_order head route other size more one two =
+    let same : Wanted route size ≡ Wanted other more = sym one ∙ two in
+    (cc, cc)
+
+-- bytes that begin with a head that is refused begin with none in order
+refused_has_no_order : (bytes rest : List ℕ) (head : RequestHead) (status : Status) → ReadsRequest bytes head rest
+    → judge (parts_of head) ≡ Refused status → HaveNoOrder bytes
+refused_has_no_order bytes rest head status reads is other more route size other_reads few order =
+    let same = request_unique bytes other head more rest other_reads reads in
+    let wanted : judge (parts_of head) ≡ Wanted route size =
+    subst (λ (h : RequestHead). judge (parts_of h) ≡ Wanted route size) same.0 order in
+    let both : Refused status ≡ Wanted route size = sym is ∙ wanted in
+    cc
+
 module _ {S : Type 0} (Step : StepOf S) (Same : S → S → Type 0) where
   means_judged : (bytes more : List ℕ) (fields : List HeaderSpan) (r : RequestSpans) (w : IsWhole bytes fields r) (judged : Judged) (old new : S) (answer : Answer)
       → judged ≡ judge (parts_at bytes fields r)
@@ -183,7 +200,7 @@ module _ {S : Type 0} (Step : StepOf S) (Same : S → S → Type 0) where
       × (length head.fields ≤ most_fields) × (judge (parts_of head) ≡ Wanted route size) × (size ≤ length rest)
       × (answer.is_head ≡ false)
       × Step old route head.target (take size rest) answer.status answer.kind answer.body new)
-      ⊎ ((answer.status ≢ Success) × ((new ≡ old) ⊎ Same old new))
+      ⊎ ((HaveNoOrder bytes ⊎ (answer.status ≡ Unavailable)) × (answer.status ≢ Success) × ((new ≡ old) ⊎ Same old new))
 
   -- what is refused isn't told 200
   no_success : (answer : Answer) (status : Status) (is_head : Bool) → answer ≡ refused status is_head → status ≢ Success
@@ -194,16 +211,22 @@ module _ {S : Type 0} (Step : StepOf S) (Same : S → S → Type 0) where
       → ReadsRequest bytes head rest → length head.fields ≤ most_fields → judge (parts_of head) ≡ judged → NoSuccess judged
       → AnswersJudged Step Same judged head rest old answer new → IsStepOrNone bytes old answer new
   step_or_none bytes rest head (Refused status) old new answer reads few is other a =
-      inr (no_success answer status (bytes_eq head.method (codes "HEAD")) a.0 other, inl a.1)
+      inr (inl (refused_has_no_order bytes rest head status reads is),
+          no_success answer status (bytes_eq head.method (codes "HEAD")) a.0 other, inl a.1)
   step_or_none bytes rest head (Wanted route size) old new answer reads few is other (inl step) =
       inl (head, rest, route, size, reads, few, is, step.0, step.1, step.2)
   step_or_none bytes rest head (Wanted route size) old new answer reads few is other (inr none) =
-      inr (no_success answer Unavailable false none.0 (λ e. cc), none.1)
+      inr (inr (ap (λ (a : Answer). a.status) none.0), no_success answer Unavailable false none.0 (λ e. cc), none.1)
 
   begun : (bytes : List ℕ) (b : Beginning) (old new : S) (answer : Answer) → BeginsSo bytes b
       → AnswersBeginning Step Same b old answer new → IsStepOrNone bytes old answer new
-  begun bytes no_head old new answer is a = inr (no_success answer BadRequest false a.0 (λ e. cc), inl a.1)
-  begun bytes overlong old new answer is a = inr (no_success answer FieldsTooLarge false a.0 (λ e. cc), inl a.1)
+  begun bytes no_head old new answer is a =
+      inr (inl (λ head rest route size reads few order. absurd (omega (arith, few, is.none [] head rest
+      (subst (λ (xs : List ℕ). ReadsRequest xs head rest) (sym (append-nil bytes)) reads)))),
+      no_success answer BadRequest false a.0 (λ e. cc), inl a.1)
+  begun bytes overlong old new answer is a =
+      inr (inl (λ head rest route size reads few order. is.1 head rest reads),
+      no_success answer FieldsTooLarge false a.0 (λ e. cc), inl a.1)
   begun bytes (whole head rest) old new answer is a =
       step_or_none bytes rest head (judge (parts_of head)) old new answer is.0 is.1 refl (judge_refuses (parts_of head)) a
 

@@ -4,7 +4,7 @@ use Rattle.httparse.specs.Grammar.{RequestHead, ReadsRequest, HasNoRequest}
 use Rattle.mds_wire.specs.Heads.{longest_head, most_fields, IsNoHead}
 use Rattle.mds_wire.specs.Judging.{judge, parts_of}
 use Rattle.mds_wire.specs.declared.answer.Status.{Status}
-use Rattle.mds_wire.specs.declared.answer.Status.TheVariants.{Success, BadRequest, FieldsTooLarge}
+use Rattle.mds_wire.specs.declared.answer.Status.TheVariants.{Success, BadRequest, FieldsTooLarge, Unavailable}
 use Rattle.mds_wire.specs.declared.judge.Judged.TheVariants.{Refused, Wanted}
 use Rattle.mds_wire.specs.declared.route.Route.{Route}
 use Rattle.mds_wire.specs.Meaning.{Answer, StepOf, Means, AnswersJudged, refused}
@@ -16,6 +16,12 @@ IsHeadOf head route size = judge (parts_of head) ≡ Wanted route size
 -- a head that is refused so
 abbrev pub IsRefusedHead : RequestHead → Status → Type 0
 IsRefusedHead head status = judge (parts_of head) ≡ Refused status
+
+-- the bytes begin with no head that is in order
+abbrev pub HaveNoOrder : List ℕ → Type 0
+HaveNoOrder bytes =
+    (head : RequestHead) (rest : List ℕ) (route : Route) (size : ℕ) → ReadsRequest bytes head rest
+    → length head.fields ≤ most_fields → IsHeadOf head route size → ⊥
 
 module _ {S : Type 0} (Step : StepOf S) (Same : S → S → Type 0) where
   -- Bytes that begin with a head of at most 64 fields mean what it says, and nothing else.
@@ -32,11 +38,11 @@ module _ {S : Type 0} (Step : StepOf S) (Same : S → S → Type 0) where
       ⊎ ((answer ≡ refused FieldsTooLarge false) × (length bytes ≡ longest_head))) × (new ≡ old)
 
   -- Whatever bytes mean is one step, of a whole request with its target and its body; or nothing is changed, and the answer
-  -- isn't 200.
+  -- isn't 200: the bytes begin with no head that is in order, or it is 503.
   abbrev pub OnlySteps : Type 0
   OnlySteps = (bytes : List ℕ) (old new : S) (answer : Answer) → Means Step Same bytes old answer new
       → ((head : RequestHead) × (rest : List ℕ) × (route : Route) × (size : ℕ) × ReadsRequest bytes head rest
       × (length head.fields ≤ most_fields) × IsHeadOf head route size × (size ≤ length rest)
       × (answer.is_head ≡ false)
       × Step old route head.target (take size rest) answer.status answer.kind answer.body new)
-      ⊎ ((answer.status ≢ Success) × ((new ≡ old) ⊎ Same old new))
+      ⊎ ((HaveNoOrder bytes ⊎ (answer.status ≡ Unavailable)) × (answer.status ≢ Success) × ((new ≡ old) ⊎ Same old new))

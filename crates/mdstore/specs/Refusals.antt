@@ -7,7 +7,8 @@ use Rattle.mds_desk.specs.declared.outcome.Outcome.{Outcome}
 use Rattle.mds_desk.specs.declared.outcome.Outcome.TheVariants as outcome
 
 abbrev pub of_store : StoreFault → Outcome
-of_store store.Unavailable = outcome.Unavailable
+of_store store.InTransaction = outcome.Unavailable
+of_store (store.Unavailable error) = outcome.Unavailable
 of_store store.OtherSchema = outcome.OtherSchema
 
 abbrev pub of_request_fault : RequestFault → Outcome

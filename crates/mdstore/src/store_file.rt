@@ -87,7 +87,7 @@ fn of_store(fault: StoreFault) -> Outcome
     ensures { result ≡ of_store fault }
 {
     match fault {
-        StoreFault::Unavailable => Outcome::Unavailable,
+        StoreFault::InTransaction | StoreFault::Unavailable(_) => Outcome::Unavailable,
         StoreFault::OtherSchema => Outcome::OtherSchema,
     }
 }

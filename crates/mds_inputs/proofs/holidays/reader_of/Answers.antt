@@ -7,4 +7,4 @@ returns c =
     let made = c.from_reader.ensures in
     let named = c.has_headers.ensures in
     let long = c.flexible.ensures in
-    before_rows c.args.text.now c.from_reader.result (rw (long, named) at made.trim ∙ c.new.ensures.trim) (rw (long, named) at made.has_headers) made.headers (rw (long, named) at made.config ∙ c.new.ensures.config) made.state made.source
+    before_rows c.args.text.now c.from_reader.result (rw (long, named) at made.trim ∙ c.new.ensures.trim) (rw (long, named) at made.has_headers) made.headers (rw (long, named) at made.config ∙ c.new.ensures.config) (rw long at made.flexible) made.state made.source

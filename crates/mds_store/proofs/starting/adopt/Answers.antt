@@ -1,5 +1,5 @@
 use Rattle.std.specs.Prelude.{◌≡◌, pos, [], ◌∷◌, IsTrue}
-use Rattle.std.proofs.Common.{inr, rules}
+use Rattle.std.proofs.Common.{rules}
 use Rattle.sqlite.specs.Held.{state}
 use Rattle.sqlite.specs.State.{HasCleanDisk}
 use Rattle.mds_tables.specs.Stores.{HoldsTables}
@@ -20,11 +20,6 @@ pub returns-in-Err-clause-survives : goal.returns-in-Err-clause-survives
 returns-in-Err-clause-survives g c =
     let held : HoldsTables (state g.S.Store c.args.conn) = search rules in
     c.is_version_1.ensures.survives held
-
-pub returns-in-Err-clause-cause : goal.returns-in-Err-clause-cause
-returns-in-Err-clause-cause g c clean is =
-    let held : HoldsTables (state g.S.Store c.args.conn) = search rules in
-    inr (c.in-Err.ensures.cause clean held)
 
 pub over-requires-clause-holds : goal.over-requires-clause-holds
 over-requires-clause-holds g c =
@@ -58,7 +53,8 @@ returns-in-Ok-false-clause-err g c clean =
     let settled : IsTrue old.is_open → old.now ≡ old.committed = search rules in
     let other : ¬ (said old.committed ≡ pos 1 ∷ []) = let it = c.in-Ok-false.ensures.found clean held in search rules in (
       c.is_version_1.ensures.kept clean held,
-      is_none old new held (c.is_version_1.ensures.survives held) (λ clean. c.is_version_1.ensures.kept clean held) clean settled other,
+      is_none old new held (c.is_version_1.ensures.survives held) (λ clean. c.is_version_1.ensures.kept clean held) clean settled other
+          (c.in-Ok-false.ensures.open clean held).is_open,
     )
 
 pub returns-in-Ok-false-clause-limit : goal.returns-in-Ok-false-clause-limit
@@ -69,7 +65,7 @@ returns-in-Ok-false-clause-limit g c =
 pub returns-in-Err-clause-err : goal.returns-in-Err-clause-err
 returns-in-Err-clause-err g c clean =
     let held : HoldsTables (state g.S.Store c.args.conn) = search rules in
-    c.is_version_1.ensures.kept clean held
+    (c.is_version_1.ensures.kept clean held, c.in-Err.ensures.cause clean held)
 
 pub returns-in-Err-clause-limit : goal.returns-in-Err-clause-limit
 returns-in-Err-clause-limit g c =

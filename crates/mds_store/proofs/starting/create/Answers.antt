@@ -1,17 +1,9 @@
 use Rattle.std.specs.Prelude.{◌≡◌, IsTrue}
-use Rattle.std.proofs.Common.{inr, rules}
+use Rattle.std.proofs.Common.{rules}
 use Rattle.sqlite.specs.Held.{state}
 use Rattle.sqlite.specs.State.{HasCleanDisk}
 use Rattle.mds_tables.specs.Tables.{no_schema}
-use Rattle.mds_store.proofs.Causes.{made_or_shut}
 use Rattle.mds_store.proofs.starting.create.Goals as goal
-
-pub returns-in-Err-clause-cause : goal.returns-in-Err-clause-cause
-returns-in-Err-clause-cause g c clean is =
-    let old = state g.S.Store c.args.conn in
-    let new = state g.S.Store c.make_tables.new.conn in
-    let empty : IsTrue old.is_open → old.committed.schema ≡ no_schema = search rules in
-    inr (made_or_shut old new c.in-Err.field-0 (λ is_open. c.in-Err.ensures.cause clean (empty is_open)))
 
 pub over-requires-clause-holds : goal.over-requires-clause-holds
 over-requires-clause-holds g c = λ clean is_open.
@@ -37,4 +29,7 @@ pub returns-in-Ok-clause-survives : goal.returns-in-Ok-clause-survives
 returns-in-Ok-clause-survives g c = rw c.over.ensures c.make_tables.ensures.survives
 
 pub returns-in-Err-clause-err : goal.returns-in-Err-clause-err
-returns-in-Err-clause-err g c clean = c.in-Err.ensures.err clean
+returns-in-Err-clause-err g c clean =
+    let old = state g.S.Store c.args.conn in
+    let empty : IsTrue old.is_open → old.committed.schema ≡ no_schema = search rules in
+    (c.in-Err.ensures.err clean, c.in-Err.ensures.cause clean empty)
