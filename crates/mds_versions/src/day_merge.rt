@@ -495,8 +495,8 @@ impl DayMerge {
 }
 
 impl DayBook {
-    /// What claims of this day add to it, each once, or the first rule that one of them breaks. The
-    /// claims come in the order of their lines.
+    /// What claims of this day add to it, each once, or the first rule that one of them breaks. The claims come in the
+    /// order of their lines, as a file has them: the line that is refused is then the first that is reached.
     pub fn plan(&self, alloc: Global, claims: &[Claim]) -> Result<Additions, Stop>
         requires lines { AreAscending claims.now }
         ensures ok { IfOk result
