@@ -20,12 +20,18 @@ FROM_FEBRUARY = "000534.5,20040201100030,A,,"
 HEADER_13 = header("200401011234", "NEM13")
 TO_FEBRUARY = accumulation(IN_OCTOBER, IN_FEBRUARY, "343.5", "01", "20040509", "20040202125010", "20040203000130") + note("N", "", "A")
 OTHER_QUANTITY = accumulation(IN_OCTOBER, IN_FEBRUARY, "344.5", "01", "20040509", "20040202125010", "20040203000130") + note("N", "", "A")
+HEADER_OF_UPDATE = header("20040202125010", "NEM13")
+WITH_UPDATE = accumulation(IN_OCTOBER, IN_FEBRUARY, "343.5", "01", "20040509", "20040202125010")
+WITHOUT_UPDATE = accumulation(IN_OCTOBER, IN_FEBRUARY, "343.5", "01", "20040509")
+OTHER_WITHOUT_UPDATE = accumulation(IN_OCTOBER, IN_FEBRUARY, "344.5", "01", "20040509")
 TO_MARCH = accumulation(FROM_FEBRUARY, IN_MARCH, "65.5", "01", "", "20040302125010")
 OTHER_REGISTER = accumulation(FROM_FEBRUARY, IN_MARCH, "65.5", "02")
 TOLD_FEBRUARY = ("1141,01,11,11,METSER66,E,000021.2,20031001103230,A,,,000534.5,20040201100030,E64,77,,343.5,kWh,20040509,20040202125010",
                  "N,,A,")
+TOLD_WITH_UPDATE = TOLD_FEBRUARY[:1]
+TOLD_EARLIER_UPDATE = (TOLD_FEBRUARY[0].replace("20040202125010", "20040101123400"),)
 TOLD_MARCH = ("1141,01,11,11,METSER66,E,000534.5,20040201100030,A,,,000600.0,20040301100030,A,,,65.5,kWh,,20040302125010",)
-TOLD_REGISTER = ("1141,02,11,11,METSER66,E,000534.5,20040201100030,A,,,000600.0,20040301100030,A,,,65.5,kWh,,",)
+TOLD_REGISTER = ("1141,02,11,11,METSER66,E,000534.5,20040201100030,A,,,000600.0,20040301100030,A,,,65.5,kWh,,20040101123400",)
 
 
 # A file is taken in, once.
@@ -226,6 +232,26 @@ DESCENDING = [
     (tell_periods("1234567890", "11"), told_periods("1234567890", "11", TOLD_FEBRUARY, TOLD_MARCH, TOLD_REGISTER)),
 ]
 
+# An accumulation is the same whether its record states its update or leaves it to the header, and it is told with it. Under another
+# header a record without one states another accumulation.
+UPDATE_OF_THE_HEADER_FIRST = [
+    (take_in_periods(HEADER_OF_UPDATE, WITHOUT_UPDATE, END), added(1, 0)),
+    (tell_periods("1234567890", "11"), told_periods("1234567890", "11", TOLD_WITH_UPDATE)),
+    (take_in_periods(HEADER_OF_UPDATE, WITH_UPDATE, END), added(0, 1)),
+    (take_in_periods(HEADER_13, WITH_UPDATE, END), added(0, 1)),
+    (take_in_periods(HEADER_OF_UPDATE, OTHER_WITHOUT_UPDATE, END), refused("M3", line=2)),
+    (tell_periods("1234567890", "11"), told_periods("1234567890", "11", TOLD_WITH_UPDATE)),
+    (take_in_periods(HEADER_13, WITHOUT_UPDATE, END), added(1, 0)),
+    (tell_periods("1234567890", "11"), told_periods("1234567890", "11", TOLD_EARLIER_UPDATE, TOLD_WITH_UPDATE)),
+]
+UPDATE_OF_THE_RECORD_FIRST = [
+    (take_in_periods(HEADER_OF_UPDATE, WITH_UPDATE, END), added(1, 0)),
+    (take_in_periods(HEADER_OF_UPDATE, WITHOUT_UPDATE, END), added(0, 1)),
+    (take_in_periods(HEADER_OF_UPDATE, WITHOUT_UPDATE, WITH_UPDATE, END), added(0, 1)),
+    (take_in_periods(HEADER_OF_UPDATE, WITH_UPDATE, OTHER_WITHOUT_UPDATE, END), refused("M3", line=3)),
+    (tell_periods("1234567890", "11"), told_periods("1234567890", "11", TOLD_WITH_UPDATE)),
+]
+
 # An export is a file that states what is current, and nothing of it is new. What isn't known isn't in it.
 EXPORTED = [
     (export("20240101", "20240101", "E1"), exported()),
@@ -335,6 +361,8 @@ EXAMPLES = {
     "interpolation": INTERPOLATED,
     "holidays": ON_HOLIDAYS,
     "accumulations": ACCUMULATIONS,
+    "an update of the header, and then of the record": UPDATE_OF_THE_HEADER_FIRST,
+    "an update of the record, and then of the header": UPDATE_OF_THE_RECORD_FIRST,
     "accumulations in descending order": DESCENDING,
     "exports": EXPORTED,
     "an export of a substitution": EXPORTED_SUBSTITUTION,

@@ -154,10 +154,10 @@ BAD_FILES = [
 # The fields of a good 250 as they are kept.
 FIELDS_OF_PERIOD = ["1141", "01", "11", "11", "METSER66", "E", "000021.2", "20031001103230", "A", "", "",
                     "000534.5", "20040201100030", "E64", "77", "", "343.5", "kWh", "20040509", "20040202125010"]
-# A 250 that has what may be written in several ways, and its fields as they are kept.
+# A 250 that has what may be written in several ways, and its fields as they are kept, with the moment of its file as its update.
 OTHER_PERIOD = "250,1234567890,,,11,,,I,,20031001103230,,007,,,20040201100030,F05,,read late,-00.50,KWH\n"
 OTHER_FIELDS = ["", "", "11", "", "", "I", "", "20031001103230", "", "7", "",
-                "", "20040201100030", "F05", "", "read late", "-0.5", "kWh", "", ""]
+                "", "20040201100030", "F05", "", "read late", "-0.5", "kWh", "", "20040101123400"]
 
 # NEM13 files, what is printed of them, and the accumulations of 1234567890 and 11 that they state, by register, with their notes.
 ACCUMULATIONS = [

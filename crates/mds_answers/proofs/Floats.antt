@@ -1,5 +1,5 @@
 -- No answer with a list has a float in it.
-use Rattle.std.proofs.Common.{◌≡◌, ℕ, true, false, List, [], ◌∷◌, map, refl}
+use Rattle.std.proofs.Common.{◌≡◌, ℕ, true, false, List, [], ◌∷◌, ◌++◌, map, refl}
 use Rattle.serde_json.specs.Data.{Data}
 use Rattle.serde_json.specs.View.{items_of}
 use Rattle.serde_json.specs.Written.{has_float, items_have_float}
@@ -14,7 +14,7 @@ use Rattle.mds_messages.specs.declared.answer.PeriodAnswer.{PeriodAnswer}
 use Rattle.mds_messages.specs.declared.answer.StreamAnswer.{StreamAnswer}
 use Rattle.mds_messages.specs.declared.answer.VersionsAnswer.{VersionsAnswer}
 use Rattle.mds_messages.specs.Answers.{has_list}
-use Rattle.mds_answers.specs.Json.{AreEach, AreStreams, IsData, IsDayData, IsEvent, IsStream, IsVersion, IsVersionsData, period_data, periods_data, reading_texts, texts}
+use Rattle.mds_answers.specs.Json.{AreEach, ArePeriods, AreStreams, IsData, IsDayData, IsEvent, IsPeriod, IsStream, IsVersion, IsVersionsData, reading_texts, texts}
 
 -- none in a list, where each is told without one
 none_in : {T : Type 0} (Is : T → Data → Type 0) → ((thing : T) (one : Data) → Is thing one → has_float one ≡ false)
@@ -42,8 +42,13 @@ none_in_version version json (update, when, is) = rw is
 none_in_stream : (answer : StreamAnswer) (json : Data) → IsStream answer json → has_float json ≡ false
 none_in_stream answer json (next, when, is) = rw is
 
-none_in_period : (period : Period) → has_float (period_data period) ≡ false
-none_in_period period = rw (none_in_texts period.content.fields, none_in_map texts none_in_texts period.content.notes)
+none_in_period : (period : Period) (json : Data) → IsPeriod period json → has_float json ≡ false
+none_in_period period json (update, when, is) =
+    rw (
+      is,
+      none_in_texts (period.content.fields ++ update ∷ []),
+      none_in_map texts none_in_texts period.content.notes,
+    )
 
 none_in_day : (answer : DayAnswer) (json : Data) → IsDayData answer json → has_float json ≡ false
 none_in_day answer json (date, update, events, day, when, are, is) =
@@ -57,8 +62,8 @@ none_in_versions : (answer : VersionsAnswer) (json : Data) → IsVersionsData an
 none_in_versions answer json (date, versions, day, are, is) =
     rw (is, none_in IsVersion none_in_version answer.versions.items versions are)
 
-none_in_periods : (answer : PeriodAnswer) → has_float (periods_data answer) ≡ false
-none_in_periods answer = rw (none_in_map period_data none_in_period answer.periods.items)
+none_in_periods : (answer : PeriodAnswer) (json : Data) → ArePeriods answer json → has_float json ≡ false
+none_in_periods answer json (periods, are, is) = rw (is, none_in IsPeriod none_in_period answer.periods.items periods are)
 
 none_in_streams : (answers : List StreamAnswer) (json : Data) → AreStreams answers json → has_float json ≡ false
 none_in_streams answers json (streams, are, is) = rw (is, none_in IsStream none_in_stream answers streams are)
@@ -66,7 +71,7 @@ none_in_streams answers json (streams, are, is) = rw (is, none_in IsStream none_
 pub no_float : (answer : Answer) (json : Data) → has_list answer ≡ true → IsData answer json → has_float json ≡ false
 no_float (told.Day answer) json list is = none_in_day answer json is
 no_float (told.Versions answer) json list is = none_in_versions answer json is
-no_float (told.Period answer) json list is = rw is (none_in_periods answer)
+no_float (told.Period answer) json list is = none_in_periods answer json is
 no_float (told.Streams answers) json list is = none_in_streams answers.items json is
 no_float (told.Imported added known) json list is = absurd (cc)
 no_float (told.Substituted count) json list is = absurd (cc)

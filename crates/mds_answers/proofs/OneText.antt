@@ -8,7 +8,7 @@ use Rattle.mds_terms.specs.Event.{trans_text}
 use Rattle.mds_terms.specs.Parts.{optional}
 use Rattle.mds_messages.specs.declared.answer.Answer.{Answer}
 use Rattle.mds_messages.specs.declared.answer.Answer.TheVariants as told
-use Rattle.mds_answers.specs.Json.{AreEach, IsData, IsDayData, IsEvent, IsJson, IsStream, IsVersion, IsVersionsData, reading_texts, texts}
+use Rattle.mds_answers.specs.Json.{ArePeriods, AreEach, IsData, IsDayData, IsEvent, IsJson, IsPeriod, IsStream, IsVersion, IsVersionsData, reading_texts, texts}
 
 -- what a text is read as has one text
 abbrev pub HasOneText : (List ℕ → Option ℕ) → Type 0
@@ -64,6 +64,14 @@ one_version : HasOneText moment_of → HasOne IsVersion
 one_version one version a b p q =
     p.2 ∙ ap (λ update. texts (update ∷ reading_texts version.reading)) (one p.0 q.0 version.update p.1 q.1) ∙ sym q.2
 
+one_period : HasOneText moment_of → HasOne IsPeriod
+one_period one period a b p q = let same : p.0 ≡ q.0 = one p.0 q.0 period.key.update p.1 q.1 in cc
+
+one_periods : HasOneText moment_of → HasOne ArePeriods
+one_periods moments answer a b (periods, are, is) (periods', are', is') =
+    let same : periods ≡ periods' = one_each IsPeriod (one_period moments) answer.periods.items periods periods' are are' in
+    cc
+
 one_stream : HasOneText day_of → HasOne IsStream
 one_stream one answer a b p q = let same : p.0 ≡ q.0 = one_optional day_of one p.0 q.0 answer.details.next p.1 q.1 in cc
 
@@ -87,7 +95,7 @@ one_data days moments (told.Known count) a b p q = p ∙ sym q
 one_data days moments (told.HolidaysAdded added known) a b p q = p ∙ sym q
 one_data days moments (told.Day answer) a b p q = one_day days moments answer a b p q
 one_data days moments (told.Versions answer) a b p q = one_versions days moments answer a b p q
-one_data days moments (told.Period answer) a b p q = p ∙ sym q
+one_data days moments (told.Period answer) a b p q = one_periods moments answer a b p q
 one_data days moments (told.Streams answers) a b (streams, are, is) (streams', are', is') =
     let same : streams ≡ streams' = one_each IsStream (one_stream days) answers.items streams streams' are are' in
     cc

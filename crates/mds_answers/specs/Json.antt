@@ -1,6 +1,6 @@
 -- What the machine answers, as JSON (RFC 8259; which members there are is the profile's). A value and its compact text are those
 -- of the library `serde_json`. A day, and a moment, stands as the text that reads as it, of which there is one.
-use Rattle.std.specs.Prelude.{◌≡◌, ℕ, ◌==◌, Bool, true, false, if◌then◌else◌, List, [], ◌∷◌, map, codes, Option, Some}
+use Rattle.std.specs.Prelude.{◌≡◌, ℕ, ◌==◌, Bool, true, false, if◌then◌else◌, List, [], ◌∷◌, ◌++◌, map, codes, Option, Some}
 use Rattle.serde_json.specs.Data.{Data, array, number, object, string, boolean, unsigned, Members, no_members, member}
 use Rattle.serde_json.specs.View.{items_of}
 use Rattle.serde_json.specs.Written.{compact_text}
@@ -98,18 +98,20 @@ IsVersionsData answer json =
     (member (codes "suffix") (string answer.stream.suffix)
     (member (codes "versions") (array (items_of versions)) no_members))))))
 
--- an accumulation: the fields of its 250 record that are kept, and its 550 records
-abbrev pub period_data : Period → Data
-period_data period =
-    object (member (codes "fields") (texts period.content.fields)
-    (member (codes "notes") (array (items_of (map texts period.content.notes))) no_members))
+-- an accumulation: the fields of its 250 record that are kept, behind them its update, whoever stated it, and its 550 records
+abbrev pub IsPeriod : Period → Data → Type 0
+IsPeriod period json =
+    (update : List ℕ) × (moment_of update ≡ Some period.key.update)
+    × (json ≡ object (member (codes "fields") (texts (period.content.fields ++ update ∷ []))
+    (member (codes "notes") (array (items_of (map texts period.content.notes))) no_members)))
 
 -- the accumulations of a stream
-abbrev pub periods_data : PeriodAnswer → Data
-periods_data answer =
-    object (member (codes "nmi") (string answer.stream.nmi)
-    (member (codes "periods") (array (items_of (map period_data answer.periods.items)))
-    (member (codes "suffix") (string answer.stream.suffix) no_members)))
+abbrev pub ArePeriods : PeriodAnswer → Data → Type 0
+ArePeriods answer json =
+    (periods : List Data) × AreEach IsPeriod answer.periods.items periods
+    × (json ≡ object (member (codes "nmi") (string answer.stream.nmi)
+    (member (codes "periods") (array (items_of periods))
+    (member (codes "suffix") (string answer.stream.suffix) no_members))))
 
 -- a known stream with its current details
 abbrev pub IsStream : StreamAnswer → Data → Type 0
@@ -137,7 +139,7 @@ IsData (told.Known count) json = json ≡ filled count true
 IsData (told.HolidaysAdded added known) json = json ≡ counts added known
 IsData (told.Day answer) json = IsDayData answer json
 IsData (told.Versions answer) json = IsVersionsData answer json
-IsData (told.Period answer) json = json ≡ periods_data answer
+IsData (told.Period answer) json = ArePeriods answer json
 IsData (told.Streams answers) json = AreStreams answers.items json
 IsData (told.Gaps text) json = ⊥
 IsData (told.Finals text) json = ⊥

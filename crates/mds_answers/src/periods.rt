@@ -1,34 +1,44 @@
 //! Accumulations as JSON.
 
-ghost use Rattle.std.specs.Prelude.{◌≡◌, ◌<◌, IfOk, map, vec_len};
+ghost use Rattle.std.specs.Prelude.{◌≡◌, ◌<◌, IfOk, map, string_bytes, vec_len};
 ghost use Rattle.std.specs.List.{slice_split};
-ghost use Rattle.serde_json.specs.Data.{array};
-ghost use Rattle.serde_json.specs.View.{items_of, view};
-ghost use Rattle.mds_statements.specs.Contents.{is_line_feed, texts_of};
-ghost use Rattle.mds_answers.specs.Json.{period_data, periods_data, texts};
+ghost use Rattle.serde_json.specs.View.{view};
+ghost use Rattle.mds_statements.specs.Bodies.{IsPeriodBody};
+ghost use Rattle.mds_statements.specs.Contents.{content_of, is_line_feed, texts_of};
+ghost use Rattle.mds_answers.specs.Json.{ArePeriods, IsPeriod, texts};
 
 use crate::told::{ToJson, list_of, texts_of};
 use mds_messages::PeriodAnswer;
-use mds_statements::{Period, PeriodContent};
+use mds_statements::Period;
 use serde_json::{Value, json};
 use std::alloc::{AllocError, Global};
 
-/// Its fields, and its notes.
+/// Its fields with its update behind them, and its notes: the lines of its body.
 impl ToJson for Period {
-    ghost told_as = { λ period json. json ≡ period_data period };
+    ghost told_as = { IsPeriod };
 
     fn to_json(&self, alloc: Global) -> Result<Value, AllocError> {
-        let (fields, notes) = parts_of(alloc, &self.content)?;
+        let body = body_of(alloc, self)?;
+        let (fields, notes) = parts_of(alloc, &body)?;
         json!(in alloc; {"fields": fields, "notes": notes})
     }
 }
 
-/// The fields of a content, and its notes.
-fn parts_of(alloc: Global, content: &PeriodContent) -> Result<(Value, Vec<Value>), AllocError>
-    ensures { IfOk result (λ parts. (view parts.0 ≡ texts content.now.fields)
-        × (map view parts.1.items ≡ map texts content.now.notes)) }
+/// The body of an accumulation.
+fn body_of(alloc: Global, period: &Period) -> Result<String, AllocError>
+    ensures { IfOk result (λ body. IsPeriodBody period.now (string_bytes body)) }
 {
-    let mut lines = lines_of(alloc, content.text())?;
+    let mut body = String::new(alloc);
+    period.write_body(&mut body)?;
+    Ok(body)
+}
+
+/// The fields that a body says, and its notes.
+fn parts_of(alloc: Global, body: &str) -> Result<(Value, Vec<Value>), AllocError>
+    ensures { IfOk result (λ parts. (view parts.0 ≡ texts (content_of body.now).fields)
+        × (map view parts.1.items ≡ map texts (content_of body.now).notes)) }
+{
+    let mut lines = lines_of(alloc, body)?;
     let fields = lines.remove(0);
     Ok((fields, lines))
 }
@@ -46,18 +56,11 @@ fn lines_of(alloc: Global, text: &str) -> Result<Vec<Value>, AllocError>
     Ok(lines)
 }
 
-/// Accumulations, in turn.
-fn periods_list(alloc: Global, periods: &[Period]) -> Result<Value, AllocError>
-    ensures { IfOk result (λ value. view value ≡ array (items_of (map period_data periods.now))) }
-{
-    list_of(alloc, periods)
-}
-
 /// The accumulations of a stream.
 pub(crate) fn periods_value(alloc: Global, answer: &PeriodAnswer) -> Result<Value, AllocError>
-    ensures { IfOk result (λ value. view value ≡ periods_data answer.now) }
+    ensures { IfOk result (λ value. ArePeriods answer.now (view value)) }
 {
-    let periods = periods_list(alloc, &answer.periods)?;
+    let periods = list_of(alloc, &answer.periods)?;
     json!(in alloc; {
         "nmi": answer.stream.nmi.text(),
         "periods": periods,

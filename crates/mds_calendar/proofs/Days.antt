@@ -1,21 +1,19 @@
 -- Days, their numbers and their texts.
-use Rattle.std.proofs.Common.{◌≡◌, ℕ, ◌+◌, ◌*◌, ◌/◌, ◌%◌, ◌^◌, ◌<◌, ◌≤◌, Bool, true, false, ◌&&◌, ◌==◌, cond, codes, nat_le, List, [], ◌∷◌, ◌++◌, length, take, drop, refl, sym, ap, ◌∙◌, arith, rules, ℤ, pos, negsuc, ◌≤ℤ◌, unsigned_abs, Option, Some, None}
+use Rattle.std.proofs.Common.{◌≡◌, ℕ, ◌+◌, ◌*◌, ◌/◌, ◌%◌, ◌^◌, ◌<◌, ◌≤◌, Bool, true, false, ◌&&◌, ◌==◌, cond, codes, nat_le, List, [], ◌∷◌, ◌++◌, length, take, drop, refl, sym, ap, ◌∙◌, arith, rules, ℤ, pos, negsuc, unsigned_abs, to_z, w8, w16, Option, Some, None}
 use Rattle.std.proofs.lemmas.Bool.{false_from_ne_true}
-use Rattle.std.proofs.lemmas.Int.{by_lt_z}
+use Rattle.std.proofs.lemmas.Int.{to_z_pos}
 use Rattle.std.proofs.lemmas.List.{take-append-drop, take_all, length-take, length-drop, drop-drop}
 use Rattle.std.proofs.lemmas.List.Folds.{list_all-append}
 use Rattle.std.specs.Char.{is_ascii_digit}
 use Rattle.std.specs.List.{list_all}
 use Rattle.std.specs.Str.Parse.{digits_value}
 use Rattle.std.proofs.lemmas.Bool.Decides.{nat_tests}
-use Rattle.jiff_core.specs.declared.civil.date.Date.{Date}
-use Rattle.jiff_core.specs.Date.{epoch_day}
-use Rattle.jiff_core.specs.Calendar.{day_count, days_from_civil, days_in_month, IsEpochDay, IsYear, IsCivilDate, IsDate}
-use Rattle.jiff_core.proofs.SignedLemmas.{signed_arith}
-use Rattle.jiff_core.proofs.CalendarLemmas.{days_from_civil-day_count, day_count-epoch, day_count-lt_year, day_count-day_of_year, days_in_month_bounds, weekday_number-add, weekday_number_bound}
-use Rattle.jiff_core.proofs.DateLemmas.{civil, epoch_day_injective, epoch_day_range, days_from_civil-max, weekday_number-week}
-use Rattle.jiff_core.proofs.StandardFacts.{known_days}
-use Rattle.mds_calendar.specs.Calendar.{day_of, day_number, is_date, are_digits, number_at, last_day, weekday_of}
+use Rattle.jiff.specs.Types.{Date}
+use Rattle.jiff.specs.Words.{epoch_day, days_in_month, IsYear, IsDate, IsYmd}
+use Rattle.jiff.proofs.SpanFacts.{signed_arith}
+use Rattle.jiff.proofs.Family.{epoch_day_range, epoch_day_injective, days_from_civil-max}
+use Rattle.mds_calendar.specs.Calendar.{day_of, days_of_months, day_number, is_date, are_digits, number_at, last_day, weekday_of}
+use Rattle.mds_calendar.proofs.Numbers.{month_bounds, epoch_day_is, year_from_number}
 use Rattle.mds_calendar.proofs.Digits.{both, same_digits, digits_value_small, digit_char}
 
 -- what a test of the parts of a date says
@@ -26,63 +24,35 @@ parts_hold y m d k h =
 hold_parts : (y m d k : ℕ) → 1970 ≤ y → 1 ≤ m → m ≤ 12 → 1 ≤ d → d ≤ k → (nat_le 1970 y && nat_le 1 m && nat_le m 12 && nat_le 1 d && nat_le d k) ≡ true
 hold_parts y m d k a b c e f = grind (arith, nat_tests)
 
--- a date from 1970 to 9999 is one that the calendar has, in the words of either kind of numbers
-pub civil_date : (y m d : ℕ) → is_date y m d ≡ true → y < 10_000 → IsCivilDate (pos y) m d
-civil_date y m d h small =
-    let p = parts_hold y m d (days_in_month (pos y) m) h in
-    (omega (arith, signed_arith), (omega arith, omega arith), (omega arith, omega arith))
-
+-- a date from 1970 to 9999 is one that the calendar has
 pub date_is : (y m d : ℕ) → is_date y m d ≡ true → y < 10_000 → IsDate (pos y) (pos m) (pos d)
 date_is y m d h small =
     let p = parts_hold y m d (days_in_month (pos y) m) h in
     ((omega (arith, signed_arith), omega (arith, signed_arith)), (omega (arith, signed_arith), omega (arith, signed_arith)), (omega (arith, signed_arith), omega (arith, signed_arith)))
 
--- the days of 1970 and later are those whose count is no less than that of 1 January 1970
-pub count_from_1970 : (y : ℤ) (m d : ℕ) → IsCivilDate y m d → pos 1970 ≤ℤ y → 4_371_953 ≤ day_count y m d
-count_from_1970 y m d h low =
-    by_lt_z (pos 1970) y
-    (λ lt. omega (arith, day_count-epoch, day_count-lt_year (pos 1970) 1 1 y m d (search rules) h.2.0 lt))
-    (λ le. let e : y ≡ pos 1970 = omega (arith, signed_arith) in
-    rw e (omega (arith, day_count-epoch, day_count-day_of_year (pos 1970) m d h.2.0)))
-
-pub year_from_count : (y : ℤ) (m d : ℕ) → IsCivilDate y m d → 4_371_953 ≤ day_count y m d → pos 1970 ≤ℤ y
-year_from_count y m d h low =
-    by_lt_z y (pos 1970)
-    (λ lt. absurd (omega (arith, day_count-epoch, day_count-lt_year y m d (pos 1970) 1 1 h (omega arith) lt)))
-    (λ le. le)
-
--- a number that is not negative is its magnitude
-pub magnitude_is : (z : ℤ) → pos 0 ≤ℤ z → pos (unsigned_abs z) ≡ z
-magnitude_is (pos n) h = refl
-magnitude_is (negsuc n) h = absurd (omega (arith, signed_arith))
-
--- the day number of a date from 1970 on is no negative number
-pub day_number_is : (y m d : ℕ) → is_date y m d ≡ true → y < 10_000 → pos (day_number y m d) ≡ days_from_civil (pos y) m d
-day_number_is y m d h small =
-    let p = parts_hold y m d (days_in_month (pos y) m) h in
-    let low = count_from_1970 (pos y) m d (civil_date y m d h small) (omega (arith, signed_arith)) in
-    magnitude_is (days_from_civil (pos y) m d) (omega (arith, signed_arith, days_from_civil-day_count (pos y) m d))
-
 -- such a date as jiff's
 date_of : (y m d : ℕ) → is_date y m d ≡ true → y < 10_000 → Date
 date_of y m d h small =
-    let c = civil_date y m d h small in
-    record { year = pos y; month = m; day = d; year_in = c.0; month_in = c.1; day_in = c.2 }
+    let p = parts_hold y m d (days_in_month (pos y) m) h in
+    record { year = pos y; month = m; day = d; year_in = omega (arith, signed_arith); month_in = (p.1, p.2); day_in = (p.3, p.4) }
+
+-- which has the number of the definition
+date_of_number : (y m d : ℕ) (h : is_date y m d ≡ true) (small : y < 10_000) → epoch_day (date_of y m d h small) ≡ pos (day_number y m d)
+unfolding date_of
+date_of_number y m d h small = epoch_day_is y m d (date_of y m d h small) (parts_hold y m d (days_in_month (pos y) m) h).0 refl refl refl
 
 -- its number is no more than the last
 pub day_number_last : (y m d : ℕ) → is_date y m d ≡ true → y < 10_000 → day_number y m d ≤ last_day
-unfolding date_of
 day_number_last y m d h small =
-    let r = epoch_day_range (date_of y m d h small) in
-    omega (arith, signed_arith, day_number_is y m d h small)
+    omega (arith, signed_arith, date_of_number y m d h small, epoch_day_range (date_of y m d h small))
 
 -- two days with one number are one day
 pub day_number_injective : (y m d y₂ m₂ d₂ : ℕ) → is_date y m d ≡ true → y < 10_000 → is_date y₂ m₂ d₂ ≡ true → y₂ < 10_000 → day_number y m d ≡ day_number y₂ m₂ d₂ → (y ≡ y₂) × (m ≡ m₂) × (d ≡ d₂)
 unfolding date_of
 day_number_injective y m d y₂ m₂ d₂ h small h₂ small₂ e =
-    let n = day_number_is y m d h small in
-    let k = day_number_is y₂ m₂ d₂ h₂ small₂ in
-    let same = epoch_day_injective (date_of y m d h small) (date_of y₂ m₂ d₂ h₂ small₂) (sym n ∙ ap pos e ∙ k) in
+    let n = date_of_number y m d h small in
+    let k = date_of_number y₂ m₂ d₂ h₂ small₂ in
+    let same = epoch_day_injective (date_of y m d h small) (date_of y₂ m₂ d₂ h₂ small₂) (n ∙ (ap pos e ∙ sym k)) in
     let p = same.0 in
     (cc, same.1, same.2)
 
@@ -111,8 +81,8 @@ day_of_digits a b c d e f g h ha hb hc hd he hf hg hh =
 -- the text of a date reads as its number
 pub day_of_date_text : (y m d : ℕ) → is_date y m d ≡ true → y < 10_000 → day_of (date_text y m d) ≡ Some (day_number y m d)
 day_of_date_text y m d h small =
-    let p = civil_date y m d h small in
-    let long = days_in_month_bounds (pos y) m in
+    let p = parts_hold y m d (days_in_month (pos y) m) h in
+    let long = month_bounds (pos y) m in
     let e = day_of_digits (y / 100 / 10) (y / 100 % 10) (y % 100 / 10) (y % 100 % 10) (m / 10) (m % 10) (d / 10) (d % 10) (omega arith) (omega arith) (omega arith) (omega arith) (omega arith) (omega arith) (omega arith) (omega arith) in
     let year : (((0 * 10 + y / 100 / 10) * 10 + y / 100 % 10) * 10 + y % 100 / 10) * 10 + y % 100 % 10 ≡ y = omega arith in
     let month : (0 * 10 + m / 10) * 10 + m % 10 ≡ m = omega arith in
@@ -229,40 +199,50 @@ pub year_fits : (y : ℤ) → IsYear y → unsigned_abs y < 2 ^ 15
 year_fits (pos y) h = omega (arith, signed_arith)
 year_fits (negsuc y) h = omega (arith, signed_arith)
 
--- and a day number's 31 bits
-pub number_fits : (z : ℤ) → IsEpochDay z → unsigned_abs z < 2 ^ 31
-number_fits (pos n) h = omega (arith, signed_arith)
-number_fits (negsuc n) h = omega (arith, signed_arith)
-
 -- the text of the date of a day's number reads as that number
-pub digits_of_date : (year : ℤ) (m d n : ℕ) → IsCivilDate year m d → days_from_civil year m d ≡ pos n → day_of (date_text (unsigned_abs year) m d) ≡ Some n
-digits_of_date (pos y) m d n h e =
-    let low = year_from_count (pos y) m d h (omega (arith, signed_arith, days_from_civil-day_count (pos y) m d)) in
-    let is = hold_parts y m d (days_in_month (pos y) m) (omega (arith, signed_arith, low)) (omega arith) (omega arith) (omega arith) (omega arith) in
-    day_of_date_text y m d is (omega (arith, signed_arith)) ∙ ap (λ z. Some (unsigned_abs z)) e
-digits_of_date (negsuc y) m d n h e =
-    absurd (omega (arith, signed_arith, year_from_count (negsuc y) m d h (omega (arith, signed_arith, days_from_civil-day_count (negsuc y) m d))))
+digits_of_year : (year : ℤ) (n : ℕ) (date : Date) → year ≡ date.year → epoch_day date ≡ pos n → day_of (date_text (unsigned_abs year) date.month date.day) ≡ Some n
+digits_of_year (pos y) n date is e =
+    let low : 1970 ≤ y = omega (arith, signed_arith, year_from_number date n e, is) in
+    let long = ap (λ z. days_in_month z date.month) is in
+    let held = hold_parts y date.month date.day (days_in_month (pos y) date.month) low (omega (arith, date.month_in)) (omega (arith, date.month_in)) (omega (arith, date.day_in)) (omega (arith, date.day_in, long)) in
+    let number = epoch_day_is y date.month date.day date low (sym is) refl refl in
+    let same : day_number y date.month date.day ≡ n = omega (arith, signed_arith, number, e) in
+    day_of_date_text y date.month date.day held (omega (arith, signed_arith, is, date.year_in)) ∙ ap Some same
+digits_of_year (negsuc y) n date is e =
+    absurd (omega (arith, signed_arith, is, year_from_number date n e))
+
+pub digits_of_date : (date : Date) (n : ℕ) → epoch_day date ≡ pos n → day_of (date_text (unsigned_abs date.year) date.month date.day) ≡ Some n
+digits_of_date date n e = digits_of_year date.year n date refl e
 
 -- the first and the last day
 pub first_day_text : day_of (codes "19700101") ≡ Some 0
-unfolding day_of
-first_day_text = ap (λ z. Some (unsigned_abs z)) known_days.0
+unfolding day_of days_of_months
+first_day_text = refl
+
+last : Date
+last = record { year = pos 9999; month = 12; day = 31; year_in = search rules; month_in = search rules; day_in = search rules }
+
+last_number : day_number 9999 12 31 ≡ last_day
+unfolding last
+last_number =
+    let e = epoch_day_is 9999 12 31 last (omega arith) refl refl refl in
+    omega (arith, signed_arith, e, days_from_civil-max)
 
 pub last_day_text : day_of (codes "99991231") ≡ Some last_day
 unfolding day_of
-last_day_text = ap (λ z. Some (unsigned_abs z)) days_from_civil-max
+last_day_text = ap Some last_number
 
--- the number of a date of these parts
-pub number_is : (y m d n : ℕ) (date : Date) → 1970 ≤ y → y < 10_000 → date.year ≡ pos y → pos date.month ≡ pos m → pos date.day ≡ pos d → n ≡ unsigned_abs (epoch_day date) → (Some n ≡ cond (is_date y m d) (Some (day_number y m d)) None) × (n ≤ last_day)
-number_is y m d n date low small year month day e =
-    let k : date.month ≡ m = cc in
-    let l : date.day ≡ d = cc in
-    let long : days_in_month date.year date.month ≡ days_in_month (pos y) m = ap (λ z. days_in_month z date.month) year ∙ ap (days_in_month (pos y)) k in
-    let c = civil date in
-    let is : is_date y m d ≡ true = hold_parts y m d (days_in_month (pos y) m) low (omega arith) (omega arith) (omega arith) (omega (arith, long)) in
-    let same : days_from_civil date.year date.month date.day ≡ days_from_civil (pos y) m d = cc in
-    let number : n ≡ day_number y m d = e ∙ ap unsigned_abs same in
-    (rw is (ap Some number), omega (arith, number, day_number_last y m d is small))
+-- a date of these parts is one from 1970 on, and has their number
+pub number_is : (y m d : ℕ) (date : Date) → 1970 ≤ y → y < 10_000 → m < 100 → d < 100 → IsYmd (to_z w16 y) (to_z w8 m) (to_z w8 d) date → (is_date y m d ≡ true) × (epoch_day date ≡ pos (day_number y m d)) × (day_number y m d ≤ last_day)
+number_is y m d date low small month_small day_small h =
+    let year = h.0 ∙ to_z_pos w16 y (omega arith) in
+    let k = h.1 ∙ to_z_pos w8 m (omega arith) in
+    let l = h.2 ∙ to_z_pos w8 d (omega arith) in
+    let month : date.month ≡ m = cc in
+    let day : date.day ≡ d = cc in
+    let long : days_in_month date.year date.month ≡ days_in_month (pos y) m = rw (year, month) refl in
+    let is : is_date y m d ≡ true = hold_parts y m d (days_in_month (pos y) m) low (omega (arith, date.month_in)) (omega (arith, date.month_in)) (omega (arith, date.day_in)) (omega (arith, date.day_in, long)) in
+    (is, epoch_day_is y m d date low year month day, day_number_last y m d is small)
 
 -- equal parts make the same date
 pub date_moved : (a b c x y z : ℤ) → a ≡ x → b ≡ y → c ≡ z → IsDate x y z → IsDate a b c
@@ -270,17 +250,22 @@ date_moved a b c x y z p q r h = rw (p, q, r) h
 
 -- the weekdays of day 0, of the next day, and of the day a week later
 pub first_weekday : weekday_of 0 ≡ 3
-first_weekday = known_days.4
+unfolding weekday_of
+first_weekday = refl
 
 pub next_weekday : (day : ℕ) → weekday_of (day + 1) ≡ (weekday_of day + 1) % 7
-next_weekday day = weekday_number-add (pos day) (pos (day + 1)) 1 refl
+unfolding weekday_of
+next_weekday day = omega arith
 
 pub same_weekday : (day : ℕ) → weekday_of (day + 7) ≡ weekday_of day
-same_weekday day = weekday_number-week (pos day)
+unfolding weekday_of
+same_weekday day = omega arith
 
 -- the weekday of a day that comes so many days later, and the greatest number of a weekday
 pub weekday_later : (day later days : ℕ) → later ≡ day + days → weekday_of later ≡ (weekday_of day + days) % 7
-weekday_later day later days e = weekday_number-add (pos day) (pos later) days (ap pos e)
+unfolding weekday_of
+weekday_later day later days e = omega (arith, e)
 
 pub weekday_bound : (day : ℕ) → weekday_of day < 7
-weekday_bound day = weekday_number_bound (pos day)
+unfolding weekday_of
+weekday_bound day = omega arith

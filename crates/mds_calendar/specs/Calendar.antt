@@ -1,13 +1,12 @@
 -- Days and moments of market time, which has no daylight saving. MDFF Specification: Date(8), CCYYMMDD, and
 -- DateTime(14), CCYYMMDDhhmmss, or DateTime(12) without the seconds. The range, from 1970 to 9999, is this project's
 -- profile.
--- The calendar is that of the library jiff: its `days_in_month`, its number of a day, `days_from_civil`, and its number
--- of a weekday, `weekday_number`.
-use Rattle.std.specs.Prelude.{ℕ, ◌+◌, ◌*◌, Bool, ◌&&◌, ◌==◌, nat_lt, nat_le, if◌then◌else◌, List, ◌++◌, length, take, drop, codes, pos, unsigned_abs, Option, Some, None, option_and_then}
+-- The length of a month is that of the library jiff, its `days_in_month`.
+use Rattle.std.specs.Prelude.{ℕ, zero, suc, ◌+◌, ◌-◌, ◌*◌, ◌/◌, ◌%◌, Bool, ◌&&◌, ◌==◌, nat_lt, nat_le, if◌then◌else◌, List, ◌++◌, length, take, drop, codes, pos, Option, Some, None, option_and_then}
 use Rattle.std.specs.Char.{is_ascii_digit}
 use Rattle.std.specs.List.{list_all}
 use Rattle.std.specs.Str.Parse.{digits_value}
-use Rattle.jiff_core.specs.Calendar.{days_in_month, days_from_civil, weekday_number}
+use Rattle.jiff.specs.Words.{days_in_month}
 
 -- so many digits
 abbrev pub are_digits : ℕ → List ℕ → Bool
@@ -22,9 +21,14 @@ abbrev pub is_date : ℕ → ℕ → ℕ → Bool
 is_date year month day =
     nat_le 1970 year && nat_le 1 month && nat_le month 12 && nat_le 1 day && nat_le day (days_in_month (pos year) month)
 
+-- the days of the first n months from January 1970 on
+unfoldable pub days_of_months : ℕ → ℕ
+days_of_months zero = 0
+days_of_months (suc n) = days_of_months n + days_in_month (pos (1970 + n / 12)) (n % 12 + 1)
+
 -- the day number of a date from 1970 on: 0 for 1 January 1970
 abbrev pub day_number : ℕ → ℕ → ℕ → ℕ
-day_number year month day = unsigned_abs (days_from_civil (pos year) month day)
+day_number year month day = days_of_months ((year - 1970) * 12 + (month - 1)) + (day - 1)
 
 -- the number of the last day, 31 December 9999
 abbrev pub last_day : ℕ
@@ -38,9 +42,9 @@ day_of text =
     let day = number_at 6 2 text in
     if are_digits 8 text && is_date year month day then Some (day_number year month day) else None
 
--- the weekday of a day, from 0 for Monday to 6 for Sunday
-abbrev pub weekday_of : ℕ → ℕ
-weekday_of day = weekday_number (pos day)
+-- the weekday of a day, from 0 for Monday to 6 for Sunday: 1 January 1970 was a Thursday
+unfoldable pub weekday_of : ℕ → ℕ
+weekday_of day = (day + 3) % 7
 
 -- the seconds of a day
 abbrev pub day_seconds : ℕ

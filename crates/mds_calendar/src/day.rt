@@ -4,7 +4,7 @@ ghost use Rattle.std.specs.Prelude.{codes, ◌≡◌, ◌↔◌, ℕ, ◌+◌, �
 ghost use Rattle.std.specs.Ordering.{nat_cmp};
 ghost use Rattle.mds_calendar.specs.Calendar.{is_date, day_number, day_of, last_day, weekday_of};
 ghost use Rattle.mds_calendar.specs.CalendarSteps.{digit};
-ghost use Rattle.jiff_core.specs.Date.{epoch_day};
+ghost use Rattle.jiff.specs.Words.{epoch_day};
 ghost use Rattle.mds_calendar.specs.Weekdays.{monday_zero};
 ghost use Rattle.mds_calendar.specs.declared.weekday.Weekday.TheVariants.{Thursday};
 ghost use Rattle.std.specs.Char.{is_ascii_digit};
@@ -12,10 +12,11 @@ ghost use Rattle.std.specs.List.{list_all};
 ghost use Rattle.std.specs.Str.Parse.{digits_value};
 
 use crate::weekday::{Weekday, weekday_of as own_weekday};
-use jiff_core::civil::Date;
+use jiff::civil::{self, Date};
 use std::alloc::AllocError;
 use std::marker::Model;
 use std::str;
+use std::time::Duration;
 
 /// A day from 1 January 1970 to 31 December 9999, by its number from 0.
 #[derive(Clone, Copy, Debug, PartialEq, Eq, PartialOrd, Ord)]
@@ -42,8 +43,11 @@ const LAST: u32 = 2_932_896;
 /// The year of the first day.
 const FIRST_YEAR: u32 = 1970;
 
-/// The days from the calendar's first, 1 January -9999, to 1 January 1970.
-const BEFORE_1970: u32 = 4_371_587;
+/// The hours of a day.
+const HOURS: i64 = 24;
+
+/// The seconds of a day.
+const SECONDS: u64 = 86_400;
 
 impl Day {
     /// The day of a number from 0, 1 January 1970, to 2,932,896, 31 December 9999.
@@ -130,12 +134,12 @@ impl Day {
         ensures { day_of result ≡ Some self }
     {
         let date = self.date();
-        let year = date.year.unsigned_abs();
+        let year = date.year().unsigned_abs();
         let mut digits = [b'0'; 8];
         write_pair(&mut digits, 0, (year / 100) as u8);
         write_pair(&mut digits, 2, (year % 100) as u8);
-        write_pair(&mut digits, 4, date.month);
-        write_pair(&mut digits, 6, date.day);
+        write_pair(&mut digits, 4, date.month() as u8);
+        write_pair(&mut digits, 6, date.day() as u8);
         digits
     }
 
@@ -143,7 +147,7 @@ impl Day {
     fn date(self) -> Date
         ensures { epoch_day result ≡ pos self }
     {
-        Date::from_days_since_min(self.number + BEFORE_1970)
+        first_date() + Duration::from_secs(u64::from(self.number) * SECONDS)
     }
 }
 
@@ -181,7 +185,21 @@ fn number_of(year: u32, month: u32, day: u32) -> Option<u32>
     let Ok(date) = Date::new(year as i16, month as i8, day as i8) else {
         return None;
     };
-    Some(date.to_unix_epoch_day().unsigned_abs())
+    Some(days_to(date) as u32)
+}
+
+/// The days from 1 January 1970 to a date.
+fn days_to(date: Date) -> i64
+    ensures { result ≡ epoch_day date }
+{
+    date.duration_since(first_date()).as_hours() / HOURS
+}
+
+/// 1 January 1970.
+fn first_date() -> Date
+    ensures { epoch_day result ≡ pos 0 }
+{
+    civil::date(1970, 1, 1)
 }
 
 /// The number that digits say, or `None` where some byte is no digit.

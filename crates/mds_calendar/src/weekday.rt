@@ -1,11 +1,11 @@
 //! The days of the week.
 
 ghost use Rattle.std.specs.Prelude.{◌≡◌, ◌↔◌, ◌+◌, ◌≤◌, IsTrue};
-ghost use Rattle.jiff_core.specs.Weekday.{monday_zero as days_after_monday};
+ghost use Rattle.jiff.specs.Words.{monday_zero as days_after_monday};
 ghost use Rattle.mds_calendar.specs.Weekdays.{monday_zero};
 ghost use Rattle.mds_calendar.specs.declared.weekday.Weekday.{Weekday as DayOfTheWeek};
 
-use jiff_core::civil;
+use jiff::civil;
 
 /// A day of the week.
 #[derive(Clone, Copy, Debug, PartialEq, Eq)]

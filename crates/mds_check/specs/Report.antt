@@ -30,7 +30,7 @@ period_line stream start finish quantity unit =
     stream.nmi ++ codes " " ++ stream.suffix ++ codes " " ++ start ++ codes " " ++ finish ++ codes " " ++ quantity
     ++ codes " " ++ unit ++ codes "\n"
 
--- a field of the 250 of an accumulation, of which the fields 3 to 22 are kept
+-- a field of the 250 of an accumulation, of which the fields 3 to 21 are kept
 abbrev pub kept_field : ℕ → PeriodContent → List ℕ
 kept_field number content = slice_index_or content.fields (number - 3) []
 

@@ -7,7 +7,7 @@ use crate::serving::serve_one;
 use crate::timely::{Timely, TimelyRequest};
 use mds_lines::Counted;
 use mds_versions::Keeper;
-use mds_wire::Status;
+use mds_wire::{RouteFinder, Status};
 use std::io::Read;
 use std::net::{Ipv4Addr, Shutdown, SocketAddr, TcpListener, TcpStream};
 use std::time::Duration;
@@ -35,8 +35,9 @@ pub fn listen(rt: &HostRuntime, port: u16) -> io::Result<TcpListener> {
 ///
 /// Nothing changes the store but what the bytes of these connections mean, so that all of it is one run of the machine
 /// (`laws_of`).
-pub fn serve_connections<K: Keeper>(
+pub fn serve_connections<F: RouteFinder, K: Keeper>(
     rt: &HostRuntime,
+    routes: &F,
     handler: &mut StoreHandler<K>,
     listener: &TcpListener,
     count: u32,
@@ -45,7 +46,7 @@ pub fn serve_connections<K: Keeper>(
 {
     for _ in 0..count {
         match accept(rt, listener) {
-            Some(stream) => serve_connection(rt, handler, &stream),
+            Some(stream) => serve_connection(rt, routes, handler, &stream),
             None => return,
         }
     }
@@ -63,12 +64,17 @@ fn accept(rt: &HostRuntime, listener: &TcpListener) -> Option<TcpStream> {
 }
 
 /// Serves the one request of a connection.
-fn serve_connection<K: Keeper>(rt: &HostRuntime, handler: &mut StoreHandler<K>, stream: &TcpStream)
+fn serve_connection<F: RouteFinder, K: Keeper>(
+    rt: &HostRuntime,
+    routes: &F,
+    handler: &mut StoreHandler<K>,
+    stream: &TcpStream,
+)
     ensures { HasServed K.honest K.sound K.world K.may_leave handler.old 1 handler.new }
 {
     let mut reader = Counted::new(TimelyRequest::new(rt, stream));
     let mut writer = Counted::new(Timely::new(rt, stream, ANSWER_SECONDS));
-    match serve_one(rt.alloc(), handler, &mut reader, &mut writer) {
+    match serve_one(rt.alloc(), routes, handler, &mut reader, &mut writer) {
         Ok(Status::Success) | Err(_) => (),
         Ok(_) => read_rest(rt, stream),
     }

@@ -1,5 +1,7 @@
 //! The handler over a keeper.
 
+ghost use Rattle.mds_requests.specs.Targets.{IsFaultAt};
+ghost use Rattle.mds_requests.specs.declared.targets.TargetFault.TheVariants as fault;
 ghost use Rattle.mds_http.specs.Handling.{Handles};
 ghost use Rattle.mds_http.specs.Serving.{IsSame};
 
@@ -20,6 +22,8 @@ impl<K: Keeper> Handler for StoreHandler<K> {
     ghost step = { Handles K.honest K.sound K.world K.may_leave };
 
     ghost same = { IsSame };
+
+    ghost takes_memory = { λ route target body. IsFaultAt route target body fault.Memory };
 
     fn handle(
         &mut self,

@@ -6,7 +6,7 @@ ghost use Rattle.mds_http.specs.Serving.{ServesOver};
 use crate::handling::StoreHandler;
 use mds_lines::{Sink, Source};
 use mds_versions::Keeper;
-use mds_wire::{Status, WireFault};
+use mds_wire::{RouteFinder, Status, WireFault};
 use std::alloc::Global;
 
 /// Reads one request, does it by one step of the machine, and writes its answer, whose status it says. See
@@ -15,8 +15,9 @@ use std::alloc::Global;
 /// # Errors
 ///
 /// See `WireFault`.
-pub fn serve_one<K: Keeper, R: Source, W: Sink>(
+pub fn serve_one<F: RouteFinder, K: Keeper, R: Source, W: Sink>(
     alloc: Global,
+    routes: &F,
     handler: &mut StoreHandler<K>,
     reader: &mut R,
     writer: &mut W,
@@ -30,5 +31,5 @@ pub fn serve_one<K: Keeper, R: Source, W: Sink>(
     ensures writer { (result ≡ Err WireFault.Write → W.failures writer.new ≡ W.failures writer.old + 1)
         × (result ≢ Err WireFault.Write → W.failures writer.new ≡ W.failures writer.old) }
 {
-    mds_wire::serve_one(alloc, handler, reader, writer)
+    mds_wire::serve_one(alloc, routes, handler, reader, writer)
 }

@@ -13,6 +13,7 @@ use Rattle.mds_tables.specs.Stores.{Commits, Holds, IsReady, IsStore, LeavesAdde
 use Rattle.mds_tables.specs.Tables.{schema_1}
 use Rattle.mds_tables.proofs.CauseLemmas.{fails_since, fails_until, store_fails}
 use Rattle.mds_inserts.specs.declared.jobs.JobRow.{JobRow}
+use Rattle.mds_inserts.specs.declared.periods.PeriodRow.{PeriodRow}
 use Rattle.mds_inserts.specs.Parts.{rows_in}
 use Rattle.mds_inserts.specs.Refusals.{FailsToPut, RefusesOne}
 use Rattle.mds_inserts.specs.Writing.{HasAdded, LeavesWritten, Writes}
@@ -81,17 +82,17 @@ module _ (old mid new : State) (added : Additions) (ready : HasCleanDisk mid →
       }
 
   -- and one with an error says why
-  pub committed_fails : {X : Type 0} (jobs : List JobRow) → HasCleanDisk mid → (r : Result X Error)
+  pub committed_fails : {X : Type 0} (periods : List PeriodRow) (jobs : List JobRow) → HasCleanDisk mid → (r : Result X Error)
       → (IsTrue mid.is_open → mid.now.schema ≡ schema_1 → IsSound schema_1 mid.now.trees
-      → IfErr r (FailsToPut mid new (rows_in added jobs) mid.now))
-      → IfErr r (FailsToPut old new (rows_in added jobs) old.committed)
-  committed_fails jobs early (Ok x) why = tt
-  committed_fails jobs early (Err e) why =
+      → IfErr r (FailsToPut mid new (rows_in added periods jobs) mid.now))
+      → IfErr r (FailsToPut old new (rows_in added periods jobs) old.committed)
+  committed_fails periods jobs early (Ok x) why = tt
+  committed_fails periods jobs early (Err e) why =
       let is_open = (ready early).same.0.is_open in
-      let refuses = λ (stop : Option Error) (h : RefusesOne mid.step_limit (rows_in added jobs) mid.now stop).
-      subst₂ (λ limit db. RefusesOne limit (rows_in added jobs) db stop) one.limit (now_is early) h in
+      let refuses = λ (stop : Option Error) (h : RefusesOne mid.step_limit (rows_in added periods jobs) mid.now stop).
+      subst₂ (λ limit db. RefusesOne limit (rows_in added periods jobs) db stop) one.limit (now_is early) h in
       elim (why is_open (schema_is early) (is_sound early)) [
-        | inl failed ↦ inl (fails_since old mid new _ (RefusesOne old.step_limit (rows_in added jobs) old.committed None) (refuses None)
+        | inl failed ↦ inl (fails_since old mid new _ (RefusesOne old.step_limit (rows_in added periods jobs) old.committed None) (refuses None)
             one.counts is_open e failed)
         | inr refused ↦ inr (refuses (Some e) refused)
       ]

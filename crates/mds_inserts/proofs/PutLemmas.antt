@@ -30,8 +30,6 @@ use Rattle.mds_marks.specs.Reading.{ReadingValue, is_lawful}
 use Rattle.mds_terms.specs.Event.{EventValue}
 use Rattle.mds_world.specs.Facts.{Fact}
 use Rattle.mds_world.specs.Facts.Fact.{DetailIs, EventIs, HeadIs, HolidayIs}
-use Rattle.mds_statements.specs.Contents.{content_of}
-use Rattle.mds_statements.specs.declared.periods.Period.{Period}
 use Rattle.mds_world.specs.declared.facts.Detail.{Detail}
 use Rattle.mds_world.specs.declared.facts.Head.{Head}
 use Rattle.mds_world.specs.declared.facts.Key.{Key}
@@ -43,20 +41,21 @@ use Rattle.mds_versions.specs.declared.additions.DayVersions.{DayVersions}
 use Rattle.mds_versions.specs.declared.additions.Additions.{Additions}
 use Rattle.mds_tables.proofs.InsertLemmas.{Adds as OneMore, adds, cast_int, either, simple}
 use Rattle.mds_tables.proofs.InsertTexts.{detail_terms, event_terms, head_terms, holiday_terms, insert_detail, insert_detail_is, insert_detail_plain, insert_event, insert_event_is, insert_event_plain, insert_head, insert_head_is, insert_head_plain, insert_holiday, insert_holiday_is, insert_holiday_plain, insert_job, insert_job_is, insert_job_plain, insert_period, insert_period_is, insert_period_plain, job_terms, period_terms, insert_version, insert_version_is, insert_version_plain, version_terms}
-use Rattle.mds_tables.specs.Cells.{body_text, detail_cells, event_cells, head_cells, holiday_cells, optional_cell, period_cells, version_cells}
+use Rattle.mds_tables.specs.Cells.{detail_cells, event_cells, head_cells, holiday_cells, optional_cell, version_cells}
 use Rattle.mds_tables.specs.RowFacts.{detail_fact, event_fact, head_fact, holiday_fact, job_fact, period_fact, version_fact}
-use Rattle.mds_tables.specs.Stores.{Adds, Gains}
+use Rattle.mds_tables.specs.Stores.{Adds, AreRowsOf, Gains}
 use Rattle.mds_tables.specs.Tables.{detail_table, event_table, head_table, holiday_table, job_table, period_table, schema_1, tables_1, version_table}
-use Rattle.mds_inserts.specs.JobRows.{AreRowsOf}
+use Rattle.mds_inserts.specs.MadeRows.{IsRowOfJob, IsRowOfPeriod}
 use Rattle.mds_inserts.specs.declared.jobs.JobRow.{JobRow}
+use Rattle.mds_inserts.specs.declared.periods.PeriodRow.{PeriodRow}
 use Rattle.mds_inserts.specs.Parts.{Part, detail_part, event_part, head_part, holiday_part, job_part, period_part, rows_of, version_part}
 use Rattle.mds_inserts.specs.Refusals.{FailsToPut, RefusesOne, TakesAll, insert_of}
 use Rattle.mds_inserts.specs.Writing.{KeepsOthers, Puts, PutsAll, PutsThere}
 use Rattle.mds_tables.proofs.CauseLemmas.{IsWhole, fails_since, fails_until, stopped_as}
 use Rattle.sqlite.specs.declared.error.Error.{Error}
 use Rattle.sqlite_tied.specs.Compute.{everything}
-use Rattle.mds_tables.proofs.FactLemmas.{detail_back, event_back, head_back, period_back, version_back}
-use Rattle.mds_inserts.proofs.RowLemmas.{gains_kept, gains_more, gains_one, job_rows_are, kept_gains, say_more, world_after}
+use Rattle.mds_tables.proofs.FactLemmas.{detail_back, event_back, head_back, version_back}
+use Rattle.mds_inserts.proofs.RowLemmas.{gains_kept, gains_more, gains_one, job_rows_are, kept_gains, period_rows_are, say_more, world_after}
 
 -- no foreign key of these tables acts
 idle : (tree : ℕ) (news : List Row) → works schema_1 Enforced 0 tree [] news ≡ []
@@ -165,12 +164,15 @@ puts_event old new e count runs =
     puts_there event_table 4 insert_event event_terms 8 refl insert_event_is insert_event_plain event_cells EventIs
     event_fact old new e refl count refl (rw (cast_int, cast_optional)) (λ id. event_back id e) runs
 
-pub puts_period : (old new : State) (p : Period) (count : ℕ) → content_of (body_text p.content) ≡ p.content
-    → (HasCleanDisk new → ExecutesInside 0 insert_period (period_cells p) old new (Ok count))
-    → PutsThere period_part old new (p ∷ [])
-puts_period old new p count says runs =
-    puts_there period_table 5 insert_period period_terms 8 refl insert_period_is insert_period_plain period_cells
-    content.period_fact period_fact old new p refl count refl (rw (cast_int, cast_int, cast_int)) (λ id. period_back id p says) runs
+abbrev period_row_cells : PeriodRow → Row
+period_row_cells = period_part.cells
+
+pub puts_period : (old new : State) (row : PeriodRow) (count : ℕ)
+    → (HasCleanDisk new → ExecutesInside 0 insert_period (period_row_cells row) old new (Ok count))
+    → PutsThere period_part old new (row ∷ [])
+puts_period old new row count runs =
+    puts_there period_table 5 insert_period period_terms 8 refl insert_period_is insert_period_plain period_row_cells
+    (period_part.fact) period_fact old new row refl count refl (rw (cast_int, cast_int, cast_int)) (λ id. refl) runs
 
 pub puts_holiday : (old new : State) (day : ℕ) (count : ℕ)
     → (HasCleanDisk new → ExecutesInside 0 insert_holiday (holiday_cells day) old new (Ok count))
@@ -244,11 +246,12 @@ fails_event old new event e has ran =
     fails_to_put event_table 4 insert_event event_terms 8 refl insert_event_is insert_event_plain event_cells EventIs
     event_fact old new event refl e event_whole has ran
 
-pub fails_period : (old new : State) (p : Period) (e : Error) → old.now.schema ≡ schema_1
-    → ExecutesInside 0 insert_period (period_cells p) old new (Err e) → FailsToPut old new (rows_of period_part (p ∷ [])) old.now e
-fails_period old new p e has ran =
-    fails_to_put period_table 5 insert_period period_terms 8 refl insert_period_is insert_period_plain period_cells
-    content.period_fact period_fact old new p refl e period_whole has ran
+pub fails_period : (old new : State) (row : PeriodRow) (e : Error) → old.now.schema ≡ schema_1
+    → ExecutesInside 0 insert_period (period_row_cells row) old new (Err e)
+    → FailsToPut old new (rows_of period_part (row ∷ [])) old.now e
+fails_period old new row e has ran =
+    fails_to_put period_table 5 insert_period period_terms 8 refl insert_period_is insert_period_plain period_row_cells
+    (period_part.fact) period_fact old new row refl e period_whole has ran
 
 pub fails_holiday : (old new : State) (day : ℕ) (e : Error) → old.now.schema ≡ schema_1
     → ExecutesInside 0 insert_holiday (holiday_cells day) old new (Err e)
@@ -433,24 +436,37 @@ pub if_ok : {X E : Type 0} (r : Result X E) (A B : Type 0) → (A → B) → OnO
 if_ok (Ok x) A B f h = f h
 if_ok (Err e) A B f h = tt
 
-gains_jobs : (a b c d e f g h : State) (added : Additions) (jobs : List JobRow)
+gains_periods : (a b c d e f g h : State) (added : Additions) (periods : List PeriodRow) (jobs : List JobRow)
     → Puts head_part a b added.heads.items → Puts version_part b c (versions_of added.days.items)
     → Puts detail_part c d added.details.items → Puts event_part d e added.events.items
-    → Puts period_part e f added.periods.items → Puts holiday_part f g added.holidays.items → Puts job_part g h jobs
+    → Puts period_part e f periods → Puts holiday_part f g added.holidays.items → Puts job_part g h jobs
+    → Gains 10 (map period_part.cells periods) a.now.trees h.now.trees
+gains_periods a b c d e f g h added periods jobs p q r s t u v =
+    gains_kept 10 _ a.now.trees f.now.trees h.now.trees
+    (kept_gains 10 _ a.now.trees e.now.trees f.now.trees
+    (s.others.1.1.1.1.1.0 (λ e. omega arith) ∙ r.others.1.1.1.1.1.0 (λ e. omega arith)
+    ∙ q.others.1.1.1.1.1.0 (λ e. omega arith) ∙ p.others.1.1.1.1.1.0 (λ e. omega arith)) t.rows)
+    (v.others.1.1.1.1.1.0 (λ e. omega arith) ∙ u.others.1.1.1.1.1.0 (λ e. omega arith))
+
+gains_jobs : (a b c d e f g h : State) (added : Additions) (periods : List PeriodRow) (jobs : List JobRow)
+    → Puts head_part a b added.heads.items → Puts version_part b c (versions_of added.days.items)
+    → Puts detail_part c d added.details.items → Puts event_part d e added.events.items
+    → Puts period_part e f periods → Puts holiday_part f g added.holidays.items → Puts job_part g h jobs
     → Gains 14 (map job_part.cells jobs) a.now.trees h.now.trees
-gains_jobs a b c d e f g h added jobs p q r s t u v =
+gains_jobs a b c d e f g h added periods jobs p q r s t u v =
     kept_gains 14 _ a.now.trees g.now.trees h.now.trees
     (u.others.1.1.1.1.1.1.1.0 (λ e. omega arith) ∙ t.others.1.1.1.1.1.1.1.0 (λ e. omega arith)
     ∙ s.others.1.1.1.1.1.1.1.0 (λ e. omega arith) ∙ r.others.1.1.1.1.1.1.1.0 (λ e. omega arith)
     ∙ q.others.1.1.1.1.1.1.1.0 (λ e. omega arith) ∙ p.others.1.1.1.1.1.1.1.0 (λ e. omega arith)) v.rows
 
 -- Each table has the rows of its part, and no other.
-adds_all : (a b c d e f g h : State) (added : Additions) (jobs : List JobRow) → AreRowsOf added.jobs.items jobs
+adds_all : (a b c d e f g h : State) (added : Additions) (periods : List PeriodRow) (jobs : List JobRow)
+    → AreRowsOf IsRowOfPeriod added.periods.items periods → AreRowsOf IsRowOfJob added.jobs.items jobs
     → Puts head_part a b added.heads.items → Puts version_part b c (versions_of added.days.items)
     → Puts detail_part c d added.details.items → Puts event_part d e added.events.items
-    → Puts period_part e f added.periods.items → Puts holiday_part f g added.holidays.items → Puts job_part g h jobs
+    → Puts period_part e f periods → Puts holiday_part f g added.holidays.items → Puts job_part g h jobs
     → Adds a.now.trees h.now.trees added
-adds_all a b c d e f g h added jobs are p q r s t u v =
+adds_all a b c d e f g h added periods jobs of_periods of_jobs p q r s t u v =
     let first = a.now.trees in
     let last = h.now.trees in
     record {
@@ -476,11 +492,11 @@ adds_all a b c d e f g h added jobs are p q r s t u v =
           ∙ p.others.1.1.1.1.0 (λ e. omega arith)) s.rows)
           (v.others.1.1.1.1.0 (λ e. omega arith) ∙ u.others.1.1.1.1.0 (λ e. omega arith)
           ∙ t.others.1.1.1.1.0 (λ e. omega arith));
-      periods = gains_kept 10 _ first f.now.trees last
-          (kept_gains 10 _ first e.now.trees f.now.trees
-          (s.others.1.1.1.1.1.0 (λ e. omega arith) ∙ r.others.1.1.1.1.1.0 (λ e. omega arith)
-          ∙ q.others.1.1.1.1.1.0 (λ e. omega arith) ∙ p.others.1.1.1.1.1.0 (λ e. omega arith)) t.rows)
-          (v.others.1.1.1.1.1.0 (λ e. omega arith) ∙ u.others.1.1.1.1.1.0 (λ e. omega arith));
+      periods = (
+        map period_part.cells periods,
+        period_rows_are added.periods.items periods of_periods,
+        gains_periods a b c d e f g h added periods jobs p q r s t u v,
+      );
       holidays = gains_kept 12 _ first g.now.trees last
           (kept_gains 12 _ first f.now.trees g.now.trees
           (t.others.1.1.1.1.1.1.0 (λ e. omega arith) ∙ s.others.1.1.1.1.1.1.0 (λ e. omega arith)
@@ -489,25 +505,25 @@ adds_all a b c d e f g h added jobs are p q r s t u v =
           (v.others.1.1.1.1.1.1.0 (λ e. omega arith));
       jobs = (
         map job_part.cells jobs,
-        job_rows_are added.jobs.items jobs are,
-        gains_jobs a b c d e f g h added jobs p q r s t u v,
+        job_rows_are added.jobs.items jobs of_jobs,
+        gains_jobs a b c d e f g h added periods jobs p q r s t u v,
       );
     }
 
 -- the seven parts of what is added, one after another
-pub all_there : {X E : Type 0} (a b c d e f g h : State) (added : Additions) (jobs : List JobRow) (result : Result X E)
-    → AreRowsOf added.jobs.items jobs
+pub all_there : {X E : Type 0} (a b c d e f g h : State) (added : Additions) (periods : List PeriodRow) (jobs : List JobRow) (result : Result X E)
+    → AreRowsOf IsRowOfPeriod added.periods.items periods → AreRowsOf IsRowOfJob added.jobs.items jobs
     → doubt b.is_clean ≤ doubt c.is_clean → doubt c.is_clean ≤ doubt d.is_clean → doubt d.is_clean ≤ doubt e.is_clean
     → doubt e.is_clean ≤ doubt f.is_clean → doubt f.is_clean ≤ doubt g.is_clean → doubt g.is_clean ≤ doubt h.is_clean
     → PutsThere head_part a b added.heads.items → PutsThere version_part b c (versions_of added.days.items)
     → PutsThere detail_part c d added.details.items → PutsThere event_part d e added.events.items
-    → PutsThere period_part e f added.periods.items → PutsThere holiday_part f g added.holidays.items
+    → PutsThere period_part e f periods → PutsThere holiday_part f g added.holidays.items
     → OnOk result (PutsThere job_part g h jobs) → OnOk result (PutsAll a h added)
-all_there a b c d e f g h added jobs result are bc cd de ef fg gh p q r s t u v = if_ok result _ _ (λ v.
+all_there a b c d e f g h added periods jobs result of_periods of_jobs bc cd de ef fg gh p q r s t u v = if_ok result _ _ (λ v.
     let parts : HasCleanDisk h → IsTrue a.is_open → a.now.schema ≡ schema_1 → IsSound schema_1 a.now.trees
     → Puts head_part a b added.heads.items × Puts version_part b c (versions_of added.days.items)
     × Puts detail_part c d added.details.items × Puts event_part d e added.events.items
-    × Puts period_part e f added.periods.items × Puts holiday_part f g added.holidays.items × Puts job_part g h jobs =
+    × Puts period_part e f periods × Puts holiday_part f g added.holidays.items × Puts job_part g h jobs =
     λ clean o has sound.
     let one = p.puts (omega arith) o has sound in
     let o2 = p.is_open (omega arith) o in
@@ -535,11 +551,12 @@ all_there a b c d e f g h added jobs result are bc cd de ef fg gh p q r s t u v 
       schema = λ clean o has sound. (parts clean o has sound).6.schema;
       added = λ clean o has sound.
           let all = parts clean o has sound in
-          let rows = adds_all a b c d e f g h added jobs are all.0 all.1 all.2 all.3 all.4 all.5 all.6 in
+          let rows = adds_all a b c d e f g h added periods jobs of_periods of_jobs all.0 all.1 all.2 all.3 all.4 all.5 all.6 in
           record {
             rows = rows;
-            world = world_after a.now.trees h.now.trees added jobs are p.said q.said r.said s.said t.said u.said v.said rows
-                (gains_jobs a b c d e f g h added jobs all.0 all.1 all.2 all.3 all.4 all.5 all.6);
+            world = world_after a.now.trees h.now.trees added periods jobs of_periods of_jobs p.said q.said r.said s.said t.said u.said v.said rows
+                (gains_periods a b c d e f g h added periods jobs all.0 all.1 all.2 all.3 all.4 all.5 all.6)
+                (gains_jobs a b c d e f g h added periods jobs all.0 all.1 all.2 all.3 all.4 all.5 all.6);
             sound = all.6.sound;
           };
     }) v

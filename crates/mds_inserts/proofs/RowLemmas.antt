@@ -14,17 +14,20 @@ use Rattle.sqlite_trees.specs.Tree.{Trees, put_row, rowid}
 use Rattle.sqlite_value.specs.Order.{Row, value_cmp}
 use Rattle.mds_world.specs.FactOrder.{exact, fact_cmp, total}
 use Rattle.mds_jobs.specs.declared.job.Job.{Job}
+use Rattle.mds_statements.proofs.BodyLemmas.{body_back}
+use Rattle.mds_statements.specs.declared.periods.Period.{Period}
 use Rattle.mds_world.specs.Facts.{Fact}
-use Rattle.mds_world.specs.Facts.Fact.{JobIs}
+use Rattle.mds_world.specs.Facts.Fact.{JobIs, PeriodIs}
 use Rattle.mds_world.proofs.Sets.{list_append, union_assoc, union_comm}
 use Rattle.mds_world.specs.World.{World, union}
-use Rattle.mds_versions.specs.Content.{content, versions_of, job_fact as content_fact}
+use Rattle.mds_versions.specs.Content.{content, versions_of, job_fact as content_fact, period_fact as content_period_fact}
 use Rattle.mds_versions.specs.declared.additions.Additions.{Additions}
 use Rattle.mds_tables.specs.RowFacts.{detail_fact, event_fact, head_fact, holiday_fact, job_fact, natural, period_fact, version_fact, world_in}
-use Rattle.mds_tables.specs.Stores.{Adds, AreJobRows, Gains}
-use Rattle.mds_tables.specs.Cells.{job_cells}
-use Rattle.mds_inserts.specs.JobRows.{AreRowsOf, IsRowOf}
+use Rattle.mds_tables.specs.Stores.{Adds, AreRowsOf, Gains, IsJobRow, IsPeriodRow}
+use Rattle.mds_tables.specs.Cells.{job_cells, period_cells}
+use Rattle.mds_inserts.specs.MadeRows.{IsRowOfJob, IsRowOfPeriod}
 use Rattle.mds_inserts.specs.declared.jobs.JobRow.{JobRow}
+use Rattle.mds_inserts.specs.declared.periods.PeriodRow.{PeriodRow}
 use Rattle.mds_inserts.specs.Parts.{Part, detail_part, event_part, head_part, holiday_part, job_part, period_part, version_part}
 
 -- a row under a fresh rowid is put between the others
@@ -154,51 +157,72 @@ job_bare : Unnamed job_fact
 job_bare [] = refl
 job_bare (x ∷ xs) = refl
 
-rows_push : (jobs : List (Job × ℕ)) (rows : List JobRow) (job : Job × ℕ) (row : JobRow) → AreRowsOf jobs rows → IsRowOf job row
-    → AreRowsOf (jobs ++ job ∷ []) (rows ++ row ∷ [])
-rows_push [] [] job row are is = (is, tt)
-rows_push [] (r ∷ rs) job row are is = absurd are
-rows_push (j ∷ js) [] job row are is = absurd are
-rows_push (j ∷ js) (r ∷ rs) job row are is = (are.0, rows_push js rs job row are.1 is)
+rows_push : {A B : Type 0} (IsRow : A → B → Type 0) (things : List A) (rows : List B) (thing : A) (row : B)
+    → AreRowsOf IsRow things rows → IsRow thing row → AreRowsOf IsRow (things ++ thing ∷ []) (rows ++ row ∷ [])
+rows_push IsRow [] [] thing row are is = (is, tt)
+rows_push IsRow [] (r ∷ rs) thing row are is = absurd are
+rows_push IsRow (t ∷ ts) [] thing row are is = absurd are
+rows_push IsRow (t ∷ ts) (r ∷ rs) thing row are is = (are.0, rows_push IsRow ts rs thing row are.1 is)
 
--- the row of the next job follows those of the jobs before it
-pub rows_more : (jobs : List (Job × ℕ)) (at : ℕ) (job : Job × ℕ) (rows new : List JobRow) (row : JobRow) → at < length jobs
-    → job ≡ slice_index_or jobs at job → AreRowsOf (take at jobs) rows → IsRowOf job row → new ≡ rows ++ row ∷ []
-    → AreRowsOf (take (at + 1) jobs) new
-rows_more jobs at job rows new row low is are of more =
-    let front : take (at + 1) jobs ≡ take at jobs ++ job ∷ [] =
-    take_more jobs at job low ∙ ap (λ x. take at jobs ++ x ∷ []) (sym is) in
-    subst (λ js. AreRowsOf js new) (sym front)
-    (subst (AreRowsOf (take at jobs ++ job ∷ [])) (sym more) (rows_push (take at jobs) rows job row are of))
+-- the row of the next thing follows those of the things before it
+pub rows_more : {A B : Type 0} (IsRow : A → B → Type 0) (things : List A) (at : ℕ) (thing : A) (rows new : List B) (row : B)
+    → at < length things → thing ≡ slice_index_or things at thing → AreRowsOf IsRow (take at things) rows → IsRow thing row
+    → new ≡ rows ++ row ∷ [] → AreRowsOf IsRow (take (at + 1) things) new
+rows_more IsRow things at thing rows new row low is are of more =
+    let front : take (at + 1) things ≡ take at things ++ thing ∷ [] =
+    take_more things at thing low ∙ ap (λ x. take at things ++ x ∷ []) (sym is) in
+    subst (λ ts. AreRowsOf IsRow ts new) (sym front)
+    (subst (AreRowsOf IsRow (take at things ++ thing ∷ [])) (sym more) (rows_push IsRow (take at things) rows thing row are of))
 
--- the rows of jobs are theirs
-pub job_rows_are : (jobs : List (Job × ℕ)) (rows : List JobRow) → AreRowsOf jobs rows → AreJobRows jobs (map job_part.cells rows)
-job_rows_are [] [] are = tt
-job_rows_are [] (row ∷ rows) are = absurd are
-job_rows_are (job ∷ jobs) [] are = absurd are
-job_rows_are (job ∷ jobs) (row ∷ rows) are =
-    let is = are.0 in (
-      (string_bytes row.body, is.body, λ i. job_cells (is.id i) (string_bytes row.body) (is.count i)),
-      job_rows_are jobs rows are.1,
-    )
+-- what are rows of things are theirs as the tables have them
+shown_rows : {A B : Type 0} (IsRow : A → B → Type 0) (IsShown : A → Row → Type 0) (cells : B → Row)
+    → ((thing : A) (row : B) → IsRow thing row → IsShown thing (cells row)) → (things : List A) (rows : List B)
+    → AreRowsOf IsRow things rows → AreRowsOf IsShown things (map cells rows)
+shown_rows IsRow IsShown cells shows [] [] are = tt
+shown_rows IsRow IsShown cells shows [] (row ∷ rows) are = absurd are
+shown_rows IsRow IsShown cells shows (thing ∷ things) [] are = absurd are
+shown_rows IsRow IsShown cells shows (thing ∷ things) (row ∷ rows) are =
+    (shows thing row are.0, shown_rows IsRow IsShown cells shows things rows are.1)
 
--- and say what they are
-job_facts_are : (jobs : List (Job × ℕ)) (rows : List JobRow) → AreRowsOf jobs rows
+-- and say what these are
+same_facts : {A B : Type 0} (IsRow : A → B → Type 0) (said : B → Fact) (meant : A → Fact)
+    → ((thing : A) (row : B) → IsRow thing row → said row ≡ meant thing) → (things : List A) (rows : List B)
+    → AreRowsOf IsRow things rows → map said rows ≡ map meant things
+same_facts IsRow said meant same [] [] are = refl
+same_facts IsRow said meant same [] (row ∷ rows) are = absurd are
+same_facts IsRow said meant same (thing ∷ things) [] are = absurd are
+same_facts IsRow said meant same (thing ∷ things) (row ∷ rows) are =
+    λ i. same thing row are.0 i ∷ same_facts IsRow said meant same things rows are.1 i
+
+pub period_rows_are : (periods : List Period) (rows : List PeriodRow) → AreRowsOf IsRowOfPeriod periods rows
+    → AreRowsOf IsPeriodRow periods (map period_part.cells rows)
+period_rows_are = shown_rows IsRowOfPeriod IsPeriodRow period_part.cells
+    (λ period row is. (string_bytes row.body, is.body, λ i. period_cells (is.key i) (string_bytes row.body)))
+
+period_facts_are : (periods : List Period) (rows : List PeriodRow) → AreRowsOf IsRowOfPeriod periods rows
+    → map period_part.fact rows ≡ map content_period_fact periods
+period_facts_are = same_facts IsRowOfPeriod period_part.fact content_period_fact
+    (λ period row is. let says = body_back period (string_bytes row.body) is.body in λ i. PeriodIs (is.key i) (says i))
+
+pub job_rows_are : (jobs : List (Job × ℕ)) (rows : List JobRow) → AreRowsOf IsRowOfJob jobs rows
+    → AreRowsOf IsJobRow jobs (map job_part.cells rows)
+job_rows_are = shown_rows IsRowOfJob IsJobRow job_part.cells
+    (λ job row is. (string_bytes row.body, is.body, λ i. job_cells (is.id i) (string_bytes row.body) (is.count i)))
+
+job_facts_are : (jobs : List (Job × ℕ)) (rows : List JobRow) → AreRowsOf IsRowOfJob jobs rows
     → map job_part.fact rows ≡ map content_fact jobs
-job_facts_are [] [] are = refl
-job_facts_are [] (row ∷ rows) are = absurd are
-job_facts_are (job ∷ jobs) [] are = absurd are
-job_facts_are (job ∷ jobs) (row ∷ rows) are =
-    let is = are.0 in
-    λ i. JobIs (is.id i) (is.says i) (natural (is.count i)) ∷ job_facts_are jobs rows are.1 i
+job_facts_are = same_facts IsRowOfJob job_part.fact content_fact
+    (λ job row is i. JobIs (is.id i) (is.says i) (natural (is.count i)))
 
 -- the World that the tables name is the union
-pub world_after : (old new : Trees) (added : Additions) (jobs : List JobRow) → AreRowsOf added.jobs.items jobs
+pub world_after : (old new : Trees) (added : Additions) (periods : List PeriodRow) (jobs : List JobRow)
+    → AreRowsOf IsRowOfPeriod added.periods.items periods → AreRowsOf IsRowOfJob added.jobs.items jobs
     → Say head_part added.heads.items → Say version_part (versions_of added.days.items) → Say detail_part added.details.items
-    → Say event_part added.events.items → Say period_part added.periods.items → Say holiday_part added.holidays.items
+    → Say event_part added.events.items → Say period_part periods → Say holiday_part added.holidays.items
     → Say job_part jobs
-    → Adds old new added → Gains 14 (map job_part.cells jobs) old new → world_in new ≡ union (world_in old) (content added)
-world_after old new added jobs are heads versions details events periods holidays rows adds gains =
+    → Adds old new added → Gains 10 (map period_part.cells periods) old new → Gains 14 (map job_part.cells jobs) old new
+    → world_in new ≡ union (world_in old) (content added)
+world_after old new added periods jobs of_periods of_jobs heads versions details events accumulated holidays rows adds more_periods more_jobs =
     more_both _ (map job_fact (old 14)) _ (map job_fact (new 14)) _ _
     (more_both _ (map holiday_fact (old 12)) _ (map holiday_fact (new 12)) _ _
     (more_both _ (map period_fact (old 10)) _ (map period_fact (new 10)) _ _
@@ -209,7 +233,9 @@ world_after old new added jobs are heads versions details events periods holiday
     (more version_part version_bare (versions_of added.days.items) versions old new adds.versions))
     (more detail_part detail_bare added.details.items details old new adds.details))
     (more event_part event_bare added.events.items events old new adds.events))
-    (more period_part period_bare added.periods.items periods old new adds.periods))
+    (subst (λ fs. IsMore (map period_fact (new 10)) (map period_fact (old 10)) fs)
+    (period_facts_are added.periods.items periods of_periods)
+    (more period_part period_bare periods accumulated old new more_periods)))
     (more holiday_part holiday_bare added.holidays.items holidays old new adds.holidays))
-    (subst (λ fs. IsMore (map job_fact (new 14)) (map job_fact (old 14)) fs) (job_facts_are added.jobs.items jobs are)
-    (more job_part job_bare jobs rows old new gains))
+    (subst (λ fs. IsMore (map job_fact (new 14)) (map job_fact (old 14)) fs) (job_facts_are added.jobs.items jobs of_jobs)
+    (more job_part job_bare jobs rows old new more_jobs))

@@ -1,4 +1,4 @@
-pub mod JobRows
+pub mod MadeRows
 pub mod Parts
 pub mod Refusals
 pub mod Writing

@@ -5,14 +5,15 @@ use Rattle.mds_marks.specs.Reading.{ReadingValue}
 use Rattle.mds_terms.specs.Event.{EventValue}
 use Rattle.mds_jobs.specs.Bodies.{job_in, parts_of}
 use Rattle.mds_world.specs.Facts.{Fact}
-use Rattle.mds_statements.specs.declared.periods.Period.{Period}
-use Rattle.mds_world.specs.Facts.Fact.{DetailIs, EventIs, HeadIs, HolidayIs, JobIs}
+use Rattle.mds_statements.specs.Bodies.{content_of_body}
+use Rattle.mds_world.specs.Facts.Fact.{DetailIs, EventIs, HeadIs, HolidayIs, JobIs, PeriodIs}
 use Rattle.mds_world.specs.declared.facts.Detail.{Detail}
 use Rattle.mds_world.specs.declared.facts.Head.{Head}
 use Rattle.mds_world.specs.declared.facts.Key.{Key}
 use Rattle.mds_versions.specs.Content as content
 use Rattle.mds_versions.specs.declared.additions.Additions.{Additions}
 use Rattle.mds_inserts.specs.declared.jobs.JobRow.{JobRow}
+use Rattle.mds_inserts.specs.declared.periods.PeriodRow.{PeriodRow}
 use Rattle.mds_tables.specs.Cells.{detail_cells, event_cells, head_cells, holiday_cells, job_cells, period_cells, version_cells}
 use Rattle.mds_tables.specs.RowFacts.{detail_fact, event_fact, head_fact, holiday_fact, job_fact, natural, period_fact, version_fact}
 
@@ -43,8 +44,14 @@ detail_part = record { place = 3; tree = 6; cells = detail_cells; fact = DetailI
 abbrev pub event_part : Part EventValue
 event_part = record { place = 4; tree = 8; cells = event_cells; fact = EventIs; read = event_fact }
 
-abbrev pub period_part : Part Period
-period_part = record { place = 5; tree = 10; cells = period_cells; fact = content.period_fact; read = period_fact }
+abbrev pub period_part : Part PeriodRow
+period_part = record {
+  place = 5;
+  tree = 10;
+  cells = λ row. period_cells row.key (string_bytes row.body);
+  fact = λ row. PeriodIs row.key (content_of_body (string_bytes row.body));
+  read = period_fact;
+}
 
 abbrev pub holiday_part : Part ℕ
 holiday_part = record { place = 6; tree = 12; cells = holiday_cells; fact = HolidayIs; read = holiday_fact }
@@ -62,12 +69,12 @@ job_part = record {
 abbrev pub rows_of : {A : Type 0} → Part A → List A → List (ℕ × Row)
 rows_of part items = map (λ item. (part.place, part.cells item)) items
 
--- all rows of additions, of which the rows of jobs are given, in the order in which they are put
-abbrev pub rows_in : Additions → List JobRow → List (ℕ × Row)
-rows_in additions jobs =
+-- all rows of additions, of which the rows of accumulations and of jobs are given, in the order in which they are put
+abbrev pub rows_in : Additions → List PeriodRow → List JobRow → List (ℕ × Row)
+rows_in additions periods jobs =
     rows_of head_part additions.heads.items
     ++ (rows_of version_part (content.versions_of additions.days.items)
     ++ (rows_of detail_part additions.details.items
     ++ (rows_of event_part additions.events.items
-    ++ (rows_of period_part additions.periods.items
+    ++ (rows_of period_part periods
     ++ (rows_of holiday_part additions.holidays.items ++ rows_of job_part jobs)))))

@@ -5,13 +5,14 @@ ghost use Rattle.sqlite.specs.Held.{state};
 ghost use Rattle.sqlite.specs.State.{HasCleanDisk, KeepsCommit, Survives};
 ghost use Rattle.sqlite_catalog.specs.Listing.{IsSound};
 ghost use Rattle.mds_tables.specs.Tables.{schema_1};
-ghost use Rattle.mds_inserts.specs.JobRows.{AreRowsOf};
+ghost use Rattle.mds_inserts.specs.MadeRows.{IsRowOfJob, IsRowOfPeriod};
 ghost use Rattle.mds_inserts.specs.Parts.{rows_in};
 ghost use Rattle.mds_inserts.specs.Refusals.{FailsToPut};
-ghost use Rattle.mds_tables.specs.Stores.{Commits, Holds, LeavesAdded};
+ghost use Rattle.mds_tables.specs.Stores.{AreRowsOf, Commits, Holds, LeavesAdded};
 ghost use Rattle.mds_inserts.specs.Writing.{LeavesWritten, PutsAll, Writes};
 
 use crate::jobs::JobRow;
+use crate::periods::PeriodRow;
 use crate::putting::{put_days, put_each};
 use mds_tables::ready;
 use mds_versions::Additions;
@@ -21,15 +22,17 @@ use sqlite::{Alter, Connection, Error, Transaction};
 fn put_all<S: Alter>(
     tx: &mut Transaction<'_, S>,
     additions: &Additions,
+    periods: &[PeriodRow],
     jobs: &[JobRow],
 ) -> Result<(), Error>
-    requires { AreRowsOf additions.now.jobs.items jobs.now }
+    requires periods { AreRowsOf IsRowOfPeriod additions.now.periods.items periods.now }
+    requires jobs { AreRowsOf IsRowOfJob additions.now.jobs.items jobs.now }
     ensures same_reference { tx.new.conn.ghost_name ≡ tx.old.conn.ghost_name }
     ensures ok { OnOk result (PutsAll (state S.Store tx.old.conn.now) (state S.Store tx.new.conn.now) additions.now) }
     ensures cause { HasCleanDisk (state S.Store tx.new.conn.now) → IsTrue (state S.Store tx.old.conn.now).is_open
         → IsTrue (state S.Store tx.old.conn.now).in_transaction
         → (state S.Store tx.old.conn.now).now.schema ≡ schema_1 → IsSound schema_1 (state S.Store tx.old.conn.now).now.trees
-        → IfErr result (FailsToPut (state S.Store tx.old.conn.now) (state S.Store tx.new.conn.now) (rows_in additions.now jobs.now) (state S.Store tx.old.conn.now).now) }
+        → IfErr result (FailsToPut (state S.Store tx.old.conn.now) (state S.Store tx.new.conn.now) (rows_in additions.now periods.now jobs.now) (state S.Store tx.old.conn.now).now) }
     ensures kept { HasCleanDisk (state S.Store tx.new.conn.now) → KeepsCommit (state S.Store tx.old.conn.now) (state S.Store tx.new.conn.now) }
     ensures survives { Survives (state S.Store tx.old.conn.now) (state S.Store tx.new.conn.now) (λ _. ⊥) }
 {
@@ -37,7 +40,7 @@ fn put_all<S: Alter>(
     put_days(tx, &additions.days)?;
     put_each(tx, &additions.details)?;
     put_each(tx, &additions.events)?;
-    put_each(tx, &additions.periods)?;
+    put_each(tx, periods)?;
     put_each(tx, &additions.holidays)?;
     put_each(tx, jobs)
 }
@@ -46,42 +49,47 @@ fn put_all<S: Alter>(
 fn write<S: Alter>(
     conn: &mut Connection<S>,
     additions: &Additions,
+    periods: &[PeriodRow],
     jobs: &[JobRow],
 ) -> Result<(), Error>
     requires mode { conn.old.in_transaction ≡ false }
-    requires jobs { AreRowsOf additions.now.jobs.items jobs.now }
+    requires periods { AreRowsOf IsRowOfPeriod additions.now.periods.items periods.now }
+    requires jobs { AreRowsOf IsRowOfJob additions.now.jobs.items jobs.now }
     ensures ok { HasCleanDisk (state S.Store conn.new) → OnOk result (Writes (state S.Store conn.old) (state S.Store conn.new) additions.now) }
     ensures err { HasCleanDisk (state S.Store conn.new) → OnErr result (KeepsCommit (state S.Store conn.old) (state S.Store conn.new)) }
     ensures cause { HasCleanDisk (state S.Store conn.new) → IsTrue (state S.Store conn.old).is_open
         → (state S.Store conn.old).now.schema ≡ schema_1 → IsSound schema_1 (state S.Store conn.old).now.trees
-        → IfErr result (FailsToPut (state S.Store conn.old) (state S.Store conn.new) (rows_in additions.now jobs.now) (state S.Store conn.old).now) }
+        → IfErr result (FailsToPut (state S.Store conn.old) (state S.Store conn.new) (rows_in additions.now periods.now jobs.now) (state S.Store conn.old).now) }
     ensures mode { conn.new.in_transaction ≡ false }
     ensures survives { Survives (state S.Store conn.old) (state S.Store conn.new) (LeavesWritten (state S.Store conn.old) additions.now) }
 {
     let mut tx = conn.transaction();
-    put_all(&mut tx, additions, jobs)?;
+    put_all(&mut tx, additions, periods, jobs)?;
     tx.commit()
 }
 
 /// Commits additions to the World that a store keeps: all of them, or nothing. Each becomes one row, column by column. A
-/// crash leaves what was kept, or that with all of them. Of the jobs among them their rows are given (`job_rows`).
+/// crash leaves what was kept, or that with all of them. Of the accumulations and the jobs among them their rows are given
+/// (`period_rows`, `job_rows`).
 pub fn commit<S: Alter>(
     conn: &mut Connection<S>,
     additions: &Additions,
+    periods: &[PeriodRow],
     jobs: &[JobRow],
 ) -> Result<(), Error>
     requires mode { conn.old.in_transaction ≡ false }
-    requires jobs { AreRowsOf additions.now.jobs.items jobs.now }
+    requires periods { AreRowsOf IsRowOfPeriod additions.now.periods.items periods.now }
+    requires jobs { AreRowsOf IsRowOfJob additions.now.jobs.items jobs.now }
     ensures ok { HasCleanDisk (state S.Store conn.new) → Holds (state S.Store conn.old)
         → OnOk result (Commits (state S.Store conn.old) (state S.Store conn.new) additions.now) }
     ensures err { HasCleanDisk (state S.Store conn.new) → OnErr result (KeepsCommit (state S.Store conn.old) (state S.Store conn.new)) }
     // The store failed, or the tables refuse one of the rows beside those that they have by then.
     ensures cause { HasCleanDisk (state S.Store conn.new) → Holds (state S.Store conn.old)
-        → IfErr result (FailsToPut (state S.Store conn.old) (state S.Store conn.new) (rows_in additions.now jobs.now) (state S.Store conn.old).committed) }
+        → IfErr result (FailsToPut (state S.Store conn.old) (state S.Store conn.new) (rows_in additions.now periods.now jobs.now) (state S.Store conn.old).committed) }
     ensures mode { conn.new.in_transaction ≡ false }
     ensures survives { Holds (state S.Store conn.old)
         → Survives (state S.Store conn.old) (state S.Store conn.new) (LeavesAdded (state S.Store conn.old) additions.now) }
 {
     ready(conn)?;
-    write(conn, additions, jobs)
+    write(conn, additions, periods, jobs)
 }

@@ -3,7 +3,8 @@
 ghost use Rattle.std.specs.Prelude.{◌≡◌, ◌<◌, IfOk, OnErr, length, string_bytes};
 ghost use Rattle.mds_jobs.specs.Bodies.{IsJobBody, job_in, parts_of};
 ghost use Rattle.mds_jobs.specs.Jobs.{content_of};
-ghost use Rattle.mds_inserts.specs.JobRows.{AreRowsOf, IsRowOf};
+ghost use Rattle.mds_tables.specs.Stores.{AreRowsOf};
+ghost use Rattle.mds_inserts.specs.MadeRows.{IsRowOfJob};
 
 use mds_jobs::{Job, JobId};
 use mds_versions::Unavailable;
@@ -20,7 +21,7 @@ pub struct JobRow {
 /// The row of each job, in their order. Unavailable where there is no memory for their texts, or for a job that no row
 /// holds: one whose flag is no capital letter, or whose count is 2^63 or more.
 pub fn job_rows(alloc: Global, jobs: &[(Job, u64)]) -> Result<Vec<JobRow>, Unavailable>
-    ensures rows { IfOk result (λ rows. AreRowsOf jobs.now rows.items) }
+    ensures rows { IfOk result (λ rows. AreRowsOf IsRowOfJob jobs.now rows.items) }
     ensures none { OnErr result (0 < length jobs.now) }
 {
     let Ok(mut rows) = Vec::with_capacity(alloc, jobs.len()) else {
@@ -39,7 +40,7 @@ pub fn job_rows(alloc: Global, jobs: &[(Job, u64)]) -> Result<Vec<JobRow>, Unava
 
 /// The row of a job.
 fn job_row(alloc: Global, job: &(Job, u64)) -> Result<JobRow, Unavailable>
-    ensures { IfOk result (IsRowOf job.now) }
+    ensures { IfOk result (IsRowOfJob job.now) }
 {
     let Ok(count) = i64::try_from(job.1) else {
         return Err(Unavailable);

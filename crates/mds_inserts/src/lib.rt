@@ -3,7 +3,9 @@
 
 mod committing;
 mod jobs;
+mod periods;
 mod putting;
 
 pub use committing::commit;
 pub use jobs::{JobRow, job_rows};
+pub use periods::{PeriodRow, period_rows};

@@ -17,9 +17,9 @@ ghost use Rattle.mds_inserts.specs.Refusals.{FailsToPut, is_store_error};
 ghost use Rattle.mds_inserts.specs.Writing.{PutsThere, StaysAs};
 
 use crate::jobs::JobRow;
+use crate::periods::PeriodRow;
 use mds_marks::{Reading, qualities_read_back};
 use mds_quantity::units_read_back;
-use mds_statements::Period;
 use mds_tables::{
     day_cells, detail_cells, event_cells, head_cells, holiday_cells, job_cells, letter_of,
     period_cells, reading_cells, slot_cells, version_cells,
@@ -376,13 +376,13 @@ impl Put for Event {
     }
 }
 
-impl Put for Period {
+impl Put for PeriodRow {
     ghost part = { period_part };
 
     fn put<S: Alter>(&self, tx: &mut Transaction<'_, S>) -> Result<(), Error> {
         tx.execute(
             "INSERT INTO mds_period (nmi, suffix, register, start, finish, moment, body) VALUES (?1, ?2, ?3, ?4, ?5, ?6, ?7)",
-            &period_cells(self),
+            &period_cells(&self.key, self.body.as_bytes()),
         )?;
         Ok(())
     }

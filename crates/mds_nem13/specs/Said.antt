@@ -37,16 +37,16 @@ kept_read line n =
     field line n ∷ field line (n + 1) ∷ kept_quality (field line (n + 2)) ∷ kept_code (field line (n + 3))
     ∷ field line (n + 4) ∷ []
 
--- 250: the fields from the register to the direction, and those from the quantity to the update
+-- 250: the fields from the register to the direction, and those from the quantity to the date of the next read
 abbrev pub meter_fields : List ℕ → List (List ℕ)
 meter_fields line =
     field line 4 ∷ field line 5 ∷ field line 6 ∷ field line 7 ∷ kept_direction (field line 8) ∷ []
 
 abbrev pub amount_fields : List ℕ → List (List ℕ)
 amount_fields line =
-    kept_quantity (field line 19) ∷ kept_unit (field line 20) ∷ field line 21 ∷ field line 22 ∷ []
+    kept_quantity (field line 19) ∷ kept_unit (field line 20) ∷ field line 21 ∷ []
 
--- 250: the fields 3 to 22; the last, MSATSLoadDateTime, isn't kept
+-- 250: the fields 3 to 21; field 22, UpdateDateTime, is of the key, and the last, MSATSLoadDateTime, isn't kept
 abbrev pub kept_fields : List ℕ → List (List ℕ)
 kept_fields line =
     field line 3 ∷ (meter_fields line ++ kept_read line 9 ++ kept_read line 14 ++ amount_fields line)

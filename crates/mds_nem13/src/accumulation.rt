@@ -8,7 +8,7 @@ pub struct Accumulation {
     /// The number of the 250 record's line, from 1.
     pub line: u64,
     pub key: PeriodKey,
-    /// Its fields 3 to 22, joined by commas, and for each 550 record a line feed and its four texts, joined by commas.
+    /// Its fields 3 to 21, joined by commas, and for each 550 record a line feed and its four texts, joined by commas.
     /// What can be written in several ways is written in one.
     pub content: String,
 }

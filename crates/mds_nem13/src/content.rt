@@ -75,15 +75,14 @@ fn write_read(read: &RegisterRead<'_>, out: &mut String) -> Result<(), AllocErro
     push_text(read.reason.text(), out)
 }
 
-/// Appends the fields from the quantity to the update, each behind a comma.
+/// Appends the fields from the quantity to the date of the next read, each behind a comma.
 fn write_amount(period: &AccumulationDataRecord<'_>, out: &mut String) -> Result<(), AllocError>
     ensures { (line : List ℕ) → IsAccumulationData line period.now → OnOk result
         (AppendsEach (string_bytes out.old) (string_bytes out.new) (amount_fields line)) }
 {
     push_quantity(period.quantity, out)?;
     push_text(period.unit.text(), out)?;
-    push_optional_day(period.next, out)?;
-    push_optional_moment(period.update, out)
+    push_optional_day(period.next, out)
 }
 
 /// Appends a comma and a text.
@@ -102,17 +101,6 @@ fn push_moment(moment: Moment, out: &mut String) -> Result<(), AllocError>
 {
     out.push(',')?;
     moment.write_to(out)
-}
-
-/// Appends a comma and a moment, if there is one.
-fn push_optional_moment(moment: Option<Moment>, out: &mut String) -> Result<(), AllocError>
-    ensures { (text : List ℕ) → optional moment_of text ≡ Some moment → OnOk result
-        (AppendsEach (string_bytes out.old) (string_bytes out.new) (text ∷ [])) }
-{
-    match moment {
-        Some(moment) => push_moment(moment, out),
-        None => push_text("", out),
-    }
 }
 
 /// Appends a comma and a day.

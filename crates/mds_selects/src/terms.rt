@@ -1,6 +1,6 @@
 //! Rows that queries answer, as terms. `None` where a row isn't one that the store writes.
 
-ghost use Rattle.std.specs.Prelude.{◌≡◌, ◌≢◌, ◌<◌, ◌≤◌, ◌+◌, ◌^◌, ◌∷◌, ℕ, ℤ, List, Option, length, pos, unsigned_abs, Some, IfErr, IfNone, IfOk, IfSome, IsTrue, OnErr, string_bytes};
+ghost use Rattle.std.specs.Prelude.{◌≡◌, ◌≢◌, ◌<◌, ◌≤◌, ◌+◌, ◌^◌, ◌∷◌, ℕ, ℤ, List, Option, length, pos, unsigned_abs, Some, IfErr, IfNone, IfOk, IfSome, IsTrue, OnErr};
 ghost use Rattle.std.specs.Bool.{OnFalse};
 ghost use Rattle.std.specs.Str.{is_utf8};
 ghost use Rattle.sqlite.specs.declared.types.Value.TheVariants.{Int, Null, Text};
@@ -197,20 +197,6 @@ fn reading_ref_in<'a>(row: &'a Row) -> Option<ReadingRef<'a>>
         note: str_at(row, 7)?,
         value: value_in(quality, int_at(row, 8)?)?,
     })
-}
-
-/// A text of its own. An empty one takes no memory.
-pub fn copy_of(alloc: Global, text: &str) -> Result<String, Unavailable>
-    ensures value { IfOk result (λ copy. string_bytes copy ≡ text.now) }
-    ensures only { OnErr result (0 < length text.now) }
-{
-    if text.is_empty() {
-        return Ok(String::new(alloc));
-    }
-    match String::from_str(alloc, text) {
-        Ok(copy) => Ok(copy),
-        Err(_) => Err(Unavailable),
-    }
 }
 
 /// The reading that the columns of a version from its quality on are. It takes memory only for a note.

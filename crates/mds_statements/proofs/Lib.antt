@@ -1,3 +1,4 @@
+pub mod BodyLemmas
 pub mod DaysDelivered
 pub mod OneText
 pub mod OrderlyTests

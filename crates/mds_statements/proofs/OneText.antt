@@ -1,12 +1,8 @@
 -- A content has one text.
-use Rattle.std.proofs.Common.{rules, refl, sym, ap, ◌∙◌, ◌≡◌, ℕ, List, [], ◌∷◌, map}
+use Rattle.std.proofs.Common.{refl, sym, ap, ◌∙◌, ◌≡◌, ℕ, List, [], ◌∷◌, map}
 use Rattle.std.specs.List.{join_with_byte, slice_split}
 use Rattle.std.proofs.lemmas.List.Splits.{join_with_byte-slice_split}
-use Rattle.mds_statements.specs.Contents.{PeriodContent, content_in, content_of, is_line_feed, texts_of}
-
--- the text of a content
-abbrev text_of : PeriodContent → List ℕ
-text_of content = join_with_byte 10 (join_with_byte 44 content.fields ∷ map (join_with_byte 44) content.notes)
+use Rattle.mds_statements.specs.Contents.{content_in, content_of, is_line_feed, text_of, texts_of}
 
 lines_back : (lines : List (List ℕ)) → map (join_with_byte 44) (map texts_of lines) ≡ lines
 lines_back [] = refl
@@ -22,7 +18,8 @@ text_back_in (line ∷ lines) =
     let rest = lines_back lines in
     λ i. join_with_byte 10 (first i ∷ rest i)
 
-text_back : (text : List ℕ) → text_of (content_of text) ≡ text
+-- the text of what a text says is that text
+pub text_back : (text : List ℕ) → text_of (content_of text) ≡ text
 text_back text = text_back_in (slice_split is_line_feed text) ∙ join_with_byte-slice_split 10 text
 
 -- two texts of one content are one

@@ -1,10 +1,10 @@
 -- The text in which the content of an accumulation is kept (profile): its lines are joined by line feeds, and the texts of a line by
 -- commas.
 use Rattle.std.specs.Prelude.{ℕ, Bool, ◌==◌, List, [], ◌∷◌, map}
-use Rattle.std.specs.List.{slice_split}
+use Rattle.std.specs.List.{join_with_byte, slice_split}
 use Rattle.mds_names.specs.Names.{is_comma}
 
--- the fields of a 250 that its key doesn't hold as they are kept, and the four texts of each of its notes
+-- the fields 3 to 21 of a 250 as they are kept, and the four texts of each of its notes; the update is of the key alone
 pub record PeriodContent : Type 0 where
   pub fields : List (List ℕ)
   pub notes : List (List (List ℕ))
@@ -24,3 +24,7 @@ content_in (fields ∷ notes) = record { fields = texts_of fields; notes = map t
 -- the content that a text says
 abbrev pub content_of : List ℕ → PeriodContent
 content_of text = content_in (slice_split is_line_feed text)
+
+-- the one text of a content that a text says
+abbrev pub text_of : PeriodContent → List ℕ
+text_of content = join_with_byte 10 (join_with_byte 44 content.fields ∷ map (join_with_byte 44) content.notes)

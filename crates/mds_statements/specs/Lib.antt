@@ -1,3 +1,5 @@
+pub mod Bodies
+pub mod BodySteps
 pub mod Contents
 pub mod Delivered
 pub mod Orderly

@@ -3,6 +3,7 @@
 #![tactic(auto)]
 
 mod blocks;
+mod bodies;
 mod delivery;
 mod periods;
 mod selected;

@@ -38,7 +38,8 @@ impl PeriodKey {
     }
 }
 
-/// What else is kept of an accumulation: the other fields of its 250 record, and its 550 records, its notes, in order. It has one text.
+/// What else is kept of an accumulation: the fields 3 to 21 of its 250 record, and its 550 records, its notes, in order. The update,
+/// which the record or the header states, is of its key alone. It has one text.
 #[derive(Drop)]
 pub struct PeriodContent {
     text: String,

@@ -14,7 +14,7 @@ use Rattle.sqlite_rules.specs.Edit.{id_in}
 use Rattle.sqlite_trees.specs.Tree.{Trees}
 use Rattle.sqlite_value.specs.Order.{Row, bytes, column}
 use Rattle.mds_names.specs.declared.stream.Stream.{Stream}
-use Rattle.mds_statements.specs.Contents.{content_of}
+use Rattle.mds_statements.specs.Bodies.{content_of_body}
 use Rattle.mds_statements.specs.declared.periods.Period.{Period}
 use Rattle.mds_statements.specs.declared.periods.PeriodKey.{PeriodKey}
 use Rattle.mds_world.specs.Facts.{Fact, PeriodContent}
@@ -229,5 +229,5 @@ module _ (trees : Trees) (sound : IsSound schema_1 trees) (k : PeriodKey) (start
       let s = (sel row).0 (subst (Member row) (sym only.1) (inl refl)) in
       let key : key_at s.0 ≡ k = begun s.0 s.2 in
       let body : text_at s.0 7 ≡ text_at row 0 = ap (λ x. bytes (column x 0)) (sym s.3) in
-      let says : content_of (text_at s.0 7) ≡ content = ap (λ t. content_of t) body ∙ only.2 in
+      let says : content_of_body (text_at s.0 7) ≡ content = ap (λ t. content_of_body t) body ∙ only.2 in
       (of_period trees k content).1 (s.0, s.1, λ i. PeriodIs (key i) (says i))

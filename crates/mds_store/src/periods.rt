@@ -3,19 +3,19 @@
 ghost use Rattle.std.specs.Prelude.{◌≡◌, ◌<◌, ◌^◌, ◌↔◌, ℕ, List, false, length, IfOk, IsTrue, OnErr, OnOk};
 ghost use Rattle.std.specs.List.{AllPairs};
 ghost use Rattle.std.specs.declared.cmp.Ordering.TheVariants.{Less};
-ghost use Rattle.std.specs.Str.{is_utf8};
 ghost use Rattle.sqlite.specs.declared.types.Value.TheVariants.{Text};
 ghost use Rattle.sqlite.specs.Held.{state};
 ghost use Rattle.sqlite.specs.Order.{column};
 ghost use Rattle.sqlite.specs.State.{HasCleanDisk, KeepsCommit, Survives};
 ghost use Rattle.mds_terms.specs.Printable.{is_printable};
+ghost use Rattle.mds_statements.specs.Contents.{text_of};
 ghost use Rattle.mds_statements.specs.declared.periods.Period.{Period as PeriodValue};
 ghost use Rattle.mds_versions.specs.Queries.{ArePeriodsOf, IsContentOf, period_cmp};
 ghost use Rattle.mds_tables.specs.Stores.{AreOpen, Holds, world_of};
-ghost use Rattle.mds_store.specs.Periods.{ArePeriodsIn, IsOnlyContent, IsRowOfPeriod, SaysContent, SaysPeriod, shown_key, text_length};
+ghost use Rattle.mds_store.specs.Periods.{ArePeriodsIn, IsBodyAt, IsOnlyContent, IsRowOfPeriod, SaysContent, SaysPeriod, shown_key, text_length};
 
 use crate::rows::{content_rows, period_rows};
-use mds_selects::{copy_of, moment_at, str_at, stream_in, text_at};
+use mds_selects::{moment_at, str_at, stream_in, text_at};
 use mds_statements::{Period, PeriodContent, PeriodKey};
 use mds_tables::ready;
 use mds_terms::{PrintableString, Stream};
@@ -159,18 +159,20 @@ fn register_at(alloc: Global, row: &Row, at: usize) -> Result<PrintableString, U
     }
 }
 
-/// The content that the text in a column says. An empty one takes no memory.
+/// The content that the body in a column says. An empty one takes no memory.
 fn content_at(alloc: Global, row: &Row, at: usize) -> Result<PeriodContent, Unavailable>
     ensures ok { IfOk result (SaysContent row.now at) }
-    ensures err { OnErr result ((body : List ℕ) → IsTrue (is_utf8 body) → column row.now at ≡ Text body → 0 < length body) }
+    ensures err { OnErr result ((period : PeriodValue) → IsBodyAt row.now at period → 0 < length (text_of period.content)) }
 {
     let Some(body) = str_at(row, at) else {
         return Err(Unavailable);
     };
-    let Ok(text) = copy_of(alloc, body) else {
-        return Err(Unavailable);
-    };
-    Ok(PeriodContent::new(text))
+    match PeriodContent::from_body(alloc, body) {
+        Ok(Some(content)) => Ok(content),
+        // The store never writes a body of one field alone.
+        Ok(None) => Err(Unavailable),
+        Err(_) => Err(Unavailable),
+    }
 }
 
 /// What is kept of the accumulation of a key. `None` where there is none.

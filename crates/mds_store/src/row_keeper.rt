@@ -11,7 +11,7 @@ ghost use Rattle.mds_store.specs.Props.{Holds-prop, settles};
 use crate::periods::{content_of_period, periods_of};
 use crate::querying::{holidays_of, job_of};
 use crate::ranges::days_of;
-use mds_inserts::{commit, job_rows};
+use mds_inserts::{commit, job_rows, period_rows};
 use mds_jobs::{Job, JobId};
 use mds_selects::{
     current_details, events_of, has_details, has_event, head_of, streams, versions_of,
@@ -120,9 +120,12 @@ impl<S: Alter> Keeper for RowKeeper<S> {
     }
 
     fn commit(&mut self, additions: Additions) -> Result<(), Unavailable> {
+        let Ok(periods) = period_rows(self.alloc, &additions.periods) else {
+            return Err(Unavailable);
+        };
         let Ok(jobs) = job_rows(self.alloc, &additions.jobs) else {
             return Err(Unavailable);
         };
-        commit(&mut self.conn, &additions, &jobs).map_err(|_| Unavailable)
+        commit(&mut self.conn, &additions, &periods, &jobs).map_err(|_| Unavailable)
     }
 }

@@ -9,15 +9,13 @@ use Rattle.mds_marks.specs.Mark.{is_mark}
 use Rattle.mds_marks.specs.Reason.{is_reason}
 use Rattle.mds_marks.specs.Reading.{ReadingValue, is_lawful, is_reading, is_value}
 use Rattle.mds_terms.specs.Event.{EventValue}
-use Rattle.mds_statements.specs.Contents.{content_of}
-use Rattle.mds_statements.specs.declared.periods.Period.{Period}
 use Rattle.mds_world.specs.declared.facts.Detail.{Detail}
 use Rattle.mds_world.specs.declared.facts.Head.{Head}
 use Rattle.mds_world.specs.declared.facts.Key.{Key}
-use Rattle.mds_world.specs.Facts.Fact.{DetailIs, EventIs, HeadIs, PeriodIs, VersionIs}
+use Rattle.mds_world.specs.Facts.Fact.{DetailIs, EventIs, HeadIs, VersionIs}
 use Rattle.mds_world.proofs.Sets.{split_and}
-use Rattle.mds_tables.specs.Cells.{body_text, detail_cells, event_cells, head_cells, letter_text, optional_cell, period_cells, version_cells}
-use Rattle.mds_tables.specs.RowFacts.{detail_fact, event_fact, head_fact, letter_in, optional, period_fact, quality_named, unit_named, version_fact}
+use Rattle.mds_tables.specs.Cells.{detail_cells, event_cells, head_cells, letter_text, optional_cell, version_cells}
+use Rattle.mds_tables.specs.RowFacts.{detail_fact, event_fact, head_fact, letter_in, optional, quality_named, unit_named, version_fact}
 
 pub optional_back : (o : Option ℕ) → optional (id_in (optional_cell o)) ≡ o
 optional_back None = refl
@@ -43,10 +41,6 @@ event_back id e =
     let trans = letter_back e.trans in
     let moment = optional_back e.moment in
     λ i. EventIs (record e { trans = trans i; moment = moment i })
-
-pub period_back : (id : Value) (p : Period) → content_of (body_text p.content) ≡ p.content
-    → period_fact (id ∷ period_cells p) ≡ PeriodIs p.key p.content
-period_back id p says = λ i. PeriodIs p.key (says i)
 
 -- the quality of a lawful reading is lawful
 lawful_quality : (r : ReadingValue) → IsTrue (is_lawful r)

@@ -1,4 +1,3 @@
-pub mod BodyLemmas
 pub mod CallLemmas
 pub mod CauseLemmas
 pub mod CreateLemmas

@@ -1,6 +1,6 @@
 -- The columns of the row that names a fact (profile), without a rowid.
-use Rattle.std.specs.Prelude.{ℕ, ℤ, pos, negsuc, List, [], ◌∷◌, ◌++◌, map, Option, Some, None, unwrap_or}
-use Rattle.std.specs.List.{flat_map, join_with_byte}
+use Rattle.std.specs.Prelude.{ℕ, ℤ, pos, negsuc, List, [], ◌∷◌, ◌++◌, Option, Some, None, unwrap_or}
+use Rattle.std.specs.List.{flat_map}
 use Rattle.sqlite_value.specs.Order.{Row}
 use Rattle.sqlite.specs.declared.types.Value.{Value}
 use Rattle.sqlite.specs.declared.types.Value.TheVariants.{Int, Text}
@@ -9,8 +9,6 @@ use Rattle.mds_names.specs.declared.stream.Stream.{Stream}
 use Rattle.mds_marks.specs.Quality.{quality_text}
 use Rattle.mds_marks.specs.Reading.{ReadingValue}
 use Rattle.mds_terms.specs.Event.{EventValue}
-use Rattle.mds_statements.specs.Contents.{PeriodContent}
-use Rattle.mds_statements.specs.declared.periods.Period.{Period}
 use Rattle.mds_statements.specs.declared.periods.PeriodKey.{PeriodKey}
 use Rattle.mds_versions.specs.declared.day_book.Version.{Version}
 use Rattle.mds_world.specs.declared.facts.Detail.{Detail}
@@ -73,20 +71,16 @@ event_cells e =
     Text e.nmi ∷ Text e.suffix ∷ number_cell e.day ∷ Text (letter_text e.trans) ∷ Text e.ticket
     ∷ optional_cell e.moment ∷ Text e.reading ∷ []
 
--- The one text of the content of an accumulation: its fields joined by commas, and behind them each of its notes, whose texts are
--- joined in the same way, on a line of its own.
-abbrev pub body_text : PeriodContent → List ℕ
-body_text content = join_with_byte 10 (join_with_byte 44 content.fields ∷ map (join_with_byte 44) content.notes)
-
 abbrev pub period_key_cells : PeriodKey → Row
 period_key_cells k =
     Text k.stream.nmi ∷ Text k.stream.suffix ∷ Text k.register ∷ number_cell k.start ∷ number_cell k.finish
     ∷ number_cell k.update ∷ []
 
-abbrev pub period_cells : Period → Row
-period_cells p =
-    Text p.key.stream.nmi ∷ Text p.key.stream.suffix ∷ Text p.key.register ∷ number_cell p.key.start
-    ∷ number_cell p.key.finish ∷ number_cell p.key.update ∷ Text (body_text p.content) ∷ []
+-- a key, and a body
+abbrev pub period_cells : PeriodKey → List ℕ → Row
+period_cells k body =
+    Text k.stream.nmi ∷ Text k.stream.suffix ∷ Text k.register ∷ number_cell k.start ∷ number_cell k.finish
+    ∷ number_cell k.update ∷ Text body ∷ []
 
 abbrev pub holiday_cells : ℕ → Row
 holiday_cells day = number_cell day ∷ []

@@ -11,7 +11,7 @@ use Rattle.mds_marks.specs.Quality.{QualityValue, null, quality_of}
 use Rattle.mds_marks.specs.Reading.{ReadingValue}
 use Rattle.mds_jobs.specs.Bodies.{job_in, parts_of}
 pub use Rattle.mds_jobs.specs.Bodies.{unit_named}
-use Rattle.mds_statements.specs.Contents.{content_of}
+use Rattle.mds_statements.specs.Bodies.{content_of_body}
 use Rattle.mds_world.specs.Facts.{Fact}
 use Rattle.mds_world.specs.Facts.Fact.{DetailIs, EventIs, HeadIs, HolidayIs, JobIs, PeriodIs, VersionIs}
 use Rattle.mds_world.specs.World.{World}
@@ -94,7 +94,7 @@ event_fact row = EventIs (record {
   reading = text_at row 7;
 })
 
--- an accumulation's body says its content
+-- an accumulation's body says its content, and the update that it has is that of the columns
 abbrev pub period_fact : Row → Fact
 period_fact row =
     PeriodIs (record {
@@ -104,7 +104,7 @@ period_fact row =
       finish = natural_at row 5;
       update = natural_at row 6;
     })
-    (content_of (text_at row 7))
+    (content_of_body (text_at row 7))
 
 -- a holiday is its day alone
 abbrev pub holiday_fact : Row → Fact

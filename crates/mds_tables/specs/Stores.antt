@@ -13,6 +13,8 @@ use Rattle.mds_versions.specs.declared.additions.Additions.{Additions}
 use Rattle.mds_jobs.specs.Bodies.{IsJobBody}
 use Rattle.mds_jobs.specs.Jobs.{content_of}
 use Rattle.mds_jobs.specs.declared.job.Job.{Job}
+use Rattle.mds_statements.specs.Bodies.{IsPeriodBody}
+use Rattle.mds_statements.specs.declared.periods.Period.{Period}
 use Rattle.mds_tables.specs.Cells.{detail_cells, event_cells, head_cells, holiday_cells, job_cells, period_cells, version_cells}
 use Rattle.mds_tables.specs.RowFacts.{int_at, world_in}
 use Rattle.mds_tables.specs.Tables.{schema_1}
@@ -53,17 +55,21 @@ pub record AreOpen (old new : State) : Type 0 where
 abbrev pub Gains : ℕ → List Row → Trees → Trees → Type 0
 Gains tree rows old new = IsPermutation (map (drop 1) (old tree) ++ rows) (map (drop 1) (new tree))
 
+-- the row is that of the accumulation, whose body says its fields, behind them its update, and its notes
+abbrev pub IsPeriodRow : Period → Row → Type 0
+IsPeriodRow period row = (body : List ℕ) × IsPeriodBody period body × (row ≡ period_cells period.key body)
+
 -- the row is that of the job, whose body is one that its content has
 abbrev pub IsJobRow : Job × ℕ → Row → Type 0
 IsJobRow job row =
     (body : List ℕ) × IsJobBody (content_of job.0) body × (row ≡ job_cells job.0.id body (pos job.1))
 
--- the row of each job, in their order
-abbrev pub AreJobRows : List (Job × ℕ) → List Row → Type 0
-AreJobRows [] [] = Unit {0}
-AreJobRows (job ∷ jobs) (row ∷ rows) = IsJobRow job row × AreJobRows jobs rows
-AreJobRows [] (row ∷ rows) = ⊥
-AreJobRows (job ∷ jobs) [] = ⊥
+-- the row of each thing, in their order
+abbrev pub AreRowsOf : {A B : Type 0} → (A → B → Type 0) → List A → List B → Type 0
+AreRowsOf IsRow [] [] = Unit {0}
+AreRowsOf IsRow (thing ∷ things) (row ∷ rows) = IsRow thing row × AreRowsOf IsRow things rows
+AreRowsOf IsRow [] (row ∷ rows) = ⊥
+AreRowsOf IsRow (thing ∷ things) [] = ⊥
 
 -- Each table has the rows of its facts among the additions, column by column, beside those that were there, and no other.
 pub record Adds (old new : Trees) (additions : Additions) : Type 0 where
@@ -72,9 +78,9 @@ pub record Adds (old new : Trees) (additions : Additions) : Type 0 where
   pub versions : Gains 4 (map (λ version. version_cells version.0 version.1) (versions_of additions.days.items)) old new
   pub details : Gains 6 (map detail_cells additions.details.items) old new
   pub events : Gains 8 (map event_cells additions.events.items) old new
-  pub periods : Gains 10 (map period_cells additions.periods.items) old new
+  pub periods : (rows : List Row) × AreRowsOf IsPeriodRow additions.periods.items rows × Gains 10 rows old new
   pub holidays : Gains 12 (map holiday_cells additions.holidays.items) old new
-  pub jobs : (rows : List Row) × AreJobRows additions.jobs.items rows × Gains 14 rows old new
+  pub jobs : (rows : List Row) × AreRowsOf IsJobRow additions.jobs.items rows × Gains 14 rows old new
 
 -- The additions are committed to what was kept.
 pub record Commits (old new : State) (additions : Additions) : Type 0 where

@@ -4,12 +4,11 @@ ghost use Rattle.std.specs.Prelude.{◌≡◌, ◌≤◌, [], ◌∷◌, pos, ta
 ghost use Rattle.sqlite.specs.Values.{bound};
 ghost use Rattle.sqlite.specs.declared.types.Value.TheVariants.{Int, Text};
 ghost use Rattle.mds_marks.specs.Quality.{quality_text};
-ghost use Rattle.mds_statements.specs.Contents.{content_of};
 ghost use Rattle.mds_tables.specs.Cells as row;
 
 use mds_jobs::JobId;
 use mds_marks::Reading;
-use mds_statements::{Period, PeriodKey};
+use mds_statements::PeriodKey;
 use mds_terms::{Day, Event, Moment, Stream};
 use mds_world::{Detail, Head, Key};
 use sqlite::types::ValueRef;
@@ -204,12 +203,10 @@ pub fn period_key_cells<'a>(key: &'a PeriodKey) -> [ValueRef<'a>; 6]
     ]
 }
 
-/// The columns of an accumulation, of which the body is the text of its content.
-pub fn period_cells<'a>(period: &'a Period) -> [ValueRef<'a>; 7]
-    ensures cells { bound result ≡ row.period_cells period.now }
-    ensures says { content_of (row.body_text period.now.content) ≡ period.now.content }
+/// The columns of an accumulation, of which the body is given.
+pub fn period_cells<'a>(key: &'a PeriodKey, body: &'a [u8]) -> [ValueRef<'a>; 7]
+    ensures { bound result ≡ row.period_cells key.now body.now }
 {
-    let key = &period.key;
     [
         ValueRef::Text(key.stream.nmi.text().as_bytes()),
         ValueRef::Text(key.stream.suffix.text().as_bytes()),
@@ -217,7 +214,7 @@ pub fn period_cells<'a>(period: &'a Period) -> [ValueRef<'a>; 7]
         ValueRef::Int(key.start.seconds()),
         ValueRef::Int(key.finish.seconds()),
         ValueRef::Int(key.update.seconds()),
-        ValueRef::Text(period.content.text().as_bytes()),
+        ValueRef::Text(body),
     ]
 }
 

@@ -2,7 +2,7 @@
 
 use crate::failing::Failing;
 use mds_lines::Counted;
-use mds_wire::{Handler, Kind, Route, Status, Unavailable, WireFault, serve_one};
+use mds_wire::{Handler, Kind, Route, Routes, Status, Unavailable, WireFault, serve_one};
 use std::alloc::Global;
 use std::io::{Read, Write};
 use std::test::Fail;
@@ -41,6 +41,8 @@ impl Handler for Asked {
 
     ghost same = { λ old new. new ≡ old };
 
+    ghost takes_memory = { λ _ _ _. ⊤ };
+
     fn handle(
         &mut self,
         _: Global,
@@ -64,13 +66,14 @@ impl Handler for Asked {
 /// What serving a request comes to, and how many calls of the reader and of the writer failed.
 fn served<R: Read + Drop, W: Write + Drop>(
     alloc: Global,
+    routes: &Routes,
     handler: &mut Asked,
     reader: R,
     writer: W,
 ) -> (Result<Status, WireFault>, u64, u64) {
     let mut reader = Counted::new(reader);
     let mut writer = Counted::new(writer);
-    let answer = serve_one(alloc, handler, &mut reader, &mut writer);
+    let answer = serve_one(alloc, routes, handler, &mut reader, &mut writer);
     (answer, reader.failures(), writer.failures())
 }
 
@@ -78,6 +81,7 @@ fn served<R: Read + Drop, W: Write + Drop>(
 /// made once the request is whole, though more bytes are there.
 #[test]
 fn readers_fail(rt: HostRuntime) -> Result<(), Fail> {
+    let routes = Routes::new(rt.alloc())?;
     for calls in 0..LIST_SIZE + 2 {
         let mut handler = Asked { times: 0 };
         let mut out = Vec::new(rt.alloc());
@@ -86,11 +90,11 @@ fn readers_fail(rt: HostRuntime) -> Result<(), Fail> {
             step: 1,
             calls,
         };
-        let told = served(rt.alloc(), &mut handler, reader, &mut out);
+        let told = served(rt.alloc(), &routes, &mut handler, reader, &mut out);
         if calls < LIST_SIZE {
             assert_eq!(rt; told, (Err(WireFault::Read), 1, 0), "after {calls} calls");
             assert!(rt; out.is_empty(), "after {calls} calls");
-            let told = served(rt.alloc(), &mut handler, LIST, &mut out);
+            let told = served(rt.alloc(), &routes, &mut handler, LIST, &mut out);
             assert_eq!(rt; told, (Ok(Status::Success), 0, 0));
         } else {
             assert_eq!(rt; told, (Ok(Status::Success), 0, 0), "after {calls} calls");
@@ -104,6 +108,7 @@ fn readers_fail(rt: HostRuntime) -> Result<(), Fail> {
 /// Each call of the writer fails in turn: the request was done, and a part of its answer was written.
 #[test]
 fn writers_fail(rt: HostRuntime) -> Result<(), Fail> {
+    let routes = Routes::new(rt.alloc())?;
     for calls in 0..ADDED.len() + 1 {
         let mut handler = Asked { times: 0 };
         let mut out = Vec::new(rt.alloc());
@@ -112,7 +117,7 @@ fn writers_fail(rt: HostRuntime) -> Result<(), Fail> {
             step: 1,
             calls,
         };
-        let told = served(rt.alloc(), &mut handler, LIST, writer);
+        let told = served(rt.alloc(), &routes, &mut handler, LIST, writer);
         let wanted = if calls < ADDED.len() {
             (Err(WireFault::Write), 0, 1)
         } else {
@@ -120,7 +125,7 @@ fn writers_fail(rt: HostRuntime) -> Result<(), Fail> {
         };
         assert_eq!(rt; told, wanted, "after {calls} calls");
         assert_eq!(rt; out.as_slice(), &ADDED[..calls]);
-        let _ = served(rt.alloc(), &mut handler, LIST, &mut out);
+        let _ = served(rt.alloc(), &routes, &mut handler, LIST, &mut out);
         assert!(rt; out.as_slice().ends_with(LATER), "after {calls} calls");
     }
     Ok(())
@@ -129,11 +134,12 @@ fn writers_fail(rt: HostRuntime) -> Result<(), Fail> {
 /// A writer that takes no byte more has failed as well.
 #[test]
 fn writers_are_full(rt: HostRuntime) -> Result<(), Fail> {
+    let routes = Routes::new(rt.alloc())?;
     for room in 0..ADDED.len() {
         let mut handler = Asked { times: 0 };
         let mut slots = vec![in rt.alloc(); 0; room]?;
         let slots: &mut [u8] = &mut slots;
-        let told = served(rt.alloc(), &mut handler, LIST, slots);
+        let told = served(rt.alloc(), &routes, &mut handler, LIST, slots);
         assert_eq!(rt; told, (Err(WireFault::Write), 0, 1), "of {room} bytes");
     }
     Ok(())

@@ -14,6 +14,7 @@ use mds_nem12::read_nem12;
 use mds_records::FileKind;
 use mds_service::{Answer, Request, apply, run};
 use mds_terms::{Day, Stream};
+use mds_wire::Routes;
 use std::alloc::{AllocError, Global};
 use std::io::Write;
 use std::process::ExitCode;
@@ -109,11 +110,12 @@ fn serve(rt: &HostRuntime, port: &str, count: &str) -> io::Result<bool> {
     let (Ok(port), Ok(count)) = (port.parse::<u16>(), count.parse::<u32>()) else {
         return usage(rt);
     };
+    let routes = Routes::new(rt.alloc())?;
     let listener = listen(rt, port)?;
     let mut handler = StoreHandler {
         keeper: MemoryKeeper::new(rt.alloc()),
     };
-    serve_connections(rt, &mut handler, &listener, count);
+    serve_connections(rt, &routes, &mut handler, &listener, count);
     Ok(true)
 }
 

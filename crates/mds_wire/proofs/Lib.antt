@@ -6,4 +6,7 @@ pub mod HeadReads
 pub mod Meant
 pub mod Named
 pub mod Numbers
+pub mod RouteRows
+pub mod Texts
+pub mod Walks
 pub mod Written

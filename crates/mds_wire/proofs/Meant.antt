@@ -211,8 +211,11 @@ module _ {S : Type 0} (Step : StepOf S) (Same : S → S → Type 0) where
       → ReadsRequest bytes head rest → length head.fields ≤ most_fields → judge (parts_of head) ≡ judged → NoSuccess judged
       → AnswersJudged Step Same judged head rest old answer new → IsStepOrNone bytes old answer new
   step_or_none bytes rest head (Refused status) old new answer reads few is other a =
-      inr (inl (refused_has_no_order bytes rest head status reads is),
-          no_success answer status (bytes_eq head.method (codes "HEAD")) a.0 other, inl a.1)
+      inr (
+        inl (refused_has_no_order bytes rest head status reads is),
+        no_success answer status (bytes_eq head.method (codes "HEAD")) a.0 other,
+        inl a.1,
+      )
   step_or_none bytes rest head (Wanted route size) old new answer reads few is other (inl step) =
       inl (head, rest, route, size, reads, few, is, step.0, step.1, step.2)
   step_or_none bytes rest head (Wanted route size) old new answer reads few is other (inr none) =
@@ -221,12 +224,22 @@ module _ {S : Type 0} (Step : StepOf S) (Same : S → S → Type 0) where
   begun : (bytes : List ℕ) (b : Beginning) (old new : S) (answer : Answer) → BeginsSo bytes b
       → AnswersBeginning Step Same b old answer new → IsStepOrNone bytes old answer new
   begun bytes no_head old new answer is a =
-      inr (inl (λ head rest route size reads few order. absurd (omega (arith, few, is.none [] head rest
-      (subst (λ (xs : List ℕ). ReadsRequest xs head rest) (sym (append-nil bytes)) reads)))),
-      no_success answer BadRequest false a.0 (λ e. cc), inl a.1)
+      inr (
+        inl (λ head rest route size reads few order. absurd (omega (
+          arith,
+          few,
+          is.none [] head rest
+              (subst (λ (xs : List ℕ). ReadsRequest xs head rest) (sym (append-nil bytes)) reads),
+        ))),
+        no_success answer BadRequest false a.0 (λ e. cc),
+        inl a.1,
+      )
   begun bytes overlong old new answer is a =
-      inr (inl (λ head rest route size reads few order. is.1 head rest reads),
-      no_success answer FieldsTooLarge false a.0 (λ e. cc), inl a.1)
+      inr (
+        inl (λ head rest route size reads few order. is.1 head rest reads),
+        no_success answer FieldsTooLarge false a.0 (λ e. cc),
+        inl a.1,
+      )
   begun bytes (whole head rest) old new answer is a =
       step_or_none bytes rest head (judge (parts_of head)) old new answer is.0 is.1 refl (judge_refuses (parts_of head)) a
 

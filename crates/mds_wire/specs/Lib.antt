@@ -7,6 +7,7 @@ pub mod JudgeSteps
 pub mod Judging
 pub mod Laws
 pub mod Meaning
+pub mod RouteSteps
 pub mod Routes
 pub mod ServeSteps
 pub mod Serving

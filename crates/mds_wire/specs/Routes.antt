@@ -42,9 +42,9 @@ pattern_of Gaps = codes "/v1/gaps"
 pattern_of Finals = codes "/v1/finals"
 pattern_of Exports = codes "/v1/exports/nem12"
 
--- all routes
+-- all routes, in the order of their paths
 abbrev pub routes : List Route
-routes = Imports ∷ Substitutions ∷ Holidays ∷ Streams ∷ Days ∷ Versions ∷ Periods ∷ Gaps ∷ Finals ∷ Exports ∷ []
+routes = Days ∷ Exports ∷ Finals ∷ Gaps ∷ Holidays ∷ Imports ∷ Periods ∷ Streams ∷ Substitutions ∷ Versions ∷ []
 
 -- the route that a path is for
 unfoldable pub route_of : List ℕ → Option Route

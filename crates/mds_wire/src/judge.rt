@@ -1,18 +1,20 @@
 //! The checks of a head, in their order: the first that stands gives the answer.
 
-ghost use Rattle.std.specs.Prelude.{◌≡◌, ◌≤◌, ℕ, List, length, map, min, All, slice_index_or, ◌==◌, nat_lt, ◌+◌, if◌then◌else◌, Option, Some, None};
+ghost use Rattle.std.specs.Prelude.{◌≡◌, ◌≤◌, ℕ, List, length, map, min, All, slice_index_or, ◌==◌, nat_lt, ◌+◌, if◌then◌else◌, Option, Some, None, IsUtf8};
 ghost use Rattle.std.specs.Char.{is_ascii_digit};
 ghost use Rattle.std.specs.List.{list_all};
 ghost use Rattle.std.specs.Str.Parse.{digits_value};
-ghost use Rattle.httparse.specs.Spans.{IsHeaderWithin, IsRequestWithin, header_bytes};
+ghost use Rattle.httparse.specs.Spans.{IsHeaderWithin, IsRequestWithin, header_bytes, span_bytes};
 ghost use Rattle.mds_wire.specs.declared.route.Route.{Route as RouteOf};
+ghost use Rattle.mds_wire.specs.Routes.{route_of};
 ghost use Rattle.mds_wire.specs.Judging.{parts_at, values_in, is_host_fault, judge, judge_length, path_of, longest_body};
 ghost use Rattle.mds_wire.specs.JudgeSteps.{IsValues};
 
 use crate::answer::Status;
-use crate::route::{Method, Route};
+use crate::route::{Method, Route, RouteFinder};
 use crate::target::path_of;
 use httparse::spans::{HeaderSpan, RequestSpans};
+use std::str;
 
 /// What a head means.
 #[derive(Clone, Copy)]
@@ -35,8 +37,14 @@ enum Values<'b> {
 const LONGEST_BODY: usize = 8_388_608;
 
 /// What a head means, of which the parser gave these spans.
-pub(crate) fn judge_head(bytes: &[u8], fields: &[HeaderSpan], spans: &RequestSpans) -> Judged
-    requires { IsRequestWithin bytes.now fields.now spans.now }
+pub(crate) fn judge_head<F: RouteFinder>(
+    routes: &F,
+    bytes: &[u8],
+    fields: &[HeaderSpan],
+    spans: &RequestSpans,
+) -> Judged
+    requires within { IsRequestWithin bytes.now fields.now spans.now }
+    requires text { IsUtf8 (span_bytes bytes.now spans.now.path) }
     ensures value { result ≡ judge (parts_at bytes.now fields.now spans.now) }
     ensures few { (route : RouteOf) (size : ℕ) → result ≡ Judged.Wanted route size → size ≤ longest_body }
 {
@@ -51,7 +59,7 @@ pub(crate) fn judge_head(bytes: &[u8], fields: &[HeaderSpan], spans: &RequestSpa
     if !begins_with_slash(target) {
         return Judged::Refused(Status::BadRequest);
     }
-    let Some(route) = Route::of(path_of(target)) else {
+    let Some(route) = route_of(routes, target) else {
         return Judged::Refused(Status::NotFound);
     };
     let method = route.method();
@@ -104,6 +112,14 @@ fn begins_with_slash(target: &[u8]) -> bool
     ensures { result ≡ (slice_index_or target.now 0 0 == 47) }
 {
     !target.is_empty() && target[0] == b'/'
+}
+
+/// The route of a target, which the parser tested to be text.
+fn route_of<F: RouteFinder>(routes: &F, target: &[u8]) -> Option<Route>
+    requires { IsUtf8 target.now }
+    ensures { result ≡ route_of (path_of target.now) }
+{
+    routes.find(str::from_utf8(path_of(target)).unwrap())
 }
 
 /// What the values of the `Content-Length` fields mean.

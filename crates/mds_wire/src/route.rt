@@ -1,7 +1,12 @@
-//! The routes, their methods, and the paths that they are for.
+//! The routes, their methods, and the router that knows the paths that they are for.
 
 ghost use Rattle.std.specs.Prelude.{◌≡◌, ◌≤◌, length};
-ghost use Rattle.mds_wire.specs.Routes.{fits, pattern_of, route_of, method_of, method_text, part_length};
+ghost use Rattle.mds_wire.specs.Routes.{route_of, method_of, method_text, part_length};
+ghost use Rattle.mds_wire.specs.RouteSteps.{template_of};
+
+use matchit::{InsertError, Router};
+use std::alloc::{AllocError, Global};
+use std::marker::Model;
 
 /// A method that a route has.
 #[derive(Clone, Copy, Debug, PartialEq, Eq)]
@@ -38,28 +43,19 @@ pub enum Route {
 }
 
 impl Route {
+    /// All routes, in the order of their paths: the router keeps each behind those before it.
     const ALL: [Route; 10] = [
-        Route::Imports,
-        Route::Substitutions,
-        Route::Holidays,
-        Route::Streams,
         Route::Days,
-        Route::Versions,
-        Route::Periods,
-        Route::Gaps,
-        Route::Finals,
         Route::Exports,
+        Route::Finals,
+        Route::Gaps,
+        Route::Holidays,
+        Route::Imports,
+        Route::Periods,
+        Route::Streams,
+        Route::Substitutions,
+        Route::Versions,
     ];
-
-    /// The route that a path is for: `/v1/streams` is for `Streams`, `/v1/days/NEM1201009/E1/20240101` for `Days`.
-    pub fn of(path: &[u8]) -> Option<Route>
-        ensures { result ≡ route_of path.now }
-    {
-        Route::ALL
-            .iter()
-            .copied()
-            .find(|route| fits(route.pattern(), path))
-    }
 
     /// The one method that it has.
     pub fn method(self) -> Method
@@ -71,21 +67,74 @@ impl Route {
         }
     }
 
-    /// The pattern of its paths.
-    fn pattern(self) -> &'static [u8]
-        ensures { result.now ≡ pattern_of self }
+    /// What the router is told of its paths: a name in braces stands for any part that isn't empty.
+    fn template(self) -> &'static str
+        ensures { result.now ≡ template_of self }
     {
         match self {
-            Route::Imports => b"/v1/imports",
-            Route::Substitutions => b"/v1/substitutions",
-            Route::Holidays => b"/v1/holidays",
-            Route::Streams => b"/v1/streams",
-            Route::Days => b"/v1/days/*/*/*",
-            Route::Versions => b"/v1/versions/*/*/*/*",
-            Route::Periods => b"/v1/periods/*/*",
-            Route::Gaps => b"/v1/gaps",
-            Route::Finals => b"/v1/finals",
-            Route::Exports => b"/v1/exports/nem12",
+            Route::Imports => "/v1/imports",
+            Route::Substitutions => "/v1/substitutions",
+            Route::Holidays => "/v1/holidays",
+            Route::Streams => "/v1/streams",
+            Route::Days => "/v1/days/{nmi}/{suffix}/{date}",
+            Route::Versions => "/v1/versions/{nmi}/{suffix}/{date}/{interval}",
+            Route::Periods => "/v1/periods/{nmi}/{suffix}",
+            Route::Gaps => "/v1/gaps",
+            Route::Finals => "/v1/finals",
+            Route::Exports => "/v1/exports/nem12",
+        }
+    }
+}
+
+/// Whoever finds the route of a path.
+pub trait RouteFinder {
+    ghost use Rattle.std.specs.Prelude.{◌≡◌};
+    ghost use Rattle.mds_wire.specs.Routes.{route_of};
+
+    /// The route that a path is for: `/v1/streams` is for `Streams`, `/v1/days/NEM1201009/E1/20240101` for `Days`.
+    fn find(&self, path: &str) -> Option<Route>
+        ensures { result ≡ route_of path.now };
+}
+
+/// The router of all routes. It is made once, and then finds routes without memory.
+#[derive(Drop)]
+pub struct Routes {
+    router: Router<Route>,
+}
+
+impl Model for Routes {
+    ghost use Rattle.std.specs.Prelude.{◌≡◌, ⊤};
+    ghost use Rattle.mds_wire.specs.Routes.{routes};
+    ghost use Rattle.mds_wire.specs.RouteSteps.{rows_of};
+
+    ghost Value = { ⊤ };
+
+    ghost view = { λ _. tt };
+
+    ghost invariant = { λ r. r.router ≡ rows_of routes };
+}
+
+impl Routes {
+    /// Tells a router each route. No two of them conflict, so that nothing but memory can be wanting.
+    pub fn new(alloc: Global) -> Result<Routes, AllocError> {
+        let mut router = Router::new(alloc);
+        for route in Route::ALL {
+            if let Err(error) = router.insert(route.template(), route) {
+                match error {
+                    InsertError::OutOfMemory => return Err(AllocError),
+                    _ => unreachable!(),
+                }
+            }
+        }
+        Ok(Routes { router })
+    }
+}
+
+impl RouteFinder for Routes {
+    fn find(&self, path: &str) -> Option<Route> {
+        match self.router.at(path) {
+            Ok(found) => Some(*found.value),
+            Err(_) => None,
         }
     }
 }
@@ -96,26 +145,4 @@ pub(crate) fn part_length(path: &[u8]) -> usize
     ensures within { result ≤ length path.now }
 {
     path.iter().position(|b| *b == b'/').unwrap_or(path.len())
-}
-
-/// Whether a path is of a pattern.
-fn fits(pattern: &[u8], path: &[u8]) -> bool
-    ensures { result ≡ fits pattern.now path.now }
-{
-    let mut rest = path;
-    for i in 0..pattern.len() {
-        if pattern[i] == b'*' {
-            let count = part_length(rest);
-            if count == 0 {
-                return false;
-            }
-            rest = &rest[count..];
-        } else {
-            if rest.is_empty() || rest[0] != pattern[i] {
-                return false;
-            }
-            rest = &rest[1..];
-        }
-    }
-    rest.is_empty()
 }

@@ -11,7 +11,7 @@ use crate::answer::{Kind, Status, write_head};
 use crate::body::{BodyFault, read_body};
 use crate::head::{HeadFault, HeadRead, read_head};
 use crate::judge::{Judged, judge_head};
-use crate::route::Route;
+use crate::route::{Route, RouteFinder};
 use httparse::spans::{EMPTY_HEADER_SPAN, HeaderSpan};
 use mds_lines::{Sink, Source, write_whole};
 use std::alloc::{AllocError, Global};
@@ -35,6 +35,9 @@ pub trait Handler {
     /// What is kept is the same in both states.
     ghost same: { Self → Self → Type 0 };
 
+    /// What a route, a target and a body ask for takes memory to read.
+    ghost takes_memory: { Route → List ℕ → List ℕ → Type 0 };
+
     /// Makes a step, and writes the answer's body. There is room for 768 bytes of it. Where memory or what is kept is
     /// unavailable, nothing has changed, and whatever was written counts for nothing: the answer is 503.
     fn handle(
@@ -49,7 +52,8 @@ pub trait Handler {
         requires room { short_answer ≤ vec_capacity answer.old }
         ensures step { IfOk result (λ told.
             step self.old route target.now body.items told.0 told.1 answer.new.items self.new) }
-        ensures same { OnErr result (same self.old self.new) };
+        ensures same { OnErr result (same self.old self.new) }
+        ensures only { OnErr result (takes_memory route target.now body.items) };
 }
 
 /// What is answered: a refusal, and whether the request's method is `HEAD`; or what the handler tells.
@@ -141,8 +145,9 @@ fn is_head(method: &[u8]) -> bool
 }
 
 /// Reads the body of a request whose head is whole, and does what it asks.
-fn perform<H: Handler, R: Source>(
+fn perform<F: RouteFinder, H: Handler, R: Source>(
     alloc: Global,
+    routes: &F,
     handler: &mut H,
     reader: &mut R,
     bytes: &[u8],
@@ -161,7 +166,7 @@ fn perform<H: Handler, R: Source>(
 {
     let spans = read.spans;
     let is_head = is_head(spans.method.of(bytes));
-    match judge_head(bytes, fields, &spans) {
+    match judge_head(routes, bytes, fields, &spans) {
         Judged::Refused(status) => Ok(Reply::Refused(status, is_head)),
         Judged::Wanted(route, size) => {
             let front = front_of(&bytes[spans.len..], size);
@@ -181,8 +186,9 @@ fn perform<H: Handler, R: Source>(
 }
 
 /// Reads a request, and does what it asks.
-fn understand<H: Handler, R: Source>(
+fn understand<F: RouteFinder, H: Handler, R: Source>(
     alloc: Global,
+    routes: &F,
     handler: &mut H,
     reader: &mut R,
     buffer: &mut [u8],
@@ -202,6 +208,7 @@ fn understand<H: Handler, R: Source>(
     match read_head(buffer, fields, reader) {
         Ok(read) => perform(
             alloc,
+            routes,
             handler,
             reader,
             &buffer[..read.filled],
@@ -279,8 +286,9 @@ fn room_of_head(alloc: Global) -> Result<Vec<u8>, AllocError>
 /// # Errors
 ///
 /// See `WireFault`.
-pub fn serve_one<H: Handler, R: Source, W: Sink>(
+pub fn serve_one<F: RouteFinder, H: Handler, R: Source, W: Sink>(
     alloc: Global,
+    routes: &F,
     handler: &mut H,
     reader: &mut R,
     writer: &mut W,
@@ -306,6 +314,7 @@ pub fn serve_one<H: Handler, R: Source, W: Sink>(
     let mut fields = [EMPTY_HEADER_SPAN; MOST_FIELDS];
     let reply = match understand(
         alloc,
+        routes,
         handler,
         reader,
         &mut buffer,

@@ -7,6 +7,7 @@ use mds_http::{StoreHandler, listen, serve_connections};
 use mds_messages::Request;
 use mds_requests::FileCommand;
 use mds_versions::Keeper;
+use mds_wire::Routes;
 use std::io::Read;
 
 /// Asks the store of a path, which isn't made where there is none, for what a reader gives. That is read before the store is
@@ -70,10 +71,13 @@ struct Serving {
 
 impl Task for Serving {
     fn perform<K: Keeper>(self, rt: &HostRuntime, keeper: K) -> (K, Outcome) {
+        let Ok(routes) = Routes::new(rt.alloc()) else {
+            return (keeper, Outcome::Unavailable);
+        };
         match listen(rt, self.port) {
             Ok(listener) => {
                 let mut handler = StoreHandler { keeper };
-                serve_connections(rt, &mut handler, &listener, self.count);
+                serve_connections(rt, &routes, &mut handler, &listener, self.count);
                 (handler.keeper, Outcome::Done)
             }
             Err(_) => (keeper, Outcome::NoPort),

@@ -1,8 +1,9 @@
-use Rattle.std.proofs.Common.{◌∙◌, pos, ap, arith, to_z, w8, w16, w32, unsigned_abs}
+use Rattle.std.proofs.Common.{◌∙◌, pos, refl, arith, to_z, w8, w16, w64}
 use Rattle.std.proofs.lemmas.Bool.{false≢true}
-use Rattle.std.proofs.lemmas.Int.{to_z_pos}
-use Rattle.jiff_core.proofs.SignedLemmas.{back_small}
-use Rattle.mds_calendar.proofs.Days.{is_date_not, date_moved, number_fits, number_is}
+use Rattle.std.proofs.lemmas.Int.{to_z_pos, to_z-of_z, fits_signed_from_abs}
+use Rattle.jiff.proofs.SpanFacts.{signed_arith}
+use Rattle.mds_calendar.specs.Calendar.{day_number}
+use Rattle.mds_calendar.proofs.Days.{is_date_not, date_moved, number_is}
 use Rattle.mds_calendar.proofs.day.number_of.Goals as goal
 
 pub returns-in_default-clause-value : goal.returns-in_default-clause-value
@@ -15,16 +16,21 @@ returns-in_default-clause-value c =
     let l = to_z_pos w8 d (omega arith) in
     rw (is_date_not y m d c.requires.year (λ h. false≢true (c.in_default.ensures.succeeds.1 (date_moved (to_z w16 y) (to_z w8 m) (to_z w8 d) (pos y) (pos m) (pos d) e k l h))))
 
+pub overflow_cast-result : goal.overflow_cast-result
+overflow_cast-result c =
+    let n = number_is c.args.year c.args.month c.args.day c.in-Ok.date c.if-year-lt-FIRST_YEAR.false c.requires.year c.requires.month c.requires.day c.in-Ok.ensures.value in
+    rw (c.days_to.ensures ∙ n.1) (omega (arith, signed_arith, n.2))
+
 pub returns-clause-value : goal.returns-clause-value
 returns-clause-value c =
-    let v = c.in-Ok.ensures.value in
-    let n = back_small w32 c.to_unix_epoch_day.result (number_fits c.to_unix_epoch_day.result c.to_unix_epoch_day.ensures.bound) in
-    let number = c.unsigned_abs.ensures.value ∙ (ap unsigned_abs n ∙ ap unsigned_abs c.to_unix_epoch_day.ensures.value) in
-    (number_is c.args.year c.args.month c.args.day c.unsigned_abs.result c.in-Ok.date c.if-year-lt-FIRST_YEAR.false c.requires.year (v.0 ∙ to_z_pos w16 c.args.year (omega arith)) (v.1 ∙ to_z_pos w8 c.args.month (omega arith)) (v.2 ∙ to_z_pos w8 c.args.day (omega arith)) number).0
+    let n = number_is c.args.year c.args.month c.args.day c.in-Ok.date c.if-year-lt-FIRST_YEAR.false c.requires.year c.requires.month c.requires.day c.in-Ok.ensures.value in
+    let number = pos (day_number c.args.year c.args.month c.args.day) in
+    let back = to_z-of_z w64 number (fits_signed_from_abs w64 number (omega (arith, n.2))) in
+    rw (c.days_to.ensures ∙ n.1, back, n.0) refl
 
 pub returns-clause-last : goal.returns-clause-last
 returns-clause-last c =
-    let v = c.in-Ok.ensures.value in
-    let n = back_small w32 c.to_unix_epoch_day.result (number_fits c.to_unix_epoch_day.result c.to_unix_epoch_day.ensures.bound) in
-    let number = c.unsigned_abs.ensures.value ∙ (ap unsigned_abs n ∙ ap unsigned_abs c.to_unix_epoch_day.ensures.value) in
-    (number_is c.args.year c.args.month c.args.day c.unsigned_abs.result c.in-Ok.date c.if-year-lt-FIRST_YEAR.false c.requires.year (v.0 ∙ to_z_pos w16 c.args.year (omega arith)) (v.1 ∙ to_z_pos w8 c.args.month (omega arith)) (v.2 ∙ to_z_pos w8 c.args.day (omega arith)) number).1
+    let n = number_is c.args.year c.args.month c.args.day c.in-Ok.date c.if-year-lt-FIRST_YEAR.false c.requires.year c.requires.month c.requires.day c.in-Ok.ensures.value in
+    let number = pos (day_number c.args.year c.args.month c.args.day) in
+    let back = to_z-of_z w64 number (fits_signed_from_abs w64 number (omega (arith, n.2))) in
+    rw (c.days_to.ensures ∙ n.1, back) n.2

@@ -25,10 +25,10 @@ returns-in_err-ready-clause-cause g c clean holds =
     let new = state g.S.Store c.ready.new.conn in
     let p = err_from_is_err_and c.from_residual.result c.from_residual.ensures.1 in
     rw (p.1, p.2)
-    (not_ready old new (rows_in c.args.additions.now c.args.jobs.now) _ (c.in_err-ready.ensures.cause clean))
+    (not_ready old new (rows_in c.args.additions.now c.args.periods.now c.args.jobs.now) _ (c.in_err-ready.ensures.cause clean))
 
 pub returns-clause-cause : goal.returns-clause-cause
 returns-clause-cause g c clean holds =
     committed_fails (state g.S.Store c.args.conn.now) (state g.S.Store c.ready.new.conn) (state g.S.Store c.write.new.conn)
     c.args.additions.now c.in_ok-ready.ensures.ok c.ready.ensures.survives holds
-    c.args.jobs.now (omega (arith, c.write.ensures.survives.clean)) c.write.result (c.write.ensures.cause clean)
+    c.args.periods.now c.args.jobs.now (omega (arith, c.write.ensures.survives.clean)) c.write.result (c.write.ensures.cause clean)

@@ -15,7 +15,7 @@ returns-clause-ok g c =
     (state g.S.Store c.put_each-4.new.tx.conn.now)
     (state g.S.Store c.put_each-5.new.tx.conn.now)
     (state g.S.Store c.put_each-6.new.tx.conn.now)
-    c.args.additions.now c.args.jobs.now c.put_each-6.result c.requires
+    c.args.additions.now c.args.periods.now c.args.jobs.now c.put_each-6.result c.requires.periods c.requires.jobs
     (omega (arith, c.put_days.ensures.survives.clean))
     (omega (arith, c.put_each-2.ensures.survives.clean))
     (omega (arith, c.put_each-3.ensures.survives.clean))
@@ -26,8 +26,8 @@ returns-clause-ok g c =
     (rw (c.deref-2.ensures.value) at c.in_ok-put_days.ensures.ok)
     (rw (c.deref-3.ensures.value) at c.in_ok-put_each-2.ensures.ok)
     (rw (c.deref-4.ensures.value) at c.in_ok-put_each-3.ensures.ok)
-    (rw (c.deref-5.ensures.value) at c.in_ok-put_each-4.ensures.ok)
-    (rw (c.deref-6.ensures.value) at c.in_ok-put_each-5.ensures.ok)
+    c.in_ok-put_each-4.ensures.ok
+    (rw (c.deref-5.ensures.value) at c.in_ok-put_each-5.ensures.ok)
     c.put_each-6.ensures.ok
 
 pub returns-in_err-put_each-clause-cause : goal.returns-in_err-put_each-clause-cause
@@ -36,7 +36,7 @@ returns-in_err-put_each-clause-cause g c clean is_open inside has sound =
     rw (p.1, p.2)
     (heads_fail (state g.S.Store c.args.tx.now.conn.now)
     (state g.S.Store c.put_each.new.tx.conn.now)
-    c.args.additions.now c.args.jobs.now
+    c.args.additions.now c.args.periods.now c.args.jobs.now
     is_open inside has sound
     _ (rw (c.deref.ensures.value) at (c.in_err-put_each.ensures.cause clean)))
 
@@ -47,7 +47,7 @@ returns-in_err-put_days-clause-cause g c clean is_open inside has sound =
     (versions_fail (state g.S.Store c.args.tx.now.conn.now)
     (state g.S.Store c.put_each.new.tx.conn.now)
     (state g.S.Store c.put_days.new.tx.conn.now)
-    c.args.additions.now c.args.jobs.now
+    c.args.additions.now c.args.periods.now c.args.jobs.now
     c.put_each.ensures.survives
     (omega (arith, c.put_days.ensures.survives.clean))
     is_open inside has sound
@@ -62,7 +62,7 @@ returns-in_err-put_each-2-clause-cause g c clean is_open inside has sound =
     (state g.S.Store c.put_each.new.tx.conn.now)
     (state g.S.Store c.put_days.new.tx.conn.now)
     (state g.S.Store c.put_each-2.new.tx.conn.now)
-    c.args.additions.now c.args.jobs.now
+    c.args.additions.now c.args.periods.now c.args.jobs.now
     c.put_each.ensures.survives
     c.put_days.ensures.survives
     (omega (arith, c.put_each-2.ensures.survives.clean))
@@ -80,7 +80,7 @@ returns-in_err-put_each-3-clause-cause g c clean is_open inside has sound =
     (state g.S.Store c.put_days.new.tx.conn.now)
     (state g.S.Store c.put_each-2.new.tx.conn.now)
     (state g.S.Store c.put_each-3.new.tx.conn.now)
-    c.args.additions.now c.args.jobs.now
+    c.args.additions.now c.args.periods.now c.args.jobs.now
     c.put_each.ensures.survives
     c.put_days.ensures.survives
     c.put_each-2.ensures.survives
@@ -101,7 +101,7 @@ returns-in_err-put_each-4-clause-cause g c clean is_open inside has sound =
     (state g.S.Store c.put_each-2.new.tx.conn.now)
     (state g.S.Store c.put_each-3.new.tx.conn.now)
     (state g.S.Store c.put_each-4.new.tx.conn.now)
-    c.args.additions.now c.args.jobs.now
+    c.args.additions.now c.args.periods.now c.args.jobs.now
     c.put_each.ensures.survives
     c.put_days.ensures.survives
     c.put_each-2.ensures.survives
@@ -112,7 +112,7 @@ returns-in_err-put_each-4-clause-cause g c clean is_open inside has sound =
     (rw (c.deref-2.ensures.value) at c.in_ok-put_days.ensures.ok)
     (rw (c.deref-3.ensures.value) at c.in_ok-put_each-2.ensures.ok)
     (rw (c.deref-4.ensures.value) at c.in_ok-put_each-3.ensures.ok)
-    _ (rw (c.deref-5.ensures.value) at (c.in_err-put_each-4.ensures.cause clean)))
+    _ (c.in_err-put_each-4.ensures.cause clean))
 
 pub returns-in_err-put_each-5-clause-cause : goal.returns-in_err-put_each-5-clause-cause
 returns-in_err-put_each-5-clause-cause g c clean is_open inside has sound =
@@ -125,7 +125,7 @@ returns-in_err-put_each-5-clause-cause g c clean is_open inside has sound =
     (state g.S.Store c.put_each-3.new.tx.conn.now)
     (state g.S.Store c.put_each-4.new.tx.conn.now)
     (state g.S.Store c.put_each-5.new.tx.conn.now)
-    c.args.additions.now c.args.jobs.now
+    c.args.additions.now c.args.periods.now c.args.jobs.now
     c.put_each.ensures.survives
     c.put_days.ensures.survives
     c.put_each-2.ensures.survives
@@ -137,8 +137,8 @@ returns-in_err-put_each-5-clause-cause g c clean is_open inside has sound =
     (rw (c.deref-2.ensures.value) at c.in_ok-put_days.ensures.ok)
     (rw (c.deref-3.ensures.value) at c.in_ok-put_each-2.ensures.ok)
     (rw (c.deref-4.ensures.value) at c.in_ok-put_each-3.ensures.ok)
-    (rw (c.deref-5.ensures.value) at c.in_ok-put_each-4.ensures.ok)
-    _ (rw (c.deref-6.ensures.value) at (c.in_err-put_each-5.ensures.cause clean)))
+    c.in_ok-put_each-4.ensures.ok
+    _ (rw (c.deref-5.ensures.value) at (c.in_err-put_each-5.ensures.cause clean)))
 
 pub returns-clause-cause : goal.returns-clause-cause
 returns-clause-cause g c clean is_open inside has sound =
@@ -150,7 +150,7 @@ returns-clause-cause g c clean is_open inside has sound =
     (state g.S.Store c.put_each-4.new.tx.conn.now)
     (state g.S.Store c.put_each-5.new.tx.conn.now)
     (state g.S.Store c.put_each-6.new.tx.conn.now)
-    c.args.additions.now c.args.jobs.now
+    c.args.additions.now c.args.periods.now c.args.jobs.now
     c.put_each.ensures.survives
     c.put_days.ensures.survives
     c.put_each-2.ensures.survives
@@ -163,6 +163,6 @@ returns-clause-cause g c clean is_open inside has sound =
     (rw (c.deref-2.ensures.value) at c.in_ok-put_days.ensures.ok)
     (rw (c.deref-3.ensures.value) at c.in_ok-put_each-2.ensures.ok)
     (rw (c.deref-4.ensures.value) at c.in_ok-put_each-3.ensures.ok)
-    (rw (c.deref-5.ensures.value) at c.in_ok-put_each-4.ensures.ok)
-    (rw (c.deref-6.ensures.value) at c.in_ok-put_each-5.ensures.ok)
+    c.in_ok-put_each-4.ensures.ok
+    (rw (c.deref-5.ensures.value) at c.in_ok-put_each-5.ensures.ok)
     c.put_each-6.result (c.put_each-6.ensures.cause clean)

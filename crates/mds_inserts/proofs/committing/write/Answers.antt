@@ -13,10 +13,10 @@ returns-clause-cause g c =
     let start = state g.S.Store c.args.conn.now in
     let new = state g.S.Store c.commit.new.self.0 in
     let why : HasCleanDisk new → IsTrue start.is_open → start.now.schema ≡ schema_1 → IsSound schema_1 start.now.trees
-    → IfErr c.commit.result (FailsToPut start new (rows_in c.args.additions.now c.args.jobs.now) start.now) =
+    → IfErr c.commit.result (FailsToPut start new (rows_in c.args.additions.now c.args.periods.now c.args.jobs.now) start.now) =
     λ clean is_open _ _.
     commit_fails start (state g.S.Store c.transaction-tx.result.conn.now) (state g.S.Store c.put_all.new.tx.conn.now) new
-    (ap (state g.S.Store) c.transaction-tx.ensures.begun) c.args.additions.now c.args.jobs.now c.put_all.ensures.survives
+    (ap (state g.S.Store) c.transaction-tx.ensures.begun) c.args.additions.now c.args.periods.now c.args.jobs.now c.put_all.ensures.survives
     (λ clean. omega (arith, clean, c.commit.ensures.survives.clean)) c.in_ok-put_all.ensures.ok c.commit.result
     c.commit.ensures.err clean is_open in
     search rules

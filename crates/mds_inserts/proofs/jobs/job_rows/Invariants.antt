@@ -1,6 +1,7 @@
 use Rattle.std.proofs.Common.{take}
-use Rattle.mds_inserts.specs.JobRows.{AreRowsOf}
+use Rattle.mds_tables.specs.Stores.{AreRowsOf}
+use Rattle.mds_inserts.specs.MadeRows.{IsRowOfJob}
 use Rattle.mds_inserts.proofs.jobs.job_rows.Given as goal
 
 abbrev pub invariant-loop-i : goal.invariant-loop-i
-invariant-loop-i l = AreRowsOf (take l.i l.jobs) l.rows.items
+invariant-loop-i l = AreRowsOf IsRowOfJob (take l.i l.jobs) l.rows.items

@@ -19,6 +19,5 @@ returns c = λ line s.
     let same = c.text.ensures.value ∙ sym (ap (λ o. unwrap_or (option_map unit_text o) []) s.unit) in
     let unit = field_pushed _ _ _ (kept_unit (field line 20)) same c.in_ok-push_text.ensures
     (subst IsApart (sym (ap (λ o. unwrap_or (option_map unit_text o) []) s.unit)) (unit_apart c.args.period.now.unit)) in
-    let next = c.in_ok-push_optional_day.ensures (field line 21) s.next in
-    let front = each_more _ _ _ _ _ (each_more _ _ _ _ _ amount unit) next in
-    on_ok_weaker c.push_optional_moment.result (λ p. each_more _ _ _ _ _ front p) (c.push_optional_moment.ensures (field line 22) s.update)
+    let front = each_more _ _ _ _ _ amount unit in
+    on_ok_weaker c.push_optional_day.result (λ p. each_more _ _ _ _ _ front p) (c.push_optional_day.ensures (field line 21) s.next)

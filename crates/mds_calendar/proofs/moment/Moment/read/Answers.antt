@@ -1,5 +1,5 @@
 use Rattle.std.proofs.Common.{◌∙◌, Some, pos, w64, sym, ap, arith}
-use Rattle.jiff_core.proofs.SignedLemmas.{back_small}
+use Rattle.std.proofs.lemmas.Int.{to_z-of_z, fits_signed_from_abs}
 use Rattle.mds_calendar.proofs.Moments.{moment_of_other, no_day_of, no_hour, no_minute, no_second, moment_is, time_holds, time_not}
 use Rattle.mds_calendar.proofs.moment.Moment.read.Goals as goal
 
@@ -28,4 +28,5 @@ pub returns : goal.returns
 returns c =
     let e = moment_is c.args.text.now c.in_ok-day.day c.in_ok-hour.hour c.in_ok-minute.minute c.in_ok-second.second c.if-text-ne14.false c.in_ok-day.ensures c.in_ok-hour.ensures.value c.in_ok-minute.ensures.value c.in_ok-second.ensures.value in
     let t = time_holds c.in_ok-hour.hour c.in_ok-minute.minute c.in_ok-second.second (omega arith) (omega arith) (omega arith) in
-    rw (e, t, c.number.ensures.value, back_small w64 (pos c.in_ok-day.day) (omega arith)) (ap Some (omega arith))
+    let back = to_z-of_z w64 (pos c.in_ok-day.day) (fits_signed_from_abs w64 (pos c.in_ok-day.day) (omega arith)) in
+    rw (e, t, c.number.ensures.value, back) (ap Some (omega arith))
