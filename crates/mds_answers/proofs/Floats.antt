@@ -3,7 +3,6 @@ use Rattle.std.proofs.Common.{◌≡◌, ℕ, true, false, List, [], ◌∷◌, 
 use Rattle.serde_json.specs.Data.{Data}
 use Rattle.serde_json.specs.View.{items_of}
 use Rattle.serde_json.specs.Written.{has_float, items_have_float}
-use Rattle.mds_marks.specs.Reading.{ReadingValue}
 use Rattle.mds_statements.specs.declared.periods.Period.{Period}
 use Rattle.mds_terms.specs.Event.{EventValue}
 use Rattle.mds_versions.specs.declared.day_book.Version.{Version}

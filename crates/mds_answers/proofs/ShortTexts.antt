@@ -1,5 +1,5 @@
 -- The texts of answers without a list, piece by piece.
-use Rattle.std.proofs.Common.{◌≡◌, ℕ, ◌==◌, Bool, true, false, cond, List, [], ◌∷◌, ◌++◌, codes, decimal, refl, ap, ◌∙◌, append_assoc}
+use Rattle.std.proofs.Common.{◌≡◌, ℕ, ◌==◌, Bool, true, false, cond, List, [], ◌++◌, codes, decimal, refl, ap, ◌∙◌, append_assoc}
 use Rattle.serde_json.specs.Data.{Members, boolean, member, no_members, string}
 use Rattle.serde_json.specs.Written.{compact_text, members_text}
 use Rattle.serde_json.proofs.OnLiterals.{serde_json_on_literals}

@@ -1,6 +1,6 @@
 -- What the machine answers, as JSON (RFC 8259; which members there are is the profile's). A value and its compact text are those
 -- of the library `serde_json`. A day, and a moment, stands as the text that reads as it, of which there is one.
-use Rattle.std.specs.Prelude.{◌≡◌, ℕ, ◌==◌, Bool, true, false, if◌then◌else◌, List, [], ◌∷◌, ◌++◌, map, codes, Option, Some}
+use Rattle.std.specs.Prelude.{◌≡◌, ℕ, ◌==◌, Bool, true, false, if◌then◌else◌, List, [], ◌∷◌, ◌++◌, map, codes, Some}
 use Rattle.serde_json.specs.Data.{Data, array, number, object, string, boolean, unsigned, Members, no_members, member}
 use Rattle.serde_json.specs.View.{items_of}
 use Rattle.serde_json.specs.Written.{compact_text}
@@ -153,6 +153,6 @@ IsData told.Unavailable json = json ≡ refused (codes "U1") 0 0 0
 abbrev pub IsJson : Answer → List ℕ → Type 0
 IsJson answer text = (json : Data) × IsData answer json × (text ≡ compact_text json)
 
--- the room that the JSON text of every other answer fits in
-abbrev pub short_json : ℕ
-short_json = 160
+-- the room that the JSON text of an answer without a list fits in
+abbrev pub short_room : ℕ
+short_room = 160

@@ -1,18 +1,19 @@
 //! Days and versions as JSON.
 
-ghost use Rattle.std.specs.Prelude.{◌≡◌, [], IfOk, OnOk, map, string_bytes};
-ghost use Rattle.std.specs.List.{slice_split};
-ghost use Rattle.serde_json.specs.Data.{array, object};
+ghost use Rattle.std.specs.Prelude.{◌≡◌, ◌++◌, [], IfOk, OnOk, map, string_bytes};
+ghost use Rattle.serde_json.specs.Data.{array, object, string};
 ghost use Rattle.serde_json.specs.View.{items_of, members_view, view};
-ghost use Rattle.mds_names.specs.Names.{is_comma};
+ghost use Rattle.mds_marks.specs.Quality.{quality_text};
+ghost use Rattle.mds_marks.specs.Reading.{value_text};
+ghost use Rattle.mds_marks.specs.Reason.{code_text};
 ghost use Rattle.mds_terms.specs.Event.{trans_text as text_of_trans};
 ghost use Rattle.mds_answers.specs.Json.{IsDayData, IsEvent, IsVersion, IsVersionsData, reading_texts, texts};
 
-use crate::told::{
-    ToJson, day_text, list_of, moment_text, optional_moment_text, push_texts, put_text, texts_of,
-};
+use crate::told::{ToJson, day_text, list_of, moment_text, optional_moment_text, put_text};
+use itoa::Buffer;
 use mds_messages::{DayAnswer, VersionsAnswer};
-use mds_terms::{Event, Reading, TransCode, readings_read_back};
+use mds_quantity::Quantity;
+use mds_terms::{Event, Quality, Reading, TransCode};
 use mds_versions::Version;
 use serde_json::{Map, Value, push, put};
 use std::alloc::{AllocError, Global};
@@ -22,7 +23,9 @@ impl ToJson for Reading {
     ghost told_as = { λ reading json. json ≡ texts (reading_texts reading) };
 
     fn to_json(&self, alloc: Global) -> Result<Value, AllocError> {
-        texts_of(alloc, &reading_text(alloc, self)?)
+        let mut list = Vec::new(alloc);
+        push_reading(&mut list, alloc, self)?;
+        Ok(Value::from(list))
     }
 }
 
@@ -31,24 +34,57 @@ impl ToJson for Version {
     ghost told_as = { IsVersion };
 
     fn to_json(&self, alloc: Global) -> Result<Value, AllocError> {
-        let update = moment_text(alloc, self.update)?;
-        let reading = reading_text(alloc, &self.reading)?;
         let mut list = Vec::new(alloc);
+        let update = moment_text(alloc, self.update)?;
         list.push(Value::from(update))?;
-        push_texts(alloc, &reading, &mut list)?;
+        push_reading(&mut list, alloc, &self.reading)?;
         Ok(Value::from(list))
     }
 }
 
-/// The text of a reading, whose commas part its texts.
-fn reading_text(alloc: Global, reading: &Reading) -> Result<String, AllocError>
-    ensures { IfOk result (λ text. slice_split is_comma (string_bytes text) ≡ reading_texts reading.now) }
+/// Appends the texts of a reading. The list is lent, so that nothing is dropped where memory is refused.
+fn push_reading(list: &mut Vec<Value>, alloc: Global, reading: &Reading) -> Result<(), AllocError>
+    ensures { OnOk result (map view list.new.items
+        ≡ map view list.old.items ++ map string (reading_texts reading.now)) }
 {
-    readings_read_back();
-    // That its parts are lawful is said with its value.
-    let _ = reading.value();
+    let mark = reading.mark();
+    let quality = quality_text(alloc, mark.quality)?;
+    push(list, Value::from(quality))?;
+    let code = code_text(alloc, mark.reason.code())?;
+    push(list, Value::from(code))?;
+    push(list, Value::try_from_str(alloc, mark.reason.text())?)?;
+    let value = value_text(alloc, reading.value())?;
+    push(list, Value::from(value))
+}
+
+/// The text of a quality.
+fn quality_text(alloc: Global, quality: Quality) -> Result<String, AllocError>
+    ensures { IfOk result (λ text. string_bytes text ≡ quality_text quality) }
+{
     let mut text = String::new(alloc);
-    reading.write_to(&mut text)?;
+    quality.write_to(&mut text)?;
+    Ok(text)
+}
+
+/// The text of a reason's code, or the empty text where there is none.
+fn code_text(alloc: Global, code: Option<u16>) -> Result<String, AllocError>
+    ensures { IfOk result (λ text. string_bytes text ≡ code_text code) }
+{
+    let mut text = String::new(alloc);
+    if let Some(code) = code {
+        text.push_str(Buffer::new().format(code))?;
+    }
+    Ok(text)
+}
+
+/// The text of a value, or the empty text where there is none.
+fn value_text(alloc: Global, value: Option<Quantity>) -> Result<String, AllocError>
+    ensures { IfOk result (λ text. string_bytes text ≡ value_text value) }
+{
+    let mut text = String::new(alloc);
+    if let Some(value) = value {
+        value.write_to(&mut text)?;
+    }
     Ok(text)
 }
 

@@ -6,7 +6,7 @@ ghost use Rattle.serde_json.specs.Written.{compact_text};
 ghost use Rattle.mds_quantity.specs.Append.{Appends};
 ghost use Rattle.mds_messages.specs.declared.answer.Answer.{Answer as AnAnswer};
 ghost use Rattle.mds_messages.specs.Answers.{has_list, has_text};
-ghost use Rattle.mds_answers.specs.Json.{IsData, IsJson, refused, short_json};
+ghost use Rattle.mds_answers.specs.Json.{IsData, IsJson, refused, short_room};
 
 use crate::days::{day_value, versions_value};
 use crate::periods::periods_value;
@@ -17,21 +17,24 @@ use mds_terms::{one_day_text, one_moment_text};
 use serde_json::Value;
 use std::alloc::{AllocError, Global};
 
-/// Appends the JSON text of an answer: compact, keys in the order of their bytes, numbers whole. After want of memory nothing is
-/// appended. The text of an answer without a list fits in 160 bytes, and takes no memory where there is room for them.
-pub fn answer_json(alloc: Global, answer: &Answer, out: &mut Vec<u8>) -> Result<(), AllocError>
-    requires { has_text answer.now ≡ false }
+/// The JSON text of an answer with a list: compact, keys in the order of their bytes, numbers whole.
+pub fn list_json(alloc: Global, answer: &Answer) -> Result<Vec<u8>, AllocError>
+    requires { has_list answer.now ≡ true }
+    ensures { IfOk result (λ text. IsJson answer.now text.items) }
+{
+    value_of(alloc, answer)?.to_vec(alloc)
+}
+
+/// Appends the JSON text of an answer without a list, in the same form. It fits in 160 bytes, and takes no memory where there is
+/// room for them. After want of memory nothing is appended.
+pub fn short_json(answer: &Answer, out: &mut Vec<u8>) -> Result<(), AllocError>
+    requires text { has_text answer.now ≡ false }
+    requires list { has_list answer.now ≡ false }
     ensures done { OnOk result ((text : List ℕ) × IsJson answer.now text × Appends out.old.items out.new.items text) }
     ensures kept { OnErr result (out.new.items ≡ out.old.items) }
-    ensures short { has_list answer.now ≡ false → vec_len out.old + short_json ≤ vec_capacity out.old → is_ok result ≡ true }
+    ensures short { vec_len out.old + short_room ≤ vec_capacity out.old → is_ok result ≡ true }
 {
-    match line_of(answer) {
-        Some(line) => out.extend_from_slice(line.as_str().as_bytes()),
-        None => {
-            let text = value_of(alloc, answer)?.to_vec(alloc)?;
-            out.extend_from_slice(&text)
-        }
-    }
+    out.extend_from_slice(line_of(answer).as_str().as_bytes())
 }
 
 /// The value that tells an answer with a list.
@@ -53,7 +56,7 @@ fn value_of(alloc: Global, answer: &Answer) -> Result<Value, AllocError>
 pub fn holidays_json(row: u64, out: &mut Vec<u8>) -> Result<(), AllocError>
     ensures done { OnOk result (Appends out.old.items out.new.items (compact_text (refused (codes "H1") 0 0 row))) }
     ensures kept { OnErr result (out.new.items ≡ out.old.items) }
-    ensures short { vec_len out.old + short_json ≤ vec_capacity out.old → is_ok result ≡ true }
+    ensures short { vec_len out.old + short_room ≤ vec_capacity out.old → is_ok result ≡ true }
 {
     out.extend_from_slice(holidays_line(row).as_str().as_bytes())
 }
@@ -62,6 +65,7 @@ pub fn holidays_json(row: u64, out: &mut Vec<u8>) -> Result<(), AllocError>
 pub fn one_json()
     ensures { (answer : AnAnswer) (a b : List ℕ) → IsJson answer a → IsJson answer b → a ≡ b }
 {
+    // For the proof: a day and a moment have one text each.
     one_day_text();
     one_moment_text();
 }

@@ -1,6 +1,6 @@
 //! Answers without a list: their texts are put together on the stack, so that they take no memory.
 
-ghost use Rattle.std.specs.Prelude.{◌≡◌, ◌+◌, ◌≤◌, ◌++◌, true, false, IfSome, IfNone, codes, decimal, length};
+ghost use Rattle.std.specs.Prelude.{◌≡◌, ◌+◌, ◌≤◌, ◌++◌, false, codes, decimal, length};
 ghost use Rattle.serde_json.specs.Data.{boolean};
 ghost use Rattle.serde_json.specs.Written.{compact_text};
 ghost use Rattle.mds_records.specs.Printed.{code_text as fault_code_text};
@@ -21,21 +21,21 @@ const ROOM: usize = 160;
 /// A text that is put together on the stack.
 pub(crate) type Line = ArrayString<ROOM>;
 
-/// The text of an answer without a list. `None` where it has a list, or is a text of its own.
-pub(crate) fn line_of(answer: &Answer) -> Option<Line>
-    ensures some { IfSome result (λ line. IsJson answer.now line.bytes) }
-    ensures none { IfNone result (has_text answer.now ≡ false → has_list answer.now ≡ true) }
+/// The text of an answer without a list.
+pub(crate) fn line_of(answer: &Answer) -> Line
+    requires text { has_text answer.now ≡ false }
+    requires list { has_list answer.now ≡ false }
+    ensures { IsJson answer.now result.bytes }
 {
     match answer {
-        Answer::Imported { added, known } => Some(counts_line(*added, *known)),
-        Answer::Substituted { count } => Some(filled_line(*count, false)),
-        Answer::Known { count } => Some(filled_line(*count, true)),
-        Answer::HolidaysAdded { added, known } => Some(counts_line(*added, *known)),
-        Answer::File(fault) => Some(fault_line(fault)),
-        Answer::Refused(refusal) => Some(refusal_line(refusal)),
-        Answer::Unavailable => Some(unavailable_line()),
-        Answer::Day(_) | Answer::Versions(_) | Answer::Period(_) | Answer::Streams(_) => None,
-        Answer::Gaps(_) | Answer::Finals(_) | Answer::Exported(_) => None,
+        Answer::Imported { added, known } => counts_line(*added, *known),
+        Answer::Substituted { count } => filled_line(*count, false),
+        Answer::Known { count } => filled_line(*count, true),
+        Answer::HolidaysAdded { added, known } => counts_line(*added, *known),
+        Answer::File(fault) => fault_line(fault),
+        Answer::Refused(refusal) => refusal_line(refusal),
+        Answer::Unavailable => unavailable_line(),
+        _ => unreachable!(),
     }
 }
 
@@ -110,7 +110,7 @@ fn refusal_line(refusal: &Refusal) -> Line
     )
 }
 
-/// That there is no answer now.
+/// There is no answer now.
 #[tactic(auto, unfolding(serde_json::proofs::OnLiterals::serde_json_on_literals))]
 fn unavailable_line() -> Line
     ensures { result.bytes ≡ compact_text (refused (codes "U1") 0 0 0) }

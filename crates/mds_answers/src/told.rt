@@ -1,6 +1,6 @@
 //! What is told in lists, as JSON values, and the texts in them.
 
-ghost use Rattle.std.specs.Prelude.{◌≡◌, ◌++◌, List, map, Some, IfOk, OnOk, string_bytes};
+ghost use Rattle.std.specs.Prelude.{◌≡◌, List, Some, IfOk, OnOk, string_bytes};
 ghost use Rattle.std.specs.List.{slice_split};
 ghost use Rattle.serde_json.specs.Data.{Data, array, put as with_member, string};
 ghost use Rattle.serde_json.specs.View.{items_of, members_view, view};
@@ -40,19 +40,10 @@ pub(crate) fn texts_of(alloc: Global, text: &str) -> Result<Value, AllocError>
     ensures { IfOk result (λ value. view value ≡ texts (slice_split is_comma text.now)) }
 {
     let mut list = Vec::new(alloc);
-    push_texts(alloc, text, &mut list)?;
-    Ok(Value::from(list))
-}
-
-/// Appends the texts between the commas of a text to a list.
-pub(crate) fn push_texts(alloc: Global, text: &str, list: &mut Vec<Value>) -> Result<(), AllocError>
-    ensures { OnOk result (map view list.new.items
-        ≡ map view list.old.items ++ map string (slice_split is_comma text.now)) }
-{
     for part in text.split(',') {
         list.push(Value::try_from_str(alloc, part)?)?;
     }
-    Ok(())
+    Ok(Value::from(list))
 }
 
 /// Puts a text under a name.

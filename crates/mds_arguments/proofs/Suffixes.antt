@@ -1,5 +1,5 @@
 -- The suffixes that texts are.
-use Rattle.std.proofs.Common.{◌≡◌, ℕ, ◌<◌, ◌≤◌, false, Bor, List, length, map, take, get_or, Option, Some, None, is_some, sym, ◌∙◌, ap}
+use Rattle.std.proofs.Common.{◌≡◌, ℕ, ◌<◌, ◌≤◌, false, Bor, List, length, map, take, get_or, Some, None, is_some, sym, ◌∙◌, ap}
 use Rattle.std.proofs.lemmas.List.{take_all}
 use Rattle.std.proofs.lemmas.List.Folds.{list_all-map, list_all_at}
 use Rattle.std.proofs.lemmas.Simd.{map-map}

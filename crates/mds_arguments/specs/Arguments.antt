@@ -1,9 +1,8 @@
 -- What the arguments of a query ask for (profile).
-use Rattle.std.specs.Prelude.{◌≡◌, ℕ, ◌&&◌, nat_le, List, [], ◌∷◌, length, map, codes, Bool, if◌then◌else◌, Option, Some, None, is_some}
-use Rattle.std.specs.Char.{is_ascii_digit}
+use Rattle.std.specs.Prelude.{◌≡◌, ℕ, List, [], ◌∷◌, map, codes, Bool, if◌then◌else◌, Option, Some, None, is_some}
 use Rattle.std.specs.List.{list_all}
-use Rattle.std.specs.Str.Parse.{digits_value}
 use Rattle.mds_calendar.specs.Calendar.{date_time_of, day_of}
+use Rattle.mds_marks.specs.Digits.{interval_number_of}
 use Rattle.mds_names.specs.Names.{nmi_of, suffix_of}
 use Rattle.mds_names.specs.declared.stream.Stream.{Stream}
 use Rattle.mds_terms.specs.Printable.{is_printable}
@@ -11,8 +10,8 @@ use Rattle.mds_messages.specs.declared.request.Request.{Request}
 use Rattle.mds_messages.specs.declared.request.Request.TheVariants as asked
 use Rattle.mds_arguments.specs.declared.arguments.Argument.{Argument}
 use Rattle.mds_arguments.specs.declared.arguments.Argument.TheVariants.{Nmi, Suffix, Date, Interval, From, To, Moment, Sender, Receiver}
-use Rattle.mds_arguments.specs.declared.reading.ArgumentsFault.{ArgumentsFault}
-use Rattle.mds_arguments.specs.declared.reading.ArgumentsFault.TheVariants as fault
+use Rattle.mds_arguments.specs.declared.requests.ArgumentsFault.{ArgumentsFault}
+use Rattle.mds_arguments.specs.declared.requests.ArgumentsFault.TheVariants as fault
 
 -- the name of an argument in the usage of a command
 abbrev pub argument_name : Argument → List ℕ
@@ -25,12 +24,6 @@ argument_name To = codes "TO"
 argument_name Moment = codes "MOMENT"
 argument_name Sender = codes "SENDER"
 argument_name Receiver = codes "RECEIVER"
-
--- the number of an interval that a text is: one to four digits
-abbrev pub interval_of : List ℕ → Option ℕ
-interval_of text =
-    if nat_le 1 (length text) && nat_le (length text) 4 && list_all is_ascii_digit text
-    then Some (digits_value 10 text) else None
 
 -- the first that isn't what it is to be
 abbrev pub first_bad : List (Argument × Bool) → Option Argument
@@ -50,7 +43,7 @@ day_tests nmi suffix date =
 abbrev pub interval_tests : (nmi suffix date interval : List ℕ) → List (Argument × Bool)
 interval_tests nmi suffix date interval =
     (Nmi, is_some (nmi_of nmi)) ∷ (Suffix, is_some (suffix_of suffix)) ∷ (Date, is_some (day_of date))
-    ∷ (Interval, is_some (interval_of interval)) ∷ []
+    ∷ (Interval, is_some (interval_number_of interval)) ∷ []
 
 -- of a range,
 abbrev pub range_tests : (nmi suffix from to : List ℕ) → List (Argument × Bool)
@@ -91,7 +84,7 @@ AskForDay nmi suffix date request = ⊥
 -- for the versions of an interval,
 abbrev pub AskForVersions : (nmi suffix date interval : List ℕ) → Request → Type 0
 AskForVersions nmi suffix date interval (asked.Versions stream day number) =
-    SpellStream nmi suffix stream × (day_of date ≡ Some day) × (interval_of interval ≡ Some number)
+    SpellStream nmi suffix stream × (day_of date ≡ Some day) × (interval_number_of interval ≡ Some number)
 AskForVersions nmi suffix date interval request = ⊥
 
 -- for gaps,

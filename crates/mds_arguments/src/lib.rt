@@ -2,9 +2,10 @@
 #![tactic(auto)]
 
 mod arguments;
-mod reading;
+mod requests;
 
 pub use arguments::{Argument, ExportArguments, RangeArguments};
-pub use reading::{
-    ArgumentsFault, read_day, read_export, read_finals, read_gaps, read_periods, read_versions,
+pub use requests::{
+    ArgumentsFault, day_request, export_request, finals_request, gaps_request, periods_request,
+    versions_request,
 };

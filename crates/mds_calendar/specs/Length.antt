@@ -1,5 +1,5 @@
--- The length of an interval, in minutes. MDFF Specification, the 200 record: IntervalLength, 5, 15 or 30.
--- That `05` is read too is this project's profile.
+-- The length of an interval, in minutes. MDFF Specification, the 200 record: IntervalLength, 5, 15 or 30. By this
+-- project's profile `05` is read, too.
 use Rattle.std.specs.Prelude.{ℕ, ◌/◌, Bool, ◌||◌, ◌==◌, if◌then◌else◌, List, codes, bytes_eq, Option, Some, None}
 
 -- 5, 15 or 30

@@ -162,15 +162,15 @@ pub fn one_day_text()
     ensures { (a b : List ℕ) (day : ℕ) → day_of a ≡ Some day → day_of b ≡ Some day → a ≡ b }
 {}
 
-/// Day 0, 1 January 1970, is a Thursday, each day's weekday is the one after that of the day
-/// before, and after a week it is the same.
+/// The laws of weekdays. Day 0, 1 January 1970, is a Thursday. Each day's weekday comes after that
+/// of the day before. After a week it is the same again.
 pub fn weekdays_go_on()
     ensures first { weekday_of 0 ≡ monday_zero Thursday }
     ensures next { (day : ℕ) → weekday_of (day + 1) ≡ (weekday_of day + 1) % 7 }
     ensures week { (day : ℕ) → weekday_of (day + 7) ≡ weekday_of day }
 {}
 
-/// The number of a day, if the calendar has it, in 1970 or later.
+/// The number of a date, if the calendar has it and it is in 1970 or later.
 fn number_of(year: u32, month: u32, day: u32) -> Option<u32>
     requires year { year < 10_000 }
     requires month { month < 100 }

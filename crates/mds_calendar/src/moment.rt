@@ -9,8 +9,8 @@ use std::alloc::AllocError;
 use std::marker::Model;
 use std::str;
 
-/// A moment from the midnight that begins 1 January 1970 to the last second of 31 December 9999, in
-/// seconds from the first.
+/// A moment, in seconds from the midnight that begins 1 January 1970. The last one is the last
+/// second of 31 December 9999.
 #[derive(Clone, Copy, Debug, PartialEq, Eq, PartialOrd, Ord)]
 pub struct Moment {
     seconds: u64,

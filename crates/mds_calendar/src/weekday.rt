@@ -38,8 +38,8 @@ impl Weekday {
     }
 }
 
-/// The day of the week that is one of the calendar's library. That library's own type stays out of what this crate gives:
-/// with it each crate above would carry all that the library states.
+/// The day of the week for one of the calendar's library. The library's own type stays out of what this crate gives. With it each
+/// crate above would carry all that the library states.
 pub(crate) fn weekday_of(weekday: civil::Weekday) -> Weekday
     ensures { monday_zero result ≡ days_after_monday weekday }
 {

@@ -1,6 +1,6 @@
--- What `check` prints of a well formed file (profile): for each 300 record in order the NMI, the suffix, the date, how many
--- of its intervals have a value, the sum of these values, and the unit; for each 250 record in order the NMI, the suffix, the
--- moments of the previous and the current read, the quantity, and the unit.
+-- What `check` prints of a well formed file (profile): a line for each 300 or 250 record, in order. A 300 is told by NMI, suffix,
+-- date, how many of its intervals have a value, the sum of these values, and the unit. A 250 is told by NMI, suffix, the moments
+-- of the previous and the current read, the quantity, and the unit.
 use Rattle.std.specs.Prelude.{◌≡◌, ℕ, List, [], ◌∷◌, ◌++◌, length, codes, decimal, Some, None, ◌-◌, slice_index_or}
 use Rattle.mds_quantity.specs.Quantity.{written}
 use Rattle.mds_quantity.specs.Unit.{unit_text}

@@ -1,4 +1,4 @@
-//! `check`: what a file's days add up to, or its first fault.
+//! `check`: what a file's days or accumulations add up to, or its first fault.
 
 ghost use Rattle.std.specs.Prelude.{ℕ, IsTrue, ◌↔◌, ◌≢◌, take, if◌then◌else◌, ◌≡◌, ◌≤◌, ◌+◌, ◌-◌, ◌*◌, ◌^◌, ◌<◌, List, length, false, None, Some, Err, IfSome, OnOk, IfOk, IfErr, MatchResult, is_ok, string_bytes};
 ghost use Rattle.std.specs.Io.KnownBytes.{Appends as AppendsKnown, Keeps};
@@ -18,7 +18,7 @@ use std::alloc::Global;
 /// Why nothing, or not everything, was printed.
 #[derive(Clone, Copy, Debug, PartialEq, Eq)]
 pub enum CheckFault {
-    /// The file isn't well formed.
+    /// The file isn't well formed (L1 to L12).
     File(FileFault),
     /// The reader failed.
     Read,
@@ -31,14 +31,15 @@ pub enum CheckFault {
 impl CheckFault {
     ghost use Rattle.mds_check.specs.declared.checking.CheckFault.{CheckFault as ACheckFault};
 
-    /// A law: faults are equal where they are the same.
+    /// A law: `==` says whether two faults are the same.
     pub fn one_equality()
         ensures { (a b : ACheckFault) → IsTrue (⟦<CheckFault as PartialEq>⟧.eq a b) ↔ (a ≡ b) }
     {}
 }
 
-/// Reads a file, and writes a line for each of its days, `NMI suffix date count total unit`, or of its accumulations,
-/// `NMI suffix previous current quantity unit`. It writes only where the whole file is well formed.
+/// Reads a file, and writes a line for each day or accumulation. The line of a day is
+/// `NMI suffix date count total unit`, that of an accumulation `NMI suffix previous current quantity unit`. It writes
+/// only where the whole file is well formed.
 pub fn check<R: Source, W: Sink>(
     alloc: Global,
     kind: FileKind,
@@ -48,7 +49,7 @@ pub fn check<R: Source, W: Sink>(
     requires reader { R.failures reader.old < 2 ^ 64 - 1 }
     requires writer { W.failures writer.old < 2 ^ 64 - 1 }
 
-    // The text is well formed, and its lines were written, whole and nothing else.
+    // The text is well formed. Its lines were written, whole and nothing else.
     ensures done { OnOk result (IfSome (R.remaining reader.old) (λ text. (report : List ℕ) × IsReportOf kind text report
         × AppendsKnown (W.contents writer.old) (W.contents writer.new) report)) }
 
@@ -56,18 +57,18 @@ pub fn check<R: Source, W: Sink>(
     ensures fault { (fault : FileFault) → result ≡ Err (CheckFault.File fault)
         → IfSome (R.remaining reader.old) (λ text. IsFaultOf kind text fault) }
 
-    // A failed write leaves a part of the lines of a well formed text, and any other fault leaves nothing.
+    // A failed write leaves a part of the lines of a well formed text. Any other fault leaves nothing.
     ensures part { result ≡ Err CheckFault.Write → IfSome (R.remaining reader.old) (λ text.
         (report : List ℕ) × (n : ℕ) × IsReportOf kind text report × (n < length report)
         × AppendsKnown (W.contents writer.old) (W.contents writer.new) (take n report)) }
     ensures nothing { IfErr result (λ fault. fault ≢ CheckFault.Write
         → Keeps (W.contents writer.old) (W.contents writer.new)) }
 
-    // `Read` is answered just where the reader failed, once, and `Write` just where the writer did.
+    // `Read` is answered just where the reader failed, and `Write` just where the writer did, each once.
     ensures reader { R.failures reader.new ≡ R.failures reader.old + (if is_read_fault result then 1 else 0) }
     ensures writer { W.failures writer.new ≡ W.failures writer.old + (if is_write_fault result then 1 else 0) }
 
-    // It reads no more of the reader, whatever that gives, than the lines that a file may have, and a block.
+    // It reads at most the lines that a file may have, and a block, whatever the reader gives.
     ensures bounded { (given : List (List ℕ)) × Reads R.gives reader.old given reader.new
         × (length (concat given) ≤ most_lines * (longest_line + 1) + block) }
 {

@@ -20,8 +20,8 @@ use std::alloc::{AllocError, Global};
 use std::marker::Model;
 use std::mem;
 
-/// A day as its 300 record and the 400 records after it give it. One is kept for all days of a
-/// file, so that a day takes no memory but for its runs and the text of a reason.
+/// A day as its 300 record and the 400 records after it give it. One `DayData` is kept for all days of a file. So a day
+/// takes no memory but for its runs and the text of a reason.
 #[derive(Drop)]
 pub struct DayData {
     alloc: Global,
@@ -86,9 +86,9 @@ impl DayData {
         })
     }
 
-    /// Begins the day of a 300 record, on the line of a number, with the values that were read with
-    /// it. Those that it held before are left in their place. It takes memory only for the text of a
-    /// reason, and after want of it the day and the values are those that they were.
+    /// Begins the day of the 300 record on line `line`, with the values that were read with it. The values that the day
+    /// held before are left in `values`. It takes memory only for the text of a reason. After want of it the day and
+    /// the values are as they were.
     pub fn begin(
         &mut self,
         line: u64,
@@ -193,8 +193,8 @@ impl DayData {
         }
     }
 
-    /// The readings of its intervals, in order. It fails only for want of memory, and takes none where
-    /// there is no interval.
+    /// The readings of its intervals, in order. It fails only for want of memory. Where there is no interval it takes
+    /// none.
     pub fn readings(&self) -> Result<Vec<Reading>, AllocError>
         requires { IsWhole self.now }
         ensures value { IfOk result (λ readings. readings.items
@@ -274,8 +274,8 @@ fn own_readings(
     Ok(readings)
 }
 
-/// The tally of a day without runs, from its own mark, its values and their sum. It looks at no
-/// value unless the quality is variable.
+/// The tally of a day without runs, made of its own mark, its values and their sum. It looks at no value unless the
+/// quality is variable.
 fn own_tally(own: &Mark, values: &[Option<Quantity>], sum: i128) -> Tally
     requires sum { sum ≡ total (flat_map option_to_list values.now) }
     requires valued { AreValuesOf own.now values.now }
@@ -305,7 +305,7 @@ fn count_values(values: &[Option<Quantity>]) -> usize
     values.iter().filter(|value| value.is_some()).count()
 }
 
-/// Whether an interval from one to another has no value.
+/// Whether some interval from `first` to `last` has no value (L12).
 fn lacks_value(values: &[Option<Quantity>], first: u16, last: u16) -> bool
     requires { IsTrue (is_in_range (length values.now) first last) }
     ensures { result ≡ lacks_value values.now first last }
@@ -314,8 +314,8 @@ fn lacks_value(values: &[Option<Quantity>], first: u16, last: u16) -> bool
     values[first - 1..last].iter().any(|value| value.is_none())
 }
 
-/// The reading of an interval with a mark and a value field, which go together. It takes memory only
-/// for the text of a reason.
+/// The reading of an interval with a mark and a value field, which go together. It takes memory only for the text of a
+/// reason.
 #[inline(always)]
 fn reading(mark: &Mark, value: Option<Quantity>) -> Result<Reading, AllocError>
     requires { IsTrue (is_reading mark.now.quality.flag (reading_by mark.now value).value) }

@@ -1,8 +1,11 @@
-//! What the program does over any keeper and writer: a request to a store, and what it, or the check of a file, comes to.
+//! What the program does over any keeper and writer: a request to a store, and what it, or the check of a file, comes to. What
+//! the codes mean that it prints.
 #![tactic(auto)]
 
+mod explaining;
 mod outcome;
 mod performing;
 
+pub use explaining::{EXPLANATIONS, section_of};
 pub use outcome::{Outcome, Status};
 pub use performing::{PerformFault, perform};

@@ -13,7 +13,7 @@ ghost use Rattle.mds_desk.specs.Printed.{printed_bytes};
 use crate::outcome::Status;
 use arrayvec::ArrayString;
 use itoa::Buffer;
-use mds_answers::answer_json;
+use mds_answers::list_json;
 use mds_lines::{Sink, write_whole};
 use mds_messages::{Answer, Request};
 use mds_records::FileFault;
@@ -92,8 +92,8 @@ pub fn perform<K: Keeper, W: Sink>(
     ensures outside { K.honest keeper.new → K.honest keeper.old }
     ensures before { K.sound keeper.new → K.sound keeper.old }
 
-    // A step of the machine was done, and its answer printed, whole and nothing else: from every lawful World that is kept
-    // where the keeper is sound, so also after a fault that shut it.
+    // A step of the machine was done, and its answer printed, whole and nothing else. It is one from every lawful World that is
+    // kept where the keeper is sound, so also after a fault that shut it.
     ensures done { IfOk result (λ status. K.honest keeper.new → (answer : AnAnswer)
         × Goes (K.sound keeper.old) (K.sound keeper.new) (K.world keeper.old) (K.world keeper.new)
         (K.may_leave keeper.old) (K.may_leave keeper.new) request.now answer
@@ -236,8 +236,7 @@ fn json_line(alloc: Global, answer: &Answer) -> Result<Vec<u8>, AllocError>
     requires { has_list answer.now ≡ true }
     ensures { IfOk result (λ line. IsJsonLine answer.now line.items) }
 {
-    let mut line = Vec::new(alloc);
-    answer_json(alloc, answer, &mut line)?;
+    let mut line = list_json(alloc, answer)?;
     line.push(b'\n')?;
     Ok(line)
 }

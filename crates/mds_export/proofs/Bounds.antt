@@ -14,12 +14,12 @@ use Rattle.mds_marks.specs.Reading.{ReadingValue, is_lawful, is_reading, is_valu
 use Rattle.mds_marks.specs.declared.mark.Mark.{Mark}
 use Rattle.mds_runs.specs.declared.cover.Run.{Run}
 use Rattle.mds_runs.proofs.RunFacts.{Meets-le}
-use Rattle.mds_rows.specs.ReadBack.{IsInBounds, IsLawful}
-use Rattle.mds_rows.specs.Rows.{RowValue}
-use Rattle.mds_rows.proofs.RowTexts.{unit_reads}
+use Rattle.mds_export.specs.ReadBack.{IsInBounds, IsLawful}
+use Rattle.mds_export.specs.Rows.{RowValue}
+use Rattle.mds_export.proofs.RowTexts.{unit_reads}
 use Rattle.mds_statements.specs.Selected.{IsWhole, days_of}
 use Rattle.mds_export.specs.Placed.{PlacedDay, is_governed, placed_after, placed_days}
-use Rattle.mds_export.specs.Rows.{AreDayRows, AreFewest, AreInTurn, day_row, details_row, details_rows, mark_of_all, marks_of, run_row, run_rows}
+use Rattle.mds_export.specs.Exports.{AreDayRows, AreFewest, AreInTurn, day_row, details_row, details_rows, mark_of_all, marks_of, run_row, run_rows}
 use Rattle.mds_statements.specs.declared.selected.SelectedDay.{SelectedDay}
 use Rattle.mds_statements.specs.declared.selected.SelectedStream.{SelectedStream}
 use Rattle.mds_statements.proofs.SelectedTests.{All-split}

@@ -1,7 +1,7 @@
 -- Lists that are made of parts in turn.
 use Rattle.std.proofs.Common.{◌≡◌, List, [], ◌∷◌, ◌++◌, refl, sym, ◌∙◌, ap, append_assoc}
 use Rattle.std.proofs.lemmas.List.{append-nil}
-use Rattle.mds_export.specs.Rows.{AreInTurn}
+use Rattle.mds_export.specs.Exports.{AreInTurn}
 
 -- of one thing
 pub turn_one : {T A : Type 0} (Is : T → List A → Type 0) (x : T) (all : List A) → Is x all → AreInTurn Is (x ∷ []) all

@@ -8,13 +8,13 @@ use Rattle.mds_marks.specs.Reading.{ReadingValue, is_lawful, is_reading, is_valu
 use Rattle.mds_marks.specs.declared.mark.Mark.{Mark}
 use Rattle.mds_runs.specs.declared.cover.Run.{Run}
 use Rattle.mds_marks.specs.Mark.{bare_null}
-use Rattle.mds_rows.specs.ReadBack.{IsLawful}
-use Rattle.mds_rows.specs.Rows.{IsRowText, RowValue, EndRow}
+use Rattle.mds_export.specs.ReadBack.{IsLawful}
+use Rattle.mds_export.specs.Rows.{IsRowText, RowValue, EndRow}
 use Rattle.mds_statements.specs.Statements.{HeaderValue}
 use Rattle.mds_export.specs.Lawful.{AreLawful, IsLawfulDay, IsLawfulStream}
 use Rattle.mds_statements.specs.Selected.{AreOrderly, days_of}
 use Rattle.mds_export.specs.Placed.{PlacedDay, is_governed, placed_after, placed_days}
-use Rattle.mds_export.specs.Rows.{AreDayRows, AreInTurn, IsExport, day_row, details_row, details_rows, header_row, mark_of_all, marks_of, run_row, run_rows}
+use Rattle.mds_export.specs.Exports.{AreDayRows, AreInTurn, IsExport, day_row, details_row, details_rows, header_row, mark_of_all, marks_of, run_row, run_rows}
 use Rattle.mds_export.specs.Shows.{Shows}
 use Rattle.mds_export.specs.WriterSteps.{IsWritten}
 use Rattle.mds_statements.specs.declared.selected.SelectedDay.{SelectedDay}

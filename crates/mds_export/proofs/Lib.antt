@@ -1,9 +1,15 @@
+pub mod Begun
 pub mod Bounds
 pub mod Counts
+pub mod Fields
 pub mod InTurn
 pub mod LawfulRows
 pub mod OneText
+pub mod PlainFields
 pub mod Restored
+pub mod RowFaults
+pub mod RowLines
+pub mod RowTexts
 pub mod Said
 pub mod Shortest
 pub mod Sound

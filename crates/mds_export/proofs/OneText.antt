@@ -9,9 +9,9 @@ use Rattle.mds_calendar.proofs.Moments.{date_time_other, date_time_short, one_mo
 use Rattle.mds_terms.proofs.ReadBack.{one_optional}
 use Rattle.mds_statements.specs.Statements.{HeaderValue}
 use Rattle.mds_marks.specs.Mark.{bare_null}
-use Rattle.mds_rows.specs.Rows.{IsHeaderMoment, IsRowText, RowValue, HeaderRow, DetailsRow, DayRow, RunRow, EndRow, line_of, own_fields, value_field}
+use Rattle.mds_export.specs.Rows.{IsHeaderMoment, IsRowText, RowValue, HeaderRow, DetailsRow, DayRow, RunRow, EndRow, line_of, own_fields, value_field}
 use Rattle.mds_export.specs.Placed.{PlacedDay, placed_days}
-use Rattle.mds_export.specs.Rows.{AreDayRows, AreInTurn, IsExport, day_row, details_rows, header_row, mark_of_all, marks_of, run_rows}
+use Rattle.mds_export.specs.Exports.{AreDayRows, AreInTurn, IsExport, day_row, details_rows, header_row, mark_of_all, marks_of, run_rows}
 use Rattle.mds_statements.specs.declared.selected.SelectedStream.{SelectedStream}
 use Rattle.mds_export.proofs.Shortest.{one_fewest}
 

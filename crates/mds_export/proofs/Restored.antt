@@ -10,7 +10,7 @@ use Rattle.mds_marks.specs.declared.mark.Mark.{Mark}
 use Rattle.mds_runs.specs.Runs.{mark_at}
 use Rattle.mds_runs.specs.declared.cover.Run.{Run}
 use Rattle.mds_days.specs.Readings.{reading_by, readings_of}
-use Rattle.mds_export.specs.Rows.{marks_of}
+use Rattle.mds_export.specs.Exports.{marks_of}
 use Rattle.mds_export.proofs.Bounds.{AreLawfulReadings}
 
 -- the values as they are written: a null value as 0

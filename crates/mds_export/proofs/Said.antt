@@ -10,13 +10,13 @@ use Rattle.mds_terms.specs.Details.{DetailsValue}
 use Rattle.mds_lines.specs.Lines.{field}
 use Rattle.mds_records.specs.Records.{value_count}
 use Rattle.mds_runs.specs.declared.cover.Run.{Run}
-use Rattle.mds_reading.specs.Governing.{record_kind}
+use Rattle.mds_walk.specs.Governing.{record_kind}
 use Rattle.mds_statements.specs.Statements.{HeaderValue}
 use Rattle.mds_marks.specs.Mark.{bare_null}
 use Rattle.mds_nem12.specs.Said.{count_in, details_in, header_in, length_in, run_in, stream_in, unit_in}
-use Rattle.mds_rows.specs.ReadBack.{ReadsAs, Says, row_kind}
-use Rattle.mds_rows.specs.Rows.{DetailsRow, RowValue}
-use Rattle.mds_export.specs.Rows.{header_row, run_row}
+use Rattle.mds_export.specs.ReadBack.{ReadsAs, Says, row_kind}
+use Rattle.mds_export.specs.Rows.{DetailsRow, RowValue}
+use Rattle.mds_export.specs.Exports.{header_row, run_row}
 
 pub kind_of_row : (row : RowValue) (line : List ℕ) → ReadsAs row line → record_kind line ≡ Some (row_kind row)
 kind_of_row row line r = ap result_ok r.kind_is

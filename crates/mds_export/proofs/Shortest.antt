@@ -8,7 +8,7 @@ use Rattle.mds_runs.specs.declared.cover.Run.{Run}
 use Rattle.mds_runs.proofs.RunFacts.{AreRunsAfter-from_Meets, Meets-le, full_from_Meets, mark_at-here, mark_at-later}
 use Rattle.mds_runs.proofs.Spreads.{spread-from_gets}
 use Rattle.mds_runs.proofs.Tilings.{Tile, Tiles, Meets-from_Tiles}
-use Rattle.mds_export.specs.Rows.{AreFewest}
+use Rattle.mds_export.specs.Exports.{AreFewest}
 use Rattle.mds_export.proofs.Spelled.{AreSpelled, spelled_fewest, spelled_own, spelled_rest}
 
 -- no runs that spell the marks from an interval on are fewer

@@ -19,8 +19,8 @@ use Rattle.mds_records.specs.declared.file.FaultCode.TheVariants as code
 use Rattle.mds_records.specs.declared.file.FileFault.{FileFault}
 use Rattle.mds_records.specs.declared.header_name.HeaderName.TheVariants.{Nem12}
 use Rattle.mds_days.specs.RunFaults.{first_of, run_fault, when}
-use Rattle.mds_reading.specs.Faults.{kind_fault, line_fault, text_fault as of_text}
-use Rattle.mds_reading.proofs.Faultless.{Faultless, fault_within, faultless_push}
+use Rattle.mds_walk.specs.Faults.{kind_fault, line_fault, text_fault as of_text}
+use Rattle.mds_walk.proofs.Faultless.{Faultless, fault_within, faultless_push}
 use Rattle.mds_nem12.specs.Faults.{at_field, at_line, fault_of_run, nem12, text_fault}
 use Rattle.mds_nem12.specs.Governing.{Governors, governors, has_gap}
 use Rattle.mds_nem12.specs.Place.{is_in_place, is_kind}

@@ -5,7 +5,7 @@ use Rattle.mds_runs.specs.Runs.{mark_at}
 use Rattle.mds_runs.specs.declared.cover.Run.{Run}
 use Rattle.mds_runs.proofs.RunFacts.{Meets, Meets-from_full, Meets-le, mark_at-here, mark_at-later}
 use Rattle.mds_runs.proofs.Spreads.{gets-from_spread}
-use Rattle.mds_export.specs.Rows.{AreFewest}
+use Rattle.mds_export.specs.Exports.{AreFewest}
 
 -- the runs meet from an interval on to the last, and each interval among these has the mark of its run
 pub record AreSpelled (marks : List Mark) (default : Mark) (interval : ℕ) (runs : List Run) : Type 0 where

@@ -11,8 +11,8 @@ use Rattle.mds_runs.specs.Runs.{AreRunsAfter, last_end, mark_at}
 use Rattle.mds_runs.specs.declared.cover.Run.{Run}
 use Rattle.mds_days.specs.Readings.{leaves_gap, readings_of}
 use Rattle.mds_days.specs.RunFaults.{run_fault}
-use Rattle.mds_reading.proofs.Faultless.{faultless_none}
-use Rattle.mds_reading.proofs.Numbered.{no_kind}
+use Rattle.mds_walk.proofs.Faultless.{faultless_none}
+use Rattle.mds_walk.proofs.Numbered.{no_kind}
 use Rattle.mds_statements.specs.Statements.{DayStatement, HeaderValue, Statement}
 use Rattle.mds_statements.specs.Statements.Statement.{HeaderOf, DetailsOf, DayOf}
 use Rattle.mds_nem12.specs.Faults.{fault_of_run, nem12}
@@ -26,9 +26,9 @@ use Rattle.mds_nem12.proofs.Governs.{advance, day_within}
 use Rattle.mds_nem12.proofs.Lasts.{last_or_push}
 use Rattle.mds_nem12.proofs.States.{close, closed_at, open_day, open_push}
 use Rattle.mds_nem12.proofs.Taken.{governs}
-use Rattle.mds_rows.specs.ReadBack.{ReadsAs, own_mark}
+use Rattle.mds_export.specs.ReadBack.{ReadsAs, own_mark}
 use Rattle.mds_export.specs.Placed.{PlacedDay}
-use Rattle.mds_export.specs.Rows.{day_row, details_row, header_row, marks_of, run_row}
+use Rattle.mds_export.specs.Exports.{day_row, details_row, header_row, marks_of, run_row}
 use Rattle.mds_export.specs.Shows.{day_selected, details_selected, unlined}
 use Rattle.mds_export.proofs.Bounds.{AreLawfulReadings}
 use Rattle.mds_export.proofs.Restored.{readings_back, written_values}

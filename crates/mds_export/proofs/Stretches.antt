@@ -9,9 +9,9 @@ use Rattle.mds_runs.specs.declared.cover.Run.{Run}
 use Rattle.mds_runs.proofs.RunFacts.{AreRunsAfter-from_Meets, Meets-from_full, full_from_Meets, mark_at-here}
 use Rattle.mds_runs.proofs.Spreads.{gets-from_spread}
 use Rattle.mds_runs.proofs.Tilings.{Tiles, Tiles-push, Tile-made, Meets-from_Tiles, spread_of_Tiles, IsLeast_of_Tiles}
-use Rattle.mds_rows.specs.ReadBack.{IsLawful}
-use Rattle.mds_rows.specs.Rows.{IsRowText, RunRow}
-use Rattle.mds_export.specs.Rows.{AreFewest, AreInTurn, marks_of, run_row}
+use Rattle.mds_export.specs.ReadBack.{IsLawful}
+use Rattle.mds_export.specs.Rows.{IsRowText, RunRow}
+use Rattle.mds_export.specs.Exports.{AreFewest, AreInTurn, marks_of, run_row}
 use Rattle.mds_export.specs.WriterSteps.{IsWritten}
 use Rattle.mds_export.proofs.InTurn.{turn_push}
 

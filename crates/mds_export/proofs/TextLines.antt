@@ -6,11 +6,11 @@ use Rattle.std.proofs.lemmas.List.{length_push, take_at, get_or_at}
 use Rattle.std.proofs.lemmas.List.Elements.{All-append, All-cons, All-head, All-nil, All-tail}
 use Rattle.std.proofs.lemmas.List.Splits.{slice_split_none}
 use Rattle.mds_lines.specs.Lines.{carriage_return, line_feed, line_pieces, line_text, split, without_empty_last}
-use Rattle.mds_reading.proofs.Longer.{pieces_longer, split_both}
-use Rattle.mds_rows.specs.ReadBack.{IsInBounds, ReadsAs}
-use Rattle.mds_rows.specs.Rows.{RowValue}
-use Rattle.mds_rows.proofs.RowLines.{read_back}
-use Rattle.mds_export.specs.Rows.{AreInTurn}
+use Rattle.mds_walk.proofs.Longer.{pieces_longer, split_both}
+use Rattle.mds_export.specs.ReadBack.{IsInBounds, ReadsAs}
+use Rattle.mds_export.specs.Rows.{RowValue}
+use Rattle.mds_export.proofs.RowLines.{read_back}
+use Rattle.mds_export.specs.Exports.{AreInTurn}
 use Rattle.mds_export.specs.WriterSteps.{IsWritten}
 
 -- lines read as rows, one by one

@@ -16,8 +16,8 @@ use Rattle.mds_runs.specs.declared.cover.Run.{Run}
 use Rattle.mds_runs.proofs.RunFacts.{leaves_out-from_full}
 use Rattle.mds_records.specs.declared.file.FaultCode.TheVariants as code
 use Rattle.mds_days.specs.RunFaults.{first_of, when}
-use Rattle.mds_reading.proofs.Faultless.{fault_ends}
-use Rattle.mds_reading.specs.Faults.{at_line, end_fault}
+use Rattle.mds_walk.proofs.Faultless.{fault_ends}
+use Rattle.mds_walk.specs.Faults.{at_line, end_fault}
 use Rattle.mds_statements.specs.Statements.{HeaderValue, Statement}
 use Rattle.mds_statements.specs.Statements.Statement.{HeaderOf, DetailsOf, DayOf}
 use Rattle.mds_nem12.specs.Faults.{fault_of, nem12}
@@ -27,11 +27,11 @@ use Rattle.mds_nem12.specs.Said.{count_in}
 use Rattle.mds_nem12.specs.Statements.{statements, statements_of}
 use Rattle.mds_nem12.proofs.States.{closed_at}
 use Rattle.mds_nem12.proofs.Taken.{governs}
-use Rattle.mds_rows.specs.ReadBack.{IsInBounds, IsLawful, ReadsAs, variable_mark}
-use Rattle.mds_rows.specs.Rows.{RowValue, EndRow}
+use Rattle.mds_export.specs.ReadBack.{IsInBounds, IsLawful, ReadsAs, variable_mark}
+use Rattle.mds_export.specs.Rows.{RowValue, EndRow}
 use Rattle.mds_statements.specs.Selected.{AreOrderly, IsWhole, days_of, most_days}
 use Rattle.mds_export.specs.Placed.{PlacedDay, is_governed, placed_after, placed_days}
-use Rattle.mds_export.specs.Rows.{AreDayRows, AreFewest, AreInTurn, day_row, details_row, details_rows, header_row, mark_of_all, marks_of, run_row, run_rows}
+use Rattle.mds_export.specs.Exports.{AreDayRows, AreFewest, AreInTurn, day_row, details_row, details_rows, header_row, mark_of_all, marks_of, run_row, run_rows}
 use Rattle.mds_export.specs.Shows.{Shows, day_selected, day_stated, details_selected, selection_stated, unlined}
 use Rattle.mds_export.specs.WriterSteps.{IsWritten, IsWrittenExport}
 use Rattle.mds_statements.specs.declared.selected.SelectedDay.{SelectedDay}

@@ -5,13 +5,13 @@ use Rattle.std.proofs.lemmas.List.{take_more}
 use Rattle.mds_quantity.specs.Append.{Appends}
 use Rattle.mds_marks.specs.declared.mark.Mark.{Mark}
 use Rattle.mds_runs.specs.declared.cover.Run.{Run}
-use Rattle.mds_rows.specs.ReadBack.{IsLawful}
-use Rattle.mds_rows.specs.Rows.{IsRowText, RowValue, EndRow, HeaderRow}
+use Rattle.mds_export.specs.ReadBack.{IsLawful}
+use Rattle.mds_export.specs.Rows.{IsRowText, RowValue, EndRow, HeaderRow}
 use Rattle.mds_statements.specs.Statements.{HeaderValue}
 use Rattle.mds_nem12.proofs.Lasts.{flat_map_push, last_or_push}
 use Rattle.mds_statements.specs.Selected.{IsWhole, days_of}
 use Rattle.mds_export.specs.Placed.{PlacedDay, is_governed, placed_after, placed_days}
-use Rattle.mds_export.specs.Rows.{AreDayRows, AreFewest, AreInTurn, IsExport, day_row, details_row, details_rows, header_row, mark_of_all, marks_of, run_row, run_rows}
+use Rattle.mds_export.specs.Exports.{AreDayRows, AreFewest, AreInTurn, IsExport, day_row, details_row, details_rows, header_row, mark_of_all, marks_of, run_row, run_rows}
 use Rattle.mds_export.specs.WriterSteps.{AreWritten, HasDayText, IsWritten, IsWrittenExport}
 use Rattle.mds_statements.specs.declared.selected.SelectedDay.{SelectedDay}
 use Rattle.mds_statements.specs.declared.selected.SelectedStream.{SelectedStream}

@@ -1,5 +1,9 @@
+pub mod Begun
+pub mod Exports
 pub mod Lawful
 pub mod Placed
+pub mod ReadBack
+pub mod RowSteps
 pub mod Rows
 pub mod Shows
 pub mod WriterSteps

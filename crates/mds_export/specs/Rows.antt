@@ -1,73 +1,79 @@
--- The rows of the text of a selection (profile): a 100; before the first day of a stream, and before each day whose length or
--- unit isn't that of the day before it, a 200; for each day a 300, and the 400s of the fewest runs that hold its intervals,
--- none where one run holds all; a 900.
-use Rattle.std.specs.Prelude.{◌≡◌, if◌then◌else◌, List, [], ◌∷◌, ◌++◌, length, map, Option, Some, None, ℕ}
+-- The line that each row is written as. MDFF Specification, the tables of the 100, 200, 300, 400 and 900 records of
+-- NEM12, each field of them. That a null value is written `0`, that the last field of a 300 is empty, that the
+-- moment of a 100 has 12 digits where its seconds are 00, and that lines end with CR LF is this project's profile.
+use Rattle.std.specs.Prelude.{◌≡◌, ℕ, ◌%◌, ◌==◌, if◌then◌else◌, List, [], ◌∷◌, ◌++◌, length, map, codes, decimal, pos, Option, Some, None, option_map, unwrap_or}
+use Rattle.mds_quantity.specs.Quantity.{written}
+use Rattle.mds_quantity.specs.Unit.{unit_text}
+use Rattle.mds_quantity.specs.declared.unit.Unit.{Unit as MeasureUnit}
+use Rattle.mds_calendar.specs.Calendar.{date_time_of, day_of, moment_of}
+use Rattle.mds_names.specs.declared.stream.Stream.{Stream}
+use Rattle.mds_marks.specs.Quality.{quality_text}
 use Rattle.mds_marks.specs.Reading.{ReadingValue}
+use Rattle.mds_marks.specs.Reason.{code_text}
 use Rattle.mds_marks.specs.declared.mark.Mark.{Mark}
-use Rattle.mds_runs.specs.Runs.{AreRuns, IsFull, IsLeast, spread_of}
-use Rattle.mds_runs.specs.declared.cover.Run.{Run}
-use Rattle.mds_statements.specs.Statements.{HeaderValue}
-use Rattle.mds_rows.specs.Rows.{IsRowText, RowValue, HeaderRow, DetailsRow, DayRow, RunRow, EndRow}
-use Rattle.mds_export.specs.Placed.{PlacedDay, is_governed, placed_days}
-use Rattle.mds_statements.specs.declared.selected.SelectedDay.{SelectedDay}
-use Rattle.mds_statements.specs.declared.selected.SelectedStream.{SelectedStream}
+use Rattle.mds_terms.specs.BorrowedTexts.{text_of}
+use Rattle.mds_terms.specs.Details.{DetailsValue}
+use Rattle.mds_terms.specs.Parts.{joined, optional}
+use Rattle.mds_lines.specs.Lines.{carriage_return, line_feed}
+use Rattle.mds_export.specs.declared.row.Row.{Row}
+use Rattle.mds_export.specs.declared.row.Row.TheVariants as row
 
--- a list is made of parts, one of each of some things, in their order
-abbrev pub AreInTurn : {T A : Type 0} → (T → List A → Type 0) → List T → List A → Type 0
-AreInTurn Is [] all = all ≡ []
-AreInTurn Is (thing ∷ things) all =
-    (part rest : List _) × (all ≡ part ++ rest) × Is thing part × AreInTurn Is things rest
+-- what a row says, in terms
+pub data RowValue : Type 0 where
+  -- 100: when the file was made, by whom and for whom
+  HeaderRow : (moment : ℕ) → (sender receiver : List ℕ) → RowValue
+  -- 200: of which stream the days after it are, the unit of their values and the length of their intervals
+  DetailsRow : Stream → DetailsValue → MeasureUnit → (minutes : ℕ) → RowValue
+  -- 300: a day's readings, of which it gives the values, the one mark of all intervals, or none where runs follow,
+  -- and the update
+  DayRow : (date : ℕ) → List ReadingValue → Option Mark → (update : ℕ) → RowValue
+  -- 400: the mark of intervals from the first to the last
+  RunRow : (first last : ℕ) → Mark → RowValue
+  -- 900
+  EndRow : RowValue
 
--- the marks of readings
-abbrev pub marks_of : List ReadingValue → List Mark
-marks_of readings = map (λ reading. reading.mark) readings
+abbrev pub row_value : Row → RowValue
+row_value (row.Header r) = HeaderRow r.moment (text_of r.sender) (text_of r.receiver)
+row_value (row.Details r) = DetailsRow r.stream r.details.now r.unit r.length
+row_value (row.Day r) = DayRow r.date r.readings.now (option_map (λ mark. mark.now) r.mark) r.update
+row_value (row.Run r) = RunRow r.first r.last r.mark.now
+row_value row.End = EndRow
 
--- the fewest runs that hold each interval of a day, and give it its mark of these
-pub record AreFewest (marks : List Mark) (runs : List Run) : Type 0 where
-  pub lawful : AreRuns (length marks) runs
-  pub full : IsFull (length marks) runs
-  pub spread : (default : Mark) → spread_of (length marks) runs default ≡ marks
-  pub least : IsLeast (length marks) runs
+-- the text of the moment of a 100
+abbrev pub IsHeaderMoment : ℕ → List ℕ → Type 0
+IsHeaderMoment moment text =
+    (date_time_of text ≡ Some moment) × (length text ≡ (if moment % 60 == 0 then 12 else 14))
 
--- the mark of the 300 of a day with these runs: that of the one run that holds the whole day, and none where there are more
-abbrev pub mark_of_all : List Run → Option Mark
-mark_of_all (run ∷ []) = Some run.mark
-mark_of_all runs = None
+-- the value field of a reading
+abbrev pub value_field : ReadingValue → List ℕ
+value_field reading = written (unwrap_or reading.value (pos 0))
 
--- the 400 of a run
-abbrev pub run_row : Run → RowValue
-run_row run = RunRow run.first run.last run.mark
+-- the fields of a mark: its quality, the code of its reason and the text of that
+abbrev pub mark_fields : Mark → List (List ℕ)
+mark_fields mark = quality_text mark.quality ∷ code_text mark.reason.code ∷ mark.reason.text ∷ []
 
--- the day's 400s: none where one run holds the whole day
-abbrev pub run_rows : List Run → List RowValue
-run_rows (run ∷ []) = []
-run_rows runs = map run_row runs
+-- those of a 300: quality V with an empty reason where runs follow
+abbrev pub own_fields : Option Mark → List (List ℕ)
+own_fields None = codes "V" ∷ [] ∷ [] ∷ []
+own_fields (Some mark) = mark_fields mark
 
--- the 200 of a day
-abbrev pub details_row : PlacedDay → RowValue
-details_row placed =
-    DetailsRow placed.selected.stream placed.selected.details placed.day.unit placed.day.length
+-- the fields of a row, from the record indicator on; days and moments as the texts that read as them
+abbrev pub AreFields : RowValue → List (List ℕ) → Type 0
+AreFields (HeaderRow moment sender receiver) fields = (made : List ℕ) × IsHeaderMoment moment made
+    × (fields ≡ codes "100" ∷ codes "NEM12" ∷ made ∷ sender ∷ receiver ∷ [])
+AreFields (DetailsRow stream details unit minutes) fields = (next : List ℕ) × (optional day_of next ≡ Some details.next)
+    × (fields ≡ codes "200" ∷ stream.nmi ∷ details.configuration ∷ details.register ∷ stream.suffix ∷ details.datastream
+    ∷ details.meter ∷ unit_text unit ∷ decimal minutes ∷ next ∷ [])
+AreFields (DayRow date readings mark update) fields = (day updated : List ℕ) × (day_of day ≡ Some date)
+    × (moment_of updated ≡ Some update)
+    × (fields ≡ codes "300" ∷ day ∷ map value_field readings ++ (own_fields mark ++ updated ∷ [] ∷ []))
+AreFields (RunRow first last mark) fields = fields ≡ codes "400" ∷ decimal first ∷ decimal last ∷ mark_fields mark
+AreFields EndRow fields = fields ≡ codes "900" ∷ []
 
--- it stands before a day that the 200 of the day before doesn't govern
-abbrev pub details_rows : PlacedDay → List RowValue
-details_rows placed = if is_governed placed.before placed.day then [] else details_row placed ∷ []
+-- the line of fields: these joined by commas, CR and LF
+abbrev pub line_of : List (List ℕ) → List ℕ
+line_of fields = joined fields ++ carriage_return ∷ line_feed ∷ []
 
--- the 300 of a day, of one mark or of none
-abbrev pub day_row : SelectedDay → Option Mark → RowValue
-day_row day mark = DayRow day.date day.readings.items mark day.update
-
--- the rows of a day
-abbrev pub AreDayRows : PlacedDay → List RowValue → Type 0
-AreDayRows placed rows =
-    (runs : List Run) × AreFewest (marks_of placed.day.readings.items) runs
-    × (rows ≡ details_rows placed ++ day_row placed.day (mark_of_all runs) ∷ run_rows runs)
-
--- the 100
-abbrev pub header_row : HeaderValue → RowValue
-header_row header = HeaderRow header.moment header.sender header.receiver
-
--- the text of these streams under a header: its lines are those of these rows
-pub record IsExport (header : HeaderValue) (streams : List SelectedStream) (text : List ℕ) : Type 0 where
-  pub rows : List RowValue
-  pub of_days : AreInTurn AreDayRows (placed_days streams) rows
-  pub lines : AreInTurn IsRowText (header_row header ∷ rows ++ EndRow ∷ []) text
+-- the line of a row
+abbrev pub IsRowText : RowValue → List ℕ → Type 0
+IsRowText row text = (fields : List (List ℕ)) × AreFields row fields × (text ≡ line_of fields)

@@ -6,7 +6,7 @@ use Rattle.mds_statements.specs.Statements.Statement.{HeaderOf, DetailsOf, DayOf
 use Rattle.mds_nem12.specs.Faults.{fault_of}
 use Rattle.mds_nem12.specs.Statements.{statements_of}
 use Rattle.mds_export.specs.Placed.{PlacedDay, is_governed, placed_days}
-use Rattle.mds_export.specs.Rows.{IsExport}
+use Rattle.mds_export.specs.Exports.{IsExport}
 use Rattle.mds_statements.specs.declared.selected.SelectedStream.{SelectedStream}
 
 -- a statement, but for the number of its line

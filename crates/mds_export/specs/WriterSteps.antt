@@ -1,11 +1,11 @@
 -- The private steps of writing a selection.
 use Rattle.std.specs.Prelude.{ℕ, List, [], ◌∷◌, ◌++◌}
 use Rattle.mds_runs.specs.declared.cover.Run.{Run}
-use Rattle.mds_rows.specs.ReadBack.{IsLawful}
-use Rattle.mds_rows.specs.Rows.{IsRowText, RowValue, EndRow}
+use Rattle.mds_export.specs.ReadBack.{IsLawful}
+use Rattle.mds_export.specs.Rows.{IsRowText, RowValue, EndRow}
 use Rattle.mds_statements.specs.Statements.{HeaderValue}
 use Rattle.mds_export.specs.Placed.{PlacedDay, placed_days}
-use Rattle.mds_export.specs.Rows.{AreDayRows, AreFewest, AreInTurn, day_row, header_row, mark_of_all, marks_of, run_rows}
+use Rattle.mds_export.specs.Exports.{AreDayRows, AreFewest, AreInTurn, day_row, header_row, mark_of_all, marks_of, run_rows}
 use Rattle.mds_statements.specs.declared.selected.SelectedDay.{SelectedDay}
 use Rattle.mds_statements.specs.declared.selected.SelectedStream.{SelectedStream}
 

@@ -4,7 +4,7 @@ ghost use Rattle.std.specs.Prelude.{◌≡◌, ℕ, List};
 ghost use Rattle.mds_statements.specs.Statements.{HeaderValue};
 ghost use Rattle.mds_export.specs.Lawful.{AreLawful};
 ghost use Rattle.mds_statements.specs.Selected.{AreOrderly};
-ghost use Rattle.mds_export.specs.Rows.{IsExport};
+ghost use Rattle.mds_export.specs.Exports.{IsExport};
 ghost use Rattle.mds_export.specs.Shows.{Shows};
 ghost use Rattle.mds_statements.specs.declared.selected.SelectedStream.{SelectedStream};
 

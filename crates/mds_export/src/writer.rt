@@ -5,7 +5,7 @@ ghost use Rattle.mds_quantity.specs.Append.{Appends};
 ghost use Rattle.mds_statements.specs.Delivered.{header_value};
 ghost use Rattle.mds_export.specs.Shows.{Shows};
 
-use mds_rows::{
+use crate::row::{
     DayRow, DetailsRow, HeaderRow, RunRow, write_day, write_details, write_end, write_header,
     write_run,
 };
@@ -35,10 +35,10 @@ pub fn write_nem12(
 ghost use Rattle.std.specs.Prelude.{◌<◌, ◌≤◌, ◌≢◌, ◌^◌, [], ◌∷◌, None, Some, IfNone, IfSome, map, length, option_map, slice_get};
 ghost use Rattle.std.specs.List.{All};
 ghost use Rattle.mds_runs.specs.declared.cover.Run.{Run};
-ghost use Rattle.mds_rows.specs.Begun.{Begins};
+ghost use Rattle.mds_export.specs.Begun.{Begins};
 ghost use Rattle.mds_statements.specs.Selected.{IsWhole, days_of};
 ghost use Rattle.mds_export.specs.Placed.{is_governed, placed_after, placed_days};
-ghost use Rattle.mds_export.specs.Rows.{AreFewest, AreInTurn, day_row, details_rows, marks_of, run_row};
+ghost use Rattle.mds_export.specs.Exports.{AreFewest, AreInTurn, day_row, details_rows, marks_of, run_row};
 ghost use Rattle.mds_export.specs.WriterSteps.{AreWritten, HasDayText, IsWritten, IsWrittenExport};
 
 /// Appends the whole text, or after an error something of it.
@@ -158,14 +158,18 @@ fn write_readings(day: &SelectedDay, out: &mut Vec<u8>) -> Result<(), AllocError
     ensures grown { OnErr result (Begins out.old.items out.new.items) }
 {
     let Some(mark) = one_mark(&day.readings) else {
-        write_values(day, None, out)?;
+        write_interval_data(day, None, out)?;
         return write_runs(&day.readings, out);
     };
-    write_values(day, Some(mark), out)
+    write_interval_data(day, Some(mark), out)
 }
 
 /// Appends the 300 of a day, of one mark or of variable quality, or after an error something of it.
-fn write_values(day: &SelectedDay, mark: Option<&Mark>, out: &mut Vec<u8>) -> Result<(), AllocError>
+fn write_interval_data(
+    day: &SelectedDay,
+    mark: Option<&Mark>,
+    out: &mut Vec<u8>,
+) -> Result<(), AllocError>
     ensures done { OnOk result ((text : List ℕ) × IsWritten (day_row day.now (option_map (λ mark. mark.now) mark.entry)) text
         × Appends out.old.items out.new.items text) }
     ensures grown { OnErr result (Begins out.old.items out.new.items) }

@@ -9,15 +9,15 @@ ghost use Rattle.mds_fill.specs.FillSteps.{AreFilled, IsGood, IsSource};
 
 use crate::context::Context;
 use crate::sources::{Source, source_of, value_at};
-use crate::targets::{blocked, is_good, refusal};
+use crate::targets::{blocked, is_good};
 use mds_jobs::Job;
 use mds_quantity::Quantity;
 use mds_terms::{Mark, Quality, Reading};
-use mds_versions::{RefusalCode, Stop};
+use mds_versions::{Refusal, RefusalCode, Stop};
 use std::alloc::{AllocError, Global};
 
-/// The readings that a job fills in, one for each interval from its first to its last, or the first
-/// rule that stops it: M5, M6, M8, M7 or M9.
+/// The readings that a job fills in, one for each interval from its first to its last. Else the first rule that stops it:
+/// M5, M6, M8, M7 or M9.
 pub fn fill(alloc: Global, job: &Job, context: &Context) -> Result<Vec<Reading>, Stop>
     requires good { IsBad (content_of job.now) → ⊥ }
     ensures count { IfOk result (λ readings. length readings.items ≡ target_count (content_of job.now)) }
@@ -26,13 +26,14 @@ pub fn fill(alloc: Global, job: &Job, context: &Context) -> Result<Vec<Reading>,
     ensures refused { (w : World) → IsContext w (content_of job.now) context.now
         → IfErr result (λ stop. IfRefused stop (IsFillRefusal w (content_of job.now))) }
 {
+    // For the proof: its intervals are of its day, and its method and its flag are ones that a job may have.
     is_good(job);
     if let Some(refusal) = blocked(&context.target, job) {
         return Err(Stop::Refused(refusal));
     }
     match source_of(job, context) {
         Ok(source) => readings(alloc, job, context, &source),
-        Err(code) => Err(Stop::Refused(refusal(code, 0))),
+        Err(code) => Err(Stop::Refused(Refusal::of_request(code))),
     }
 }
 
@@ -60,7 +61,7 @@ fn readings(
     };
     for interval in job.first..job.last + 1 {
         let Some(value) = value_at(job, context, source, interval) else {
-            return Err(Stop::Refused(refusal(RefusalCode::NoLikeDay, 0)));
+            return Err(Stop::Refused(Refusal::of_request(RefusalCode::NoLikeDay)));
         };
         let Ok(reading) = substitute(job, value) else {
             return Err(Stop::Memory);

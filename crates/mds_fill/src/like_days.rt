@@ -8,9 +8,9 @@ ghost use Rattle.mds_fill.specs.Candidates.{IsCandidate, IsSunday};
 
 use mds_terms::Day;
 
-/// The candidates of a day, nearest first: where it is one of these holidays the four Sundays
-/// before it, and else the same weekday of the four weeks before, of which holidays are left out.
-/// A day that is left out, or would be before 1970, is `None`. It takes no memory.
+/// The candidates of a day, nearest first. Those of a holiday are the four Sundays before it. Those of any other day are
+/// the same weekday of the four weeks before, of which holidays are left out. A day that is left out, or would be before
+/// 1970, is `None`. It takes no memory.
 pub fn candidates(day: Day, holidays: &[Day]) -> [Option<Day>; 4]
     ensures each { (place : ℕ) (slot : Option ℕ) → slice_get result place ≡ Some slot
         → IfSome slot (IsCandidate (λ holiday. Member holiday holidays.now) day place) }

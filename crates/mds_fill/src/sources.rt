@@ -9,17 +9,11 @@ ghost use Rattle.mds_fill.specs.Fills.{Finds, HasAll, IsBookOf, IsContext, IsFil
 ghost use Rattle.mds_fill.specs.FillSteps.{HasNoLikeValue, IsGood, IsLack, IsSource};
 
 use crate::context::Context;
-use crate::targets::INTERPOLATION;
+use crate::targets::method_of;
 use crate::usable::{candidate_value, has_all, usable_value};
-use mds_jobs::Job;
+use mds_jobs::{Job, Method};
 use mds_quantity::{Quantity, between, mean};
 use mds_versions::{DayBook, RefusalCode};
-
-/// The method that copies a like day.
-const LIKE_DAY: u8 = 14;
-
-/// The method that takes the mean of like days.
-const MEAN: u8 = 15;
 
 /// Where the values of a job come from.
 #[derive(Clone, Copy)]
@@ -41,19 +35,15 @@ pub(crate) fn source_of<'a>(job: &Job, context: &'a Context) -> Result<Source<'a
     ensures refused { (w : World) → IsContext w (content_of job.now) context.now
         → IfErr result (IsLack w (content_of job.now)) }
 {
-    if job.method == LIKE_DAY {
-        return match nearest_like_day(job, context) {
+    match method_of(job) {
+        Method::LikeDay => match nearest_like_day(job, context) {
             Some(book) => Ok(Source::LikeDay(book)),
             None => Err(RefusalCode::NoLikeDay),
-        };
+        },
+        Method::MeanOfLikeDays => Ok(Source::LikeDays),
+        Method::Interpolation => line(job, context),
+        Method::Zeros => Ok(Source::Zeros),
     }
-    if job.method == MEAN {
-        return Ok(Source::LikeDays);
-    }
-    if job.method == INTERPOLATION {
-        return line(job, context);
-    }
-    Ok(Source::Zeros)
 }
 
 /// The value of a target from the source of its job. `None` where no like day has one.

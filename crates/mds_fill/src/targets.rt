@@ -4,50 +4,35 @@ ghost use Rattle.std.specs.Prelude.{◌≡◌, ◌≤◌, ℕ, MatchOption};
 ghost use Rattle.std.specs.Bool.{MatchBool};
 ghost use Rattle.mds_names.specs.declared.stream.Stream.{Stream};
 ghost use Rattle.mds_world.specs.World.{World};
-ghost use Rattle.mds_jobs.specs.Jobs.{IsBad, content_of};
+ghost use Rattle.mds_jobs.specs.Jobs.{IsBad, content_of, method_code};
 ghost use Rattle.mds_fill.specs.Fills.{IsBookOf, IsFillRefusal, IsFree, IsLeast, IsProtected, IsProtectedTarget, IsStale, IsStaleTarget, IsTooLong};
 ghost use Rattle.mds_fill.specs.FillSteps.{IsGood};
 
 use crate::usable::is_actual_or_final;
-use mds_jobs::Job;
+use mds_jobs::{Job, Method};
 use mds_terms::Moment;
 use mds_versions::{DayBook, Refusal, RefusalCode};
-
-/// The method that interpolates.
-pub(crate) const INTERPOLATION: u8 = 17;
 
 /// The most minutes that are interpolated.
 const MOST_MINUTES: i64 = 120;
 
-/// What stops a job on its day, before any value is looked for: a target that is protected, else one
-/// that has a version not older, else that there are too many to interpolate.
+/// What stops a job on its day, before any value is looked for. First comes a target that is protected (M5), then one
+/// with a version that isn't older (M6), then too many to interpolate (M8).
 pub(crate) fn blocked(book: &DayBook, job: &Job) -> Option<Refusal>
     requires { IsGood (content_of job.now) }
     ensures { (w : World) → IsBookOf w job.now.stream job.now.day book.now → MatchOption result
         (IsFree w (content_of job.now) × (IsTooLong (content_of job.now) → ⊥)) (IsFillRefusal w (content_of job.now)) }
 {
     if let Some(interval) = first_protected(book, job) {
-        return Some(refusal(RefusalCode::Protected, interval));
+        return Some(Refusal::at_interval(RefusalCode::Protected, interval));
     }
     if let Some(interval) = first_stale(book, job) {
-        return Some(refusal(RefusalCode::StaleUpdate, interval));
+        return Some(Refusal::at_interval(RefusalCode::StaleUpdate, interval));
     }
     if is_too_long(job) {
-        return Some(refusal(RefusalCode::TooLong, 0));
+        return Some(Refusal::of_request(RefusalCode::TooLong));
     }
     None
-}
-
-/// A refusal at an interval, or at none.
-pub(crate) fn refusal(code: RefusalCode, interval: u16) -> Refusal
-    ensures { result ≡ record { code = code; line = 0; field = 0; interval = interval } }
-{
-    Refusal {
-        code,
-        line: 0,
-        field: 0,
-        interval,
-    }
 }
 
 /// The first target whose current reading is A or F.
@@ -69,6 +54,7 @@ fn is_protected(book: &DayBook, interval: u16) -> bool
     ensures { (w : World) (stream : Stream) (day : ℕ) → IsBookOf w stream day book.now
         → MatchBool result (IsProtected w stream day interval) (IsProtected w stream day interval → ⊥) }
 {
+    // For the proof: an interval of a book has one current reading.
     book.is_lawful();
     match book.current(interval) {
         Some(version) => is_actual_or_final(&version.reading),
@@ -107,11 +93,21 @@ fn is_too_long(job: &Job) -> bool
     requires good { IsGood (content_of job.now) }
     ensures { MatchBool result (IsTooLong (content_of job.now)) (IsTooLong (content_of job.now) → ⊥) }
 {
-    if job.method != INTERPOLATION {
-        return false;
+    match method_of(job) {
+        Method::Interpolation => {
+            let count = i64::from(job.last + 1 - job.first);
+            count * job.length.minutes() > MOST_MINUTES
+        }
+        Method::LikeDay | Method::MeanOfLikeDays | Method::Zeros => false,
     }
-    let count = i64::from(job.last + 1 - job.first);
-    count * job.length.minutes() > MOST_MINUTES
+}
+
+/// The method of a job that isn't bad.
+pub(crate) fn method_of(job: &Job) -> Method
+    requires { IsGood (content_of job.now) }
+    ensures { job.now.method ≡ method_code result }
+{
+    Method::of_code(job.method).unwrap()
 }
 
 /// A law: what a job has that isn't bad.
@@ -119,5 +115,6 @@ pub(crate) fn is_good(job: &Job)
     requires { IsBad (content_of job.now) → ⊥ }
     ensures { IsGood (content_of job.now) }
 {
+    // For the proof: a length has at most 288 intervals.
     let _ = job.length.minutes();
 }

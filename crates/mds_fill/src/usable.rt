@@ -18,6 +18,7 @@ pub(crate) fn usable_value(book: &DayBook, job: &Job, interval: u16) -> Option<Q
     ensures { (w : World) (day : ℕ) → IsBookOf w job.now.stream day book.now
         → Finds (IsUsable w (content_of job.now) day interval) result }
 {
+    // For the proof: an interval of a book has one current reading.
     book.is_lawful();
     if !has_form_of(book, job) {
         return None;

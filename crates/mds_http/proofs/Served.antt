@@ -1,6 +1,6 @@
 -- One connection, and more of them.
 use Rattle.std.specs.Prelude.{◌≡◌, ◌+◌, ◌≤◌, ℕ, List, [], ◌∷◌, ◌++◌, length, Option, Result, Ok, Err, refl}
-use Rattle.std.proofs.Common.{ap, subst, sym, arith}
+use Rattle.std.proofs.Common.{subst, arith}
 use Rattle.std.proofs.lemmas.List.{length-append}
 use Rattle.mds_world.specs.World.{World}
 use Rattle.mds_wire.specs.Meaning.{Answer}

@@ -57,8 +57,8 @@ TellsFault (fault.BadHolidays row) status kind body =
     (status ≡ Unprocessable) × (kind ≡ Json) × (body ≡ compact_text (refused (codes "H1") 0 0 row))
 TellsFault fault.Memory status kind body = ⊥
 
--- A request that a target and a body ask for went so, and its answer is told; or they ask for none, that is told, and nothing
--- is changed.
+-- A request that a target and a body ask for went so, and its answer is told. Or they ask for none, this is told, and nothing is
+-- changed.
 abbrev pub Handled : Route → (target body : List ℕ) → Status → Kind → (text : List ℕ) → (is_same : Type 0)
     → (goes : Request → Answer → Type 0) → Type 0
 Handled route target body status kind text is_same goes =

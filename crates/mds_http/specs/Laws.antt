@@ -59,9 +59,9 @@ module _ {K : Type 0} (honest sound : K → Type 0) (world : K → World) (may_l
       (next : StoreHandler K) × MeansOver honest sound world may_leave connection.0 old connection.1 next
       × AreServed next connections new
 
-  -- Connections are a run of the machine: of the requests that they ask for, each once and in their order, with the answers
-  -- that they were told. A store that is sound keeps the World of the run, and a crash leaves it, or it with one more whole
-  -- request whose answer was Unavailable.
+  -- Connections are a run of the machine. It does the requests that they ask for, each once and in their order, with the answers
+  -- that they were told. A store that is sound keeps the World of the run. A crash leaves it, or it with one more whole request
+  -- whose answer was Unavailable.
   abbrev pub ConnectionsRun : Type 0
   ConnectionsRun = (connections : List (List ℕ × Answer)) (first last : StoreHandler K)
       → AreServed first connections last → honest last.keeper → sound first.keeper → IsLawful (world first.keeper)

@@ -16,10 +16,10 @@ use std::{io, thread};
 /// How many seconds a peer may take for the answer.
 const ANSWER_SECONDS: u64 = 60;
 
-/// For how many it is waited for whatever else a peer sends whose request was refused.
+/// For how many seconds the service reads what a peer still sends after a refusal.
 const REST_SECONDS: u64 = 1;
 
-/// How often in a row no connection may be accepted before the service ends.
+/// How many times in a row `accept` may fail before the service ends.
 const MOST_FAILURES: u32 = 1_000;
 
 /// How many milliseconds it waits after each such failure.
@@ -30,11 +30,10 @@ pub fn listen(rt: &HostRuntime, port: u16) -> io::Result<TcpListener> {
     TcpListener::bind(rt, SocketAddr::from((Ipv4Addr::LOCALHOST, port)))
 }
 
-/// Serves so many connections, one after the other. A fault ends its connection alone. One that can't be accepted is none; where
-/// that goes on for too long, the service ends.
+/// Serves so many connections, one after the other. A fault ends its connection alone. A connection that can't be accepted counts
+/// for nothing. Where that goes on for too long, the service ends.
 ///
-/// Nothing changes the store but what the bytes of these connections mean, so that all of it is one run of the machine
-/// (`laws_of`).
+/// Nothing changes the store but what the bytes of these connections mean. So all of it is one run of the machine (`laws_of`).
 pub fn serve_connections<F: RouteFinder, K: Keeper>(
     rt: &HostRuntime,
     routes: &F,
@@ -52,7 +51,7 @@ pub fn serve_connections<F: RouteFinder, K: Keeper>(
     }
 }
 
-/// The next connection, or none where so many calls in a row failed, each with a pause behind it.
+/// The next connection. `None` where too many calls in a row failed, each with a pause behind it.
 fn accept(rt: &HostRuntime, listener: &TcpListener) -> Option<TcpStream> {
     for _ in 0..MOST_FAILURES {
         match listener.accept() {
@@ -80,8 +79,8 @@ fn serve_connection<F: RouteFinder, K: Keeper>(
     }
 }
 
-/// Reads what a peer still sends whose request was refused, up to 16 MB of it. A connection that is closed before may take the
-/// answer with it.
+/// Reads what a peer still sends whose request was refused, up to 16 MB of it. If the connection were closed before, the peer
+/// might never see the answer.
 fn read_rest(rt: &HostRuntime, stream: &TcpStream) {
     if stream.shutdown(Shutdown::Write).is_err() {
         return;

@@ -5,8 +5,8 @@ ghost use Rattle.mds_http.specs.Laws.{ConnectionsRun, NoHeadNoChange, RefusedNoC
 use crate::handling::StoreHandler;
 use mds_versions::Keeper;
 
-/// Laws of a store over HTTP. Connections one after the other are a run of the machine; bytes that hold no head, or one that is
-/// refused, change nothing; nor do those that ask for no request.
+/// Laws of a store over HTTP. Connections one after the other are a run of the machine. Bytes that hold no head, or one that is
+/// refused, change nothing. Nor do those that ask for no request.
 pub fn laws_of<K: Keeper>()
     ensures run { ConnectionsRun K.honest K.sound K.world K.may_leave }
     ensures no_head { NoHeadNoChange K.honest K.sound K.world K.may_leave }

@@ -1,5 +1,5 @@
-//! A store over HTTP: what a request asks for is done by one step of the machine, and its answer is told; and the service, connections
-//! to a port of 127.0.0.1, one after the other, each with one request.
+//! A store over HTTP. One step of the machine does what a request asks for, and its answer is told. The service has a port of
+//! 127.0.0.1, and takes its connections one after the other, each with one request.
 #![tactic(auto)]
 
 mod connections;

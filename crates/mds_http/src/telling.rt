@@ -7,14 +7,14 @@ ghost use Rattle.mds_wire.specs.Serving.{short_answer};
 ghost use Rattle.mds_http.specs.Handling.{TellsFault, status_of as status_of_answer, status_of_rule as status_of_code};
 ghost use Rattle.mds_http.specs.TellingSteps.{TellsOrNot, TellsWhole};
 
-use mds_answers::{answer_json, holidays_json};
+use mds_answers::{holidays_json, list_json, short_json};
 use mds_messages::Answer;
 use mds_versions::RefusalCode;
 use mds_wire::{Kind, Status};
 use std::alloc::Global;
 
-/// Writes the text of an answer, and says its status and its type. Where the text of a list has no memory, `Unavailable` is
-/// told in its place.
+/// Writes the text of an answer, and says its status and its type. Where the text of a list has no memory, `Unavailable` is told
+/// in its place (U1).
 pub(crate) fn tell(alloc: Global, answer: Answer, out: &mut Vec<u8>) -> (Status, Kind)
     requires empty { out.old.items ≡ [] }
     requires room { short_answer ≤ vec_capacity out.old }
@@ -28,7 +28,7 @@ pub(crate) fn tell(alloc: Global, answer: Answer, out: &mut Vec<u8>) -> (Status,
     }
 }
 
-/// Tells a text of an answer, which isn't copied.
+/// Tells the text that an answer has, without a copy of it.
 fn tell_text(text: Vec<u8>, out: &mut Vec<u8>) -> (Status, Kind)
     ensures { (result ≡ (Status.Success, Kind.Csv)) × (out.new.items ≡ text.items) }
 {
@@ -47,7 +47,7 @@ fn tell_json(alloc: Global, answer: &Answer, out: &mut Vec<u8>) -> (Status, Kind
         Answer::Day(_) | Answer::Versions(_) | Answer::Period(_) | Answer::Streams(_) => {
             tell_list(alloc, answer, out)
         }
-        _ => tell_short(alloc, answer, out),
+        _ => tell_short(answer, out),
     }
 }
 
@@ -58,31 +58,30 @@ fn tell_list(alloc: Global, answer: &Answer, out: &mut Vec<u8>) -> (Status, Kind
     requires room { short_answer ≤ vec_capacity out.old }
     ensures { TellsOrNot answer.now result.0 result.1 out.new.items }
 {
-    let mut text = Vec::new(alloc);
-    match answer_json(alloc, answer, &mut text) {
-        Ok(()) => {
+    match list_json(alloc, answer) {
+        Ok(text) => {
             *out = text;
             (status_of(answer), Kind::Json)
         }
-        Err(_) => tell_short(alloc, &Answer::Unavailable, out),
+        Err(_) => tell_short(&Answer::Unavailable, out),
     }
 }
 
 /// Writes the text of an answer for which there is room.
-fn tell_short(alloc: Global, answer: &Answer, out: &mut Vec<u8>) -> (Status, Kind)
+fn tell_short(answer: &Answer, out: &mut Vec<u8>) -> (Status, Kind)
     requires text { has_text answer.now ≡ false }
     requires list { has_list answer.now ≡ false }
     requires empty { out.old.items ≡ [] }
     requires room { short_answer ≤ vec_capacity out.old }
     ensures { TellsWhole answer.now result.0 result.1 out.new.items }
 {
-    let Ok(()) = answer_json(alloc, answer, out) else {
+    let Ok(()) = short_json(answer, out) else {
         unreachable!();
     };
     (status_of(answer), Kind::Json)
 }
 
-/// The status of an answer.
+/// The status of an answer: 422 for a fault of a file, 503 for U1, and 200 where nothing is refused.
 fn status_of(answer: &Answer) -> Status
     ensures { result ≡ status_of_answer answer.now }
 {
@@ -94,7 +93,7 @@ fn status_of(answer: &Answer) -> Status
     }
 }
 
-/// The status of a refusal.
+/// The status of a refusal: 404 for M10, 409 for M1 to M6, and 422 for the others.
 fn status_of_rule(code: RefusalCode) -> Status
     ensures { result ≡ status_of_code code }
 {
@@ -126,7 +125,7 @@ pub(crate) fn refuse_target(out: &mut Vec<u8>) -> (Status, Kind)
     (Status::BadRequest, Kind::Json)
 }
 
-/// Tells the row from which on a list of holidays differs.
+/// Tells the first row of a list of holidays that isn't as it has to be (H1).
 pub(crate) fn refuse_holidays(row: u64, out: &mut Vec<u8>) -> (Status, Kind)
     requires empty { out.old.items ≡ [] }
     requires room { short_answer ≤ vec_capacity out.old }

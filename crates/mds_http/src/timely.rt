@@ -1,12 +1,13 @@
-//! The ends of a connection that give a peer so much time and no more.
+//! The ends of a connection. They give a peer so much time and no more.
 
 use std::io;
 use std::io::{ErrorKind, Read, Write};
 use std::net::TcpStream;
 use std::time::{Duration, Instant};
 
-/// A connection whose reads, or whose writes, have to be done in a time that begins with the first of them: once it is up, each
-/// further one fails. So a peer that sends or takes nothing, or a byte now and then, doesn't hold the service up.
+/// A connection whose reads, or whose writes, have a time in which they have to be done. It begins with the first of them, and
+/// once it is up each further one fails. So a peer that sends or takes nothing, or a byte now and then, doesn't hold the service
+/// up.
 #[derive(Drop)]
 pub(crate) struct Timely<'a> {
     rt: &'a HostRuntime,
@@ -15,8 +16,8 @@ pub(crate) struct Timely<'a> {
     begun: Option<Instant>,
 }
 
-/// The reads of a request, whose time grows with what has come of it: a peer that only connects is let go soon, and one that sends
-/// a large body has the whole time.
+/// The reads of a request, whose time grows with what has come of it. A peer that only connects is let go soon, and one that
+/// sends a large body has the whole time.
 #[derive(Drop)]
 pub(crate) struct TimelyRequest<'a> {
     reads: Timely<'a>,

@@ -17,8 +17,8 @@ use Rattle.mds_inserts.specs.declared.periods.PeriodRow.{PeriodRow}
 use Rattle.mds_tables.specs.Cells.{detail_cells, event_cells, head_cells, holiday_cells, job_cells, period_cells, version_cells}
 use Rattle.mds_tables.specs.RowFacts.{detail_fact, event_fact, head_fact, holiday_fact, job_fact, natural, period_fact, version_fact}
 
--- How things of one kind are kept: the place of their table in the schema and its tree, the row of each without a rowid,
--- its fact, and the fact that a row of the table says.
+-- How things of one kind are kept. A table has a place in the schema and a tree. Each thing has a row, without a rowid, and a
+-- fact. A row of the table says a fact.
 pub record Part (A : Type 0) : Type 0 where
   pub place : ℕ
   pub tree : ℕ

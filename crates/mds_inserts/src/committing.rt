@@ -18,7 +18,7 @@ use mds_tables::ready;
 use mds_versions::Additions;
 use sqlite::{Alter, Connection, Error, Transaction};
 
-/// Puts all of it, a table before those that refer to it.
+/// Puts all rows. Those of a table come before those that refer to them.
 fn put_all<S: Alter>(
     tx: &mut Transaction<'_, S>,
     additions: &Additions,
@@ -45,7 +45,7 @@ fn put_all<S: Alter>(
     put_each(tx, jobs)
 }
 
-/// Puts all of it in a transaction of its own.
+/// Puts all rows in a transaction of its own.
 fn write<S: Alter>(
     conn: &mut Connection<S>,
     additions: &Additions,
@@ -68,9 +68,8 @@ fn write<S: Alter>(
     tx.commit()
 }
 
-/// Commits additions to the World that a store keeps: all of them, or nothing. Each becomes one row, column by column. A
-/// crash leaves what was kept, or that with all of them. Of the accumulations and the jobs among them their rows are given
-/// (`period_rows`, `job_rows`).
+/// Commits additions to the World that a store keeps: all of them, or nothing. Each becomes one row, column by column. A crash
+/// leaves what was kept, or that with all of them. For accumulations and jobs the rows are given (`period_rows`, `job_rows`).
 pub fn commit<S: Alter>(
     conn: &mut Connection<S>,
     additions: &Additions,
@@ -83,7 +82,7 @@ pub fn commit<S: Alter>(
     ensures ok { HasCleanDisk (state S.Store conn.new) → Holds (state S.Store conn.old)
         → OnOk result (Commits (state S.Store conn.old) (state S.Store conn.new) additions.now) }
     ensures err { HasCleanDisk (state S.Store conn.new) → OnErr result (KeepsCommit (state S.Store conn.old) (state S.Store conn.new)) }
-    // The store failed, or the tables refuse one of the rows beside those that they have by then.
+    // The store failed, or the tables refuse one of the rows. They may refuse it for the rows that they have by then.
     ensures cause { HasCleanDisk (state S.Store conn.new) → Holds (state S.Store conn.old)
         → IfErr result (FailsToPut (state S.Store conn.old) (state S.Store conn.new) (rows_in additions.now periods.now jobs.now) (state S.Store conn.old).committed) }
     ensures mode { conn.new.in_transaction ≡ false }

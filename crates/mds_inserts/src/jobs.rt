@@ -18,8 +18,8 @@ pub struct JobRow {
     pub(crate) count: i64,
 }
 
-/// The row of each job, in their order. Unavailable where there is no memory for their texts, or for a job that no row
-/// holds: one whose flag is no capital letter, or whose count is 2^63 or more.
+/// The row of each job, in their order. It is Unavailable where there is no memory for their texts (U1). So it is for a
+/// job that no row holds: its flag is no capital letter, or its count is 2^63 or more.
 pub fn job_rows(alloc: Global, jobs: &[(Job, u64)]) -> Result<Vec<JobRow>, Unavailable>
     ensures rows { IfOk result (λ rows. AreRowsOf IsRowOfJob jobs.now rows.items) }
     ensures none { OnErr result (0 < length jobs.now) }

@@ -103,12 +103,12 @@ fn put_version<S: Alter>(
     Ok(())
 }
 
-/// How many versions of a day one statement puts, where so many are left. A quarter of the time of a statement with one row
-/// isn't spent on the row.
+/// How many versions of a day one statement puts, where so many are left. A statement of one row spends a quarter of its time on
+/// other things than the row.
 const TOGETHER: usize = 8;
 
-/// A version with its interval, and the letters of the text of its quality, of which `count` are that text. They lie here, since
-/// the columns are lent.
+/// A version with its interval, and the text of its quality: the first `count` letters. They lie here, since the columns are
+/// lent.
 #[derive(Clone, Copy)]
 struct Lettered<'a> {
     row: &'a (u16, Version),
@@ -188,7 +188,7 @@ fn eight_cells<'a>(
     ]
 }
 
-/// Whether an error is one by which a store tells that it failed.
+/// Whether an error says that the store failed.
 fn is_failure(e: &Error) -> bool
     ensures { result ≡ is_store_error e.now }
 {
@@ -251,8 +251,8 @@ fn names_are_short(stream: &Stream)
     let _ = stream.suffix.text();
 }
 
-/// Puts the rows of eight versions of a day by one statement. Where the tables refuse it, it doesn't tell which row is to blame:
-/// then they are put one by one, up to that row.
+/// Puts the rows of eight versions of a day by one statement. Where the tables refuse it, it doesn't tell which row is to blame.
+/// Then the rows are put one by one, up to that row.
 fn put_eight<S: Alter>(
     tx: &mut Transaction<'_, S>,
     stream: &Stream,
@@ -307,7 +307,7 @@ fn put_rows<S: Alter>(
     Ok(())
 }
 
-/// Puts the rows of a day's versions, eight at a time, and then those that are left.
+/// Puts the rows of a day's versions, eight at a time, and those that are left one by one.
 fn put_day<S: Alter>(tx: &mut Transaction<'_, S>, added: &DayVersions) -> Result<(), Error>
     ensures same_reference { tx.new.conn.ghost_name ≡ tx.old.conn.ghost_name }
     ensures ok { OnOk result (PutsThere version_part (state S.Store tx.old.conn.now) (state S.Store tx.new.conn.now) (day_versions added.now)) }
@@ -388,7 +388,7 @@ impl Put for PeriodRow {
     }
 }
 
-/// A holiday.
+/// A day, as a holiday.
 impl Put for Day {
     ghost part = { holiday_part };
 

@@ -1,8 +1,7 @@
 -- What the parts of a job's body say is the job.
-use Rattle.std.proofs.Common.{◌≡◌, ℕ, ◌<◌, ◌^◌, ◌⊎◌, inl, inr, Bool, true, false, ◌&&◌, List, [], ◌∷◌, get_or, IsTrue, if◌then◌else◌, refl, sym, ap, subst, ◌∙◌, arith, rules, decimal, Option, Some, None}
+use Rattle.std.proofs.Common.{◌≡◌, ℕ, ◌<◌, ◌^◌, ◌⊎◌, inl, inr, Bool, true, false, List, [], ◌∷◌, get_or, if◌then◌else◌, refl, sym, ap, subst, ◌∙◌, arith, decimal, Option, Some, None}
 use Rattle.std.proofs.lemmas.Bool.Decides.{nat_tests}
 use Rattle.std.proofs.lemmas.Fmt.{decimal_is_IsNumeral}
-use Rattle.std.proofs.lemmas.Grind.{common_steps}
 use Rattle.std.specs.Borrow.{Bor}
 use Rattle.std.specs.Char.{is_ascii_uppercase}
 use Rattle.std.specs.Fmt.{digits}
@@ -11,7 +10,6 @@ use Rattle.std.specs.Option.{option_and_then, option_map}
 use Rattle.mds_quantity.specs.Unit.{unit_of, unit_text}
 use Rattle.mds_quantity.specs.declared.unit.Unit.{Unit as MeasureUnit}
 use Rattle.mds_quantity.specs.declared.unit.Unit.TheVariants.{MWh, KWh, Wh, MVArh, KVArh, VArh, MVAr, KVAr, VAr, MW, KW, W, MVAh, KVAh, VAh, MVA, KVA, VA, KV, V, KA, A, Pf}
-use Rattle.mds_calendar.specs.Calendar.{day_of, moment_of}
 use Rattle.mds_calendar.specs.Length.{is_length, length_of}
 use Rattle.mds_names.specs.Names.{is_name, nmi_length, nmi_of, suffix_length, suffix_of}
 use Rattle.mds_marks.specs.Mark.{mark_of}
@@ -22,16 +20,16 @@ use Rattle.mds_marks.proofs.Splits.{mark_reads}
 use Rattle.mds_world.specs.Facts.{JobContent}
 use Rattle.mds_jobs.specs.Bodies.{IsJobBody, IsLawfulJob, job_in, parts_of}
 use Rattle.mds_jobs.specs.BodySteps.{SaysManner, SaysPlace, Writes, flag_of, part_at, texts_of}
-use Rattle.mds_jobs.specs.declared.body.Manner.{Manner}
-use Rattle.mds_jobs.specs.declared.body.Place.{Place}
+use Rattle.mds_jobs.specs.declared.job.JobManner.{JobManner}
+use Rattle.mds_jobs.specs.declared.job.JobPlace.{JobPlace}
 use Rattle.mds_jobs.proofs.BodySplits.{part_is}
-use Rattle.mds_jobs.proofs.BodyTexts.{body_parts, is_marked, length_below, marked, texts_of_job}
+use Rattle.mds_jobs.proofs.BodyTexts.{body_parts, is_marked, marked}
 
 -- a job's parts, as they are read
-abbrev pub place_of : JobContent → Place
+abbrev pub place_of : JobContent → JobPlace
 place_of job = record { stream = job.stream; day = job.day; first = job.first; last = job.last }
 
-abbrev pub manner_of : JobContent → Manner
+abbrev pub manner_of : JobContent → JobManner
 manner_of job = record { length = job.length; unit = job.unit; method = job.method; flag = job.flag; update = job.update }
 
 abbrev pub reason_in : JobContent → ReasonValue

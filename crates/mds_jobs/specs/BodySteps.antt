@@ -1,5 +1,5 @@
 -- How the parts of a job's body are read, one by one.
-use Rattle.std.specs.Prelude.{◌≡◌, ◌<◌, ◌^◌, ℕ, Bool, ◌&&◌, ◌==◌, if◌then◌else◌, List, [], length, map, Option, Some, None}
+use Rattle.std.specs.Prelude.{◌≡◌, ◌<◌, ◌^◌, ℕ, ◌&&◌, ◌==◌, if◌then◌else◌, List, [], length, map, Option, Some, None}
 use Rattle.std.specs.Borrow.{Bor}
 use Rattle.std.specs.Char.{is_ascii_uppercase}
 use Rattle.std.specs.List.{slice_index_or}
@@ -8,8 +8,8 @@ use Rattle.mds_quantity.specs.Unit.{unit_of}
 use Rattle.mds_calendar.specs.Calendar.{day_of, moment_of}
 use Rattle.mds_calendar.specs.Length.{length_of}
 use Rattle.mds_names.specs.Names.{nmi_of, suffix_of}
-use Rattle.mds_jobs.specs.declared.body.Place.{Place}
-use Rattle.mds_jobs.specs.declared.body.Manner.{Manner}
+use Rattle.mds_jobs.specs.declared.job.JobManner.{JobManner}
+use Rattle.mds_jobs.specs.declared.job.JobPlace.{JobPlace}
 
 -- what borrowed texts are
 abbrev pub texts_of : List (Bor (List ℕ)) → List (List ℕ)
@@ -31,7 +31,7 @@ flag_of text =
     if (length text == 1) && is_ascii_uppercase (slice_index_or text 0 0) then Some (slice_index_or text 0 0) else None
 
 -- which intervals are filled
-pub record SaysPlace (parts : List (List ℕ)) (place : Place) : Type 0 where
+pub record SaysPlace (parts : List (List ℕ)) (place : JobPlace) : Type 0 where
   pub nmi : nmi_of (part_at parts 0) ≡ Some place.stream.nmi
   pub suffix : suffix_of (part_at parts 1) ≡ Some place.stream.suffix
   pub day : day_of (part_at parts 2) ≡ Some place.day
@@ -39,7 +39,7 @@ pub record SaysPlace (parts : List (List ℕ)) (place : Place) : Type 0 where
   pub last : Writes 16 (part_at parts 4) place.last
 
 -- how they are filled, but for the reason
-pub record SaysManner (parts : List (List ℕ)) (manner : Manner) : Type 0 where
+pub record SaysManner (parts : List (List ℕ)) (manner : JobManner) : Type 0 where
   pub length : length_of (part_at parts 5) ≡ Some manner.length
   pub unit : unit_of (part_at parts 6) ≡ Some manner.unit
   pub method : Writes 8 (part_at parts 7) manner.method

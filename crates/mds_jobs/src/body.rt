@@ -11,40 +11,21 @@ ghost use Rattle.mds_world.specs.Facts.{JobContent};
 ghost use Rattle.mds_jobs.specs.Bodies.{IsJobBody, IsLawfulJob, job_in, parts_of};
 ghost use Rattle.mds_jobs.specs.BodySteps.{SaysManner, SaysPlace, Writes, flag_of, texts_of};
 ghost use Rattle.mds_jobs.specs.Jobs.{IsBad, content_of};
-ghost use Rattle.mds_jobs.specs.declared.body.Manner.{Manner};
-ghost use Rattle.mds_jobs.specs.declared.body.Place.{Place};
 ghost use Rattle.mds_jobs.specs.declared.job.Job.{Job};
+ghost use Rattle.mds_jobs.specs.declared.job.JobManner.{JobManner};
+ghost use Rattle.mds_jobs.specs.declared.job.JobPlace.{JobPlace};
 
-use crate::job::Job;
+use crate::job::{Job, JobManner, JobPlace};
 use crate::job_id::JobId;
 use itoa::Buffer;
 use mds_marks::Reason;
 use mds_quantity::Unit;
-use mds_terms::{Day, Length, Moment, Stream, one_day_text, one_moment_text, write_joined};
+use mds_terms::{Day, Length, Moment, Stream, write_joined};
 use std::alloc::{AllocError, Global};
 use std::str;
 
 /// How many texts a body has.
 const PARTS: usize = 12;
-
-/// Which intervals a job fills.
-#[derive(Clone, Copy)]
-struct Place {
-    stream: Stream,
-    day: Day,
-    first: u16,
-    last: u16,
-}
-
-/// How it fills them, but for the reason.
-#[derive(Clone, Copy)]
-struct Manner {
-    length: Length,
-    unit: Unit,
-    method: u8,
-    flag: u8,
-    update: Moment,
-}
 
 /// The texts between the commas of a body.
 #[derive(Clone, Copy)]
@@ -122,31 +103,16 @@ impl Job {
         let Some(reason) = Reason::read(alloc, parts.texts[9], parts.texts[10])? else {
             return Ok(None);
         };
-        Ok(Some(Job {
-            id,
-            stream: place.stream,
-            day: place.day,
-            first: place.first,
-            last: place.last,
-            length: manner.length,
-            unit: manner.unit,
-            method: manner.method,
-            flag: manner.flag,
-            reason,
-            update: manner.update,
-        }))
+        Ok(Some(Job::new(id, place, manner, reason)))
     }
 }
 
-/// A law: the body of a lawful job says this job, and a job has one body.
+/// A law: the body of a lawful job says this job, and a job has one body. The function does nothing.
 pub fn bodies_read_back()
     ensures says { (job : JobContent) (body : List ℕ)
         → IsLawfulJob job → IsJobBody job body → job_in (parts_of body) ≡ job }
     ensures only { (job : JobContent) (a b : List ℕ) → IsJobBody job a → IsJobBody job b → a ≡ b }
-{
-    one_day_text();
-    one_moment_text();
-}
+{}
 
 /// The text that digits are.
 fn digits_text(digits: &[u8]) -> &str
@@ -230,11 +196,11 @@ fn parts_in(body: &[u8]) -> Option<Parts<'_>>
 }
 
 /// Which intervals the parts of a body name.
-fn place_in(parts: &Parts<'_>) -> Option<Place>
+fn place_in(parts: &Parts<'_>) -> Option<JobPlace>
     ensures some { IfSome result (λ place. SaysPlace (texts_of parts.now.texts) place) }
-    ensures none { IfNone result ((place : Place) → SaysPlace (texts_of parts.now.texts) place → ⊥) }
+    ensures none { IfNone result ((place : JobPlace) → SaysPlace (texts_of parts.now.texts) place → ⊥) }
 {
-    Some(Place {
+    Some(JobPlace {
         stream: Stream::read(parts.texts[0], parts.texts[1])?,
         day: Day::read(parts.texts[2])?,
         first: number_in(parts.texts[3])?,
@@ -243,11 +209,11 @@ fn place_in(parts: &Parts<'_>) -> Option<Place>
 }
 
 /// How they are filled.
-fn manner_in(parts: &Parts<'_>) -> Option<Manner>
+fn manner_in(parts: &Parts<'_>) -> Option<JobManner>
     ensures some { IfSome result (λ manner. SaysManner (texts_of parts.now.texts) manner) }
-    ensures none { IfNone result ((manner : Manner) → SaysManner (texts_of parts.now.texts) manner → ⊥) }
+    ensures none { IfNone result ((manner : JobManner) → SaysManner (texts_of parts.now.texts) manner → ⊥) }
 {
-    Some(Manner {
+    Some(JobManner {
         length: Length::read(parts.texts[5])?,
         unit: Unit::read(parts.texts[6])?,
         method: method_in(parts.texts[7])?,

@@ -3,17 +3,18 @@
 ghost use Rattle.std.specs.Prelude.{◌≡◌, ◌↔◌, IsTrue, IfOk, OnErr, ◌<◌, length as text_length};
 ghost use Rattle.std.specs.Bool.{MatchBool};
 ghost use Rattle.mds_world.specs.Lists.{Member};
-ghost use Rattle.mds_jobs.specs.Jobs.{HasPlaceOf, IsBad, content_of, flags, methods};
+ghost use Rattle.mds_jobs.specs.Jobs.{HasPlaceOf, IsBad, content_of, flags, job_of_parts};
 
 use crate::job_id::JobId;
+use crate::method::Method;
 use mds_marks::Reason;
 use mds_marks::flags::{ESTIMATED, FINAL, SUBSTITUTED};
 use mds_quantity::Unit;
 use mds_terms::{Day, Length, Moment, Stream};
 use std::alloc::AllocError;
 
-/// What is to be filled in: the intervals `first` to `last`, counted from 1, of a day of a stream,
-/// which have this length and unit. MDFF Specification, appendix of method flags.
+/// What is to be filled in: the intervals `first` to `last`, counted from 1, of a day of a stream. They have this
+/// length and unit.
 #[derive(Drop)]
 pub struct Job {
     pub id: JobId,
@@ -23,7 +24,7 @@ pub struct Job {
     pub last: u16,
     pub length: Length,
     pub unit: Unit,
-    /// 14 copies a like day, 15 takes the mean of like days, 17 interpolates, and 19 puts zeros.
+    /// The code of its method ([`Method`]). A job of any other code is bad.
     pub method: u8,
     /// The quality flag of what is filled in: E, F or S (`mds_marks::flags`). A job of any other byte is bad.
     pub flag: u8,
@@ -32,23 +33,62 @@ pub struct Job {
     pub update: Moment,
 }
 
+/// Which intervals a job fills: a part of a [`Job`].
+#[derive(Clone, Copy)]
+pub struct JobPlace {
+    pub stream: Stream,
+    pub day: Day,
+    pub first: u16,
+    pub last: u16,
+}
+
+/// How a job fills them, but for the reason: a part of a [`Job`].
+#[derive(Clone, Copy)]
+pub struct JobManner {
+    pub length: Length,
+    pub unit: Unit,
+    pub method: u8,
+    pub flag: u8,
+    pub update: Moment,
+}
+
 impl Job {
-    /// Whether no store can do it (M11): `first` is 0, `last` is below `first` or above the count of
-    /// the length, the method isn't 14, 15, 17 or 19, or the flag isn't E, F or S.
+    /// The job of these parts, which may be bad.
+    pub fn new(id: JobId, place: JobPlace, manner: JobManner, reason: Reason) -> Job
+        ensures { result ≡ job_of_parts id place manner reason }
+    {
+        Job {
+            id,
+            stream: place.stream,
+            day: place.day,
+            first: place.first,
+            last: place.last,
+            length: manner.length,
+            unit: manner.unit,
+            method: manner.method,
+            flag: manner.flag,
+            reason,
+            update: manner.update,
+        }
+    }
+
+    /// Whether no store can do it (M11). Its intervals are none of a day: `first` is 0, or `last` is below `first` or
+    /// above the count of the length. Or it has no [`Method`], or its flag isn't E, F or S.
     pub fn is_bad(&self) -> bool
         ensures { MatchBool result (IsBad (content_of self.now)) (IsBad (content_of self.now) → ⊥) }
     {
         let is_within = self.first >= 1
             && self.first <= self.last
             && usize::from(self.last) <= self.length.count();
-        !is_within || !is_method(self.method) || !is_flag(self.flag)
+        !is_within || Method::of_code(self.method).is_none() || !is_flag(self.flag)
     }
 
     /// Whether both are the same in all their parts.
     pub fn is_same(&self, other: &Job) -> bool
         ensures { IsTrue result ↔ (self.now ≡ other.now) }
     {
-        self.has_place_of(other)
+        self.id.text() == other.id.text()
+            && self.has_place_of(other)
             && self.length == other.length
             && self.unit == other.unit
             && self.method == other.method
@@ -57,12 +97,11 @@ impl Job {
             && self.update == other.update
     }
 
-    /// Whether both have one id, and fill the same intervals.
+    /// Whether both fill the same intervals.
     fn has_place_of(&self, other: &Job) -> bool
         ensures { IsTrue result ↔ HasPlaceOf self.now other.now }
     {
-        is_same_id(&self.id, &other.id)
-            && is_same_stream(&self.stream, &other.stream)
+        self.stream == other.stream
             && self.day == other.day
             && self.first == other.first
             && self.last == other.last
@@ -90,31 +129,9 @@ impl Job {
     }
 }
 
-/// Whether a job may have a method.
-fn is_method(method: u8) -> bool
-    ensures { MatchBool result (Member method methods) (Member method methods → ⊥) }
-{
-    matches!(method, 14 | 15 | 17 | 19)
-}
-
 /// Whether a job may have a flag.
 fn is_flag(flag: u8) -> bool
     ensures { MatchBool result (Member flag flags) (Member flag flags → ⊥) }
 {
     matches!(flag, ESTIMATED | FINAL | SUBSTITUTED)
-}
-
-/// Whether two ids are the same.
-fn is_same_id(a: &JobId, b: &JobId) -> bool
-    ensures { IsTrue result ↔ (a.now ≡ b.now) }
-{
-    a.text();
-    a == b
-}
-
-/// Whether two streams are the same.
-fn is_same_stream(a: &Stream, b: &Stream) -> bool
-    ensures { IsTrue result ↔ (a.now ≡ b.now) }
-{
-    a.nmi() == b.nmi() && a.suffix() == b.suffix()
 }

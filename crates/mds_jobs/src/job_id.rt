@@ -9,8 +9,8 @@ ghost use Rattle.mds_jobs.specs.Ids.{is_id_char, is_job_id, job_id_of};
 use std::marker::Model;
 use std::str;
 
-/// The name that the holder of a store gives to a substitution job: 1 to 36 letters (A to Z, a to z),
-/// digits and hyphens (profile). Its order is that of its bytes.
+/// The name that the holder of a store gives to a substitution job. It has 1 to 36 letters (A to Z, a to z), digits
+/// and hyphens (profile). Its order is that of its bytes.
 #[derive(Clone, Copy, Debug, PartialEq, Eq, PartialOrd, Ord)]
 pub struct JobId {
     /// Its text, and 0 behind it.

@@ -5,7 +5,9 @@
 mod body;
 mod job;
 mod job_id;
+mod method;
 
 pub use body::bodies_read_back;
-pub use job::Job;
+pub use job::{Job, JobManner, JobPlace};
 pub use job_id::JobId;
+pub use method::Method;

@@ -16,9 +16,9 @@ use Rattle.mds_statements.specs.Statements.{HeaderValue}
 use Rattle.mds_statements.specs.Selected.{stream_cmp}
 use Rattle.mds_statements.specs.declared.selected.SelectedDay.{SelectedDay}
 use Rattle.mds_statements.specs.declared.selected.SelectedStream.{SelectedStream}
-use Rattle.mds_rows.specs.Rows.{DayRow, DetailsRow, RowValue}
+use Rattle.mds_export.specs.Rows.{DayRow, DetailsRow, RowValue}
 use Rattle.mds_export.specs.Placed.{PlacedDay, is_governed, placed_after, placed_days}
-use Rattle.mds_export.specs.Rows.{AreDayRows, AreFewest, AreInTurn, IsExport, mark_of_all, marks_of, run_rows}
+use Rattle.mds_export.specs.Exports.{AreDayRows, AreFewest, AreInTurn, IsExport, mark_of_all, marks_of, run_rows}
 use Rattle.mds_export.proofs.OneText.{one_text}
 use Rattle.mds_ranges.proofs.Pairs.{map_pairs}
 use Rattle.mds_ranges.specs.Selections.{AreSelectedDays, IsSelectedDay, IsSelectedStream, IsSelection}

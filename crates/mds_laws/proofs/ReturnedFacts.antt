@@ -16,7 +16,6 @@ use Rattle.mds_world.specs.Facts.{Fact}
 use Rattle.mds_world.specs.Facts.Fact.{HeadIs, VersionIs, DetailIs, PeriodIs}
 use Rattle.mds_world.proofs.Lists.{append_left, append_right, flat_in, in_flat, member_append}
 use Rattle.mds_world.specs.Lists.{Member}
-use Rattle.mds_world.proofs.Members.{in_list, list_in}
 use Rattle.mds_world.specs.Sets.{◌∈◌}
 use Rattle.mds_world.specs.Stated.{day_facts, facts_of, stated}
 use Rattle.mds_versions.proofs.Taken.{from_versions, to_versions}

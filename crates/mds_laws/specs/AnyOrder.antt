@@ -40,17 +40,17 @@ abbrev pub IsImported : Answer → Type 0
 IsImported (told.Imported added known) = Unit {0}
 IsImported answer = ⊥
 
--- Where the files that were answered are well formed and all agree, each of them is taken in, in any order, and the World in
--- the end is the old one with what they state. What had no answer may be any request.
+-- Take files of which those that were answered are well formed and all agree. Each of these is taken in, in any order. The World
+-- in the end is the old one with what they state. What had no answer may be any request.
 abbrev pub EachIsTakenIn : Type 0
 EachIsTakenIn =
     (old new : World) (files : List Request) (answers : List Answer) → Run old files answers new
     → All IsWellFormed (answered files answers) → AllAgree old (answered files answers)
     → All IsImported (given answers) × (new ≡ union old (together (map facts_in (answered files answers))))
 
--- Two lists of files: those that were answered of the one, which all agree, together state what those that were answered of
--- the other do. What the one ends in, the other does, each file that was answered is taken in, and as many versions and
--- accumulations are added.
+-- Take two lists of files. What was answered of the one all agrees, and states together what was answered of the other. Both end
+-- in one World, and each file that was answered is taken in. As many versions and accumulations are added by the one as by the
+-- other.
 abbrev pub SameFactsEndAlike : Type 0
 SameFactsEndAlike =
     (old new other_new : World) (files others : List Request) (answers other_answers : List Answer)
@@ -78,8 +78,8 @@ abbrev pub IsHeader : Statement → Type 0
 IsHeader (HeaderOf header) = Unit {0}
 IsHeader statement = ⊥
 
--- The parts of a file: what they state the file states, with days whole and under the same header and details; and each
--- of its statements but the header is in one of them.
+-- The parts of a file. What they state the file states, with days whole and under the same header and details. Each of its
+-- statements but the header is in one of them.
 pub record AreParts (whole : List Statement) (parts : List (List Statement)) : Type 0 where
   pub just : (part : List Statement) (it : Statement) → Member part parts → Member it part → IsAmong whole it
   pub all : (it : Statement) → Member it whole
@@ -96,9 +96,9 @@ abbrev pub statements_in : Request → List Statement
 statements_in (asked.Import kind bytes) = stated_in kind bytes.items
 statements_in request = []
 
--- A file that agrees with the World and was answered, and files of which those that were answered are its parts. It is taken
--- in and so is each of these, what the whole ends in the parts do in any order, and as many versions and accumulations are
--- added.
+-- Take a file that agrees with the World and was answered, and files of which those that were answered are its parts. The whole
+-- is taken in, and so is each part. The parts end in any order in what the whole does. They add as many versions and
+-- accumulations.
 abbrev pub PartsEndAsTheWhole : Type 0
 PartsEndAsTheWhole =
     (old new other_new : World) (whole : Request) (parts : List Request) (answer : Answer) (answers : List Answer)

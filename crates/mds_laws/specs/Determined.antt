@@ -1,5 +1,5 @@
--- The machine has no choice (profile): what a request is answered, and what it leaves, follow from what it asks and from the
--- World before it, but that it may be answered Unavailable.
+-- The machine has no choice (profile). What a request asks, and the World before it, decide its answer and what it leaves. But it
+-- may be answered Unavailable.
 use Rattle.std.specs.Prelude.{◌≡◌, ℕ, List, [], ◌∷◌}
 use Rattle.std.specs.declared.alloc.Global.{Global}
 use Rattle.std.specs.declared.vec.Vec.{Vec}
@@ -25,7 +25,7 @@ pub data AskTheSame : Request → Request → Type 0 where
   OneExport : (nmi : List ℕ) (a b : Vec (List ℕ) Global) (first last : ℕ) (header : Header) → a.items ≡ b.items
       → AskTheSame (asked.Export nmi a first last header) (asked.Export nmi b first last header)
 
--- Two days, two lists of versions and two lists of accumulations that tell the same. Of a vector its items tell.
+-- Two days, two lists of versions and two lists of accumulations that tell the same. What a vector tells is its items.
 pub record IsSameDayTold (a b : DayAnswer) : Type 0 where
   pub stream : a.stream ≡ b.stream
   pub day : a.day ≡ b.day
@@ -77,7 +77,7 @@ OneByOne R [] [] = Unit {0}
 OneByOne R (x ∷ xs) (y ∷ ys) = R x y × OneByOne R xs ys
 OneByOne R xs ys = ⊥
 
--- Two runs from one lawful World, of which the requests that were answered ask the same, one by one: their answers tell the
+-- Take two runs from one lawful World, in which the requests that were answered ask the same, one by one. Their answers tell the
 -- same, one by one, and they end in the same World.
 abbrev pub RunsAreDetermined : Type 0
 RunsAreDetermined =

@@ -1,5 +1,5 @@
--- Nothing is lost (profile): what a World holds stays as it is, what comes in is told by the answers, and what came in
--- came by one request.
+-- Nothing is lost (profile). What a World holds stays as it is. The answers tell what comes in, and each of these came by one
+-- request.
 use Rattle.std.specs.Prelude.{◌≡◌, ℕ, ◌+◌, true, List, ◌∷◌, ◌++◌}
 use Rattle.std.specs.List.{sum_by}
 use Rattle.std.specs.declared.alloc.Global.{Global}
@@ -36,7 +36,7 @@ LawStays =
     (old new : World) (requests : List Request) (answers : List Answer)
     → Run old requests answers new → IsLawful old → IsLawful new
 
--- Where both hold a version or an accumulation of one key, a head of one day or a job of one id, these are the same.
+-- Where both hold a version or an accumulation of one key, these are the same. So are heads of one day and jobs of one id.
 pub record AreUnaltered (old new : World) : Type 0 where
   pub versions : (key : Key) (a b : ReadingValue) → VersionIs key a ∈ old → VersionIs key b ∈ new → a ≡ b
   pub heads : (a b : Head) → HeadIs a ∈ old → HeadIs b ∈ new → a.stream ≡ b.stream → a.day ≡ b.day → a ≡ b

@@ -1,5 +1,5 @@
--- An export comes back (profile): a store without anything and the one that it came from take it in, and what was exported is
--- as it was.
+-- An export comes back (profile). A store without anything takes it in, and so does the one that it came from. What was exported
+-- is as it was.
 use Rattle.std.specs.Prelude.{◌≡◌, ◌↔◌, ℕ, ◌+◌, ◌≤◌, List, length}
 use Rattle.std.specs.FinSet as set
 use Rattle.std.specs.List.{sum_by}
@@ -45,7 +45,7 @@ abbrev pub intervals_in : List Statement → ℕ
 intervals_in statements = sum_by (λ day. length day.readings) (days_of statements)
 
 -- A store without anything takes in an export of a lawful World, where it has an answer. It knows then just the days that were
--- asked for, each with the same head and the same current readings, and their streams have the same current details.
+-- asked for, each with the same head and the same current readings. Their streams have the same current details.
 abbrev pub ReturnsToAnEmptyStore : Type 0
 ReturnsToAnEmptyStore =
     (w same filled : World) (nmi : List ℕ) (suffixes : Vec (List ℕ) Global) (first last : ℕ) (header : Header)
@@ -58,8 +58,8 @@ ReturnsToAnEmptyStore =
     × ((stream : Stream) (day : ℕ) → IsAskedFor w nmi suffixes.items first last stream day
     → IsSameDay w filled stream day × HasSameDetails w filled stream)
 
--- The store that it came from takes it in, where it has an answer: each day has the head and the current readings, and each
--- stream the current details, that it had, and what is added and what is known are its intervals.
+-- The store that it came from takes it in, where it has an answer. Each day has then the head and the current readings that it
+-- had, and each stream the current details. What is added and what is known are together as many as its intervals.
 abbrev pub ReturnsToItsStore : Type 0
 ReturnsToItsStore =
     (w same returned : World) (nmi : List ℕ) (suffixes : Vec (List ℕ) Global) (first last : ℕ) (header : Header)

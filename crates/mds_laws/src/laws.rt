@@ -7,8 +7,8 @@ ghost use Rattle.mds_laws.specs.Exchange.{ChangePlaces, MayChangePlaces};
 ghost use Rattle.mds_laws.specs.Returns.{ReturnsToAnEmptyStore, ReturnsToItsStore};
 ghost use Rattle.mds_laws.specs.Kept.{AnswersTellHowMany, EachCameByOne, EachPeriodCameByFile, LawStays, NothingIsAltered, NothingIsMissing};
 
-/// What was taken in stays and stays as it is, the answers tell how many versions and accumulations
-/// came in, and each came by one file or one job: an accumulation by a NEM13 file that states it.
+/// What was taken in stays, and stays as it is. The answers tell how many versions and accumulations came in. Each version came
+/// by one file or one job, and each accumulation by a NEM13 file that states it.
 pub fn nothing_is_lost()
     ensures lawful { LawStays }
     ensures missing { NothingIsMissing }
@@ -18,9 +18,9 @@ pub fn nothing_is_lost()
     ensures periods { EachPeriodCameByFile }
 {}
 
-/// What a request is answered, and what it leaves, follow from what it asks and what is kept before it. It may be
-/// told that there is no answer now, and then it changes nothing. Two runs of which the requests that were answered
-/// ask the same have the same answers, and end alike.
+/// What a request asks, and what is kept before it, decide its answer and what is kept after it. It may be told that there is no
+/// answer now, and then it changes nothing. Take two runs in which the requests that were answered ask the same. They have the
+/// same answers, and end alike.
 pub fn an_answer_is_determined()
     ensures answers { AnswersAreDetermined }
     ensures runs { RunsAreDetermined }
@@ -28,9 +28,8 @@ pub fn an_answer_is_determined()
     ensures all { AnsweredAreAll }
 {}
 
-/// Files that were answered and agree are taken in, whatever their order. What is kept in the end, and how much was
-/// added, turns on what they state together alone. The parts of a file together state what it does, and end as it
-/// does.
+/// Files that were answered and agree are taken in, whatever their order. What they state together decides what is kept in the
+/// end, and how much was added. The parts of a file together state what it does, and end as it does.
 pub fn files_come_in_any_order()
     ensures each { EachIsTakenIn }
     ensures alike { SameFactsEndAlike }
@@ -38,16 +37,16 @@ pub fn files_come_in_any_order()
     ensures split { PartsEndAsTheWhole }
 {}
 
-/// A job and a file that states nothing of the days that the job may look at: where both are answered, both answers
-/// and what is kept in the end are the same, whichever comes first. Whatever answers the one order has, the other may
+/// A job, and a file that states nothing of the days that the job may look at, may change places. Where both are answered, both
+/// answers are the same in either order, and so is what is kept in the end. Whatever answers the one order has, the other may
 /// have.
 pub fn a_job_and_a_file_change_places()
     ensures both { ChangePlaces }
     ensures either { MayChangePlaces }
 {}
 
-/// The text of an export is a file that an empty store takes in, and then has what was selected; and that the store which it
-/// came from takes in without that anything current changes.
+/// The text of an export is a file that an empty store takes in. It then has what was selected. The store that the export came
+/// from takes it in, too, and nothing current changes.
 pub fn an_export_comes_back()
     ensures empty { ReturnsToAnEmptyStore }
     ensures home { ReturnsToItsStore }

@@ -1,4 +1,4 @@
-//! Laws of the machine, over every World and every run: what any list of requests keeps, that its answers are
+//! Laws of the machine, over every World and every run. They say what any list of requests keeps, that its answers are
 //! determined, and where their order doesn't matter. The statements stand in `specs`, over the `Step` and `Run` that
 //! `mds_service::run` keeps to. The functions do nothing.
 #![tactic(auto)]

@@ -59,8 +59,8 @@ pub record IsTooLarge (old new : Buffered) (left_old left_new : Option (List ℕ
   pub left : Keeps left_old left_new
   pub kept : new.fault ≡ Some (TooLarge number)
 
--- What a call reads from the source, and what becomes of it: a line that is found takes its piece and its line feed,
--- anything else takes nothing, and what isn't taken is in hand, which is a block at most.
+-- What a call reads from the source, and what becomes of it. A line that is found takes its piece and its line feed,
+-- and anything else takes nothing. What isn't taken is in hand, a block at most.
 pub record Takes {S : Type 0} (gives : S → List ℕ → S → Type 0) (source_old source_new : S)
     (old new : Buffered) (is_line : Bool) : Type 0 where
   pub given : List (List ℕ)
@@ -71,7 +71,8 @@ pub record Takes {S : Type 0} (gives : S → List ℕ → S → Type 0) (source_
   pub line : MatchBool is_line ((taken ≡ new.piece) ⊎ (taken ≡ new.piece ++ line_feed ∷ [])) (taken ≡ [])
   pub held : length new.pending ≤ block
 
--- What a reader of lines took from a source since a state of it: at most its lines, each with a line feed, and a block.
+-- What a reader of lines took from a source since a state of it. It is at most its lines, each with a line feed, and a
+-- block.
 pub record HasTaken {S : Type 0} (gives : S → List ℕ → S → Type 0) (begin now : S) (buffered : Buffered)
     : Type 0 where
   pub given : List (List ℕ)

@@ -1,6 +1,5 @@
 -- The lines of a file and the fields of a line. MDFF Specification, CSV format: records are lines, fields are separated
--- by commas. That CR LF and LF both end a line, and that quotation marks are plain characters, is this project's
--- profile.
+-- by commas. By this project's profile CR LF and LF both end a line, and quotation marks are plain characters.
 use Rattle.std.specs.Prelude.{◌≡◌, ◌≢◌, ℕ, ◌-◌, ◌<◌, Bool, ◌==◌, if◌then◌else◌, List, [], length, take, All, slice_index_or}
 use Rattle.std.specs.List.{slice_split, join_with_byte}
 use Rattle.std.specs.Io.BufRead.{strip_last}

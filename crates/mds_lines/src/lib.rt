@@ -1,5 +1,5 @@
-//! The lines and fields of MDFF files, borrowed from the buffer that they were read into, and the sources and sinks
-//! that the calls above read and write.
+//! The lines and fields of MDFF files, borrowed from the buffer that they were read into. The sources and sinks of this
+//! crate are what those above read from and write to.
 #![tactic(auto)]
 
 mod fields;

@@ -30,9 +30,9 @@ pub enum Kind {
 /// Why a line is no record of a known kind.
 #[derive(Clone, Copy)]
 pub enum KindFault {
-    /// It isn't UTF-8.
+    /// It isn't UTF-8 (L1).
     NotText,
-    /// Its first field is no record indicator.
+    /// Its first field is no record indicator (L2).
     Unknown,
 }
 
@@ -47,8 +47,8 @@ impl<'a> Line<'a> {
     ghost use Rattle.mds_lines.specs.Kinds.{kind_of};
     ghost use Rattle.mds_lines.specs.Numbered.{number_of, text_of};
 
-    /// The line of a piece of a file between line feeds, and its number, from 1. One carriage return at the piece's
-    /// end is no part of the line (profile).
+    /// The line of a piece of a file between line feeds, and its number, from 1. One carriage return at the end of the
+    /// piece is no part of the line (profile).
     pub fn new(number: u64, piece: &'a [u8]) -> Line<'a>
         ensures number { number_of result ≡ number }
         ensures text { text_of result ≡ line_text piece.now }
@@ -88,7 +88,7 @@ impl<'a> Line<'a> {
         Fields::new(self.text)
     }
 
-    /// The kind of record that it is.
+    /// The kind of record that it is, or why it is none (L1, L2).
     pub fn kind(&self) -> Result<Kind, KindFault>
         ensures { result ≡ kind_of (text_of self.now) }
     {
@@ -100,7 +100,7 @@ impl<'a> Line<'a> {
     }
 }
 
-/// The kind that a record indicator names.
+/// The kind that a record indicator names, or `None` where it names none (L2).
 fn kind_named(indicator: &[u8]) -> Option<Kind>
     ensures { result ≡ named indicator.now }
 {

@@ -16,7 +16,7 @@ use std::marker::Model;
 pub enum LineFault {
     /// The source failed.
     Read,
-    /// The line of this number has more than 16,384 bytes before its line feed, or its number is above 1,000,000.
+    /// The line of this number has more than 16,384 bytes before its line feed, or its number is above 1,000,000 (L10).
     TooLarge(u64),
 }
 
@@ -24,16 +24,16 @@ impl LineFault {
     ghost use Rattle.std.specs.Prelude.{IsTrue, ◌↔◌};
     ghost use Rattle.mds_lines.specs.declared.reader.LineFault.{LineFault as AFault};
 
-    /// A law: faults are equal where they are the same.
+    /// A law: `==` says whether two faults are the same.
     pub fn one_equality()
         ensures { (a b : AFault) → IsTrue (⟦<LineFault as PartialEq>⟧.eq a b) ↔ (a ≡ b) }
     {}
 }
 
-/// The most bytes that a line has before its line feed.
+/// The most bytes that a line has before its line feed (L10).
 const LONGEST_LINE: usize = 16_384;
 
-/// The most lines that a file has.
+/// The most lines that a file has (L10).
 const MOST_LINES: u64 = 1_000_000;
 
 /// How many bytes are read at a time: many lines.
@@ -99,7 +99,7 @@ impl LineBuffer {
 
         ensures next { Finds result self.old self.new (R.remaining source.old) (R.remaining source.new) }
 
-        // A line is too large where that is answered, and the source fails where `Read` is.
+        // Where `TooLarge` is answered, a line is too large. Where `Read` is answered, the source has failed.
         ensures too_large { (number : ℕ) → result ≡ Err (LineFault.TooLarge number) → self.old.fault ≡ None
             → IsTooLarge self.old self.new
             (text_left self.old (R.remaining source.old)) (text_left self.new (R.remaining source.new)) number }
@@ -107,7 +107,7 @@ impl LineBuffer {
             → R.failures source.new ≡ R.failures source.old + 1 }
         ensures no_failure { result ≢ Err LineFault.Read → R.failures source.new ≡ R.failures source.old }
 
-        // Each read was needed, and what it gave is the line's, or in hand.
+        // Each read was needed. What it gave is the line's, or in hand.
         ensures takes { Takes R.gives source.old source.new self.old self.new (is_found result) }
 
         // A fault leaves the number, and is answered again.
@@ -133,7 +133,7 @@ impl LineBuffer {
         Line::new(self.number, &self.bytes[self.piece_start..self.piece_end])
     }
 
-    /// What `advance` does where no fault was answered yet, but for keeping the fault.
+    /// Does what `advance` does where no fault was answered yet, but doesn't keep the fault.
     fn find_line<R: Source>(&mut self, source: &mut R) -> Result<bool, LineFault>
         requires { R.failures source.old < 2 ^ 64 - 1 }
         ensures next { self.old.fault ≡ None
@@ -154,7 +154,7 @@ impl LineBuffer {
         self.take_piece(size)
     }
 
-    /// Reads on until the pending bytes hold the next piece, or too long a part of it, and says how long that is.
+    /// Reads on until the pending bytes hold the next piece, or too long a part of it. It says how long that is.
     fn piece_size<R: Source>(&mut self, source: &mut R) -> Result<usize, LineFault>
         requires { R.failures source.old < 2 ^ 64 - 1 }
         ensures reaches { IfOk result (λ n. Reaches self.new n) }
@@ -186,7 +186,8 @@ impl LineBuffer {
         &self.bytes[self.start..self.end]
     }
 
-    /// Takes the piece of so many pending bytes, and the line feed after it, if one is there.
+    /// Takes the piece of so many pending bytes, and the line feed after it, if one is there. It refuses a piece that
+    /// is too long, or a number that is too great (L10).
     fn take_piece(&mut self, size: usize) -> Result<bool, LineFault>
         requires { size ≤ length self.old.pending }
         ensures ok { IfOk result (λ found. (found ≡ true) × TakesPiece self.old self.new size) }
@@ -205,7 +206,7 @@ impl LineBuffer {
         Ok(true)
     }
 
-    /// Reads more after the pending bytes, which it first moves to the front where there is no room after them.
+    /// Reads more after the pending bytes. Where there is no room after them, it moves them to the front first.
     fn fill<R: Source>(&mut self, source: &mut R) -> Result<(), LineFault>
         requires failures { R.failures source.old < 2 ^ 64 - 1 }
         requires room { length self.old.pending ≤ longest_line }
@@ -231,7 +232,7 @@ impl LineBuffer {
     }
 }
 
-/// Moves the bytes of a range to the front where there is no room after them, and says where they are.
+/// Moves the bytes of a range to the front where there is no room after them. It says where they are then.
 fn with_room(bytes: &mut [u8], start: usize, end: usize) -> (usize, usize)
     requires ordered { start ≤ end }
     requires within { end ≤ length bytes.old }
@@ -286,8 +287,8 @@ impl<R: Source> LineReader<R> {
         }
     }
 
-    /// The source again. What was read of it and not given as lines is lost. It ends a loan of the source so that a
-    /// caller's proof knows what it left.
+    /// Gives the source back. What was read of it and not given as lines is lost. The call ends a loan of the source,
+    /// so that a caller's proof knows what is left of it.
     pub fn into_source(self) -> R
         ensures { result ≡ reader_source self }
     {
@@ -303,8 +304,8 @@ impl<R: Source> LineReader<R> {
     ghost use Rattle.mds_lines.specs.Readers.{reader_source, reader_lines, GoesOn};
     ghost use Rattle.mds_lines.specs.Reads.{block};
 
-    /// A law: all that a reader of lines takes from its source is as many lines as a file may have, each of as many
-    /// bytes as a line may have and a line feed, and one block, whatever the source gives.
+    /// A law: what a reader of lines takes from its source has a bound, whatever the source gives. It is as many lines
+    /// as a file may have, and one block. Each line is as long as a line may be, and has a line feed.
     pub fn takes_few()
         ensures begins { (source : R) → HasTaken R.gives source source nothing_read }
         ensures goes_on { (begin : R) (old new : LineReader R) (result : Result (Option ALine) LineFault)

@@ -5,7 +5,7 @@ ghost use Rattle.std.specs.List.{position_or_len};
 ghost use Rattle.mds_lines.specs.Lines.{fields_of, is_comma};
 ghost use Rattle.mds_lines.specs.Rest.{fields_left, first_of, are_blank};
 
-/// The length of the field at the front of a text: what stands before the first comma, or all where there is none.
+/// The length of the field at the front of a text. The field ends before the first comma, or with the text.
 fn field_length(text: &[u8]) -> usize
     ensures value { result ≡ position_or_len is_comma text.now }
     ensures within { result ≤ length text.now }
@@ -15,8 +15,8 @@ fn field_length(text: &[u8]) -> usize
         .unwrap_or(text.len())
 }
 
-/// The field at the front of what is left of a line, and what is left after it. Where nothing is left, the field is
-/// empty.
+/// Takes the field at the front of what is left of a line, and says what is left after it. Where nothing is left, the
+/// field is empty.
 pub fn next_field(rest: Option<&[u8]>) -> (&[u8], Option<&[u8]>)
     ensures taken { result.0.now ≡ first_of (fields_left (option_copied rest.entry)) }
     ensures left { fields_left (option_copied result.1) ≡ drop 1 (fields_left (option_copied rest.entry)) }

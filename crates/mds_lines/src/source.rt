@@ -1,4 +1,4 @@
-//! Readers and writers as the calls above see them: with their bytes, and the number of their failed calls.
+//! Readers and writers as the crates above see them: with their bytes, and the number of their failed calls.
 
 ghost use Rattle.std.specs.Prelude.{◌≡◌, ◌≢◌, ◌+◌, ◌-◌, ◌^◌, ◌<◌, ℕ, List, length, Option, if◌then◌else◌, is_ok, IfOk, IfErr};
 ghost use Rattle.std.specs.Io.{ReadsAtMost, WritesAtMost};
@@ -17,11 +17,12 @@ pub trait Source {
     /// How many of its calls have failed.
     ghost failures: { Self → ℕ };
 
-    /// A call may bring these bytes, and leave this of it: no bytes where it fails. Several calls are `Reads` of it.
+    /// A call may bring these bytes, and leave this of the source. A call that fails brings none. Several calls are `Reads` of
+    /// it.
     ghost gives: { Self → List ℕ → Self → Type 0 };
 
-    /// Reads some bytes to the front of the buffer, and says how many: 0 only at the end, or where the buffer is
-    /// empty. A call that fails reads none, and a call that is interrupted isn't one that fails.
+    /// Reads some bytes to the front of the buffer, and says how many. It says 0 only at the end, or where the buffer is empty. A
+    /// call that fails reads none. A call that is interrupted isn't one that fails.
     fn read(&mut self, buffer: &mut [u8]) -> io::Result<usize>
         requires { failures self.old < 2 ^ 64 - 1 }
         ensures bound { ReadsAtMost result buffer.new }
@@ -39,8 +40,8 @@ pub trait Sink {
     /// How many of its calls have failed.
     ghost failures: { Self → ℕ };
 
-    /// Writes some of the bytes, from their front, and says how many: none only where there are none. A call that
-    /// fails writes none, and a call that is interrupted isn't one that fails.
+    /// Writes some of the bytes, from their front, and says how many. It says 0 only where there are none. A call that fails
+    /// writes none. A call that is interrupted isn't one that fails.
     fn write(&mut self, bytes: &[u8]) -> io::Result<usize>
         requires { failures self.old < 2 ^ 64 - 1 }
         ensures bound { WritesAtMost result bytes.now }
@@ -99,7 +100,7 @@ impl<T: Read> Source for Counted<T> {
     }
 }
 
-/// A source that is lent is one: what is read from it comes off the source itself.
+/// A source that is lent is a source. What is read from it comes off the one that was lent.
 impl<R: Source> Source for &mut R {
     ghost remaining = { λ lent. R.remaining lent.now };
 

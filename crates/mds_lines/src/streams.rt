@@ -25,8 +25,8 @@ pub fn write_whole<W: Sink>(text: &[u8], writer: &mut W) -> io::Result<()>
     Ok(())
 }
 
-/// Reads on, by one call, behind the first `filled` bytes of a buffer, and says how many bytes were read: 0 only at
-/// the end.
+/// Reads on, by one call, behind the first `filled` bytes of a buffer. It says how many bytes were read: 0 only at the
+/// end.
 pub fn read_more<R: Source>(buffer: &mut [u8], filled: usize, source: &mut R) -> io::Result<usize>
     requires failures { R.failures source.old < 2 ^ 64 - 1 }
     requires room { filled < length buffer.old }

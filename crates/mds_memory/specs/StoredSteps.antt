@@ -35,7 +35,7 @@ abbrev pub IsTheOne : Option InHand → StreamDay → Type 0
 IsTheOne None place = ⊥
 IsTheOne (Some hand) place = hand.place ≡ place
 
--- Each day that the added facts are on, and maybe others, holds what it will; one of them may be in hand, and then it
+-- Each day that the added facts are on, and maybe others, holds what it will. One of them may be in hand, and then it
 -- isn't looked at in the map.
 pub record AreChanged (w : World) (more : List Fact) (closed : BTreeMap StreamDay Rows) (in_hand : Option InHand) : Type 0 where
   pub each : (place : StreamDay) (rows : Rows) → get place_cmp closed place ≡ Some rows → IsOther in_hand place

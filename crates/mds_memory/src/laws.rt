@@ -6,8 +6,8 @@ ghost use Rattle.mds_world.specs.World.{World};
 use crate::memory::MemoryKeeper;
 use mds_versions::Keeper;
 
-/// A keeper in memory takes nothing on trust: the World that it keeps is its value, it is honest and sound at any time,
-/// and what it leaves is the World that it keeps, and no other.
+/// A keeper in memory takes nothing on trust. The World that it keeps is its value, and it is honest and sound at any
+/// time. What it leaves is the World that it keeps, and no other.
 pub fn a_memory_keeper_is_sound(_keeper: &MemoryKeeper)
     ensures world { ⟦<MemoryKeeper as Keeper>⟧.world _keeper.now ≡ _keeper.now }
     ensures honest { ⟦<MemoryKeeper as Keeper>⟧.honest _keeper.now }

@@ -57,7 +57,7 @@ impl Model for MemoryKeeper {
 }
 
 impl MemoryKeeper {
-    /// Keeps nothing yet, which breaks no law.
+    /// A keeper that keeps nothing yet. An empty World breaks no law.
     pub fn new(alloc: Global) -> MemoryKeeper
         ensures nothing { result ≡ set.empty }
         ensures lawful { IsLawful result }
@@ -80,7 +80,7 @@ impl Keeper for MemoryKeeper {
 
     ghost sound = { λ _. Unit {0} };
 
-    // It leaves its World as it is, neither less of it nor more.
+    // It leaves its World as it is: nothing less, nothing more.
     ghost may_leave = { λ keeper left. left ≡ keeper };
 
     ghost sound_honest = { λ _ _. tt };

@@ -18,7 +18,7 @@ use mds_world::{Head, StreamDay};
 use std::alloc::{AllocError, Global};
 use std::collections::BTreeMap;
 
-/// A day that is kept; one of which nothing is known where it isn't.
+/// The book of a day. Where none is kept, nothing is known of the day.
 pub(crate) fn day_of(
     alloc: Global,
     days: &BTreeMap<StreamDay, DayBook>,
@@ -70,7 +70,7 @@ pub(crate) fn has_head(book: &DayBook) -> bool
     book.head().is_some()
 }
 
-/// A day of which nothing is known.
+/// The book of a day of which nothing is known.
 fn unknown_day(alloc: Global, place: &StreamDay) -> DayBook
     ensures of_day { (result.stream ≡ place.now.stream) × (result.day ≡ place.now.day) }
     ensures empty { book_world result ≡ set.empty }
@@ -81,7 +81,7 @@ fn unknown_day(alloc: Global, place: &StreamDay) -> DayBook
     book
 }
 
-/// What a day will hold: its head and its versions, these in any order.
+/// What a day will hold: its head, and its versions in any order.
 #[derive(Drop)]
 struct Rows {
     head: Option<(Length, Unit)>,
@@ -154,8 +154,9 @@ fn put_behind(
     Ok(())
 }
 
-/// Goes on to the day of this place: takes it out of those that were changed before, or copies what
-/// is kept of it. The day in hand before joins those, where it is another.
+/// Goes on to the day of this place. It takes the day out of those that were changed before, or
+/// copies what is kept of it. Where another day was in hand, that one joins those that were
+/// changed.
 #[inline(always)]
 fn opened(
     alloc: Global,
@@ -179,7 +180,7 @@ fn opened(
     taken(alloc, days, closed, place)
 }
 
-/// Puts the day in hand to the others.
+/// Puts the day in hand to those that were changed.
 #[inline(never)]
 fn close(closed: &mut BTreeMap<StreamDay, Rows>, hand: InHand) -> Result<(), AllocError>
     ensures { OnOk result ((w : World) (more : List Fact)
@@ -189,7 +190,7 @@ fn close(closed: &mut BTreeMap<StreamDay, Rows>, hand: InHand) -> Result<(), All
     Ok(())
 }
 
-/// Takes a day in hand.
+/// Takes a day in hand: out of those that were changed, or as a copy of what is kept.
 #[inline(never)]
 fn taken(
     alloc: Global,
@@ -213,7 +214,7 @@ fn taken(
     })
 }
 
-/// What is kept of a day, copied.
+/// A copy of what is kept of a day.
 fn kept_rows(
     alloc: Global,
     days: &BTreeMap<StreamDay, DayBook>,
@@ -247,7 +248,7 @@ fn books_of(
         let Some(book) = DayBook::new(place.stream, place.day, rows.head, rows.versions) else {
             unreachable!();
         };
-        // Whoever asks for a day gets a copy.
+        // Whoever asks for the day gets a copy, and all copies share its versions.
         let shared = book.into_shared(alloc)?;
         books.insert(place, shared)?;
     }
@@ -272,7 +273,7 @@ pub(crate) fn make_room(
     Ok(())
 }
 
-/// Puts changed days, for which there is room, in the place of those that were kept.
+/// Puts changed days in the place of those that were kept. There is room for them.
 pub(crate) fn put_days(
     days: &mut BTreeMap<StreamDay, DayBook>,
     changed: BTreeMap<StreamDay, DayBook>,
@@ -284,7 +285,7 @@ pub(crate) fn put_days(
         → days_world days.new ≡ union (days_world days.old) w }
 {
     for (place, book) in changed {
-        // Where a key is there, it needs no memory.
+        // An insert under a key that is there needs no memory.
         let Ok(_) = days.insert(place, book) else {
             unreachable!();
         };

@@ -52,7 +52,7 @@ pub(crate) fn make_places(
     Ok(())
 }
 
-/// Puts jobs, for which there are places, to those that are kept.
+/// Puts jobs to those that are kept. There are places for them.
 pub(crate) fn put_jobs(jobs: &mut BTreeMap<JobId, Option<(Job, u64)>>, more: Vec<(Job, u64)>)
     requires room { HasPlaces jobs.old more.items }
     requires theirs { AreOfTheirIds jobs.old }
@@ -62,7 +62,7 @@ pub(crate) fn put_jobs(jobs: &mut BTreeMap<JobId, Option<(Job, u64)>>, more: Vec
 {
     for (job, count) in more {
         let id = job.id;
-        // Where a key is there, it needs no memory.
+        // An insert under a key that is there needs no memory.
         let Ok(_) = jobs.insert(id, Some((job, count))) else {
             unreachable!();
         };

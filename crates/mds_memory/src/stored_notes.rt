@@ -19,7 +19,7 @@ use mds_world::Detail;
 use std::alloc::{AllocError, Global};
 use std::collections::BTreeSet;
 
-/// What is kept beside the books of days and the jobs.
+/// What is kept beside days, jobs and accumulations.
 #[derive(PartialEq, Eq, PartialOrd, Ord, Drop)]
 pub(crate) enum Note {
     Details(Detail),
@@ -28,7 +28,7 @@ pub(crate) enum Note {
 }
 
 impl Note {
-    /// The same note once more.
+    /// A copy of the note.
     fn try_clone(&self) -> Result<Note, AllocError>
         ensures { IfOk result (λ note. note ≡ self.now) }
     {

@@ -110,7 +110,7 @@ pub(crate) fn make_keys(
     Ok(())
 }
 
-/// Puts accumulations, for which there are places, to those that are kept.
+/// Puts accumulations to those that are kept. There are places for them.
 pub(crate) fn put_periods(
     periods: &mut BTreeMap<PeriodKey, Option<PeriodContent>>,
     more: Vec<Period>,
@@ -123,7 +123,7 @@ pub(crate) fn put_periods(
         ≡ union (periods_world periods.old) (set.from_list (map period_fact more.items)) }
 {
     for period in more {
-        // Where a key is there, it needs no memory.
+        // An insert under a key that is there needs no memory.
         let Ok(_) = periods.insert(period.key, Some(period.content)) else {
             unreachable!();
         };

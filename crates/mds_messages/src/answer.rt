@@ -9,13 +9,13 @@ use mds_versions::{Refusal, Version};
 /// What the machine answers.
 #[derive(Drop)]
 pub enum Answer {
-    /// The file is taken in: so many of its versions and accumulations are new, and so many were there.
+    /// The file is taken in. So many of its versions and accumulations are new, and so many were there.
     Imported { added: u64, known: u64 },
-    /// The job is done: so many intervals are filled in.
+    /// The job is done, and fills in so many intervals.
     Substituted { count: u64 },
-    /// The job was done before: so many intervals were filled in then. Nothing is changed.
+    /// The job was done before, and filled in so many intervals then. Nothing is changed.
     Known { count: u64 },
-    /// All the days are listed now: so many of them are new, and so many were listed. A day that comes twice counts once.
+    /// All the days are listed now. So many of them are new, and so many were listed. A day that comes twice counts once.
     HolidaysAdded { added: u64, known: u64 },
     Day(DayAnswer),
     Versions(VersionsAnswer),
@@ -28,11 +28,11 @@ pub enum Answer {
     Finals(Vec<u8>),
     /// The NEM12 file.
     Exported(Vec<u8>),
-    /// The file isn't well formed. Nothing is changed.
+    /// The file isn't well formed (L1 to L12). Nothing is changed.
     File(FileFault),
-    /// A rule is broken. Nothing is changed.
+    /// A rule is broken (M1 to M12). Nothing is changed.
     Refused(Refusal),
-    /// There is no answer now, for want of memory or of the store. Nothing is changed.
+    /// There is no answer now, for want of memory or of the store (U1). Nothing is changed.
     Unavailable,
 }
 
@@ -45,7 +45,7 @@ pub struct DayAnswer {
     pub unit: Unit,
     /// The greatest update among the readings.
     pub update: Moment,
-    /// The current reading of each interval, in order; bare N where there is none.
+    /// The current reading of each interval, in order. It is bare N where there is none.
     pub readings: Vec<Reading>,
     /// The events of the day, each once, in the order of their texts.
     pub events: Vec<Event>,

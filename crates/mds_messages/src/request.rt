@@ -46,7 +46,7 @@ pub enum Request {
         first: Day,
         last: Day,
     },
-    /// For the current readings of streams of one NMI in a range of days, first to last, as a NEM12 file of this header. A
+    /// For the current readings of streams of one NMI in a range of days, first to last, as a NEM12 file under this header. A
     /// suffix that stands twice counts once.
     Export {
         nmi: Nmi,

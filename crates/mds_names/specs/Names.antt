@@ -1,5 +1,5 @@
--- The names of what is metered. MDFF Specification, the 200 record: NMI, CHAR(10), and NMISuffix, CHAR(2).
--- That both are of capital letters and digits is this project's profile.
+-- The names of what is metered. MDFF Specification, the 200 record: NMI, CHAR(10), and NMISuffix, CHAR(2). By this
+-- project's profile both are of capital letters and digits.
 use Rattle.std.specs.Prelude.{ℕ, Bool, ◌&&◌, ◌||◌, ◌==◌, if◌then◌else◌, List, ◌++◌, length, codes, Option, Some, None}
 use Rattle.std.specs.Char.{is_ascii_digit, is_ascii_uppercase}
 use Rattle.std.specs.List.{list_all}

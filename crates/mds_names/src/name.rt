@@ -4,7 +4,7 @@ ghost use Rattle.std.specs.Prelude.{◌≡◌, ℕ, List, [], ◌∷◌, IsTrue,
 ghost use Rattle.std.specs.List.{slice_split, list_all};
 ghost use Rattle.mds_names.specs.Names.{is_name, is_name_char, nmi_of, nmi_length, suffix_of, suffix_length, stream_text, is_comma};
 
-/// The text of an NMI or a suffix reads as itself, and that of a stream splits at its comma into
+/// The text of an NMI or a suffix reads as itself. The text of a stream splits at its comma into
 /// these two.
 pub fn names_read_back()
     ensures nmi { (text : List ℕ)

@@ -20,8 +20,8 @@ pub fn one_run_of_a_day()
         → IsTrue (holds interval run) → IsTrue (holds interval other) → run ≡ other }
 {}
 
-/// The fault of a line is decided by the lines up to it, so that a fault found in whole lines is the
-/// fault of every text that goes on after them.
+/// The fault of a line is decided by the lines up to it. A fault found in whole lines is the fault of
+/// every text that goes on after them.
 pub fn fault_is_of_every_longer_text()
     ensures line { (before more : List (List ℕ)) (k : ℕ) → k ≤ length before
         → fault_at (before ++ more) k ≡ fault_at before k }

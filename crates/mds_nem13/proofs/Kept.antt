@@ -1,27 +1,18 @@
 -- What a reader knows when it has kept a record.
-use Rattle.std.proofs.Common.{◌≡◌, ℕ, ◌+◌, true, List, [], ◌∷◌, ◌++◌, length, Some, None, unwrap_or, Result, Ok, Err, MatchResult, refl, sym, ◌∙◌, ap, subst}
-use Rattle.std.specs.Option.{option_map}
+use Rattle.std.proofs.Common.{◌≡◌, ℕ, ◌+◌, true, List, [], ◌∷◌, ◌++◌, length, Some, unwrap_or, Ok, refl, sym, ◌∙◌, ap, subst}
 use Rattle.std.specs.Result.{result_ok}
 use Rattle.mds_lines.specs.Kinds.{kind_of}
-use Rattle.mds_lines.specs.declared.line.Kind.{Kind}
 use Rattle.mds_lines.specs.declared.line.Kind.TheVariants as a
-use Rattle.mds_records.specs.FieldFaults.{field_fault}
 use Rattle.mds_records.specs.Records.{IsAccumulationB2bDetails, IsAccumulationData, IsHeader}
 use Rattle.mds_records.specs.declared.accumulation_b2b_details.AccumulationB2bDetailsRecord.{AccumulationB2bDetailsRecord}
 use Rattle.mds_records.specs.declared.accumulation_data.AccumulationDataRecord.{AccumulationDataRecord}
 use Rattle.mds_records.specs.declared.header.HeaderRecord.{HeaderRecord}
-use Rattle.mds_records.specs.declared.header_name.HeaderName.TheVariants.{Nem13}
 use Rattle.mds_statements.specs.Statements.{HeaderValue, PeriodStatement, Statement}
 use Rattle.mds_statements.specs.Statements.Statement.{HeaderOf, PeriodOf}
-use Rattle.mds_reading.specs.Faults.{at_field}
-use Rattle.mds_reading.specs.Governing.{record_kind}
-use Rattle.mds_reading.specs.Said.{header_in, header_said, is_headed}
-use Rattle.mds_reading.specs.declared.fault.TakeFault.{TakeFault}
-use Rattle.mds_reading.specs.declared.fault.TakeFault.TheVariants.{File, Memory}
-use Rattle.mds_reading.proofs.Numbered.{no_kind}
-use Rattle.mds_nem13.specs.Answers.{is_told}
-use Rattle.mds_nem13.specs.Faults.{fields_fault}
-use Rattle.mds_nem13.specs.FileReaderSteps.{HasTaken, Knows, Takes, last_kind, last_moment}
+use Rattle.mds_walk.specs.Governing.{record_kind}
+use Rattle.mds_walk.specs.Said.{header_in, header_said, is_headed}
+use Rattle.mds_walk.proofs.Numbered.{no_kind}
+use Rattle.mds_nem13.specs.FileReaderSteps.{HasTaken, Knows, last_kind, last_moment}
 use Rattle.mds_nem13.specs.Place.{is_in_place}
 use Rattle.mds_nem13.specs.Said.{note_in, period_in, with_notes}
 use Rattle.mds_nem13.specs.declared.file_reader.FileReader.{FileReader}
@@ -30,10 +21,9 @@ use Rattle.mds_nem13.specs.declared.file_reader.LastRecord.TheVariants as state
 use Rattle.mds_nem13.proofs.Steps.{at_period, headed_at, knows_blank, knows_end, knows_header, knows_none, knows_period, nothing_told}
 
 -- before the first line
-pub taken_none : {T : Type 0} (told : T → List Statement → Type 0) (reader : FileReader T) → reader.fault ≡ None
+pub taken_none : {T : Type 0} (told : T → List Statement → Type 0) (reader : FileReader T)
     → reader.last ≡ state.Nothing → told reader.sink [] → HasTaken told [] reader
-taken_none told reader fault last said = record {
-  faultless = fault;
+taken_none told reader last said = record {
   done = [];
   told_is = said;
   knows = subst (λ (l : LastRecord). Knows [] l []) (sym last) knows_none;
@@ -42,7 +32,6 @@ taken_none told reader fault last said = record {
 pub kept_empty : {T : Type 0} (told : T → List Statement → Type 0) (before : List (List ℕ)) (x : List ℕ) (old : FileReader T)
     → x ≡ [] → HasTaken told before old → HasTaken told (before ++ x ∷ []) old
 kept_empty told before x old empty h = record {
-  faultless = h.faultless;
   done = h.done;
   told_is = h.told_is;
   knows = knows_blank old.last before x h.done (ap record_kind empty ∙ no_kind) h.knows;
@@ -63,7 +52,6 @@ pub kept_header : {T : Type 0} (told : T → List Statement → Type 0) (before 
 kept_header told before x old sink r kind h place spells say =
     let blank = nothing_told old.last before h.done place h.knows in
     record {
-      faultless = h.faultless;
       done = HeaderOf (header_in x) ∷ [];
       told_is = subst (λ (v : HeaderValue). told sink (HeaderOf v ∷ [])) (header_spelled x r spells)
           (say (subst (λ (d : List Statement). told old.sink d) blank.none h.told_is));
@@ -79,7 +67,6 @@ pub kept_period : {T : Type 0} (told : T → List Statement → Type 0) (before 
 kept_period told before x old sink number moment r kind h number_is moment_is spells say =
     let is = ap result_ok kind in
     record {
-      faultless = h.faultless;
       done = h.done ++ PeriodOf (period_in moment (length before + 1) x []) ∷ [];
       told_is = subst (λ (n : ℕ). told sink (h.done ++ PeriodOf (period_in moment n x []) ∷ [])) number_is
           (say h.done x h.told_is (headed_at old.last before x moment h.done is moment_is h.knows) spells);
@@ -95,7 +82,6 @@ pub kept_note : {T : Type 0} (told : T → List Statement → Type 0) (before : 
 kept_note told before x old sink moment r kind h place moment_is spells say =
     let at = at_period old.last before x moment h.done (ap result_ok kind) place moment_is h.knows in
     record {
-      faultless = h.faultless;
       done = at.front ++ PeriodOf (with_notes at.period (note_in x ∷ [])) ∷ [];
       told_is = say at.front at.period x (subst (λ (d : List Statement). told old.sink d) at.done_is h.told_is) at.headed spells;
       knows = at.next;
@@ -113,18 +99,7 @@ pub kept_end : {T : Type 0} (told : T → List Statement → Type 0) (before : L
     → kind_of x ≡ Ok a.EndOfData → HasTaken told before old → is_in_place (last_kind old.last) a.EndOfData ≡ true
     → HasTaken told (before ++ x ∷ []) (record old { last = state.End })
 kept_end told before x old kind h place = record {
-  faultless = h.faultless;
   done = h.done;
   told_is = h.told_is;
   knows = end_at old.last before x h.done (ap result_ok kind) place h.knows;
 }
-
--- a record without a fault that the sink is told of
-pub takes_told : {T : Type 0} {U : Type 0} (told : T → List Statement → Type 0) (before : List (List ℕ)) (x : List ℕ) (kind : Kind)
-    (result : Result U TakeFault) (new : FileReader T) → field_fault Nem13 kind 0 x ≡ None → kind_of x ≡ Ok kind → is_told (Some kind) ≡ true
-    → MatchResult result (λ _. HasTaken told (before ++ x ∷ []) new) (λ fault. fault ≡ Memory)
-    → Takes told before x (fields_fault before x kind) result new
-takes_told told before x kind (Ok u) new none is telling h = (ap (option_map (at_field (length before + 1))) none, h)
-takes_told told before x kind (Err (File fault)) new none is telling h = absurd (cc)
-takes_told told before x kind (Err Memory) new none is telling h =
-    (ap (option_map (at_field (length before + 1))) none, ap (λ r. is_told (result_ok r)) is ∙ telling)

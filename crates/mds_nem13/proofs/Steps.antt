@@ -6,9 +6,9 @@ use Rattle.mds_lines.specs.declared.line.Kind.{Kind}
 use Rattle.mds_lines.specs.declared.line.Kind.TheVariants as a
 use Rattle.mds_statements.specs.Statements.{PeriodStatement, Statement}
 use Rattle.mds_statements.specs.Statements.Statement.{HeaderOf, DetailsOf, DayOf, EventOf, PeriodOf}
-use Rattle.mds_reading.specs.Governing.{is_this, last_kind_of, record_kind}
-use Rattle.mds_reading.specs.Said.{header_in, is_headed}
-use Rattle.mds_reading.proofs.Numbered.{last_kind_push, no_kind}
+use Rattle.mds_walk.specs.Governing.{is_this, last_kind_of, record_kind}
+use Rattle.mds_walk.specs.Said.{header_in, is_headed}
+use Rattle.mds_walk.proofs.Numbered.{last_kind_push, no_kind}
 use Rattle.mds_nem13.specs.FileReaderSteps.{IsBlank, IsClosed, IsOpen, Knows, KnowsStated, last_kind, last_moment}
 use Rattle.mds_nem13.specs.Place.{is_in_place}
 use Rattle.mds_nem13.specs.Said.{note_in, period_in, with_notes}

@@ -9,9 +9,9 @@ use Rattle.mds_lines.specs.Lines.{comma, field, line_feed, split}
 use Rattle.mds_statements.specs.Statements.{PeriodContent, PeriodStatement, Statement}
 use Rattle.mds_statements.specs.Statements.Statement.{HeaderOf, DetailsOf, DayOf, EventOf, PeriodOf}
 use Rattle.mds_terms.specs.Parts.{joined}
-use Rattle.mds_reading.specs.Said.{is_headed}
-use Rattle.mds_reading.proofs.Longer.{split_both}
-use Rattle.mds_nem13.specs.Accumulations.{AreStatedBy, period_of, periods_of}
+use Rattle.mds_walk.specs.Said.{is_headed}
+use Rattle.mds_walk.proofs.Longer.{split_both}
+use Rattle.mds_nem13.specs.Accumulations.{period_of, periods_of}
 use Rattle.mds_nem13.specs.BuilderSteps.{AreTold, GainsLine, IsApart, LastBecomes, is_separator}
 use Rattle.mds_statements.specs.Contents.{content_in, content_of}
 use Rattle.mds_nem13.specs.Said.{key_in, kept_fields, period_in, with_notes}
@@ -148,16 +148,6 @@ told_note accumulations new (DetailsOf s ∷ more) period x xs told headed becom
 told_note accumulations new (DayOf s ∷ more) period x xs told headed becomes = absurd (cc)
 told_note accumulations new (EventOf s ∷ more) period x xs told headed becomes = absurd (cc)
 told_note accumulations new (PeriodOf s ∷ more) period x xs told headed becomes = absurd (cc)
-
--- all that was told
-pub all_stated : (accumulations : List Accumulation) (statements : List Statement) → AreTold accumulations statements
-    → is_headed statements ≡ true → AreStatedBy statements accumulations
-all_stated accumulations [] told headed = absurd (cc)
-all_stated accumulations (HeaderOf header ∷ more) told headed = (header, ap (λ t. HeaderOf header ∷ t) (sym told))
-all_stated accumulations (DetailsOf s ∷ more) told headed = absurd (cc)
-all_stated accumulations (DayOf s ∷ more) told headed = absurd (cc)
-all_stated accumulations (EventOf s ∷ more) told headed = absurd (cc)
-all_stated accumulations (PeriodOf s ∷ more) told headed = absurd (cc)
 
 -- the last of a list, by its place
 last_place : {T : Type 0} (xs front : List T) (last : T) (n : ℕ) → n ≡ length xs → xs ≡ front ++ last ∷ [] → length front ≡ n - 1

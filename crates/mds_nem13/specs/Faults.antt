@@ -7,8 +7,8 @@ use Rattle.mds_records.specs.FieldFaults.{field_fault}
 use Rattle.mds_records.specs.declared.file.FaultCode.TheVariants as code
 use Rattle.mds_records.specs.declared.file.FileFault.{FileFault}
 use Rattle.mds_records.specs.declared.header_name.HeaderName.TheVariants.{Nem13}
-use Rattle.mds_reading.specs.Faults.{Judge, at_field, at_line, fault_of as of_file}
-use Rattle.mds_reading.specs.Governing.{is_this, last_kind_of}
+use Rattle.mds_walk.specs.Faults.{Judge, at_field, at_line, fault_of as of_file}
+use Rattle.mds_walk.specs.Governing.{is_this, last_kind_of}
 use Rattle.mds_nem13.specs.Place.{is_in_place}
 
 -- the faults of the fields of a record after these lines: L11, L4, L5

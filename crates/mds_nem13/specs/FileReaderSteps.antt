@@ -5,10 +5,10 @@ use Rattle.mds_lines.specs.declared.line.Kind.TheVariants as kind
 use Rattle.mds_records.specs.declared.file.FileFault.{FileFault}
 use Rattle.mds_statements.specs.Statements.{PeriodStatement, Statement}
 use Rattle.mds_statements.specs.Statements.Statement.{PeriodOf}
-use Rattle.mds_reading.specs.Answers.{IsStop}
-use Rattle.mds_reading.specs.Governing.{last_kind_of}
-use Rattle.mds_reading.specs.Said.{is_headed}
-use Rattle.mds_reading.specs.declared.fault.TakeFault.{TakeFault}
+use Rattle.mds_walk.specs.Answers.{IsStop}
+use Rattle.mds_walk.specs.Governing.{last_kind_of}
+use Rattle.mds_walk.specs.Said.{is_headed}
+use Rattle.mds_walk.specs.declared.fault.TakeFault.{TakeFault}
 use Rattle.mds_nem13.specs.Answers.{MayLack}
 use Rattle.mds_nem13.specs.Said.{with_notes}
 use Rattle.mds_nem13.specs.Statements.{moment_of_header, notes_after, stated_from, statements}
@@ -68,10 +68,9 @@ pub record Knows (before : List (List ℕ)) (last : LastRecord) (done : List Sta
   pub previous : last_kind_of before ≡ last_kind last
   pub stated : KnowsStated last before done
 
--- A reader has taken these lines, and met no fault.
+-- A reader has taken these lines.
 pub record HasTaken {T : Type 0} (told : T → List Statement → Type 0) (before : List (List ℕ)) (reader : FileReader T)
     : Type 0 where
-  pub faultless : reader.fault ≡ None
   pub done : List Statement
   pub told_is : told reader.sink done
   pub knows : Knows before reader.last done

@@ -4,7 +4,7 @@ use Rattle.std.specs.Prelude.{Bool, List, [], ◌∷◌, Option, Some, None}
 use Rattle.std.specs.List.{list_any}
 use Rattle.mds_lines.specs.declared.line.Kind.{Kind}
 use Rattle.mds_lines.specs.declared.line.Kind.TheVariants.{Header, NmiDataDetails, AccumulationData, IntervalData, IntervalEvent, B2bDetails, AccumulationB2bDetails, EndOfData}
-use Rattle.mds_reading.specs.Governing.{is_kind}
+use Rattle.mds_walk.specs.Governing.{is_kind}
 
 -- the kinds that may follow a kind; 200, 300, 400 and 500 are records of NEM12
 abbrev pub followers : Kind → List Kind

@@ -12,7 +12,7 @@ use Rattle.mds_records.specs.Layouts.{direction_of, direction_text}
 use Rattle.mds_terms.specs.Parts.{optional}
 use Rattle.mds_statements.specs.Statements.{PeriodStatement}
 use Rattle.mds_statements.specs.declared.periods.PeriodKey.{PeriodKey}
-use Rattle.mds_reading.specs.Said.{stream_in}
+use Rattle.mds_walk.specs.Said.{stream_in}
 
 -- The one way in which a field is kept: a quality, a code, a direction, a quantity and a unit as they are written, and nothing
 -- for one that is absent. Of the other fields no two texts say the same, so that they are kept as they stand.

@@ -4,9 +4,9 @@ use Rattle.mds_lines.specs.declared.line.Kind.{Kind}
 use Rattle.mds_lines.specs.declared.line.Kind.TheVariants.{Header, AccumulationData, AccumulationB2bDetails}
 use Rattle.mds_statements.specs.Statements.{Statement}
 use Rattle.mds_statements.specs.Statements.Statement.{HeaderOf, PeriodOf}
-use Rattle.mds_reading.specs.Faults.{lines_of}
-use Rattle.mds_reading.specs.Governing.{is_of, record_kind}
-use Rattle.mds_reading.specs.Said.{header_in}
+use Rattle.mds_walk.specs.Faults.{lines_of}
+use Rattle.mds_walk.specs.Governing.{is_of, record_kind}
+use Rattle.mds_walk.specs.Said.{header_in}
 use Rattle.mds_nem13.specs.Said.{note_in, period_in}
 
 -- the note of a line of a kind before further ones: a 550 is one, a line that is no record is passed over, and with any other

@@ -1,6 +1,6 @@
 //! How the content of an accumulation is written: texts joined by commas.
 
-ghost use Rattle.std.specs.Prelude.{◌≡◌, true, List, ℕ, [], ◌∷◌, ◌++◌, Some, OnOk, IfSome, codes, unwrap_or, option_map, string_bytes};
+ghost use Rattle.std.specs.Prelude.{◌≡◌, true, List, ℕ, [], ◌∷◌, Some, OnOk, unwrap_or, option_map, string_bytes};
 ghost use Rattle.mds_calendar.specs.Calendar.{day_of, moment_of};
 ghost use Rattle.mds_lines.specs.Lines.{line_feed};
 ghost use Rattle.mds_marks.specs.Quality.{quality_text};

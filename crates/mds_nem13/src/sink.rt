@@ -2,7 +2,7 @@
 
 ghost use Rattle.std.specs.Prelude.{◌≡◌, ℕ, true, List, [], ◌∷◌, ◌++◌, OnOk};
 ghost use Rattle.mds_records.specs.Records.{IsAccumulationB2bDetails, IsAccumulationData};
-ghost use Rattle.mds_reading.specs.Said.{header_said, is_headed};
+ghost use Rattle.mds_walk.specs.Said.{header_said, is_headed};
 ghost use Rattle.mds_statements.specs.Statements.{PeriodStatement, Statement};
 ghost use Rattle.mds_statements.specs.Statements.Statement.{HeaderOf, PeriodOf};
 ghost use Rattle.mds_nem13.specs.Said.{note_in, period_in, with_notes};

@@ -33,9 +33,7 @@ pub fn gaps_of<K: Keeper>(
     ensures same { K.sound keeper.new → K.world keeper.new ≡ K.world keeper.old }
     ensures crash { K.honest keeper.new → (left : World) → K.may_leave keeper.new left → K.may_leave keeper.old left }
 {
-    let Ok(books) = keeper.days(stream, first, last) else {
-        return Err(Unavailable);
-    };
+    let books = keeper.days(stream, first, last)?;
     match gap_rows(alloc, &books, first, last) {
         Ok(rows) => Ok(rows),
         Err(_) => Err(Unavailable),
@@ -58,9 +56,7 @@ pub fn finals_of<K: Keeper>(
     ensures same { K.sound keeper.new → K.world keeper.new ≡ K.world keeper.old }
     ensures crash { K.honest keeper.new → (left : World) → K.may_leave keeper.new left → K.may_leave keeper.old left }
 {
-    let Ok(books) = keeper.days(stream, first, last) else {
-        return Err(Unavailable);
-    };
+    let books = keeper.days(stream, first, last)?;
     match final_rows(alloc, &books) {
         Ok(rows) => Ok(rows),
         Err(_) => Err(Unavailable),

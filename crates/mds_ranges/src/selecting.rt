@@ -14,8 +14,8 @@ use mds_terms::{Day, Nmi, Stream, Suffix};
 use mds_versions::{DayBook, Keeper, Unavailable};
 use std::alloc::{AllocError, Global};
 
-/// What an export of the days of a range selects: the streams of an NMI with one of these suffixes, also those without a
-/// day, each with its current details and the current readings of its known days.
+/// What an export of the days of a range selects: the streams of an NMI with one of these suffixes. Each has its current
+/// details and the current readings of its known days, of which there may be none.
 pub fn selection_of<K: Keeper>(
     alloc: Global,
     keeper: &mut K,
@@ -36,14 +36,9 @@ pub fn selection_of<K: Keeper>(
     ensures same { K.sound keeper.new → K.world keeper.new ≡ K.world keeper.old }
     ensures crash { K.honest keeper.new → (left : World) → K.may_leave keeper.new left → K.may_leave keeper.old left }
 {
-    let Ok(streams) = selected_streams(alloc, keeper, nmi, suffixes, first, last) else {
-        return Err(Unavailable);
-    };
+    let streams = selected_streams(alloc, keeper, nmi, suffixes, first, last)?;
     // It is one where the keeper is sound.
-    match made_of(streams) {
-        Some(selection) => Ok(selection),
-        None => Err(Unavailable),
-    }
+    made_of(streams).ok_or(Unavailable)
 }
 
 /// Streams as a selection. `None` where a range of at most 400 days and at most eight suffixes select no such streams.
@@ -81,9 +76,7 @@ fn selected_streams<K: Keeper>(
             nmi,
             suffix: *suffix,
         };
-        let Ok(selected) = selected_stream(alloc, keeper, stream, first, last) else {
-            return Err(Unavailable);
-        };
+        let selected = selected_stream(alloc, keeper, &stream, first, last)?;
         let Ok(()) = streams.push(selected) else {
             return Err(Unavailable);
         };
@@ -95,29 +88,25 @@ fn selected_streams<K: Keeper>(
 fn selected_stream<K: Keeper>(
     alloc: Global,
     keeper: &mut K,
-    stream: Stream,
+    stream: &Stream,
     first: Day,
     last: Day,
 ) -> Result<SelectedStream, Unavailable>
     ensures outside { K.honest keeper.new → K.honest keeper.old }
     ensures before { K.sound keeper.new → K.sound keeper.old }
     ensures open { K.honest keeper.new → OnOk result (K.sound keeper.new) }
-    ensures name { IfOk result (λ selected. selected.stream ≡ stream) }
+    ensures name { IfOk result (λ selected. selected.stream ≡ stream.now) }
     ensures selected { K.sound keeper.new → IfOk result (IsSelectedStream (K.world keeper.old) first last) }
     ensures same { K.sound keeper.new → K.world keeper.new ≡ K.world keeper.old }
     ensures crash { K.honest keeper.new → (left : World) → K.may_leave keeper.new left → K.may_leave keeper.old left }
 {
-    let Ok(details) = keeper.details(copy_of(&stream)) else {
-        return Err(Unavailable);
-    };
-    let Ok(books) = keeper.days(copy_of(&stream), first, last) else {
-        return Err(Unavailable);
-    };
+    let details = keeper.details(*stream)?;
+    let books = keeper.days(*stream, first, last)?;
     let Ok(days) = selected_days(alloc, &books) else {
         return Err(Unavailable);
     };
     Ok(SelectedStream {
-        stream,
+        stream: *stream,
         details,
         days,
     })
@@ -148,7 +137,7 @@ fn selected_day(alloc: Global, book: &DayBook) -> Result<Option<SelectedDay>, Al
         return Ok(None);
     };
     let (length, unit) = form;
-    // A lawful day that is known has a version.
+    // For the proof: the book is lawful, so that a known day has a version.
     book.is_lawful();
     let Some(update) = book.latest_update() else {
         unreachable!();
@@ -161,14 +150,4 @@ fn selected_day(alloc: Global, book: &DayBook) -> Result<Option<SelectedDay>, Al
         update,
         readings,
     }))
-}
-
-/// The same stream.
-fn copy_of(stream: &Stream) -> Stream
-    ensures { result ≡ stream.now }
-{
-    Stream {
-        nmi: stream.nmi,
-        suffix: stream.suffix,
-    }
 }

@@ -1,5 +1,4 @@
 pub mod Days
-pub mod Numbers
 pub mod Outcomes
 pub mod Rests
 pub mod Rules

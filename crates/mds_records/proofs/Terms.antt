@@ -167,27 +167,6 @@ pub mark_fields : (quality code text : List ℕ) {q c t : List ℕ} (m : Option 
     → option_map mark_value m ≡ mark_of quality code text → option_map mark_value m ≡ mark_of q c t
 mark_fields quality code text m eq ec et e = e ∙ rw (eq, ec, et) refl
 
--- a text of a wrong length is no number of an interval
-pub no_interval_number : (text : List ℕ) → (eqb (length text) 0 ≡ true) ⊎ ((eqb (length text) 0 ≡ false) × (4 < length text)) → interval_number_of text ≡ None
-unfolding interval_number_of
-no_interval_number [] h = refl
-no_interval_number (x ∷ xs) (inl h) = absurd (grind (arith, nat_tests))
-no_interval_number (x ∷ xs) (inr h) =
-    let long = h.1 in
-    let some : leb 1 (length (x ∷ xs)) ≡ true = grind (arith, nat_tests) in
-    let wrong : leb (length (x ∷ xs)) 4 ≡ false = grind (arith, nat_tests) in
-    rw (some, wrong) refl
-
--- one of a right length is what its digits say
-pub interval_number_is : (text : List ℕ) → eqb (length text) 0 ≡ false → length text ≤ 4
-    → (if list_all is_ascii_digit text then Some (digits_value 10 text) else None) ≡ interval_number_of text
-unfolding interval_number_of
-interval_number_is [] h short = absurd (cc)
-interval_number_is (x ∷ xs) h short =
-    let some : leb 1 (length (x ∷ xs)) ≡ true = grind (arith, nat_tests) in
-    let right : leb (length (x ∷ xs)) 4 ≡ true = grind (arith, nat_tests) in
-    rw (some, right) refl
-
 -- a quality with one of some flags is there
 pub flag_there : (letters : List ℕ) (quality : Option QualityValue) → has_flag letters quality ≡ true → is_some quality ≡ true
 flag_there letters None h = absurd (cc)

@@ -2,14 +2,13 @@
 -- the tables of the 100, 200, 250, 300, 400, 500, 550 and 900 records. Which fields may be empty, how long a text may
 -- be and which fields may be left off is this project's profile.
 use Rattle.std.specs.Prelude.{ℕ, ◌+◌, Bool, true, false, ◌&&◌, ◌==◌, nat_le, if◌then◌else◌, List, [], ◌∷◌, ◌++◌, length, replicate, codes, bytes_eq, Option, Some, None, is_some, is_ok}
-use Rattle.std.specs.Char.{is_ascii_digit}
 use Rattle.std.specs.List.{list_all, list_any}
-use Rattle.std.specs.Str.Parse.{digits_value}
 use Rattle.mds_quantity.specs.Quantity.{denoted}
 use Rattle.mds_quantity.specs.Unit.{unit_of}
 use Rattle.mds_calendar.specs.Calendar.{day_of, moment_of, date_time_of}
 use Rattle.mds_calendar.specs.Length.{length_of}
 use Rattle.mds_names.specs.Names.{nmi_of, suffix_of}
+unfoldable pub use Rattle.mds_marks.specs.Digits.{interval_number_of}
 use Rattle.mds_marks.specs.Quality.{QualityValue, quality_of}
 use Rattle.mds_marks.specs.Reason.{code_of, is_reason_text}
 use Rattle.mds_terms.specs.Event.{letter_of}
@@ -58,12 +57,6 @@ file_name Nem13 = codes "NEM13"
 abbrev pub other_file_name : HeaderName → List ℕ
 other_file_name Nem12 = codes "NEM13"
 other_file_name Nem13 = codes "NEM12"
-
--- the number of an interval that a text of one to four digits is (the digits are the profile's)
-unfoldable pub interval_number_of : List ℕ → Option ℕ
-interval_number_of text =
-    if nat_le 1 (length text) && nat_le (length text) 4 && list_all is_ascii_digit text
-    then Some (digits_value 10 text) else None
 
 -- the direction that a letter is
 abbrev pub direction_of : List ℕ → Option Direction

@@ -136,8 +136,8 @@ Spells AccumulationB2bDetails n line (of.AccumulationB2bDetails r) = IsAccumulat
 Spells EndOfData n line of.EndOfData = Unit {0}
 Spells kind n line r = ⊥
 
--- What a record says together with the values that were read with it (profile). 300: its sum is that of the values that
--- are there, and none is empty unless its quality is N or V. 400: its quality isn't V.
+-- What a record says together with the values that were read with it (profile). The sum of a 300 is that of the values
+-- that are there. A value is empty only where its quality is N or V. The quality of a 400 isn't V.
 abbrev pub GoesWith : List (Option ℤ) → Record → Type 0
 GoesWith values (of.IntervalData r) =
     (r.sum ≡ fold (λ sum value. sum +ℤ value) (pos 0) (flat_map option_to_list values))

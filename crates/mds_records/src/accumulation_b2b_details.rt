@@ -13,7 +13,7 @@ use mds_lines::{is_blank_from, next_field};
 use mds_terms::{PrintableText, TransCode};
 
 /// A 550 record: a transaction and a service order for the previous read, and for the current one.
-/// Each of these may be absent, the texts by being empty.
+/// Each of these may be absent. A text that is absent is empty.
 #[derive(Clone, Copy)]
 pub struct AccumulationB2bDetailsRecord<'a> {
     /// The transaction code of the previous read (PreviousTransCode).
@@ -33,11 +33,11 @@ struct AccumulationB2bFields<'a> {
     previous_ticket: &'a [u8],
     current_trans: &'a [u8],
     current_ticket: &'a [u8],
-    /// Whether there is no field past the last that isn't empty. Each of them may be left off.
+    /// Whether all fields past the last are empty (L4). Each of the fields may be left off.
     is_whole: bool,
 }
 
-/// Reads the text of a 550 record.
+/// Reads the text of a 550 record, or says its first fault (L4, L5).
 pub fn read_accumulation_b2b_details(
     text: &[u8],
 ) -> Result<AccumulationB2bDetailsRecord<'_>, FieldFault>

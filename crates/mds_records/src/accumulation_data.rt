@@ -47,7 +47,7 @@ struct AccumulationFields<'a> {
     next: &'a [u8],
     update: &'a [u8],
     load: &'a [u8],
-    /// Whether there are the least fields, and none past the last that isn't empty.
+    /// Whether there are enough fields, and all past the last are empty (L4).
     is_whole: bool,
 }
 
@@ -83,7 +83,7 @@ struct AmountTerms {
     update: Option<Moment>,
 }
 
-/// Reads the text of a 250 record.
+/// Reads the text of a 250 record, or says its first fault (L4, L5).
 pub fn read_accumulation_data(text: &[u8]) -> Result<AccumulationDataRecord<'_>, FieldFault>
     ensures { (file : HeaderName) (n : ℕ) → MatchResult result
         (λ r. (field_fault file Kind.AccumulationData n text.now ≡ None) × IsAccumulationData text.now r)
@@ -147,7 +147,7 @@ fn split_meter(rest: Option<&[u8]>) -> (MeterFields<'_>, Option<&[u8]>)
     (fields, rest)
 }
 
-/// The record that these fields spell, or the first that is bad.
+/// Reads the record that these fields spell, or says which field is the first bad one (L5).
 fn read_fields<'a>(
     fields: &AccumulationFields<'a>,
 ) -> Result<AccumulationDataRecord<'a>, FieldFault>
@@ -187,7 +187,7 @@ fn read_fields<'a>(
     })
 }
 
-/// What the fields before the reads spell, or the first that is bad.
+/// Reads what the fields before the reads spell, or says which of them is the first bad one (L5).
 fn read_meter<'a>(fields: &MeterFields<'a>) -> Result<MeterTerms<'a>, FieldFault>
     ensures { MatchResult result
         (λ terms. (first_false 2 (meter_tests fields.now) ≡ None) × AreMeter fields.now terms)
@@ -221,7 +221,7 @@ fn read_meter<'a>(fields: &MeterFields<'a>) -> Result<MeterTerms<'a>, FieldFault
     })
 }
 
-/// What the fields after the reads spell, or the first that is bad.
+/// Reads what the fields after the reads spell, or says which of them is the first bad one (L5).
 fn read_amount(fields: &AccumulationFields<'_>) -> Result<AmountTerms, FieldFault>
     ensures { MatchResult result
         (λ terms. (first_false 19 (amount_tests fields.now) ≡ None) × AreAmounts fields.now terms)

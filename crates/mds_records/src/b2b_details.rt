@@ -13,7 +13,7 @@ use mds_lines::{is_blank_from, next_field};
 use mds_terms::{Moment, PrintableText, TransCode};
 
 /// A 500 record: a transaction, a service order, and what was read when. Each of these may be
-/// absent, the texts by being empty.
+/// absent. A text that is absent is empty.
 #[derive(Clone, Copy)]
 pub struct B2bDetailsRecord<'a> {
     /// The transaction code (TransCode).
@@ -33,11 +33,11 @@ struct B2bFields<'a> {
     ticket: &'a [u8],
     moment: &'a [u8],
     reading: &'a [u8],
-    /// Whether there is no field past the last that isn't empty. Each of them may be left off.
+    /// Whether all fields past the last are empty (L4). Each of the fields may be left off.
     is_whole: bool,
 }
 
-/// Reads a 500 record.
+/// Reads a 500 record, or says its first fault (L4, L5).
 pub fn read_b2b_details(text: &[u8]) -> Result<B2bDetailsRecord<'_>, FieldFault>
     ensures { (file : HeaderName) (n : ℕ) → MatchResult result
         (λ r. (field_fault file Kind.B2bDetails n text.now ≡ None) × IsB2bDetails text.now r)

@@ -19,7 +19,7 @@ impl FileKind {
     ghost use Rattle.mds_records.specs.Layouts.{header_name};
     ghost use Rattle.mds_records.specs.declared.file.FileKind.{FileKind as AFileKind};
 
-    /// A law: kinds of files are equal where they are the same.
+    /// A law: `==` says whether two kinds of files are the same.
     pub fn one_equality()
         ensures { (a b : AFileKind) → IsTrue (⟦<FileKind as PartialEq>⟧.eq a b) ↔ (a ≡ b) }
     {}
@@ -67,7 +67,7 @@ pub enum FaultCode {
 impl FaultCode {
     ghost use Rattle.mds_records.specs.declared.file.FaultCode.{FaultCode as AFaultCode};
 
-    /// A law: codes are equal where they are the same.
+    /// A law: `==` says whether two codes are the same.
     pub fn one_equality()
         ensures { (a b : AFaultCode) → IsTrue (⟦<FaultCode as PartialEq>⟧.eq a b) ↔ (a ≡ b) }
     {}
@@ -101,8 +101,8 @@ impl fmt::Display for FaultCode {
     }
 }
 
-/// The fault of a file: what is wrong, the number of the line, from 1, and that of the field, from
-/// 1, or 0 where no field is at fault.
+/// The fault of a file: what is wrong, and where. Lines and fields are numbered from 1. The field
+/// is 0 where no field is at fault.
 #[derive(Clone, Copy, Debug, PartialEq, Eq)]
 pub struct FileFault {
     pub code: FaultCode,
@@ -113,7 +113,7 @@ pub struct FileFault {
 impl FileFault {
     ghost use Rattle.mds_records.specs.declared.file.FileFault.{FileFault as AFileFault};
 
-    /// A law: faults are equal where they are the same.
+    /// A law: `==` says whether two faults are the same.
     pub fn one_equality()
         ensures { (a b : AFileFault) → IsTrue (⟦<FileFault as PartialEq>⟧.eq a b) ↔ (a ≡ b) }
     {}

@@ -27,11 +27,12 @@ struct HeaderFields<'a> {
     date_time: &'a [u8],
     sender: &'a [u8],
     receiver: &'a [u8],
-    /// Whether there are the least fields, and none past the last that isn't empty.
+    /// Whether there are enough fields, and all past the last are empty (L4).
     is_whole: bool,
 }
 
-/// Reads the text of a 100 record, the header of a file of this name.
+/// Reads the text of a 100 record, the header of a file of this name, or says its first fault (L11,
+/// L4, L5).
 pub fn read_header(text: &[u8], file: HeaderName) -> Result<HeaderRecord<'_>, FieldFault>
     ensures { (n : ℕ) → MatchResult result
         (λ r. (field_fault file Kind.Header n text.now ≡ None) × IsHeader text.now r)
@@ -84,7 +85,7 @@ fn is_name(file: HeaderName, name: &[u8]) -> bool
     }
 }
 
-/// Whether a header's field names the other kind of file.
+/// Whether a header's field names the other kind of file (L11).
 fn is_other_name(file: HeaderName, name: &[u8]) -> bool
     ensures { result ≡ bytes_eq name.now (other_file_name file) }
 {

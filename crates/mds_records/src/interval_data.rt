@@ -40,7 +40,8 @@ struct DayFields<'a> {
     load: &'a [u8],
 }
 
-/// Reads a 300 record of so many values, and these in place of those that were held.
+/// Reads a 300 record of so many values, or says its first fault (L4, L5). The values take the
+/// place of those that `values` held.
 pub fn read_interval_data<'a>(
     text: &'a [u8],
     count: usize,
@@ -83,8 +84,8 @@ pub fn read_interval_data<'a>(
     })
 }
 
-/// The fields of a 300 record of so many values, good or bad, and the faults of its values; `None`
-/// where there are too few fields, or one past the last that isn't empty.
+/// Splits a 300 record of so many values into its fields, good or bad, and says the faults of its
+/// values. `None` where there are too few fields, or one past the last isn't empty (L4).
 fn split_interval_data<'a>(
     text: &'a [u8],
     count: usize,
@@ -118,15 +119,15 @@ fn split_interval_data<'a>(
     Some((fields, day.faults))
 }
 
-/// The number of the first bad field: the day, one of the values, or one after them.
+/// The number of the first bad field: the day, one of the values, or one after them (L5).
 fn least_of(is_day: bool, in_values: Option<usize>, after: Option<usize>) -> Option<usize>
     ensures { result ≡ (if is_day then or_else in_values after else Some 2) }
 {
     if is_day { in_values.or(after) } else { Some(2) }
 }
 
-/// The field number of the first bad value: one that is no quantity, or is empty where values have
-/// to be there.
+/// The field number of the first bad value (L5). It is no quantity, or it is empty where values
+/// have to be there.
 fn first_bad(faults: ValueFaults, must_be_there: bool) -> Option<usize>
     ensures { result ≡ lesser faults.bad (if must_be_there then faults.empty else None) }
 {
@@ -137,8 +138,8 @@ fn first_bad(faults: ValueFaults, must_be_there: bool) -> Option<usize>
     }
 }
 
-/// Whether a quality means that values are there: A, E, F or S. N and V don't, and what is no
-/// quality says nothing of that.
+/// Whether a quality means that values are there: A, E, F or S. N and V don't. A text that is no
+/// quality says nothing of values.
 fn means_values(quality: Option<Quality>) -> bool
     ensures { result ≡ has_flag (codes "AEFS") quality }
 {

@@ -9,8 +9,9 @@ ghost use Rattle.mds_records.specs.RecordSteps.{HasRunFields};
 ghost use Rattle.mds_records.specs.Records.{IsIntervalEvent};
 
 use crate::fault::{FieldFault, first_fault, has_right_count};
-use crate::term::{interval_number, is_single_quality, mark_parts};
+use crate::term::{is_single_quality, mark_parts};
 use mds_lines::next_field;
+use mds_marks::interval_number;
 use mds_terms::MarkRef;
 
 /// A 400 record: the mark of the intervals from the first to the last, counted from 1.
@@ -29,11 +30,11 @@ struct RunFields<'a> {
     quality: &'a [u8],
     reason_code: &'a [u8],
     reason_text: &'a [u8],
-    /// Whether there are the least fields, and none past the last that isn't empty.
+    /// Whether there are enough fields, and all past the last are empty (L4).
     is_whole: bool,
 }
 
-/// Reads a 400 record.
+/// Reads a 400 record, or says its first fault (L4, L5).
 pub fn read_interval_event(text: &[u8]) -> Result<IntervalEventRecord<'_>, FieldFault>
     ensures read { (file : HeaderName) (n : ℕ) → MatchResult result
         (λ r. (field_fault file Kind.IntervalEvent n text.now ≡ None) × IsIntervalEvent text.now r)

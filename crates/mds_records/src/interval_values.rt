@@ -68,8 +68,8 @@ impl IntervalValues {
         &self.slots[..self.count]
     }
 
-    /// Reads so many values at the front of a text, in place of those that it held, or `None` where
-    /// no field follows them.
+    /// Reads so many values at the front of a text, in place of those that it held. `None` where no
+    /// field follows them.
     pub(crate) fn read<'a>(&mut self, text: &'a [u8], count: usize) -> Option<DayValues<'a>>
         requires few { (0 < count) × (count ≤ 288) }
         ensures none { IfNone result (length (fields_of text.now) ≤ count) }
@@ -83,7 +83,7 @@ impl IntervalValues {
 }
 
 impl ValueFaults {
-    /// Notes the number of a value's field that is no quantity.
+    /// Notes the field number of a value that is no quantity.
     #[cold]
     #[inline(never)]
     fn note(&mut self, number: usize, is_empty: bool)
@@ -100,8 +100,8 @@ impl ValueFaults {
     }
 }
 
-/// Reads so many values at the front of a text, each into its slot, the first into the first, or
-/// `None` where no field follows them.
+/// Reads so many values at the front of a text, one into each slot from the first on. `None` where
+/// no field follows them.
 fn read_front<'a>(
     text: &'a [u8],
     slots: &mut [Option<Quantity>],
@@ -115,9 +115,9 @@ fn read_front<'a>(
     read_values(text, &mut slots[..count])
 }
 
-/// Reads as many values at the front of a text as there are slots, each into its slot, or `None`
-/// where no field follows them. It stands apart from its caller, so that its loop keeps what it
-/// counts in registers.
+/// Reads as many values at the front of a text as there are slots, one into each. `None` where no
+/// field follows them. It stands apart from its caller, so that its loop keeps what it counts in
+/// registers.
 #[inline(never)]
 fn read_values<'a>(text: &'a [u8], slots: &mut [Option<Quantity>]) -> Option<DayValues<'a>>
     requires few { (0 < length slots.old) × (length slots.old ≤ 288) }

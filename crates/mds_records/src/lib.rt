@@ -1,5 +1,5 @@
-//! The records of MDFF files, whose texts are borrowed from the buffer that they were read into. The
-//! names of the lines and fields that they are read from are given on.
+//! The records of MDFF files, whose texts are borrowed from the buffer that they were read into. The names of
+//! `mds_lines` for lines and fields are given on.
 #![tactic(auto)]
 
 mod accumulation_b2b_details;

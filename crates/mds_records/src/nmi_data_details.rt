@@ -34,11 +34,11 @@ struct DetailsFields<'a> {
     unit: &'a [u8],
     length: &'a [u8],
     next: &'a [u8],
-    /// Whether there are the least fields, and none past the last that isn't empty.
+    /// Whether there are enough fields, and all past the last are empty (L4).
     is_whole: bool,
 }
 
-/// Reads a 200 record.
+/// Reads a 200 record, or says its first fault (L4, L5).
 #[inline(always)]
 pub fn read_nmi_data_details(text: &[u8]) -> Result<NmiDataDetailsRecord<'_>, FieldFault>
     ensures { (file : HeaderName) (n : ℕ) → MatchResult result

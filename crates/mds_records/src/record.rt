@@ -36,9 +36,10 @@ pub enum Record<'a> {
     EndOfData,
 }
 
-/// Reads the record that a line of a known kind spells. A 300 comes with the length of its
-/// intervals, that of the 200 that governs it, and leaves its values in `values`: any values where
-/// it has a fault. The other kinds leave what that holds. It takes no memory.
+/// Reads the record that a line of a known kind spells, or says its first fault (L11, L4, L5). For
+/// a 300, `length` is that of the 200 that governs it, and its values are left in `values`. Where
+/// it has a fault, any values may be left. The other kinds leave `values` as it is. It takes no
+/// memory.
 pub fn read_record<'a>(
     line: &Line<'a>,
     kind: Kind,
@@ -97,7 +98,7 @@ pub fn read_record<'a>(
     }
 }
 
-/// Reads the text of a 900 record, which says nothing.
+/// Reads the text of a 900 record, which says nothing. It may have a wrong number of fields (L4).
 pub fn read_end(text: &[u8]) -> Result<(), FieldFault>
     ensures { (file : AHeaderName) (n : ℕ) → MatchResult result
         (λ _. field_fault file Kind.EndOfData n text.now ≡ None)

@@ -12,8 +12,9 @@ use crate::term::{is_single_quality, reason_parts};
 use mds_lines::next_field;
 use mds_terms::{Moment, PrintableText, Quality, ReasonRef};
 
-/// A read of a register: what it showed, when, and the quality of that with its reason (MDFF
-/// Specification, PreviousRegisterRead to PreviousReasonDescription, and the same of the current).
+/// A read of a register: what it showed, when, and the quality of that with its reason. MDFF
+/// Specification, PreviousRegisterRead to PreviousReasonDescription, and CurrentRegisterRead to
+/// CurrentReasonDescription.
 #[derive(Clone, Copy)]
 pub struct RegisterRead<'a> {
     /// What it showed, as it stands in the file with its zeros. It may be empty.
@@ -34,8 +35,8 @@ pub(crate) struct ReadFields<'a> {
     reason_text: &'a [u8],
 }
 
-/// The fields of a read at the front of what is left of a line, good or bad, and what is left after
-/// them.
+/// Splits off the fields of a read, good or bad, at the front of what is left of a line. It gives
+/// what is left after them, too.
 pub(crate) fn split_read(rest: Option<&[u8]>) -> (ReadFields<'_>, Option<&[u8]>)
     ensures fields { HasReadFields (fields_left (option_copied rest.entry)) 0 result.0 }
     ensures left { fields_left (option_copied result.1) ≡ drop 5 (fields_left (option_copied rest.entry)) }
@@ -55,8 +56,8 @@ pub(crate) fn split_read(rest: Option<&[u8]>) -> (ReadFields<'_>, Option<&[u8]>)
     (fields, rest)
 }
 
-/// The read that these fields spell, or the first that is bad; the first of them has this number.
-/// Only the previous read may lack a quality.
+/// Reads the read that these fields spell, or says which field is the first bad one (L5). The first
+/// of them has the number `from`. Only the previous read may lack a quality.
 pub(crate) fn read_register<'a>(
     fields: &ReadFields<'a>,
     from: usize,

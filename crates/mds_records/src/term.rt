@@ -1,15 +1,12 @@
 //! The terms that several kinds of records hold.
 
-ghost use Rattle.std.specs.Prelude.{◌≡◌, ◌≤◌, if◌then◌else◌, length, Some, None, codes, is_some, option_map};
-ghost use Rattle.std.specs.Char.{is_ascii_digit};
-ghost use Rattle.std.specs.List.{list_all};
-ghost use Rattle.std.specs.Str.Parse.{digits_value};
+ghost use Rattle.std.specs.Prelude.{◌≡◌, Some, None, codes, is_some, option_map};
 ghost use Rattle.mds_calendar.specs.Calendar.{day_of, moment_of};
 ghost use Rattle.mds_marks.specs.BorrowedMarks.{mark_value, reason_value};
 ghost use Rattle.mds_marks.specs.Mark.{mark_of};
 ghost use Rattle.mds_marks.specs.Quality.{quality_of};
 ghost use Rattle.mds_marks.specs.Reason.{code_of, is_reason_text, reason_of};
-ghost use Rattle.mds_records.specs.Layouts.{has_flag, interval_number_of};
+ghost use Rattle.mds_records.specs.Layouts.{has_flag};
 ghost use Rattle.mds_terms.specs.Event.{letter_of};
 ghost use Rattle.mds_terms.specs.Parts.{optional};
 
@@ -27,7 +24,8 @@ pub(crate) struct MarkParts {
     pub has_text: bool,
 }
 
-/// What is good of the fields that a mark was read from. They are read again only where it is none.
+/// What is good of the fields that a mark was read from. They are read again only where there is no
+/// mark.
 pub(crate) fn mark_parts(
     mark: &Option<MarkRef<'_>>,
     quality: &[u8],
@@ -62,8 +60,8 @@ pub(crate) struct ReasonParts {
     pub has_text: bool,
 }
 
-/// What is good of the fields that a reason was read from. They are read again only where it is
-/// none.
+/// What is good of the fields that a reason was read from. They are read again only where there is
+/// no reason.
 pub(crate) fn reason_parts(reason: &Option<ReasonRef<'_>>, code: &[u8], text: &[u8]) -> ReasonParts
     requires { option_map reason_value reason.now ≡ reason_of code.now text.now }
     ensures code { result.has_code ≡ is_some (code_of code.now) }
@@ -140,29 +138,4 @@ pub(crate) fn optional_trans(text: &[u8]) -> Option<Option<TransCode>>
         return Some(None);
     }
     Some(Some(TransCode::read(text)?))
-}
-
-/// Reads the number of an interval: one to four digits.
-pub(crate) fn interval_number(text: &[u8]) -> Option<u16>
-    ensures { result ≡ interval_number_of text.now }
-{
-    if text.is_empty() || text.len() > 4 {
-        return None;
-    }
-    digits_number(text)
-}
-
-/// The number that at most four digits say, or `None` where some byte is no digit.
-fn digits_number(text: &[u8]) -> Option<u16>
-    requires { length text.now ≤ 4 }
-    ensures { result ≡ (if list_all is_ascii_digit text.now then Some (digits_value 10 text.now) else None) }
-{
-    let mut number = 0;
-    for byte in text {
-        if !byte.is_ascii_digit() {
-            return None;
-        }
-        number = number * 10 + u16::from(*byte - b'0');
-    }
-    Some(number)
 }

@@ -16,8 +16,8 @@ use Rattle.mds_world.specs.declared.facts.Head.{Head}
 use Rattle.mds_registers.specs.declared.stretches.Final.{Final}
 use Rattle.mds_registers.specs.declared.stretches.Gap.{Gap}
 
--- Of the intervals 1 to a count, first to last are all such, and are part of no longer run of such: the one right before
--- isn't, nor is the one right behind.
+-- First to last, within the intervals 1 to a count, are all such, and are part of no longer run of such. The one right before
+-- isn't such, nor is the one right behind.
 pub record IsStretch (IsSuch : ℕ → Type 0) (count first last : ℕ) : Type 0 where
   pub from_one : 1 ≤ first
   pub in_order : first ≤ last

@@ -1,4 +1,4 @@
-//! The registers of what a day lacks and of what stands in it as final: its gaps and its finals, and their CSV texts.
+//! The gaps of a day, which have no reading, and its finals, whose readings are final. Their registers are CSV texts.
 #![tactic(auto)]
 
 mod stretches;

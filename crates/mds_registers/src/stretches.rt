@@ -13,16 +13,16 @@ use mds_marks::flags::{FINAL, NULL};
 use mds_versions::DayBook;
 use std::alloc::{AllocError, Global};
 
-/// Intervals `first` to `last` of a day, counted from 1, that have no reading: a longest run of those whose current
-/// flag is N. Of a day that isn't known it is 0 to 0.
+/// Intervals `first` to `last` of a day, counted from 1, that have no reading. They are a longest run of those whose
+/// current flag is N. A day that isn't known has the gap 0 to 0.
 #[derive(Clone, Copy)]
 pub struct Gap {
     pub first: u16,
     pub last: u16,
 }
 
-/// Intervals `first` to `last` of a day, counted from 1, that are final under one mark: a longest run of those whose
-/// current flag is F and whose method and reason are the same.
+/// Intervals `first` to `last` of a day, counted from 1, that are final under one mark. They are a longest run of those
+/// whose current flag is F, with one method and reason.
 #[derive(Drop)]
 pub struct Final {
     pub first: u16,
@@ -30,7 +30,7 @@ pub struct Final {
     pub mark: Mark,
 }
 
-/// The gap that a day is which isn't known.
+/// The gap of a day that isn't known.
 const WHOLE_DAY: Gap = Gap { first: 0, last: 0 };
 
 /// The gaps of a day, ascending. It takes memory only where an interval has no reading, or the day isn't known.
@@ -109,7 +109,7 @@ fn final_mark(book: &DayBook, interval: u16) -> Option<&Mark>
     }
 }
 
-/// Takes an interval into the last gap, where that ends right before it, or else begins a gap with it.
+/// Takes an interval into the last gap, where that ends right before it. Else it begins a gap with it.
 fn take_in_null(gaps: &mut Vec<Gap>, interval: u16) -> Result<(), AllocError>
     requires { 1 ≤ interval }
     ensures { OnOk result (TakesInNull interval gaps.old.items gaps.new.items) }
@@ -127,7 +127,7 @@ fn take_in_null(gaps: &mut Vec<Gap>, interval: u16) -> Result<(), AllocError>
     Ok(())
 }
 
-/// Takes an interval with its mark into the last stretch, where that has the same and ends right before it, or else
+/// Takes an interval with its mark into the last stretch, where that has this mark and ends right before it. Else it
 /// begins a stretch with it.
 fn take_in_final(finals: &mut Vec<Final>, interval: u16, mark: &Mark) -> Result<(), AllocError>
     requires { 1 ≤ interval }
@@ -147,7 +147,7 @@ fn take_in_final(finals: &mut Vec<Final>, interval: u16, mark: &Mark) -> Result<
     Ok(())
 }
 
-/// Whether a stretch goes on with an interval of this mark: it has the same, and ends right before it.
+/// Whether a stretch goes on with an interval of this mark: it has this mark, and ends right before it.
 fn goes_on(stretch: &Final, interval: u16, mark: &Mark) -> bool
     requires { 1 ≤ interval }
     ensures { MatchBool result (GoesOn interval mark.now stretch.now)

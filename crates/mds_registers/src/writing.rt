@@ -29,8 +29,8 @@ pub struct FinalRow {
     pub stretch: Final,
 }
 
-/// Appends the register of a stream's gaps, in the order of the rows: `nmi,suffix,date,first,last`, and a row for each
-/// gap. After an error nothing is appended.
+/// Appends the register of a stream's gaps. The head row is `nmi,suffix,date,first,last`. A row for each gap follows,
+/// in the order that is given. After an error nothing is appended.
 pub fn write_gaps(stream: &Stream, rows: &[GapRow], out: &mut Vec<u8>) -> Result<(), AllocError>
     ensures done { OnOk result ((text : List ℕ) × IsGapsText stream.now rows.now text
         × Appends out.old.items out.new.items text) }
@@ -40,9 +40,9 @@ pub fn write_gaps(stream: &Stream, rows: &[GapRow], out: &mut Vec<u8>) -> Result
     out.extend_from_slice(&text)
 }
 
-/// Appends the register of a stream's finals, in the order of the rows: `nmi,suffix,date,first,last,method,code,text`,
-/// and a row for each. The method has two digits, and the code is empty where there is none. After an error nothing
-/// is appended.
+/// Appends the register of a stream's finals. The head row is `nmi,suffix,date,first,last,method,code,text`. A row for
+/// each final follows, in the order that is given. The method has two digits, and the code is empty where there is
+/// none. After an error nothing is appended.
 pub fn write_finals(stream: &Stream, rows: &[FinalRow], out: &mut Vec<u8>) -> Result<(), AllocError>
     ensures done { OnOk result ((text : List ℕ) × IsFinalsText stream.now rows.now text
         × Appends out.old.items out.new.items text) }
@@ -52,7 +52,7 @@ pub fn write_finals(stream: &Stream, rows: &[FinalRow], out: &mut Vec<u8>) -> Re
     out.extend_from_slice(&text)
 }
 
-/// The register of a stream's gaps, in a buffer of its own: a writer that fails may have written a part.
+/// The register of a stream's gaps, in a buffer of its own, since a writer that fails may have written a part.
 fn gaps_text(alloc: Global, stream: &Stream, rows: &[GapRow]) -> Result<Vec<u8>, AllocError>
     ensures { IfOk result (λ text. IsGapsText stream.now rows.now text.items) }
 {

@@ -1,14 +1,14 @@
 -- What a file asks for that comes with a command (profile).
 use Rattle.std.specs.Prelude.{◌≡◌, ℕ, List}
 use Rattle.mds_jobs.specs.declared.job.Job.{Job}
-use Rattle.mds_inputs.specs.JobObjects.{IsJobText}
-use Rattle.mds_inputs.specs.Holidays.{DiffersFirst, IsListOf, rows_of}
+use Rattle.mds_requests.specs.JobObjects.{IsJobText}
+use Rattle.mds_requests.specs.Holidays.{DiffersFirst, IsListOf, rows_of}
 use Rattle.mds_messages.specs.declared.request.Request.{Request}
 use Rattle.mds_messages.specs.declared.request.Request.TheVariants as asked
-use Rattle.mds_requests.specs.declared.requests.FileCommand.{FileCommand}
-use Rattle.mds_requests.specs.declared.requests.FileCommand.TheVariants as command
-use Rattle.mds_requests.specs.declared.requests.RequestFault.{RequestFault}
-use Rattle.mds_requests.specs.declared.requests.RequestFault.TheVariants as fault
+use Rattle.mds_requests.specs.declared.files.FileCommand.{FileCommand}
+use Rattle.mds_requests.specs.declared.files.FileCommand.TheVariants as command
+use Rattle.mds_requests.specs.declared.files.RequestFault.{RequestFault}
+use Rattle.mds_requests.specs.declared.files.RequestFault.TheVariants as fault
 
 -- the request that it says
 abbrev pub Asks : FileCommand → List ℕ → Request → Type 0

@@ -1,4 +1,9 @@
 pub mod Asking
+pub mod Holidays
+pub mod HolidaysSteps
+pub mod JobFields
+pub mod JobObjects
+pub mod JobSteps
 pub mod Queries
 pub mod QuerySteps
 pub mod TargetSteps

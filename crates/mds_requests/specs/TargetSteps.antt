@@ -1,9 +1,10 @@
--- Why a file asks for nothing. No public contract cites it.
-use Rattle.std.specs.Prelude.{◌≡◌, ◌≢◌, ◌⊎◌, ℕ, List, []}
+-- Why a file or a path asks for nothing. No public contract cites it.
+use Rattle.std.specs.Prelude.{◌≡◌, ℕ, List}
+use Rattle.mds_messages.specs.declared.request.Request.{Request}
 use Rattle.mds_requests.specs.Asking.{AsksNothing}
-use Rattle.mds_requests.specs.declared.requests.FileCommand.{FileCommand}
-use Rattle.mds_requests.specs.declared.requests.RequestFault.{RequestFault}
-use Rattle.mds_requests.specs.declared.requests.RequestFault.TheVariants.{BadJob, BadHolidays, Memory}
+use Rattle.mds_requests.specs.declared.files.FileCommand.{FileCommand}
+use Rattle.mds_requests.specs.declared.files.RequestFault.{RequestFault}
+use Rattle.mds_requests.specs.declared.files.RequestFault.TheVariants.{BadJob, BadHolidays, Memory}
 use Rattle.mds_requests.specs.declared.targets.TargetFault.{TargetFault}
 use Rattle.mds_requests.specs.declared.targets.TargetFault.TheVariants as fault
 
@@ -18,7 +19,6 @@ abbrev pub IsFileFault : FileCommand → List ℕ → TargetFault → Type 0
 IsFileFault what body reason =
     (found : RequestFault) × (reason ≡ fault_of found) × AsksNothing what body found
 
--- a file asks for nothing, or comes with a query
-abbrev pub IsLoneFileFault : FileCommand → List (List ℕ × List ℕ) → List ℕ → TargetFault → Type 0
-IsLoneFileFault what pairs body reason =
-    ((pairs ≢ []) × (reason ≡ fault.Bad)) ⊎ ((pairs ≡ []) × IsFileFault what body reason)
+-- a path asks for nothing
+abbrev pub IsBad : (Request → Type 0) → TargetFault → Type 0
+IsBad AsksFor reason = (reason ≡ fault.Bad) × ((request : Request) → ¬ AsksFor request)

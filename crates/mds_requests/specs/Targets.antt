@@ -2,11 +2,11 @@
 -- has stands in it once, save that a kind may be left out, and that an export has any number of suffixes; no other name
 -- stands in it.
 use Rattle.std.specs.Prelude.{◌≡◌, ◌≢◌, ℕ, true, if◌then◌else◌, List, [], ◌∷◌, codes, bytes_eq, Option, Some, None}
-use Rattle.mds_inputs.specs.Holidays.{DiffersFirst, rows_of}
+use Rattle.mds_requests.specs.Holidays.{DiffersFirst, rows_of}
 use Rattle.mds_records.specs.declared.file.FileKind.{FileKind}
 use Rattle.mds_records.specs.declared.file.FileKind.TheVariants.{Nem12, Nem13}
 use Rattle.mds_requests.specs.Asking.{Asks}
-use Rattle.mds_requests.specs.declared.requests.FileCommand.TheVariants as command
+use Rattle.mds_requests.specs.declared.files.FileCommand.TheVariants as command
 use Rattle.mds_arguments.specs.Arguments.{AskForDay, AskForExport, AskForFinals, AskForGaps, AskForPeriods, AskForVersions, IsFirstBad, export_tests}
 use Rattle.mds_arguments.specs.declared.arguments.Argument.{Argument}
 use Rattle.mds_messages.specs.declared.request.Request.{Request}

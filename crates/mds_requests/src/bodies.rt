@@ -4,10 +4,10 @@ ghost use Rattle.std.specs.Prelude.{◌≡◌, ◌≢◌, [], ◌∷◌, map, Ma
 ghost use Rattle.mds_requests.specs.Asking.{Asks};
 ghost use Rattle.mds_requests.specs.QuerySteps.{texts_of};
 ghost use Rattle.mds_requests.specs.Targets.{AskForImportBy, AsksNothing, kind_named};
-ghost use Rattle.mds_requests.specs.TargetSteps.{IsFileFault, IsLoneFileFault, fault_of};
+ghost use Rattle.mds_requests.specs.TargetSteps.{IsFileFault};
 
+use crate::files::{FileCommand, request_in};
 use crate::query::Query;
-use crate::requests::{FileCommand, RequestFault, request_in};
 use crate::targets::TargetFault;
 use mds_messages::Request;
 use mds_records::FileKind;
@@ -29,7 +29,7 @@ pub(crate) fn import_asked(
         return Err(TargetFault::Memory);
     };
     match kind_named(&kinds) {
-        Some(kind) => asked_by_file(alloc, FileCommand::Import(kind), body),
+        Some(kind) => file_asked(alloc, FileCommand::Import(kind), body),
         None => Err(TargetFault::Bad),
     }
 }
@@ -58,39 +58,13 @@ fn kind_of(name: &[u8]) -> Option<FileKind>
     None
 }
 
-/// The request that a body says, where there is no query.
+/// The request that a body says.
 pub(crate) fn file_asked(
     alloc: Global,
     command: FileCommand,
-    query: &Query<'_>,
     body: Vec<u8>,
 ) -> Result<Request, TargetFault>
-    ensures { MatchResult result (λ request. (texts_of query.now ≡ []) × Asks command body.items request)
-        (IsLoneFileFault command (texts_of query.now) body.items) }
-{
-    if !query.is_empty() {
-        return Err(TargetFault::Bad);
-    }
-    asked_by_file(alloc, command, body)
-}
-
-/// The request that a body says.
-fn asked_by_file(alloc: Global, command: FileCommand, body: Vec<u8>) -> Result<Request, TargetFault>
     ensures { MatchResult result (Asks command body.items) (IsFileFault command body.items) }
 {
-    match request_in(alloc, command, body) {
-        Ok(request) => Ok(request),
-        Err(reason) => Err(fault_of(reason)),
-    }
-}
-
-/// The fault of a file as one of a target.
-fn fault_of(reason: RequestFault) -> TargetFault
-    ensures { result ≡ fault_of reason }
-{
-    match reason {
-        RequestFault::BadJob => TargetFault::Bad,
-        RequestFault::BadHolidays(row) => TargetFault::BadHolidays(row),
-        RequestFault::Memory => TargetFault::Memory,
-    }
+    Ok(request_in(alloc, command, body)?)
 }

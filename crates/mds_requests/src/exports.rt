@@ -6,7 +6,7 @@ ghost use Rattle.mds_requests.specs.Targets.{AskForExportBy, ExportsNothing, Say
 
 use crate::query::Query;
 use crate::targets::TargetFault;
-use mds_arguments::{ArgumentsFault, ExportArguments, read_export};
+use mds_arguments::{ArgumentsFault, ExportArguments, export_request};
 use mds_messages::Request;
 use std::alloc::Global;
 
@@ -20,7 +20,7 @@ pub(crate) fn export_asked(alloc: Global, query: &Query<'_>) -> Result<Request, 
     let Some(arguments) = export_in(query, suffixes) else {
         return Err(TargetFault::Bad);
     };
-    match read_export(alloc, &arguments) {
+    match export_request(alloc, &arguments) {
         Ok(request) => Ok(request),
         Err(ArgumentsFault::Bad(_)) => Err(TargetFault::Bad),
         Err(ArgumentsFault::Memory) => Err(TargetFault::Memory),

@@ -3,11 +3,15 @@
 
 mod bodies;
 mod exports;
+mod files;
+mod holidays;
+mod job;
+mod job_fields;
+mod job_parts;
 mod paths;
 mod query;
 mod ranges;
-mod requests;
 mod targets;
 
-pub use requests::{FileCommand, RequestFault, request_in};
+pub use files::{FileCommand, RequestFault, request_in};
 pub use targets::{TargetFault, request_at};

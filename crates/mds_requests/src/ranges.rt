@@ -6,7 +6,7 @@ ghost use Rattle.mds_requests.specs.Targets.{AskForFinalsBy, AskForGapsBy, AsksN
 
 use crate::query::Query;
 use crate::targets::TargetFault;
-use mds_arguments::{RangeArguments, read_finals, read_gaps};
+use mds_arguments::{RangeArguments, finals_request, gaps_request};
 use mds_messages::Request;
 
 /// The request for the gaps of the range that a query says.
@@ -17,10 +17,7 @@ pub(crate) fn gaps_asked(query: &Query<'_>) -> Result<Request, TargetFault>
     let Some(range) = range_in(query) else {
         return Err(TargetFault::Bad);
     };
-    match read_gaps(&range) {
-        Ok(request) => Ok(request),
-        Err(_) => Err(TargetFault::Bad),
-    }
+    Ok(gaps_request(&range)?)
 }
 
 /// The request for the finals of the range that a query says.
@@ -31,10 +28,7 @@ pub(crate) fn finals_asked(query: &Query<'_>) -> Result<Request, TargetFault>
     let Some(range) = range_in(query) else {
         return Err(TargetFault::Bad);
     };
-    match read_finals(&range) {
-        Ok(request) => Ok(request),
-        Err(_) => Err(TargetFault::Bad),
-    }
+    Ok(finals_request(&range)?)
 }
 
 /// The texts of a range that a query says.

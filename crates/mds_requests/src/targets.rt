@@ -1,18 +1,18 @@
 //! The request that a target and a body ask for.
 
-ghost use Rattle.std.specs.Prelude.{MatchResult};
+ghost use Rattle.std.specs.Prelude.{◌≡◌, MatchResult};
 ghost use Rattle.mds_requests.specs.QuerySteps.{texts_of};
 ghost use Rattle.mds_requests.specs.Targets.{AsksAt, AsksBy, IsFaultAt, IsFaultBy};
 
 use crate::bodies::{file_asked, import_asked};
 use crate::exports::export_asked;
-use crate::paths::path_asked;
+use crate::files::{FileCommand, RequestFault};
+use crate::paths::{day_asked, periods_asked, versions_asked};
 use crate::query::Query;
 use crate::ranges::{finals_asked, gaps_asked};
-use crate::requests::FileCommand;
-use mds_arguments::{read_day, read_periods, read_versions};
+use mds_arguments::Argument;
 use mds_messages::Request;
-use mds_wire::{Route, part, path_of, query_of};
+use mds_wire::{Route, path_of, query_of};
 use std::alloc::Global;
 
 /// Why a target and a body ask for nothing.
@@ -24,6 +24,30 @@ pub enum TargetFault {
     BadHolidays(u64),
     /// There was no memory.
     Memory,
+}
+
+impl From<Argument> for TargetFault {
+    ghost use Rattle.mds_requests.specs.declared.targets.TargetFault.TheVariants as fault;
+
+    ghost from_gives = { λ _ reason. reason ≡ fault.Bad };
+
+    fn from(_: Argument) -> TargetFault {
+        TargetFault::Bad
+    }
+}
+
+impl From<RequestFault> for TargetFault {
+    ghost use Rattle.mds_requests.specs.TargetSteps.{fault_of};
+
+    ghost from_gives = { λ of_file reason. reason ≡ fault_of of_file };
+
+    fn from(of_file: RequestFault) -> TargetFault {
+        match of_file {
+            RequestFault::BadJob => TargetFault::Bad,
+            RequestFault::BadHolidays(row) => TargetFault::BadHolidays(row),
+            RequestFault::Memory => TargetFault::Memory,
+        }
+    }
 }
 
 /// The request that a target and a body ask for, by the route of the target's path.
@@ -54,17 +78,16 @@ fn request_by(
 {
     match route {
         Route::Imports => import_asked(alloc, query, body),
-        Route::Substitutions => file_asked(alloc, FileCommand::Substitute, query, body),
-        Route::Holidays => file_asked(alloc, FileCommand::Holidays, query, body),
-        Route::Streams => path_asked(query, Ok(Request::Streams)),
-        Route::Days => path_asked(query, read_day(part(path, 3), part(path, 4), part(path, 5))),
-        Route::Versions => path_asked(
-            query,
-            read_versions(part(path, 3), part(path, 4), part(path, 5), part(path, 6)),
-        ),
-        Route::Periods => path_asked(query, read_periods(part(path, 3), part(path, 4))),
         Route::Gaps => gaps_asked(query),
         Route::Finals => finals_asked(query),
         Route::Exports => export_asked(alloc, query),
+        // The other routes take no query.
+        _ if !query.is_empty() => Err(TargetFault::Bad),
+        Route::Substitutions => file_asked(alloc, FileCommand::Substitute, body),
+        Route::Holidays => file_asked(alloc, FileCommand::Holidays, body),
+        Route::Streams => Ok(Request::Streams),
+        Route::Days => day_asked(path),
+        Route::Versions => versions_asked(path),
+        Route::Periods => periods_asked(path),
     }
 }

@@ -24,9 +24,9 @@ pub struct Run {
 /// Why a run isn't taken: the first of these that stands (profile).
 #[derive(Clone, Copy, PartialEq, Eq)]
 pub enum RunFault {
-    /// It isn't within the day, or ends before it begins.
+    /// It isn't within the day, or ends before it begins (L6).
     Range,
-    /// It begins before the last run has ended.
+    /// It doesn't begin after the last run has ended (L7).
     Order,
     /// There was no memory.
     Memory,
@@ -67,8 +67,8 @@ impl Cover {
         }
     }
 
-    /// Why a run of intervals `first` to `last` isn't taken, want of memory aside: it doesn't lie
-    /// in the day, or doesn't begin after the last run has ended. It looks at the last run alone.
+    /// Says why a run of intervals `first` to `last` isn't taken, want of memory aside. Either it doesn't lie in the
+    /// day (L6), or it doesn't begin after the last run has ended (L7). Only the last run is looked at.
     pub fn refusal(&self, first: u16, last: u16) -> Option<RunFault>
         ensures { result ≡ refusal self.now.count self.now.runs first last }
     {
@@ -81,9 +81,9 @@ impl Cover {
         None
     }
 
-    /// Adds a run that lies in the day and begins after the last one has ended. It looks at the
-    /// last run alone, and fails with what `refusal` says, or else for want of memory. After an
-    /// error nothing has changed, and the run is gone.
+    /// Adds a run that lies in the day and begins after the last one has ended. It looks at the last run alone. It
+    /// fails with what `refusal` says, or else for want of memory. After an error nothing has changed, and the run is
+    /// gone.
     pub fn push(&mut self, run: Run) -> Result<(), RunFault>
         ensures done { OnOk result (self.new
             ≡ record self.old { runs = self.old.runs ++ run ∷ [] }) }
@@ -121,8 +121,8 @@ impl Cover {
         self.count
     }
 
-    /// Whether each interval is held by a run. It looks at no run, since disjoint runs that hold as
-    /// many intervals as the day has hold each of them.
+    /// Whether each interval is held by a run. It looks at no run: disjoint runs that hold as many intervals as the day
+    /// has hold each of them.
     pub fn is_full(&self) -> bool
         ensures full { IsTrue result ↔ IsFull self.now.count self.now.runs }
         ensures none { result ≡ not (leaves_out self.now.count self.now.runs) }
@@ -148,8 +148,8 @@ fn last_end(runs: &[Run]) -> u16
     }
 }
 
-/// The mark of an interval, and the runs that later intervals may be in: those that end before this
-/// one are passed over. Whoever goes on with these runs passes over each run once.
+/// The mark of an interval, and the runs that later intervals may be in. Runs that end before this interval are passed
+/// over. Whoever goes on with the runs that are given passes over each run once.
 pub fn mark_from<'a>(runs: &'a [Run], default: &'a Mark, interval: u16) -> (&'a Mark, &'a [Run])
     requires { AreAscending runs.now }
     ensures mark { result.0.now ≡ mark_at runs.now default.now interval }
@@ -186,8 +186,8 @@ fn first_mark<'a>(runs: &'a [Run], default: &'a Mark, interval: u16) -> &'a Mark
     }
 }
 
-/// The marks of the day's intervals in their order: that of the run which holds the interval, or
-/// else the default. It goes over the runs once, and fails only for want of memory, in no empty day.
+/// The marks of the day's intervals in their order. An interval has the mark of the run that holds it, or else the
+/// default. It goes over the runs once. It fails only for want of memory, and only for a day that isn't empty.
 pub fn spread(alloc: Global, cover: &Cover, default: &Mark) -> Result<Vec<Mark>, AllocError>
     ensures done { IfOk result (λ marks. marks.items
         ≡ spread_of cover.now.count cover.now.runs default.now) }
@@ -214,9 +214,8 @@ fn fill(marks: &mut Vec<Mark>, mark: &Mark, count: u16) -> Result<(), AllocError
     Ok(())
 }
 
-/// The full cover with the fewest runs of a day with these marks, one for each interval and at most
-/// 65,535. It compares each mark with one before it, and fails only for want of memory, in no empty
-/// day.
+/// The full cover with the fewest runs of a day with these marks, one for each interval and at most 65,535. It compares
+/// each mark with one before it. It fails only for want of memory, and only for a day that isn't empty.
 pub fn gather(alloc: Global, marks: &[Mark]) -> Result<Cover, AllocError>
     requires { length marks.now < 2 ^ 16 }
     ensures count { IfOk result (λ cover. cover.count ≡ length marks.now) }
@@ -270,8 +269,8 @@ pub fn equal_faults()
         → IsTrue (⟦<RunFault as PartialEq>⟧.eq fault other) ↔ (fault ≡ other) }
 {}
 
-/// The laws of the run that holds an interval: of lawful runs at most one does, and it is the one
-/// that `run_at` finds. The function does nothing.
+/// The laws of the run that holds an interval. At most one of the lawful runs does, and it is the one that `run_at`
+/// finds. The function does nothing.
 pub fn one_run_holds()
     ensures found { (count : ℕ) (runs : List Run) (interval : ℕ) (run : Run)
         → AreRuns count runs → Contains runs run → IsTrue (holds interval run)

@@ -1,5 +1,5 @@
 //! Runs of a day's intervals that have one mark, as its 400 records give them (MDFF Specification,
-//! the 400 record): a cover takes them in order, and its marks are spread and gathered.
+//! the 400 record). A cover takes them in order, and its marks are spread and gathered.
 #![tactic(auto)]
 
 mod cover;

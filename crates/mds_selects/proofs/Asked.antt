@@ -1,14 +1,19 @@
--- A connection that is ready, and then a query: what is found of what is committed.
-use Rattle.std.specs.Prelude.{◌≡◌, ◌≢◌, ◌↔◌, IfOk, Result, Ok, Err}
-use Rattle.std.proofs.Common.{sym, ap, subst, ◌∙◌, arith}
+-- A connection that is ready, and then queries: what is found of what is committed.
+use Rattle.std.specs.Prelude.{◌≡◌, ◌↔◌, List, false, IfOk, OnOk, Result, Ok, Err}
+use Rattle.std.specs.declared.alloc.Global.{Global}
+use Rattle.std.specs.declared.vec.Vec.{Vec}
+use Rattle.std.proofs.Common.{inl, sym, ap, subst, ◌∙◌, arith}
 use Rattle.sqlite.specs.Effect.{Database, IsDatabase}
 use Rattle.sqlite.specs.State.{HasCleanDisk, State, Survives}
 use Rattle.sqlite.specs.declared.error.Error.{Error}
 use Rattle.sqlite.proofs.Callers.{unchanged_then}
+use Rattle.sqlite.proofs.InsideLemmas.{unchanged_keeps}
 use Rattle.sqlite.proofs.StateLemmas.{survives_weaker}
 use Rattle.sqlite_catalog.specs.Listing.{IsSound}
 use Rattle.sqlite_trees.specs.Tree.{Trees}
+use Rattle.sqlite_value.specs.Order.{Row}
 use Rattle.mds_tables.specs.Causes.{HasFailed}
+use Rattle.mds_tables.specs.Queries.{Answers, Queries}
 use Rattle.mds_tables.specs.Stores.{Finds, Holds, HoldsTables, IsReady}
 use Rattle.mds_tables.specs.Tables.{schema_1}
 use Rattle.mds_tables.proofs.CauseLemmas.{failed_since}
@@ -17,50 +22,100 @@ use Rattle.mds_tables.proofs.CallLemmas.{survives_more}
 pub tables_held : (s : State) → Holds s → HoldsTables s
 tables_held s holds clean is_open = (holds clean is_open).schema
 
-module _ {old mid new : State} (ready : HasCleanDisk mid → IsReady old mid) (begun : Survives old mid (λ _. ⊥))
-    (asked : Survives mid new (λ _. mid.now.schema ≢ schema_1)) (holds : HoldsTables old) where
-  module _ (clean : HasCleanDisk new) where
-    early : HasCleanDisk mid
-    early = omega (arith, asked.clean, clean)
+-- A connection was ready, what was asked of it since changed nothing, and this is known of the trees that are committed.
+pub record IsSteady (old mid : State) (Known : Trees → Type 0) : Type 0 where
+  pub ready : HoldsTables old → HasCleanDisk mid → IsReady old mid
+  pub quiet : HoldsTables old → Survives old mid (λ _. ⊥)
+  pub mode : mid.in_transaction ≡ false
+  pub known : HoldsTables old → HasCleanDisk mid → Known old.committed.trees
 
-    is_held : old.committed.schema ≡ schema_1
-    is_held = holds (omega (arith, begun.clean, early)) (ready early).same.0.was_open
+on_ok : {A E : Type 0} (P : Type 0) (r : Result A E) → P → OnOk r P
+on_ok P (Ok x) p = p
+on_ok P (Err e) p = tt
 
-    now_is : mid.now ≡ old.committed
-    now_is = (ready early).same.0.now_is ∙ (ready early).settled
+module _ {old mid : State} where
+  -- where it is ready, the trees obey schema 1
+  pub steady : (HasCleanDisk mid → IsReady old mid) → Survives old mid (λ _. ⊥) → mid.in_transaction ≡ false
+      → IsSteady old mid (IsSound schema_1)
+  steady ready begun mode = record {
+    ready = λ _. ready;
+    quiet = λ _. begun;
+    mode = mode;
+    known = λ held clean.
+        let it = ready clean in
+        let schema : old.committed.schema ≡ schema_1 = held (omega (arith, begun.clean)) it.same.0.was_open in
+        subst (λ s. IsSound s old.committed.trees) schema (subst IsDatabase it.settled it.sound);
+  }
 
-    has_schema : mid.now.schema ≡ schema_1
-    has_schema = ap (λ (d : Database). d.schema) now_is ∙ is_held
+  -- what is made of all that is known is answered
+  pub answers : {A E : Type 0} {IsHeld : State → Type 0} {Tells : Trees → A → Type 0} {Known : Trees → Type 0}
+      → (IsHeld old → HoldsTables old) → IsSteady old mid Known → (r : Result A E)
+      → (Known old.committed.trees → IfOk r (Tells old.committed.trees)) → Answers IsHeld old mid r Tells
+  answers held it r tells = record {
+    found = λ clean is. tells (it.known (held is) clean);
+    «open» = λ clean is.
+        let same = (it.ready (held is) clean).same.0 in
+        on_ok _ r (record { was_open = same.was_open; is_open = same.is_open });
+    kept = λ clean is. unchanged_keeps old mid (inl (it.ready (held is) clean).same);
+    mode = it.mode;
+    survives = λ is. it.quiet (held is);
+  }
 
-    has_database : IsDatabase mid.now
-    has_database = subst IsDatabase (sym (ready early).same.0.now_is) (ready early).sound
+module _ {old mid new : State} {Known : Trees → Type 0} {Shows : Trees → List Row → Type 0}
+    {r : Result (Vec Row Global) Error} (before : IsSteady old mid Known) (asked : Queries mid new r Shows) where
+  module _ (held : HoldsTables old) where
+    module _ (clean : HasCleanDisk new) where
+      early : HasCleanDisk mid
+      early = omega (arith, asked.survives.clean, clean)
 
-    -- what is committed obeys schema 1
-    pub sound : IsSound schema_1 old.committed.trees
-    sound = subst (λ s. IsSound s old.committed.trees) is_held (subst IsDatabase (ready early).settled (ready early).sound)
+      was_ready : IsReady old mid
+      was_ready = before.ready held early
 
-    -- what the query shows of the tables it shows of what is committed
-    pub shows : (Shows : Trees → Type 0) → Finds mid new Shows → Shows old.committed.trees
-    shows Shows finds =
-        subst Shows (ap (λ (d : Database). d.trees) now_is) (finds.shows has_schema has_database)
+      now_is : mid.now ≡ old.committed
+      now_is = was_ready.same.0.now_is ∙ was_ready.settled
 
-    -- an answered query leaves a connection ready
-    pub still_ready : (Shows : Trees → Type 0) → Finds mid new Shows → IsReady old new
-    still_ready Shows finds = record {
-      same = unchanged_then old mid new (ready early).same (finds.same has_schema);
-      settled = (ready early).settled;
-      sound = (ready early).sound;
-    }
+      has_schema : mid.now.schema ≡ schema_1
+      has_schema =
+          let was_clean : HasCleanDisk old = let less = (before.quiet held).clean in let is = early in omega arith in
+          ap (λ (d : Database). d.schema) now_is ∙ held was_clean was_ready.same.0.was_open
 
-    -- why the query fails is why the call does
-    pub why_failed : (e : Error) → (mid.now.schema ≡ schema_1 → HasFailed mid new e) → HasFailed old new e
-    why_failed e h =
-        failed_since old mid new (begun.counts) ((ready early).same.0.is_open) (begun.limit) e (h has_schema)
+      -- what the query shows of the tables it shows of what is committed
+      shows : (P : Trees → Type 0) → Finds mid new P → P old.committed.trees
+      shows P finds =
+          subst P (ap (λ (d : Database). d.trees) now_is)
+          (finds.shows has_schema (subst IsDatabase (sym was_ready.same.0.now_is) was_ready.sound))
 
-  -- a crash after the query leaves what one before it left
-  pub quiet : Survives old new (λ _. ⊥)
-  quiet =
-      survives_more old mid new begun (survives_weaker mid new _ (λ _. ⊥) (λ clean _ other. other (has_schema clean)) asked)
+      still_ready : (P : Trees → Type 0) → Finds mid new P → IsReady old new
+      still_ready P finds = record {
+        same = unchanged_then old mid new was_ready.same (finds.same has_schema);
+        settled = was_ready.settled;
+        sound = was_ready.sound;
+      }
+
+      -- why the query fails is why the call does
+      pub why_failed : (e : Error) → (mid.now.schema ≡ schema_1 → HasFailed mid new e) → HasFailed old new e
+      why_failed e h =
+          let begun = before.quiet held in
+          failed_since old mid new begun.counts was_ready.same.0.is_open begun.limit e (h has_schema)
+
+    -- a crash after the query leaves what one before it left
+    still_quiet : Survives old new (λ _. ⊥)
+    still_quiet =
+        survives_more old mid new (before.quiet held)
+        (survives_weaker mid new _ (λ _. ⊥) (λ clean _ other. other (has_schema clean)) asked.survives)
+
+-- one query later its rows are known too
+pub and_then : {old mid new : State} {Known : Trees → Type 0} {Shows : Trees → List Row → Type 0} {rows : Vec Row Global}
+    → IsSteady old mid Known → Queries mid new (Ok rows) Shows → IsSteady old new (λ trees. Known trees × Shows trees rows.items)
+and_then {Shows = Shows} {rows = rows} before asked = record {
+  ready = λ held clean. still_ready before asked held clean (λ trees. Shows trees rows.items) (asked.ok clean);
+  quiet = λ held. still_quiet before asked held;
+  mode = asked.mode before.mode;
+  known = λ held clean. (
+    before.known held (omega (arith, asked.survives.clean, clean)),
+    shows before asked held clean (λ trees. Shows trees rows.items) (asked.ok clean),
+  );
+}
 
 -- what is asked of rows is a fact of what they name
 pub either_way : (P Q R : Type 0) → P ↔ Q → Q ↔ R → P ↔ R

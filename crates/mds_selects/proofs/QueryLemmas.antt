@@ -1,6 +1,8 @@
 -- What a query of one table does to a connection, and finds.
 use Rattle.std.proofs.Common.{◌≡◌, ◌≢◌, inl, inr, ℕ, List, [], true, false, Option, Some, None, Ok, Err, Result, IfOk, IfErr, OnErr, codes, refl, sym, subst}
 use Rattle.std.specs.List.{AllByRecursion}
+use Rattle.std.specs.declared.alloc.Global.{Global}
+use Rattle.std.specs.declared.vec.Vec.{Vec}
 use Rattle.sqlite_value.specs.declared.keys.Key.{Key}
 use Rattle.sqlite_value.specs.Order.{Row}
 use Rattle.sqlite_trees.specs.Tree.{Trees}
@@ -10,7 +12,7 @@ use Rattle.sqlite.specs.Command.TheVariants.{Select}
 use Rattle.sqlite.specs.Listing.{reads_listing, understood}
 use Rattle.sqlite.specs.Program.{overlay}
 use Rattle.sqlite.specs.Schema.{Schema}
-use Rattle.sqlite.specs.State.{CommitsShowing, FailsToQuery, FailsToShow, IsUnchanged, Shown, ShowsRows, State, Survives}
+use Rattle.sqlite.specs.State.{CommitsShowing, FailsToQuery, FailsToShow, HasCleanDisk, IsUnchanged, Shown, ShowsRows, State, Survives}
 use Rattle.sqlite.specs.declared.error.Error.{Error}
 use Rattle.sqlite.proofs.Callers.{IsPlain, command_of, never_commits, reads_as}
 use Rattle.sqlite.proofs.StateLemmas.{survives_weaker}
@@ -24,6 +26,7 @@ use Rattle.mds_terms.specs.Event.{EventValue}
 use Rattle.mds_world.specs.declared.facts.Detail.{Detail}
 use Rattle.mds_world.specs.Lists.{Member}
 use Rattle.mds_tables.specs.Cells.{day_cells, detail_cells, event_cells, optional_cell, stream_cells}
+use Rattle.mds_tables.specs.Queries.{Queries}
 use Rattle.mds_tables.specs.Stores.{ChangesNothing, Finds, Selects, SelectsAll}
 use Rattle.mds_tables.specs.Tables.{detail_table, event_table, head_table, holiday_table, job_table, number, period_table, schema_1, version_table}
 use Rattle.mds_tables.proofs.CallLemmas.{not_run}
@@ -59,17 +62,30 @@ AsksFor sql tree test project order names =
 
 module _ (sql : List ℕ) (plain : IsPlain (understood schema_1 sql) × (reads_listing schema_1 sql ≡ false)) where
   -- a query that fails changes nothing
-  pub fails : {V : Type 0} (old new : State) (params : Row) → old.now.schema ≡ schema_1 → (r : Result V Error)
+  fails : {V : Type 0} (old new : State) (params : Row) → old.now.schema ≡ schema_1 → (r : Result V Error)
       → IfErr r (FailsToQuery sql params old new) → OnErr r (ChangesNothing old new)
   fails old new params has (Ok v) h = tt
   fails old new params has (Err e) h = fails_same sql params old new schema_1 has plain.0 e h
 
   -- nor does it commit anything
-  pub quiet : (old new : State) (params : Row) → Survives old new (CommitsShowing sql params old)
+  quiet : (old new : State) (params : Row) → Survives old new (CommitsShowing sql params old)
       → Survives old new (λ _. old.now.schema ≢ schema_1)
   quiet old new params s =
       survives_weaker old new _ _ (λ _ db commits has.
       never_commits sql params old db (there sql params old new schema_1 has plain.0) commits) s
+
+  -- what the library says of a call, and what is found, in the words of a query
+  pub queried : {old new : State} {r : Result (Vec Row Global) Error} {Shows : Trees → List Row → Type 0} (params : Row)
+      → (HasCleanDisk new → IfOk r (λ rows. Finds old new (λ trees. Shows trees rows.items)))
+      → (HasCleanDisk new → IfErr r (FailsToQuery sql params old new))
+      → (old.in_transaction ≡ false → new.in_transaction ≡ false)
+      → Survives old new (CommitsShowing sql params old) → Queries old new r Shows
+  queried {old} {new} {r} {Shows} params ok err mode survives = record {
+    ok = ok;
+    err = λ clean has. fails old new params has r (err clean);
+    mode = mode;
+    survives = quiet old new params survives;
+  }
 
   module _ (tree : ℕ) (test project : List Term) (order : List (Term × Key)) (names : List (List ℕ))
       (is : AsksFor sql tree test project order names) (low : (db : Trees) → overlay db [] tree ≡ db tree) where

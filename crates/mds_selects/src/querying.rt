@@ -1,22 +1,23 @@
-//! What is asked of a store, found by queries. A store that can't answer, or holds a row that the store didn't write,
-//! is unavailable.
+//! What is asked of a store, found by queries. A store that can't answer is unavailable (U1). So is one that holds a row that it
+//! didn't write.
 
-ghost use Rattle.std.specs.Prelude.{◌≡◌, ◌≢◌, ◌⊎◌, ◌<◌, ◌^◌, ◌↔◌, ℕ, List, [], ◌∷◌, false, length, map, pos, All, IfErr, IfOk, IsOkAnd, IsTrue, OnErr, OnOk, Some};
+ghost use Rattle.std.specs.Prelude.{◌≡◌, ◌≢◌, ◌⊎◌, ◌<◌, ◌^◌, ◌↔◌, ℕ, List, [], ◌∷◌, false, length, pos, All, IfErr, IfOk, IsOkAnd, IsTrue, OnErr, OnOk, Some};
 ghost use Rattle.std.specs.Bool.{MatchBool, OnFalse};
 ghost use Rattle.std.specs.FinSet.{IsAntisymmetric};
 ghost use Rattle.std.specs.List.{AllPairs};
 ghost use Rattle.std.specs.declared.cmp.Ordering.TheVariants.{Less};
 ghost use Rattle.sqlite.specs.declared.types.Value.TheVariants.{Int};
 ghost use Rattle.sqlite.specs.Held.{state};
-ghost use Rattle.sqlite.specs.State.{HasCleanDisk, KeepsCommit, Survives};
+ghost use Rattle.sqlite.specs.State.{HasCleanDisk};
 ghost use Rattle.mds_world.specs.Current.{IsCurrentDetails, no_details};
 ghost use Rattle.mds_world.specs.Facts.Fact.{DetailIs, EventIs};
 ghost use Rattle.mds_world.specs.Lists.{Apart, Member};
 ghost use Rattle.mds_world.specs.Sets.{◌∈◌};
 ghost use Rattle.mds_versions.specs.Queries.{AreEventsOf, AreKnownStreams, stream_cmp};
 ghost use Rattle.mds_tables.specs.Causes.{HasFailed};
-ghost use Rattle.mds_tables.specs.RowFacts.{int_at};
-ghost use Rattle.mds_tables.specs.Stores.{AreOpen, Holds, HoldsTables, world_of};
+ghost use Rattle.mds_tables.specs.Queries.{Answers};
+ghost use Rattle.mds_tables.specs.RowFacts.{world_in};
+ghost use Rattle.mds_tables.specs.Stores.{Holds, HoldsTables, versions_said};
 ghost use Rattle.mds_selects.specs.Found.{AreRowsOf, IsHeadOf};
 ghost use Rattle.mds_selects.specs.Shown.{AreEventsIn, AreFirstDetails, AreStreamsIn, AreVersionsIn, IsDetailRow, IsOnlyHead, SaysVersion};
 ghost use Rattle.sqlite_value.specs.Order.{Row as RowValue};
@@ -42,22 +43,14 @@ use sqlite::{Alter, Connection, Error, Row};
 use std::alloc::Global;
 use std::collections::BTreeSet;
 
-/// Whether mds_schema says 1 and nothing else, in a database that has the tables of schema 1. An error is the library's: the
-/// store failed with a cause, or the limit of steps was reached.
+/// Whether mds_schema says 1 and nothing else, in a database that has the tables of schema 1. Else it is no store (U3). An error
+/// is the library's: the store failed with a cause, or the limit of steps was reached.
 pub fn is_version_1<S: Alter>(conn: &mut Connection<S>) -> Result<bool, Error>
     requires { conn.old.in_transaction ≡ false }
-    ensures found { HasCleanDisk (state S.Store conn.new) → HoldsTables (state S.Store conn.old)
-        → IfOk result (λ is. MatchBool is
-        (map (λ row. int_at row 1) ((state S.Store conn.old).committed.trees 0) ≡ pos 1 ∷ [])
-        (map (λ row. int_at row 1) ((state S.Store conn.old).committed.trees 0) ≢ pos 1 ∷ [])) }
-    ensures open { HasCleanDisk (state S.Store conn.new) → HoldsTables (state S.Store conn.old)
-        → OnOk result (AreOpen (state S.Store conn.old) (state S.Store conn.new)) }
-    ensures kept { HasCleanDisk (state S.Store conn.new) → HoldsTables (state S.Store conn.old)
-        → KeepsCommit (state S.Store conn.old) (state S.Store conn.new) }
+    ensures answers { Answers HoldsTables (state S.Store conn.old) (state S.Store conn.new) result
+        (λ trees is. MatchBool is (versions_said trees ≡ pos 1 ∷ []) (versions_said trees ≢ pos 1 ∷ [])) }
     ensures cause { HasCleanDisk (state S.Store conn.new) → HoldsTables (state S.Store conn.old)
         → IfErr result (HasFailed (state S.Store conn.old) (state S.Store conn.new)) }
-    ensures mode { conn.new.in_transaction ≡ false }
-    ensures survives { HoldsTables (state S.Store conn.old) → Survives (state S.Store conn.old) (state S.Store conn.new) (λ _. ⊥) }
 {
     ready(conn)?;
     let rows = version_numbers(conn)?;
@@ -88,14 +81,8 @@ pub fn head_of<S: Alter>(
     day: Day,
 ) -> Result<Option<(Length, Unit)>, Unavailable>
     requires { conn.old.in_transaction ≡ false }
-    ensures found { HasCleanDisk (state S.Store conn.new) → Holds (state S.Store conn.old)
-        → IfOk result (IsHeadOf (world_of (state S.Store conn.old)) stream.now day) }
-    ensures open { HasCleanDisk (state S.Store conn.new) → Holds (state S.Store conn.old)
-        → OnOk result (AreOpen (state S.Store conn.old) (state S.Store conn.new)) }
-    ensures kept { HasCleanDisk (state S.Store conn.new) → Holds (state S.Store conn.old)
-        → KeepsCommit (state S.Store conn.old) (state S.Store conn.new) }
-    ensures mode { conn.new.in_transaction ≡ false }
-    ensures survives { Holds (state S.Store conn.old) → Survives (state S.Store conn.old) (state S.Store conn.new) (λ _. ⊥) }
+    ensures { Answers Holds (state S.Store conn.old) (state S.Store conn.new) result
+        (λ trees. IsHeadOf (world_in trees) stream.now day) }
 {
     let Ok(_) = ready(conn) else {
         return Err(Unavailable);
@@ -103,6 +90,7 @@ pub fn head_of<S: Alter>(
     let Ok(rows) = head_rows(conn, stream, day) else {
         return Err(Unavailable);
     };
+    // For the proof: a day's number is at most that of the last day.
     let _ = day.number();
     only_head(&rows)
 }
@@ -130,14 +118,8 @@ pub fn versions_of<S: Alter>(
     day: Day,
 ) -> Result<Vec<(u16, Version)>, Unavailable>
     requires { conn.old.in_transaction ≡ false }
-    ensures found { HasCleanDisk (state S.Store conn.new) → Holds (state S.Store conn.old)
-        → IfOk result (λ rows. AreRowsOf (world_of (state S.Store conn.old)) stream.now day rows.items) }
-    ensures open { HasCleanDisk (state S.Store conn.new) → Holds (state S.Store conn.old)
-        → OnOk result (AreOpen (state S.Store conn.old) (state S.Store conn.new)) }
-    ensures kept { HasCleanDisk (state S.Store conn.new) → Holds (state S.Store conn.old)
-        → KeepsCommit (state S.Store conn.old) (state S.Store conn.new) }
-    ensures mode { conn.new.in_transaction ≡ false }
-    ensures survives { Holds (state S.Store conn.old) → Survives (state S.Store conn.old) (state S.Store conn.new) (λ _. ⊥) }
+    ensures { Answers Holds (state S.Store conn.old) (state S.Store conn.new) result
+        (λ trees rows. AreRowsOf (world_in trees) stream.now day rows.items) }
 {
     let Ok(_) = ready(conn) else {
         return Err(Unavailable);
@@ -145,6 +127,7 @@ pub fn versions_of<S: Alter>(
     let Ok(rows) = version_rows(conn, stream, day) else {
         return Err(Unavailable);
     };
+    // For the proof: a day's number is at most that of the last day.
     let _ = day.number();
     all_versions(alloc, &rows)
 }
@@ -157,9 +140,7 @@ pub fn all_versions(alloc: Global, rows: &[Row]) -> Result<Vec<(u16, Version)>, 
         return Err(Unavailable);
     };
     for i in 0..rows.len() {
-        let Ok(version) = version_at(alloc, &rows[i]) else {
-            return Err(Unavailable);
-        };
+        let version = version_at(alloc, &rows[i])?;
         let Ok(_) = versions.push(version) else {
             return Err(Unavailable);
         };
@@ -173,9 +154,7 @@ fn version_at(alloc: Global, row: &Row) -> Result<(u16, Version), Unavailable>
     ensures err { OnErr result ((key : KeyValue) (reading : ReadingValue) → IsRowOfVersion row.now key reading
         → 0 < length reading.mark.reason.text) }
 {
-    let Ok(it) = version_in(alloc, row) else {
-        return Err(Unavailable);
-    };
+    let it = version_in(alloc, row)?;
     let (key, reading) = it;
     let version = Version {
         update: key.update,
@@ -191,14 +170,8 @@ pub fn current_details<S: Alter>(
     stream: &Stream,
 ) -> Result<Details, Unavailable>
     requires { conn.old.in_transaction ≡ false }
-    ensures found { HasCleanDisk (state S.Store conn.new) → Holds (state S.Store conn.old)
-        → IfOk result (IsCurrentDetails (world_of (state S.Store conn.old)) stream.now) }
-    ensures open { HasCleanDisk (state S.Store conn.new) → Holds (state S.Store conn.old)
-        → OnOk result (AreOpen (state S.Store conn.old) (state S.Store conn.new)) }
-    ensures kept { HasCleanDisk (state S.Store conn.new) → Holds (state S.Store conn.old)
-        → KeepsCommit (state S.Store conn.old) (state S.Store conn.new) }
-    ensures mode { conn.new.in_transaction ≡ false }
-    ensures survives { Holds (state S.Store conn.old) → Survives (state S.Store conn.old) (state S.Store conn.new) (λ _. ⊥) }
+    ensures { Answers Holds (state S.Store conn.old) (state S.Store conn.new) result
+        (λ trees. IsCurrentDetails (world_in trees) stream.now) }
 {
     let Ok(_) = ready(conn) else {
         return Err(Unavailable);
@@ -231,9 +204,7 @@ fn details_at(alloc: Global, row: &Row) -> Result<Details, Unavailable>
     ensures ok { IfOk result (λ details. AreFirstDetails (row.now ∷ []) details) }
     ensures err { OnErr result ((detail : DetailValue) → IsRowOfDetail row.now detail → 0 < text_length detail.details) }
 {
-    let Ok(detail) = detail_in(alloc, row) else {
-        return Err(Unavailable);
-    };
+    let detail = detail_in(alloc, row)?;
     Ok(detail.details)
 }
 
@@ -265,14 +236,8 @@ fn empty_details(alloc: Global) -> Result<Details, Unavailable>
 /// Whether these details are kept, current or not.
 pub fn has_details<S: Alter>(conn: &mut Connection<S>, detail: &Detail) -> Result<bool, Unavailable>
     requires { conn.old.in_transaction ≡ false }
-    ensures found { HasCleanDisk (state S.Store conn.new) → Holds (state S.Store conn.old)
-        → IfOk result (λ has. IsTrue has ↔ (DetailIs detail.now ∈ world_of (state S.Store conn.old))) }
-    ensures open { HasCleanDisk (state S.Store conn.new) → Holds (state S.Store conn.old)
-        → OnOk result (AreOpen (state S.Store conn.old) (state S.Store conn.new)) }
-    ensures kept { HasCleanDisk (state S.Store conn.new) → Holds (state S.Store conn.old)
-        → KeepsCommit (state S.Store conn.old) (state S.Store conn.new) }
-    ensures mode { conn.new.in_transaction ≡ false }
-    ensures survives { Holds (state S.Store conn.old) → Survives (state S.Store conn.old) (state S.Store conn.new) (λ _. ⊥) }
+    ensures { Answers Holds (state S.Store conn.old) (state S.Store conn.new) result
+        (λ trees has. IsTrue has ↔ (DetailIs detail.now ∈ world_in trees)) }
 {
     let Ok(_) = ready(conn) else {
         return Err(Unavailable);
@@ -280,6 +245,7 @@ pub fn has_details<S: Alter>(conn: &mut Connection<S>, detail: &Detail) -> Resul
     let Ok(rows) = same_details_rows(conn, detail) else {
         return Err(Unavailable);
     };
+    // For the proof: its numbers are below 2^63.
     are_small(detail);
     Ok(has_any(&rows))
 }
@@ -292,14 +258,8 @@ pub fn events_of<S: Alter>(
     day: Day,
 ) -> Result<Vec<Event>, Unavailable>
     requires { conn.old.in_transaction ≡ false }
-    ensures found { HasCleanDisk (state S.Store conn.new) → Holds (state S.Store conn.old)
-        → IfOk result (λ events. AreEventsOf (world_of (state S.Store conn.old)) stream.now day events.items) }
-    ensures open { HasCleanDisk (state S.Store conn.new) → Holds (state S.Store conn.old)
-        → OnOk result (AreOpen (state S.Store conn.old) (state S.Store conn.new)) }
-    ensures kept { HasCleanDisk (state S.Store conn.new) → Holds (state S.Store conn.old)
-        → KeepsCommit (state S.Store conn.old) (state S.Store conn.new) }
-    ensures mode { conn.new.in_transaction ≡ false }
-    ensures survives { Holds (state S.Store conn.old) → Survives (state S.Store conn.old) (state S.Store conn.new) (λ _. ⊥) }
+    ensures { Answers Holds (state S.Store conn.old) (state S.Store conn.new) result
+        (λ trees events. AreEventsOf (world_in trees) stream.now day events.items) }
 {
     let Ok(_) = ready(conn) else {
         return Err(Unavailable);
@@ -307,6 +267,7 @@ pub fn events_of<S: Alter>(
     let Ok(rows) = event_rows(conn, stream, day) else {
         return Err(Unavailable);
     };
+    // For the proof: a day's number is at most that of the last day.
     let _ = day.number();
     all_events(alloc, &rows)
 }
@@ -317,9 +278,7 @@ fn all_events(alloc: Global, rows: &[Row]) -> Result<Vec<Event>, Unavailable>
     ensures apart { IfOk result (λ events. Apart events.items) }
 {
     let mut found = BTreeSet::new(alloc);
-    let Ok(_) = add_events(alloc, &mut found, rows) else {
-        return Err(Unavailable);
-    };
+    add_events(alloc, &mut found, rows)?;
     in_order(alloc, found)
 }
 
@@ -328,9 +287,7 @@ fn add_events(alloc: Global, found: &mut BTreeSet<Event>, rows: &[Row]) -> Resul
     ensures { OnOk result (AreAdded SaysEvent found.old.keys rows.now found.new.keys) }
 {
     for i in 0..rows.len() {
-        let Ok(_) = add_event(alloc, found, &rows[i]) else {
-            return Err(Unavailable);
-        };
+        add_event(alloc, found, &rows[i])?;
     }
     Ok(())
 }
@@ -339,9 +296,7 @@ fn add_events(alloc: Global, found: &mut BTreeSet<Event>, rows: &[Row]) -> Resul
 fn add_event(alloc: Global, found: &mut BTreeSet<Event>, row: &Row) -> Result<(), Unavailable>
     ensures { OnOk result (IsAdded SaysEvent found.old.keys row.now found.new.keys) }
 {
-    let Ok(event) = event_at(alloc, row) else {
-        return Err(Unavailable);
-    };
+    let event = event_at(alloc, row)?;
     put(found, event)
 }
 
@@ -355,7 +310,7 @@ pub fn put<T: Ord + Drop>(found: &mut BTreeSet<T>, item: T) -> Result<(), Unavai
     }
 }
 
-/// All of a set, in their order.
+/// All of a set, in order.
 pub fn in_order<T: Ord + Drop>(alloc: Global, found: BTreeSet<T>) -> Result<Vec<T>, Unavailable>
     ensures same { IfOk result (λ all. all.items ≡ found.keys) }
     ensures ascending { IfOk result (λ all. AllPairs (λ a b. T.cmp a b ≡ Less) all.items) }
@@ -370,14 +325,8 @@ pub fn in_order<T: Ord + Drop>(alloc: Global, found: BTreeSet<T>) -> Result<Vec<
 /// Whether the event is kept.
 pub fn has_event<S: Alter>(conn: &mut Connection<S>, event: &Event) -> Result<bool, Unavailable>
     requires { conn.old.in_transaction ≡ false }
-    ensures found { HasCleanDisk (state S.Store conn.new) → Holds (state S.Store conn.old)
-        → IfOk result (λ has. IsTrue has ↔ (EventIs event.now ∈ world_of (state S.Store conn.old))) }
-    ensures open { HasCleanDisk (state S.Store conn.new) → Holds (state S.Store conn.old)
-        → OnOk result (AreOpen (state S.Store conn.old) (state S.Store conn.new)) }
-    ensures kept { HasCleanDisk (state S.Store conn.new) → Holds (state S.Store conn.old)
-        → KeepsCommit (state S.Store conn.old) (state S.Store conn.new) }
-    ensures mode { conn.new.in_transaction ≡ false }
-    ensures survives { Holds (state S.Store conn.old) → Survives (state S.Store conn.old) (state S.Store conn.new) (λ _. ⊥) }
+    ensures { Answers Holds (state S.Store conn.old) (state S.Store conn.new) result
+        (λ trees has. IsTrue has ↔ (EventIs event.now ∈ world_in trees)) }
 {
     let Ok(_) = ready(conn) else {
         return Err(Unavailable);
@@ -393,6 +342,7 @@ pub fn has_event<S: Alter>(conn: &mut Connection<S>, event: &Event) -> Result<bo
     ) else {
         return Err(Unavailable);
     };
+    // For the proof: its numbers are below 2^63.
     has_small_numbers(event);
     Ok(has_any(&rows))
 }
@@ -404,49 +354,54 @@ fn has_any(rows: &[Row]) -> bool
     !rows.is_empty()
 }
 
-/// The numbers of details are far below the greatest that a column can hold.
+/// The numbers of details are far below the greatest that a column can hold. The function does nothing.
 fn are_small(detail: &Detail)
     ensures moment { detail.now.moment < 2 ^ 63 }
     ensures next { (n : ℕ) → detail.now.details.next ≡ Some n → n < 2 ^ 63 }
 {
+    // For the proof: the seconds of a moment are below those of all days there are.
     let _ = detail.moment.seconds();
     is_small_day(detail.details.next());
 }
 
-/// The numbers of an event are far below the greatest that a column can hold.
+/// The numbers of an event are far below the greatest that a column can hold. The function does nothing.
 fn has_small_numbers(event: &Event)
     ensures day { event.now.day < 2 ^ 63 }
     ensures trans { (n : ℕ) → event.now.trans ≡ Some n → n < 2 ^ 63 }
     ensures moment { (n : ℕ) → event.now.moment ≡ Some n → n < 2 ^ 63 }
 {
+    // For the proof: a day's number is at most that of the last day.
     let _ = event.day().number();
     is_small_letter(event.trans());
     is_small_moment(event.moment());
 }
 
-/// So is the number of a day.
+/// The number of a day is far below the greatest that a column can hold.
 fn is_small_day(day: Option<Day>)
     ensures { (n : ℕ) → day ≡ Some n → n < 2 ^ 63 }
 {
     if let Some(day) = day {
+        // For the proof: a day's number is at most that of the last day.
         let _ = day.number();
     }
 }
 
-/// So is that of a moment.
+/// The number of a moment is far below the greatest that a column can hold.
 fn is_small_moment(moment: Option<Moment>)
     ensures { (n : ℕ) → moment ≡ Some n → n < 2 ^ 63 }
 {
     if let Some(moment) = moment {
+        // For the proof: the seconds of a moment are below those of all days there are.
         let _ = moment.seconds();
     }
 }
 
-/// So is that of a letter.
+/// The number of a letter is far below the greatest that a column can hold.
 fn is_small_letter(code: Option<TransCode>)
     ensures { (n : ℕ) → code ≡ Some n → n < 2 ^ 63 }
 {
     if let Some(code) = code {
+        // For the proof: the letter is an ASCII one.
         let _ = code.letter();
     }
 }
@@ -457,14 +412,8 @@ pub fn streams<S: Alter>(
     conn: &mut Connection<S>,
 ) -> Result<Vec<Stream>, Unavailable>
     requires { conn.old.in_transaction ≡ false }
-    ensures found { HasCleanDisk (state S.Store conn.new) → Holds (state S.Store conn.old)
-        → IfOk result (λ streams. AreKnownStreams (world_of (state S.Store conn.old)) streams.items) }
-    ensures open { HasCleanDisk (state S.Store conn.new) → Holds (state S.Store conn.old)
-        → OnOk result (AreOpen (state S.Store conn.old) (state S.Store conn.new)) }
-    ensures kept { HasCleanDisk (state S.Store conn.new) → Holds (state S.Store conn.old)
-        → KeepsCommit (state S.Store conn.old) (state S.Store conn.new) }
-    ensures mode { conn.new.in_transaction ≡ false }
-    ensures survives { Holds (state S.Store conn.old) → Survives (state S.Store conn.old) (state S.Store conn.new) (λ _. ⊥) }
+    ensures { Answers Holds (state S.Store conn.old) (state S.Store conn.new) result
+        (λ trees streams. AreKnownStreams (world_in trees) streams.items) }
 {
     let Ok(_) = ready(conn) else {
         return Err(Unavailable);
@@ -492,15 +441,9 @@ fn all_streams(
     ensures ascending { IfOk result (λ streams. AllPairs (λ a b. stream_cmp a b ≡ Less) streams.items) }
 {
     let mut found = BTreeSet::new(alloc);
-    let Ok(_) = add_streams(&mut found, heads) else {
-        return Err(Unavailable);
-    };
-    let Ok(_) = add_streams(&mut found, details) else {
-        return Err(Unavailable);
-    };
-    let Ok(_) = add_streams(&mut found, periods) else {
-        return Err(Unavailable);
-    };
+    add_streams(&mut found, heads)?;
+    add_streams(&mut found, details)?;
+    add_streams(&mut found, periods)?;
     in_order(alloc, found)
 }
 
@@ -509,9 +452,7 @@ fn add_streams(found: &mut BTreeSet<Stream>, rows: &[Row]) -> Result<(), Unavail
     ensures { OnOk result (AreAdded SaysStream found.old.keys rows.now found.new.keys) }
 {
     for i in 0..rows.len() {
-        let Ok(_) = add_stream(found, &rows[i]) else {
-            return Err(Unavailable);
-        };
+        add_stream(found, &rows[i])?;
     }
     Ok(())
 }

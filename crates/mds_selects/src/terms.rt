@@ -115,6 +115,7 @@ fn unit_at(row: &Row, at: usize) -> Option<Unit>
     ensures some { IfSome result (λ unit. unit_named (bytes_in row.now at) ≡ unit) }
     ensures none { IfNone result ((unit : UnitValue) → column row.now at ≢ Text (unit_text unit)) }
 {
+    // For the proof: the text of each unit is read as that unit.
     units_read_back();
     Unit::read(text_at(row, at)?)
 }
@@ -138,11 +139,12 @@ fn quality_at(row: &Row, at: usize) -> Option<Quality>
     ensures none { IfNone result ((quality : QualityValue) → IsTrue (is_quality quality.flag quality.method)
         → column row.now at ≢ Text (quality_text quality)) }
 {
+    // For the proof: the text of each quality is read as that quality.
     qualities_read_back();
     Quality::read(text_at(row, at)?)
 }
 
-/// The code in a column, which is -1 where there is none: `None` where it is neither.
+/// The code in a column, which is -1 where there is none. `None` where the number is neither.
 fn code_at(row: &Row, at: usize) -> Option<Option<u16>>
     ensures some { IfSome result (λ code. optional_at row.now at ≡ code) }
     ensures none { IfNone result ((code : Option ℕ) → IfSome code (λ n. n < 2 ^ 16) → column row.now at ≢ optional_cell code) }
@@ -164,7 +166,7 @@ pub fn str_at<'a>(row: &'a Row, at: usize) -> Option<&'a str>
     }
 }
 
-/// The value of a reading: none where its quality is N, whatever the amount.
+/// The value of a reading. It has none where its quality is N, whatever the amount.
 fn value_in(quality: Quality, amount: i64) -> Option<Option<Quantity>>
     ensures some { IfSome result (λ value. value ≡ amount_in quality amount) }
     ensures none { IfNone result ((quality.flag ≢ null) × (limit ≤ unsigned_abs amount)) }
@@ -175,7 +177,7 @@ fn value_in(quality: Quality, amount: i64) -> Option<Option<Quantity>>
     Some(Some(Quantity::from_millionths(amount)?))
 }
 
-/// What a version's row says of its reading, its note borrowed from it.
+/// What a version's row says of its reading. The note is borrowed from the row.
 #[derive(Clone, Copy)]
 struct ReadingRef<'a> {
     quality: Quality,
@@ -258,7 +260,7 @@ fn key_in(row: &Row) -> Option<Key>
     })
 }
 
-/// The day in a column, which is -1 where there is none: `None` where the number is neither.
+/// The day in a column, which is -1 where there is none. `None` where the number is neither.
 fn next_at(row: &Row, at: usize) -> Option<Option<Day>>
     ensures some { IfSome result (λ day. optional_at row.now at ≡ day) }
     ensures none { IfNone result ((day : Option ℕ) → IfSome day IsDay → column row.now at ≢ optional_cell day) }
@@ -345,7 +347,7 @@ pub(crate) fn detail_in(alloc: Global, row: &Row) -> Result<Detail, Unavailable>
     })
 }
 
-/// The transaction code in a column, whose text is empty where there is none: `None` where it is neither.
+/// The transaction code in a column, whose text is empty where there is none. `None` where it is neither.
 fn trans_at(row: &Row, at: usize) -> Option<Option<TransCode>>
     ensures some { IfSome result (λ code. letter_in (bytes_in row.now at) ≡ code) }
     ensures none { IfNone result ((code : Option ℕ) → IsTrue (is_trans code) → column row.now at ≢ Text (letter_text code)) }
@@ -357,7 +359,7 @@ fn trans_at(row: &Row, at: usize) -> Option<Option<TransCode>>
     Some(Some(TransCode::read(text)?))
 }
 
-/// The moment in a column, which is -1 where there is none: `None` where the number is neither.
+/// The moment in a column, which is -1 where there is none. `None` where the number is neither.
 fn read_at(row: &Row, at: usize) -> Option<Option<Moment>>
     ensures some { IfSome result (λ moment. optional_at row.now at ≡ moment) }
     ensures none { IfNone result ((moment : Option ℕ) → IfSome moment IsMoment → column row.now at ≢ optional_cell moment) }

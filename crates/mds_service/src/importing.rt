@@ -6,7 +6,7 @@ ghost use Rattle.mds_service.specs.Machine.{ImportStep};
 
 use crate::accumulating::import_nem13;
 use crate::gathering::{Gathered, gather};
-use crate::news::{new_details, new_events};
+use crate::news::new_notes;
 use crate::settling::settle;
 use mds_messages::Answer;
 use mds_nem12::{Nem12Fault, read_nem12};
@@ -24,8 +24,8 @@ pub(crate) fn import<K: Keeper>(
     ensures outside { K.honest keeper.new → K.honest keeper.old }
     ensures before { K.sound keeper.new → K.sound keeper.old }
 
-    // It is a step of the machine, and a crash leaves what it left before, the World after it, or where the answer is
-    // Unavailable the World that another answer would have made.
+    // It is a step of the machine. A crash leaves what it left before, or the World after it. Where the answer is
+    // Unavailable, it may leave the World that another answer would have made.
     ensures step { K.honest keeper.new → GoesBy (K.sound keeper.old) (K.sound keeper.new) (K.world keeper.old)
         (K.world keeper.new) (K.may_leave keeper.old) (K.may_leave keeper.new) (λ w. ImportStep w kind text.now) result }
 {
@@ -57,10 +57,10 @@ fn import_nem12<K: Keeper>(alloc: Global, keeper: &mut K, text: &[u8]) -> Answer
         details,
         events,
     } = gathered;
-    let Ok(details) = new_details(alloc, keeper, details) else {
+    let Ok(details) = new_notes(alloc, keeper, details) else {
         return Answer::Unavailable;
     };
-    let Ok(events) = new_events(alloc, keeper, events) else {
+    let Ok(events) = new_notes(alloc, keeper, events) else {
         return Answer::Unavailable;
     };
     let Ok((mut additions, counts)) = settle(alloc, merges) else {

@@ -1,10 +1,9 @@
--- The text in which the content of an accumulation is kept (profile): its lines are joined by line feeds, and the texts of a line by
--- commas.
+-- The text in which the content of an accumulation is kept (profile). Line feeds join its lines, and commas the texts of a line.
 use Rattle.std.specs.Prelude.{ℕ, Bool, ◌==◌, List, [], ◌∷◌, map}
 use Rattle.std.specs.List.{join_with_byte, slice_split}
 use Rattle.mds_names.specs.Names.{is_comma}
 
--- the fields 3 to 21 of a 250 as they are kept, and the four texts of each of its notes; the update is of the key alone
+-- The fields 3 to 21 of a 250 as they are kept, and the four texts of each of its notes. The update is of the key alone.
 pub record PeriodContent : Type 0 where
   pub fields : List (List ℕ)
   pub notes : List (List (List ℕ))

@@ -1,6 +1,6 @@
--- What each selection keeps (profile): its streams ascend, and so do the days of each; a day has a reading for each interval
--- of its length; and there are at most so many days that their lines, each of five minutes with a run for each interval and
--- a 200 of its own, are fewer than a file may have.
+-- What each selection keeps (profile). Its streams ascend, and so do the days of each. A day has a reading for each interval of
+-- its length. There are so few days that their lines are fewer than a file may have (L10). So it is even where each day is of
+-- five minutes, with a run for each interval and a 200 of its own.
 use Rattle.std.specs.Prelude.{◌≡◌, ◌<◌, ◌≤◌, ℕ, List, length}
 use Rattle.std.specs.Cmp.Lexicographic.{slice_cmp}
 use Rattle.std.specs.List.{All, AllPairs, flat_map}

@@ -25,8 +25,8 @@ pub record StreamStatement : Type 0 where
   pub moment : ℕ
   pub details : DetailsValue
 
--- A 300 with its 400 records: its line, the head (stream, day, length and unit), the update, and the reading of each
--- interval in order, so the day's versions.
+-- A 300 with its 400 records: its line, the head (stream, day, length and unit), the update, and the reading of each interval in
+-- order. The readings are the day's versions.
 pub record DayStatement : Type 0 where
   pub line : ℕ
   pub stream : Stream

@@ -1,6 +1,6 @@
 //! The body in which an accumulation is kept: the text of its content, with its update behind the fields.
 
-ghost use Rattle.std.specs.Prelude.{◌≡◌, ◌+◌, ◌<◌, ◌≤◌, ℕ, List, [], ◌++◌, IfOk, MatchOption, OnErr, OnOk, length, string_bytes};
+ghost use Rattle.std.specs.Prelude.{◌≡◌, ◌<◌, ◌≤◌, ℕ, List, ◌++◌, IfOk, MatchOption, OnErr, OnOk, length, string_bytes};
 ghost use Rattle.mds_statements.specs.Bodies.{IsPeriodBody, content_of_body};
 ghost use Rattle.mds_statements.specs.BodySteps.{IsFirstLine};
 ghost use Rattle.mds_statements.specs.Contents.{content_of};
@@ -23,7 +23,7 @@ impl Period {
 }
 
 impl PeriodContent {
-    /// The content that a body says, whatever stands where the update does. `None` where there is one field alone. Fails only
+    /// The content that a body says, whatever stands where the update does. `None` where there is one field alone. It fails only
     /// where memory is refused, and never for an empty text.
     pub fn from_body(alloc: Global, body: &str) -> Result<Option<PeriodContent>, AllocError>
         ensures ok { IfOk result (λ found. MatchOption found (length (content_of body.now).fields ≤ 1)

@@ -1,5 +1,5 @@
-//! What a file states, as types over terms alone: the statements of a file of either kind in `specs`, the delivery that a NEM12 file is
-//! read to, and the selection that one is written of. Who reads and writes files and who keeps what they state meet here.
+//! What a file states, as types over terms alone. In `specs` stand the statements of a file of either kind. A NEM12 file is read
+//! to a delivery, and one is written of a selection. Whoever reads and writes files meets here whoever keeps what they state.
 #![tactic(auto)]
 
 mod blocks;

@@ -7,8 +7,8 @@ use mds_terms::{Moment, PrintableString, Stream};
 use std::alloc::AllocError;
 use std::marker::Model;
 
-/// What an accumulation is of: a register, from one read of it to another, as it was updated. Keys are ordered by their parts, as they
-/// stand here.
+/// What an accumulation is of: a register, from one read of it to another, as it was updated. Keys are ordered by their parts, as
+/// they stand here.
 #[derive(PartialEq, Eq, PartialOrd, Ord, Drop)]
 pub struct PeriodKey {
     pub stream: Stream,
@@ -23,7 +23,7 @@ pub struct PeriodKey {
 }
 
 impl PeriodKey {
-    /// The same once more. Fails only where memory is refused: never where the register is empty.
+    /// A copy of the key. It fails only where memory is refused: never where the register is empty.
     pub fn try_clone(&self) -> Result<PeriodKey, AllocError>
         ensures value { IfOk result (λ key. key ≡ self.now) }
         ensures full { OnErr result (0 < length self.now.register) }
@@ -38,8 +38,8 @@ impl PeriodKey {
     }
 }
 
-/// What else is kept of an accumulation: the fields 3 to 21 of its 250 record, and its 550 records, its notes, in order. The update,
-/// which the record or the header states, is of its key alone. It has one text.
+/// What else is kept of an accumulation: the fields 3 to 21 of its 250 record, and its notes in order. A note is a 550 record.
+/// The update, which the record or the header states, is of its key alone. A content has one text.
 #[derive(Drop)]
 pub struct PeriodContent {
     text: String,
@@ -55,7 +55,8 @@ impl Model for PeriodContent {
 }
 
 impl PeriodContent {
-    /// The content that a text says: its first line are the fields joined by commas, and each other line are the four texts of a note.
+    /// The content that a text says. Its first line has the fields, and each other line the four texts of a note, joined by
+    /// commas.
     pub fn new(text: String) -> PeriodContent
         ensures { result ≡ content_of (string_bytes text) }
     {
@@ -69,7 +70,7 @@ impl PeriodContent {
         self.text.as_str()
     }
 
-    /// The same once more.
+    /// A copy of the content.
     pub fn try_clone(&self) -> Result<PeriodContent, AllocError>
         ensures { IfOk result (λ content. content ≡ self.now) }
     {
@@ -78,7 +79,7 @@ impl PeriodContent {
         Ok(PeriodContent { text })
     }
 
-    /// Whether both are the same.
+    /// Whether both have the same fields and the same notes.
     pub fn is_same(&self, other: &PeriodContent) -> bool
         ensures { IsTrue result ↔ (self.now ≡ other.now) }
     {
@@ -94,7 +95,7 @@ pub struct Period {
 }
 
 impl Period {
-    /// The same once more.
+    /// A copy of the accumulation.
     pub fn try_clone(&self) -> Result<Period, AllocError>
         ensures { IfOk result (λ period. period ≡ self.now) }
     {

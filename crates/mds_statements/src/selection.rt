@@ -5,8 +5,9 @@ ghost use Rattle.mds_statements.specs.Selected.{AreOrderly, days_of, most_days};
 
 use crate::selected::{SelectedDay, SelectedStream};
 
-/// What is selected to be written: streams in the order of their bytes, and the days of each by their dates, each with a
-/// reading for each interval of its length. It has at most 3,200 days, so that its text has fewer lines than a file may have.
+/// What is selected to be written: streams in the order of their bytes, and the days of each by their dates. Each day has a
+/// reading for each interval of its length. There are at most 3,200 days, so that the text has fewer lines than a file may have
+/// (L10).
 #[derive(Drop)]
 pub struct Selection {
     pub streams: Vec<SelectedStream>,
@@ -17,8 +18,9 @@ pub struct Selection {
 const MOST_DAYS: usize = 3_200;
 
 impl Selection {
-    /// A selection of these streams. `None` where the streams don't ascend by the bytes of the NMI and then of the suffix, the
-    /// days of one don't ascend by their dates, a day hasn't a reading for each interval, or there are more than 3,200 days.
+    /// A selection of these streams. `None` where the streams don't ascend by the bytes of the NMI and then of the suffix. `None`
+    /// where the days of a stream don't ascend by their dates. `None` where a day hasn't a reading for each interval, or there
+    /// are more than 3,200 days.
     pub fn new(streams: Vec<SelectedStream>) -> Option<Selection>
         ensures some { IfSome result (λ selection. selection.streams ≡ streams) }
         ensures none { IfNone result (AreOrderly streams.items → ⊥) }

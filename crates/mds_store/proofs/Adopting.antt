@@ -1,15 +1,14 @@
 -- Whether a database that has the tables of a store is one, from what was asked of it.
-use Rattle.std.specs.Prelude.{◌≡◌, ℤ, pos, List, [], ◌∷◌, map, IsTrue}
+use Rattle.std.specs.Prelude.{◌≡◌, ℤ, pos, List, [], ◌∷◌, IsTrue}
 use Rattle.std.proofs.Common.{sym, ap, subst, ◌∙◌, arith}
 use Rattle.sqlite.specs.Effect.{Database}
 use Rattle.sqlite.specs.State.{HasCleanDisk, KeepsCommit, State, Survives}
-use Rattle.mds_tables.specs.RowFacts.{int_at}
-use Rattle.mds_tables.specs.Stores.{AreOpen, Holds, HoldsTables, IsStore}
+use Rattle.mds_tables.specs.Stores.{AreOpen, Holds, HoldsTables, IsStore, versions_said}
 use Rattle.mds_store.specs.Starting.{IsAdopted}
 
 -- what its mds_schema says
 abbrev pub said : Database → List ℤ
-said db = map (λ row. int_at row 1) (db.trees 0)
+said db = versions_said db.trees
 
 module _ (old new : State) (held : HoldsTables old) (survives : Survives old new (λ _. ⊥))
     (kept : HasCleanDisk new → KeepsCommit old new) where

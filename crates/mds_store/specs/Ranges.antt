@@ -39,7 +39,8 @@ pub record IsBookOf (s : Stream) (head : Head) (rows : List Row) (book : BookVal
   pub says : book_world book
       ≡ book_world (record { stream = s; day = head.day; head = Some (head.length, head.unit); rows = versions })
 
--- The books of heads' rows, one for each, cut one after the other from the front of rows of versions, of which the last ones are left.
+-- The books of heads' rows, one for each. Each is cut from the front of what is left of the rows of versions. In the end the last
+-- of these are left.
 abbrev pub AreBooksIn : Stream → List Row → List Row → List Row → List BookValue → Type 0
 AreBooksIn s [] rows left [] = rows ≡ left
 AreBooksIn s (shown ∷ heads) rows left (book ∷ books) =

@@ -12,8 +12,8 @@ use crate::row_keeper::RowKeeper;
 use mds_versions::Keeper;
 use sqlite::Alter;
 
-/// It keeps the World that the rows of its tables name. It is honest while its disk is, and sound while its connection is
-/// open too. A crash may leave each World that tables name which the library's store may leave.
+/// It keeps the World that the rows of its tables name. It is honest while its disk is, and sound while its connection is open
+/// too. A crash may leave any World that is named by tables which the library's store may leave.
 pub fn a_keeper_is_its_tables<S: Alter>(_keeper: &RowKeeper<S>)
     ensures world { ⟦<RowKeeper<S> as Keeper>⟧.world _keeper.now ≡ world_of (state S.Store _keeper.now.conn) }
     ensures honest { ⟦<RowKeeper<S> as Keeper>⟧.honest _keeper.now ↔ HasCleanDisk (state S.Store _keeper.now.conn) }

@@ -1,5 +1,5 @@
-//! A store in the tables of an SQL database: the keeper, and what it lists by queries: the holidays, the substitution jobs,
-//! the accumulations of a stream, and the days of a range.
+//! A store in the tables of an SQL database: the keeper, and what it lists by queries. These are the holidays, the substitution
+//! jobs, the accumulations of a stream, and the days of a range.
 #![tactic(auto)]
 
 mod laws;

@@ -1,17 +1,19 @@
-//! The accumulations of a store. A store that can't answer, or holds a row that the store didn't write, is unavailable.
+//! The accumulations of a store. A store that can't answer is unavailable (U1). So is one that holds a row that it
+//! didn't write.
 
-ghost use Rattle.std.specs.Prelude.{◌≡◌, ◌<◌, ◌^◌, ◌↔◌, ℕ, List, false, length, IfOk, IsTrue, OnErr, OnOk};
+ghost use Rattle.std.specs.Prelude.{◌≡◌, ◌<◌, ◌^◌, ◌↔◌, ℕ, List, false, length, IfOk, IsTrue, OnErr};
 ghost use Rattle.std.specs.List.{AllPairs};
 ghost use Rattle.std.specs.declared.cmp.Ordering.TheVariants.{Less};
 ghost use Rattle.sqlite.specs.declared.types.Value.TheVariants.{Text};
 ghost use Rattle.sqlite.specs.Held.{state};
 ghost use Rattle.sqlite.specs.Order.{column};
-ghost use Rattle.sqlite.specs.State.{HasCleanDisk, KeepsCommit, Survives};
 ghost use Rattle.mds_terms.specs.Printable.{is_printable};
 ghost use Rattle.mds_statements.specs.Contents.{text_of};
 ghost use Rattle.mds_statements.specs.declared.periods.Period.{Period as PeriodValue};
 ghost use Rattle.mds_versions.specs.Queries.{ArePeriodsOf, IsContentOf, period_cmp};
-ghost use Rattle.mds_tables.specs.Stores.{AreOpen, Holds, world_of};
+ghost use Rattle.mds_tables.specs.Queries.{Answers};
+ghost use Rattle.mds_tables.specs.RowFacts.{world_in};
+ghost use Rattle.mds_tables.specs.Stores.{Holds};
 ghost use Rattle.mds_store.specs.Periods.{ArePeriodsIn, IsBodyAt, IsOnlyContent, IsRowOfPeriod, SaysContent, SaysPeriod, shown_key, text_length};
 
 use crate::rows::{content_rows, period_rows};
@@ -31,14 +33,8 @@ pub(crate) fn periods_of<S: Alter>(
     stream: &Stream,
 ) -> Result<Vec<Period>, Unavailable>
     requires { conn.old.in_transaction ≡ false }
-    ensures found { HasCleanDisk (state S.Store conn.new) → Holds (state S.Store conn.old)
-        → IfOk result (λ periods. ArePeriodsOf (world_of (state S.Store conn.old)) stream.now periods.items) }
-    ensures open { HasCleanDisk (state S.Store conn.new) → Holds (state S.Store conn.old)
-        → OnOk result (AreOpen (state S.Store conn.old) (state S.Store conn.new)) }
-    ensures kept { HasCleanDisk (state S.Store conn.new) → Holds (state S.Store conn.old)
-        → KeepsCommit (state S.Store conn.old) (state S.Store conn.new) }
-    ensures mode { conn.new.in_transaction ≡ false }
-    ensures survives { Holds (state S.Store conn.old) → Survives (state S.Store conn.old) (state S.Store conn.new) (λ _. ⊥) }
+    ensures { Answers Holds (state S.Store conn.old) (state S.Store conn.new) result
+        (λ trees periods. ArePeriodsOf (world_in trees) stream.now periods.items) }
 {
     let Ok(_) = ready(conn) else {
         return Err(Unavailable);
@@ -49,7 +45,7 @@ pub(crate) fn periods_of<S: Alter>(
     all_periods(alloc, &rows)
 }
 
-/// The accumulations of rows, which ascend.
+/// The accumulations of rows, in ascending order.
 fn all_periods(alloc: Global, rows: &[Row]) -> Result<Vec<Period>, Unavailable>
     ensures each { IfOk result (λ periods. ArePeriodsIn rows.now periods.items) }
     ensures ascending { IfOk result (λ periods. AllPairs (λ a b. period_cmp a.key b.key ≡ Less) periods.items) }
@@ -116,7 +112,7 @@ fn period_in(alloc: Global, row: &Row) -> Result<Period, Unavailable>
     Ok(Period { key, content })
 }
 
-/// What the accumulation of a row is of. It takes memory only for the register.
+/// The key of the accumulation of a row. It takes memory only for the register.
 fn key_in(alloc: Global, row: &Row) -> Result<PeriodKey, Unavailable>
     ensures ok { IfOk result (λ key. key ≡ shown_key row.now) }
     ensures err { OnErr result ((period : PeriodValue) → IsRowOfPeriod row.now period → 0 < length period.key.register) }
@@ -182,14 +178,8 @@ pub(crate) fn content_of_period<S: Alter>(
     key: &PeriodKey,
 ) -> Result<Option<PeriodContent>, Unavailable>
     requires { conn.old.in_transaction ≡ false }
-    ensures found { HasCleanDisk (state S.Store conn.new) → Holds (state S.Store conn.old)
-        → IfOk result (IsContentOf (world_of (state S.Store conn.old)) key.now) }
-    ensures open { HasCleanDisk (state S.Store conn.new) → Holds (state S.Store conn.old)
-        → OnOk result (AreOpen (state S.Store conn.old) (state S.Store conn.new)) }
-    ensures kept { HasCleanDisk (state S.Store conn.new) → Holds (state S.Store conn.old)
-        → KeepsCommit (state S.Store conn.old) (state S.Store conn.new) }
-    ensures mode { conn.new.in_transaction ≡ false }
-    ensures survives { Holds (state S.Store conn.old) → Survives (state S.Store conn.old) (state S.Store conn.new) (λ _. ⊥) }
+    ensures { Answers Holds (state S.Store conn.old) (state S.Store conn.new) result
+        (λ trees. IsContentOf (world_in trees) key.now) }
 {
     let Ok(_) = ready(conn) else {
         return Err(Unavailable);
@@ -197,6 +187,7 @@ pub(crate) fn content_of_period<S: Alter>(
     let Ok(rows) = content_rows(conn, key) else {
         return Err(Unavailable);
     };
+    // For the proof: its moments are below 2^63.
     has_small_moments(key);
     only_content(alloc, &rows)
 }
@@ -215,12 +206,13 @@ fn only_content(alloc: Global, rows: &[Row]) -> Result<Option<PeriodContent>, Un
     }
 }
 
-/// The moments of a key are far below the greatest number that a column can hold.
+/// The moments of a key are far below the greatest number that a column can hold. The function does nothing.
 fn has_small_moments(key: &PeriodKey)
     ensures start { key.now.start < 2 ^ 63 }
     ensures finish { key.now.finish < 2 ^ 63 }
     ensures update { key.now.update < 2 ^ 63 }
 {
+    // For the proof: the seconds of a moment are below those of all days there are.
     let _ = (
         key.start.seconds(),
         key.finish.seconds(),

@@ -1,12 +1,13 @@
-//! The holidays and the jobs of a store. A store that can't answer, or holds a row that the store didn't write, is
-//! unavailable.
+//! The holidays and the jobs of a store. A store that can't answer is unavailable (U1). So is one that holds a row that
+//! it didn't write.
 
-ghost use Rattle.std.specs.Prelude.{◌≡◌, ◌<◌, ◌∷◌, false, IfOk, OnOk};
+ghost use Rattle.std.specs.Prelude.{◌≡◌, ◌<◌, false, IfOk, OnOk};
 ghost use Rattle.std.specs.List.{AllPairs};
 ghost use Rattle.sqlite.specs.Held.{state};
-ghost use Rattle.sqlite.specs.State.{HasCleanDisk, KeepsCommit, Survives};
 ghost use Rattle.mds_versions.specs.Queries.{AreHolidays, IsJobOf};
-ghost use Rattle.mds_tables.specs.Stores.{AreOpen, Holds, world_of};
+ghost use Rattle.mds_tables.specs.Queries.{Answers};
+ghost use Rattle.mds_tables.specs.RowFacts.{world_in};
+ghost use Rattle.mds_tables.specs.Stores.{Holds};
 ghost use Rattle.mds_selects.specs.Added.{AreAdded, IsAdded};
 ghost use Rattle.mds_store.specs.Said.{AreHolidaysIn, IsOnlyJob, SaysHoliday, SaysJob};
 
@@ -26,14 +27,8 @@ pub(crate) fn holidays_of<S: Alter>(
     conn: &mut Connection<S>,
 ) -> Result<Vec<Day>, Unavailable>
     requires { conn.old.in_transaction ≡ false }
-    ensures found { HasCleanDisk (state S.Store conn.new) → Holds (state S.Store conn.old)
-        → IfOk result (λ days. AreHolidays (world_of (state S.Store conn.old)) days.items) }
-    ensures open { HasCleanDisk (state S.Store conn.new) → Holds (state S.Store conn.old)
-        → OnOk result (AreOpen (state S.Store conn.old) (state S.Store conn.new)) }
-    ensures kept { HasCleanDisk (state S.Store conn.new) → Holds (state S.Store conn.old)
-        → KeepsCommit (state S.Store conn.old) (state S.Store conn.new) }
-    ensures mode { conn.new.in_transaction ≡ false }
-    ensures survives { Holds (state S.Store conn.old) → Survives (state S.Store conn.old) (state S.Store conn.new) (λ _. ⊥) }
+    ensures { Answers Holds (state S.Store conn.old) (state S.Store conn.new) result
+        (λ trees days. AreHolidays (world_in trees) days.items) }
 {
     let Ok(_) = ready(conn) else {
         return Err(Unavailable);
@@ -85,14 +80,8 @@ pub(crate) fn job_of<S: Alter>(
     id: JobId,
 ) -> Result<Option<(Job, u64)>, Unavailable>
     requires { conn.old.in_transaction ≡ false }
-    ensures found { HasCleanDisk (state S.Store conn.new) → Holds (state S.Store conn.old)
-        → IfOk result (IsJobOf (world_of (state S.Store conn.old)) id) }
-    ensures open { HasCleanDisk (state S.Store conn.new) → Holds (state S.Store conn.old)
-        → OnOk result (AreOpen (state S.Store conn.old) (state S.Store conn.new)) }
-    ensures kept { HasCleanDisk (state S.Store conn.new) → Holds (state S.Store conn.old)
-        → KeepsCommit (state S.Store conn.old) (state S.Store conn.new) }
-    ensures mode { conn.new.in_transaction ≡ false }
-    ensures survives { Holds (state S.Store conn.old) → Survives (state S.Store conn.old) (state S.Store conn.new) (λ _. ⊥) }
+    ensures { Answers Holds (state S.Store conn.old) (state S.Store conn.new) result
+        (λ trees. IsJobOf (world_in trees) id) }
 {
     let Ok(_) = ready(conn) else {
         return Err(Unavailable);

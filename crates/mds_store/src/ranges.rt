@@ -1,16 +1,16 @@
-//! The days of a range, found by two queries, whatever its length. A store that can't answer, or holds a row that the store
-//! didn't write, is unavailable.
+//! The days of a range, found by two queries, whatever its length. A store that can't answer is unavailable (U1). So is one that
+//! holds a row that it didn't write.
 
-ghost use Rattle.std.specs.Prelude.{◌≡◌, ◌≢◌, ◌<◌, ◌≤◌, ◌↔◌, false, List, [], ◌∷◌, drop, length, take, IfOk, IsTrue, OnOk};
+ghost use Rattle.std.specs.Prelude.{◌≡◌, ◌≢◌, ◌<◌, ◌≤◌, ◌↔◌, false, List, [], ◌∷◌, drop, length, take, IfOk, IsTrue};
 ghost use Rattle.std.specs.Bool.{OnFalse};
 ghost use Rattle.std.specs.List.{AllPairs};
 ghost use Rattle.sqlite.specs.Held.{state};
-ghost use Rattle.sqlite.specs.State.{HasCleanDisk, KeepsCommit, Survives};
 ghost use Rattle.sqlite_value.specs.Order.{Row as RowValue, column};
 ghost use Rattle.mds_versions.specs.Queries.{AreDaysOf};
 ghost use Rattle.mds_tables.specs.Cells.{number_cell};
-ghost use Rattle.mds_tables.specs.RowFacts.{natural_at};
-ghost use Rattle.mds_tables.specs.Stores.{AreOpen, Holds, world_of};
+ghost use Rattle.mds_tables.specs.Queries.{Answers};
+ghost use Rattle.mds_tables.specs.RowFacts.{natural_at, world_in};
+ghost use Rattle.mds_tables.specs.Stores.{Holds};
 ghost use Rattle.mds_store.specs.Ranges.{AreBooksIn, AreOfDay, IsBookOf};
 
 use crate::rows::{head_range_rows, version_range_rows};
@@ -31,14 +31,8 @@ pub(crate) fn days_of<S: Alter>(
     last: Day,
 ) -> Result<Vec<DayBook>, Unavailable>
     requires { conn.old.in_transaction ≡ false }
-    ensures found { HasCleanDisk (state S.Store conn.new) → Holds (state S.Store conn.old)
-        → IfOk result (λ books. AreDaysOf (world_of (state S.Store conn.old)) stream.now first last books.items) }
-    ensures open { HasCleanDisk (state S.Store conn.new) → Holds (state S.Store conn.old)
-        → OnOk result (AreOpen (state S.Store conn.old) (state S.Store conn.new)) }
-    ensures kept { HasCleanDisk (state S.Store conn.new) → Holds (state S.Store conn.old)
-        → KeepsCommit (state S.Store conn.old) (state S.Store conn.new) }
-    ensures mode { conn.new.in_transaction ≡ false }
-    ensures survives { Holds (state S.Store conn.old) → Survives (state S.Store conn.old) (state S.Store conn.new) (λ _. ⊥) }
+    ensures { Answers Holds (state S.Store conn.old) (state S.Store conn.new) result
+        (λ trees books. AreDaysOf (world_in trees) stream.now first last books.items) }
 {
     let Ok(_) = ready(conn) else {
         return Err(Unavailable);
@@ -49,11 +43,12 @@ pub(crate) fn days_of<S: Alter>(
     let Ok(versions) = version_range_rows(conn, stream, first, last) else {
         return Err(Unavailable);
     };
+    // For the proof: a day's number is at most that of the last day.
     let _ = last.number();
     all_books(alloc, stream, &heads, &versions)
 }
 
-/// The days of heads, which ascend, with all of these versions.
+/// The days of heads, in ascending order, with all of these versions.
 fn all_books(
     alloc: Global,
     stream: &Stream,
@@ -74,7 +69,8 @@ fn all_books(
     }
 }
 
-/// A day for each head, with the versions that stand in front by then, so far as they are of it. No version is left.
+/// A day for each head, with the versions of that day. They are cut off the front of those that are left. At the end none may be
+/// left.
 fn cut_by_day(
     alloc: Global,
     stream: &Stream,
@@ -147,6 +143,7 @@ fn is_of_day(row: &Row, day: Day) -> bool
     ensures yes { IsTrue result → natural_at row.now 2 ≡ day }
     ensures no { OnFalse result (column row.now 2 ≢ number_cell day) }
 {
+    // For the proof: a day's number is at most that of the last day.
     let _ = day.number();
     match day_at(row, 2) {
         Some(found) => found == day,

@@ -35,7 +35,7 @@ pub struct RowKeeper<S: Alter> {
 }
 
 impl<S: Alter> RowKeeper<S> {
-    /// Over a connection that is in no transaction and holds a store.
+    /// A keeper over a connection that is in no transaction and holds a store.
     pub(crate) fn over(alloc: Global, conn: Connection<S>) -> RowKeeper<S>
         requires autocommit { conn.in_transaction ≡ false }
         requires holds { Holds (state S.Store conn) }
@@ -44,7 +44,7 @@ impl<S: Alter> RowKeeper<S> {
         RowKeeper { alloc, conn }
     }
 
-    /// The connection again, in no transaction and with the same tables.
+    /// Gives the connection back, in no transaction and with the same tables.
     pub fn into_connection(self) -> Connection<S>
         ensures same { result ≡ self.conn }
         ensures autocommit { result.in_transaction ≡ false }
@@ -62,10 +62,10 @@ impl<S: Alter> Keeper for RowKeeper<S> {
     // The disk gave back what was written to it.
     ghost honest = { λ k. HasCleanDisk (state S.Store k.conn) };
 
-    // And the connection is open.
+    // The disk did so, and the connection is open.
     ghost sound = { λ k. HasCleanDisk (state S.Store k.conn) × IsTrue (state S.Store k.conn).is_open };
 
-    // The next open may find tables that name it.
+    // It may leave any World that the tables name which the next open may find.
     ghost may_leave = { λ k left. (trees : Trees) × (state S.Store k.conn).may_leave trees × (world_in trees ≡ left) };
 
     ghost sound_honest = { λ _ sound. sound.0 };

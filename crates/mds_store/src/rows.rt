@@ -1,12 +1,12 @@
 //! The queries, and the rows that they answer.
 
-ghost use Rattle.std.specs.Prelude.{◌≡◌, ◌≢◌, false, [], ◌∷◌, IfOk, OnErr};
+ghost use Rattle.std.specs.Prelude.{[], ◌∷◌};
 ghost use Rattle.sqlite.specs.Held.{state};
-ghost use Rattle.sqlite.specs.State.{HasCleanDisk, Survives};
 ghost use Rattle.sqlite.specs.declared.types.Value.TheVariants.{Text};
 ghost use Rattle.mds_tables.specs.Cells as row;
-ghost use Rattle.mds_tables.specs.Stores.{ChangesNothing, Finds, Selects};
-ghost use Rattle.mds_tables.specs.Tables.{schema_1};
+ghost use Rattle.mds_tables.specs.Queries.{Queries};
+ghost use Rattle.mds_tables.specs.Stores.{Selects};
+ghost use Rattle.mds_tables.specs.Tables.{head_columns, head_tree, holiday_day, holiday_tree, job_body, job_total, job_tree, period_body, period_columns, period_tree, version_columns, version_tree};
 ghost use Rattle.mds_store.specs.Ranges.{SelectsRange};
 
 use mds_jobs::JobId;
@@ -17,20 +17,14 @@ use sqlite::{Alter, Connection, Error, Row};
 
 /// All holidays.
 pub(crate) fn holiday_rows<S: Alter>(conn: &mut Connection<S>) -> Result<Vec<Row>, Error>
-    ensures ok { HasCleanDisk (state S.Store conn.new) → IfOk result (λ rows. Finds (state S.Store conn.old) (state S.Store conn.new) (λ trees. Selects 12 [] (1 ∷ []) trees rows.items)) }
-    ensures err { HasCleanDisk (state S.Store conn.new) → (state S.Store conn.old).now.schema ≡ schema_1 → OnErr result (ChangesNothing (state S.Store conn.old) (state S.Store conn.new)) }
-    ensures mode { conn.old.in_transaction ≡ false → conn.new.in_transaction ≡ false }
-    ensures survives { Survives (state S.Store conn.old) (state S.Store conn.new) (λ _. (state S.Store conn.old).now.schema ≢ schema_1) }
+    ensures { Queries (state S.Store conn.old) (state S.Store conn.new) result (Selects holiday_tree [] (holiday_day ∷ [])) }
 {
     conn.query_all("SELECT day FROM mds_holiday", &[])
 }
 
 /// The body and the count of a job.
 pub(crate) fn job_rows<S: Alter>(conn: &mut Connection<S>, id: &JobId) -> Result<Vec<Row>, Error>
-    ensures ok { HasCleanDisk (state S.Store conn.new) → IfOk result (λ rows. Finds (state S.Store conn.old) (state S.Store conn.new) (λ trees. Selects 14 (Text id.now ∷ []) (2 ∷ 3 ∷ []) trees rows.items)) }
-    ensures err { HasCleanDisk (state S.Store conn.new) → (state S.Store conn.old).now.schema ≡ schema_1 → OnErr result (ChangesNothing (state S.Store conn.old) (state S.Store conn.new)) }
-    ensures mode { conn.old.in_transaction ≡ false → conn.new.in_transaction ≡ false }
-    ensures survives { Survives (state S.Store conn.old) (state S.Store conn.new) (λ _. (state S.Store conn.old).now.schema ≢ schema_1) }
+    ensures { Queries (state S.Store conn.old) (state S.Store conn.new) result (Selects job_tree (Text id.now ∷ []) (job_body ∷ job_total ∷ [])) }
 {
     conn.query_all(
         "SELECT body, total FROM mds_job WHERE id = ?1",
@@ -43,10 +37,7 @@ pub(crate) fn period_rows<S: Alter>(
     conn: &mut Connection<S>,
     stream: &Stream,
 ) -> Result<Vec<Row>, Error>
-    ensures ok { HasCleanDisk (state S.Store conn.new) → IfOk result (λ rows. Finds (state S.Store conn.old) (state S.Store conn.new) (λ trees. Selects 10 (row.stream_cells stream.now) (1 ∷ 2 ∷ 3 ∷ 4 ∷ 5 ∷ 6 ∷ 7 ∷ []) trees rows.items)) }
-    ensures err { HasCleanDisk (state S.Store conn.new) → (state S.Store conn.old).now.schema ≡ schema_1 → OnErr result (ChangesNothing (state S.Store conn.old) (state S.Store conn.new)) }
-    ensures mode { conn.old.in_transaction ≡ false → conn.new.in_transaction ≡ false }
-    ensures survives { Survives (state S.Store conn.old) (state S.Store conn.new) (λ _. (state S.Store conn.old).now.schema ≢ schema_1) }
+    ensures { Queries (state S.Store conn.old) (state S.Store conn.new) result (Selects period_tree (row.stream_cells stream.now) period_columns) }
 {
     conn.query_all(
         "SELECT nmi, suffix, register, start, finish, moment, body FROM mds_period WHERE nmi = ?1 AND suffix = ?2 ORDER BY register, start, finish, moment",
@@ -59,10 +50,7 @@ pub(crate) fn content_rows<S: Alter>(
     conn: &mut Connection<S>,
     key: &PeriodKey,
 ) -> Result<Vec<Row>, Error>
-    ensures ok { HasCleanDisk (state S.Store conn.new) → IfOk result (λ rows. Finds (state S.Store conn.old) (state S.Store conn.new) (λ trees. Selects 10 (row.period_key_cells key.now) (7 ∷ []) trees rows.items)) }
-    ensures err { HasCleanDisk (state S.Store conn.new) → (state S.Store conn.old).now.schema ≡ schema_1 → OnErr result (ChangesNothing (state S.Store conn.old) (state S.Store conn.new)) }
-    ensures mode { conn.old.in_transaction ≡ false → conn.new.in_transaction ≡ false }
-    ensures survives { Survives (state S.Store conn.old) (state S.Store conn.new) (λ _. (state S.Store conn.old).now.schema ≢ schema_1) }
+    ensures { Queries (state S.Store conn.old) (state S.Store conn.new) result (Selects period_tree (row.period_key_cells key.now) (period_body ∷ [])) }
 {
     conn.query_all(
         "SELECT body FROM mds_period WHERE nmi = ?1 AND suffix = ?2 AND register = ?3 AND start = ?4 AND finish = ?5 AND moment = ?6",
@@ -77,10 +65,7 @@ pub(crate) fn head_range_rows<S: Alter>(
     first: Day,
     last: Day,
 ) -> Result<Vec<Row>, Error>
-    ensures ok { HasCleanDisk (state S.Store conn.new) → IfOk result (λ rows. Finds (state S.Store conn.old) (state S.Store conn.new) (λ trees. SelectsRange 2 stream.now first last (1 ∷ 2 ∷ 3 ∷ 4 ∷ 5 ∷ []) trees rows.items)) }
-    ensures err { HasCleanDisk (state S.Store conn.new) → (state S.Store conn.old).now.schema ≡ schema_1 → OnErr result (ChangesNothing (state S.Store conn.old) (state S.Store conn.new)) }
-    ensures mode { conn.old.in_transaction ≡ false → conn.new.in_transaction ≡ false }
-    ensures survives { Survives (state S.Store conn.old) (state S.Store conn.new) (λ _. (state S.Store conn.old).now.schema ≢ schema_1) }
+    ensures { Queries (state S.Store conn.old) (state S.Store conn.new) result (SelectsRange head_tree stream.now first last head_columns) }
 {
     conn.query_all(
         "SELECT nmi, suffix, day, length, unit FROM mds_head WHERE nmi = ?1 AND suffix = ?2 AND day >= ?3 AND day <= ?4 ORDER BY day",
@@ -95,10 +80,7 @@ pub(crate) fn version_range_rows<S: Alter>(
     first: Day,
     last: Day,
 ) -> Result<Vec<Row>, Error>
-    ensures ok { HasCleanDisk (state S.Store conn.new) → IfOk result (λ rows. Finds (state S.Store conn.old) (state S.Store conn.new) (λ trees. SelectsRange 4 stream.now first last (1 ∷ 2 ∷ 3 ∷ 4 ∷ 5 ∷ 6 ∷ 7 ∷ 8 ∷ 9 ∷ []) trees rows.items)) }
-    ensures err { HasCleanDisk (state S.Store conn.new) → (state S.Store conn.old).now.schema ≡ schema_1 → OnErr result (ChangesNothing (state S.Store conn.old) (state S.Store conn.new)) }
-    ensures mode { conn.old.in_transaction ≡ false → conn.new.in_transaction ≡ false }
-    ensures survives { Survives (state S.Store conn.old) (state S.Store conn.new) (λ _. (state S.Store conn.old).now.schema ≢ schema_1) }
+    ensures { Queries (state S.Store conn.old) (state S.Store conn.new) result (SelectsRange version_tree stream.now first last version_columns) }
 {
     conn.query_all(
         "SELECT nmi, suffix, day, slot, moment, quality, code, note, amount FROM mds_version WHERE nmi = ?1 AND suffix = ?2 AND day >= ?3 AND day <= ?4 ORDER BY day, slot, moment",

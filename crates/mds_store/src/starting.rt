@@ -21,17 +21,17 @@ use std::alloc::Global;
 pub enum StoreFault {
     /// The connection is in a transaction, which is the caller's (U1).
     InTransaction,
-    /// The store failed with this error of the library, for want of memory or a fault of the disk, or the limit of steps
-    /// was reached (U1).
+    /// The store failed with this error of the library (U1). Memory was wanting, the disk had a fault, or the limit of steps was
+    /// reached.
     Unavailable(Error),
-    /// The database isn't a store of schema 1; or a store was to be made, and it isn't empty (U3).
+    /// The database isn't a store of schema 1 (U3). Where a store was to be made, it isn't empty (U3).
     OtherSchema,
 }
 
-/// Makes a store, which keeps nothing, in a database that is empty. On a refusal the connection comes back, and nothing
-/// was changed: one that is in a transaction comes back as it was, and one that isn't is in none. It is unavailable only
-/// where the store failed or the limit of steps was reached, and tells that error; the limit stays. A crash leaves what was
-/// there, or the store that keeps nothing.
+/// Makes a store, which keeps nothing, in a database that is empty. On a refusal the connection comes back, and nothing was
+/// changed. One that was in a transaction comes back as it was, and any other is in none. It is unavailable only where the store
+/// failed or the limit of steps was reached, and tells that error (U1). The limit stays. A crash leaves what was there, or the
+/// store that keeps nothing.
 pub fn create<S: Alter>(
     alloc: Global,
     conn: Connection<S>,
@@ -61,17 +61,17 @@ pub fn create<S: Alter>(
     }
 }
 
-/// Whether a database has nothing in it.
+/// Whether a database has nothing in it. In any other no store is made (U3).
 fn is_empty(schema: &Schema) -> bool
     ensures { MatchBool result (schema.now ≡ no_schema) (schema.now ≢ no_schema) }
 {
     schema.tables.is_empty() && schema.indexes.is_empty() && schema.views.is_empty()
 }
 
-/// Takes a database that is a store of schema 1: it keeps the World that its rows name, whoever wrote them. On a refusal
-/// the connection comes back, and nothing was changed: one that is in a transaction comes back as it was, and one that
-/// isn't is in none. It is unavailable only where the store failed or the limit of steps was reached, and tells
-/// that error; the limit stays. A crash leaves what was there.
+/// Takes a database that is a store of schema 1. It keeps the World that its rows name, whoever wrote them. On a refusal the
+/// connection comes back, and nothing was changed. One that was in a transaction comes back as it was, and any other is in none.
+/// It is unavailable only where the store failed or the limit of steps was reached, and tells that error (U1). The limit stays. A
+/// crash leaves what was there.
 pub fn adopt<S: Alter>(
     alloc: Global,
     conn: Connection<S>,

@@ -21,9 +21,9 @@ pub fn run_rows<S: Alter>(
     keeper: &mut RowKeeper<S>,
     requests: &[Request],
 ) -> Result<Vec<Answer>, AllocError>
-    // While the disk gives back what was written, all answers are those of a run of the machine from the World that the
-    // tables named to a lawful one. The tables name that where the connection is still open, and what an open after a
-    // crash may find names it, or it with one more whole request whose answer was Unavailable.
+    // While the disk gives back what was written, all answers are those of a run of the machine. The run goes from the
+    // World that the tables named to a lawful one. The tables name the latter where the connection is still open. An
+    // open after a crash may find tables that name it, or it with one more whole request whose answer was Unavailable.
     ensures run { IfOk result (λ answers. HasCleanDisk (state S.Store keeper.new.conn)
         → IsTrue (state S.Store keeper.old.conn).is_open → IsLawful (world_of (state S.Store keeper.old.conn))
         → (w : World) × IsLawful w

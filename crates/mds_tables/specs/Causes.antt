@@ -12,7 +12,7 @@ use Rattle.sqlite_trees.specs.declared.error.StoreError.TheVariants.{OutOfMemory
 unfoldable pub RanOut : Type 0
 RanOut = ⊤
 
--- What stands behind a failure of the store between two moments: memory ran out, the disk failed or refused, the store
+-- What stands behind a failure of the store between two moments. Memory ran out, the disk failed or refused, the store
 -- was shut before, or something is too big to be kept.
 abbrev pub IsBehind : State → State → Type 0 → StoreError → Type 0
 IsBehind old new too_big OutOfMemory = RanOut

@@ -4,5 +4,6 @@ pub mod Shapes
 pub mod Causes
 pub mod Cells
 pub mod Stores
+pub mod Queries
 pub mod Texts
 pub mod Making

@@ -15,6 +15,7 @@ use Rattle.mds_statements.specs.Bodies.{content_of_body}
 use Rattle.mds_world.specs.Facts.{Fact}
 use Rattle.mds_world.specs.Facts.Fact.{DetailIs, EventIs, HeadIs, HolidayIs, JobIs, PeriodIs, VersionIs}
 use Rattle.mds_world.specs.World.{World}
+use Rattle.mds_tables.specs.Tables.{detail_tree, event_tree, head_tree, holiday_tree, job_tree, period_tree, version_tree}
 
 abbrev pub text_at : Row → ℕ → List ℕ
 text_at row at = bytes (column row at)
@@ -117,8 +118,8 @@ job_fact row = JobIs (text_at row 1) (job_in (parts_of (text_at row 2))) (natura
 -- the facts of the rows of each table, one table after the other
 abbrev pub facts_in : Trees → List Fact
 facts_in trees =
-    map head_fact (trees 2) ++ map version_fact (trees 4) ++ map detail_fact (trees 6) ++ map event_fact (trees 8)
-    ++ map period_fact (trees 10) ++ map holiday_fact (trees 12) ++ map job_fact (trees 14)
+    map head_fact (trees head_tree) ++ map version_fact (trees version_tree) ++ map detail_fact (trees detail_tree) ++ map event_fact (trees event_tree)
+    ++ map period_fact (trees period_tree) ++ map holiday_fact (trees holiday_tree) ++ map job_fact (trees job_tree)
 
 -- The World that the rows of the tables name.
 abbrev pub world_in : Trees → World

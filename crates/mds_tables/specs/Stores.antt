@@ -1,5 +1,5 @@
 -- What a connection over a store holds, and what calls do to it (profile).
-use Rattle.std.specs.Prelude.{◌≡◌, ◌↔◌, ◌⊎◌, ℕ, pos, List, [], ◌∷◌, ◌++◌, drop, length, map, take, IsTrue}
+use Rattle.std.specs.Prelude.{◌≡◌, ◌↔◌, ◌⊎◌, ℕ, ℤ, pos, List, [], ◌∷◌, ◌++◌, drop, length, map, take, IsTrue}
 use Rattle.std.specs.List.Sorted.{IsPermutation}
 use Rattle.sqlite.specs.Effect.{Database, IsDatabase}
 use Rattle.sqlite.specs.State.{HasCleanDisk, IsRolledBack, IsUnchanged, State}
@@ -17,12 +17,16 @@ use Rattle.mds_statements.specs.Bodies.{IsPeriodBody}
 use Rattle.mds_statements.specs.declared.periods.Period.{Period}
 use Rattle.mds_tables.specs.Cells.{detail_cells, event_cells, head_cells, holiday_cells, job_cells, period_cells, version_cells}
 use Rattle.mds_tables.specs.RowFacts.{int_at, world_in}
-use Rattle.mds_tables.specs.Tables.{schema_1}
+use Rattle.mds_tables.specs.Tables.{detail_tree, event_tree, head_tree, holiday_tree, job_tree, period_tree, schema_1, schema_tree, schema_version, version_tree}
+
+-- what mds_schema says
+abbrev pub versions_said : Trees → List ℤ
+versions_said trees = map (λ row. int_at row schema_version) (trees schema_tree)
 
 -- A database is a store where it has just these tables, and mds_schema says 1.
 pub record IsStore (db : Database) : Type 0 where
   pub schema : db.schema ≡ schema_1
-  pub version : map (λ row. int_at row 1) (db.trees 0) ≡ pos 1 ∷ []
+  pub version : versions_said db.trees ≡ pos 1 ∷ []
 
 -- while the disk is honest and the connection open, what is committed is a store
 abbrev pub Holds : State → Type 0
@@ -73,14 +77,14 @@ AreRowsOf IsRow (thing ∷ things) [] = ⊥
 
 -- Each table has the rows of its facts among the additions, column by column, beside those that were there, and no other.
 pub record Adds (old new : Trees) (additions : Additions) : Type 0 where
-  pub schema : new 0 ≡ old 0
-  pub heads : Gains 2 (map head_cells additions.heads.items) old new
-  pub versions : Gains 4 (map (λ version. version_cells version.0 version.1) (versions_of additions.days.items)) old new
-  pub details : Gains 6 (map detail_cells additions.details.items) old new
-  pub events : Gains 8 (map event_cells additions.events.items) old new
-  pub periods : (rows : List Row) × AreRowsOf IsPeriodRow additions.periods.items rows × Gains 10 rows old new
-  pub holidays : Gains 12 (map holiday_cells additions.holidays.items) old new
-  pub jobs : (rows : List Row) × AreRowsOf IsJobRow additions.jobs.items rows × Gains 14 rows old new
+  pub schema : new schema_tree ≡ old schema_tree
+  pub heads : Gains head_tree (map head_cells additions.heads.items) old new
+  pub versions : Gains version_tree (map (λ version. version_cells version.0 version.1) (versions_of additions.days.items)) old new
+  pub details : Gains detail_tree (map detail_cells additions.details.items) old new
+  pub events : Gains event_tree (map event_cells additions.events.items) old new
+  pub periods : (rows : List Row) × AreRowsOf IsPeriodRow additions.periods.items rows × Gains period_tree rows old new
+  pub holidays : Gains holiday_tree (map holiday_cells additions.holidays.items) old new
+  pub jobs : (rows : List Row) × AreRowsOf IsJobRow additions.jobs.items rows × Gains job_tree rows old new
 
 -- The additions are committed to what was kept.
 pub record Commits (old new : State) (additions : Additions) : Type 0 where

@@ -1,5 +1,5 @@
--- The tables of schema 1 (profile), as the library lists them. A table and the index of its key have trees of their own,
--- numbered in the order in which they are made, which stands here alone.
+-- The tables of schema 1 (profile), as the library lists them. A table and the index of its key have trees of their own, numbered
+-- in the order in which they are made. The order stands here alone.
 use Rattle.std.specs.Prelude.{ℕ, ◌+◌, true, false, List, [], ◌∷◌, None, codes}
 use Rattle.sqlite.specs.Collation.TheVariants.{Binary}
 use Rattle.sqlite.specs.Kind.TheVariants.{Integer, Text}
@@ -11,6 +11,31 @@ use Rattle.sqlite_schema.specs.declared.schema.Column.{Column}
 use Rattle.sqlite_schema.specs.declared.schema.Index.{Index}
 use Rattle.sqlite_schema.specs.declared.schema.Kind.{Kind}
 use Rattle.sqlite_schema.specs.declared.schema.Reference.{Reference}
+
+-- the trees of the tables
+abbrev pub schema_tree : ℕ
+schema_tree = 0
+
+abbrev pub head_tree : ℕ
+head_tree = 2
+
+abbrev pub version_tree : ℕ
+version_tree = 4
+
+abbrev pub detail_tree : ℕ
+detail_tree = 6
+
+abbrev pub event_tree : ℕ
+event_tree = 8
+
+abbrev pub period_tree : ℕ
+period_tree = 10
+
+abbrev pub holiday_tree : ℕ
+holiday_tree = 12
+
+abbrev pub job_tree : ℕ
+job_tree = 14
 
 -- a column of a type, NOT NULL and of a STRICT table
 abbrev pub needed : List ℕ → Kind → Column
@@ -74,12 +99,54 @@ event_key = 1 ∷ 2 ∷ 3 ∷ 4 ∷ 5 ∷ 6 ∷ 7 ∷ []
 abbrev pub period_key : List ℕ
 period_key = 1 ∷ 2 ∷ 3 ∷ 4 ∷ 5 ∷ 6 ∷ []
 
+-- a column of a table, by its number
+abbrev pub schema_version : ℕ
+schema_version = 1
+
+abbrev pub detail_nmi : ℕ
+detail_nmi = 1
+
+abbrev pub event_nmi : ℕ
+event_nmi = 1
+
+abbrev pub period_body : ℕ
+period_body = 7
+
+abbrev pub holiday_day : ℕ
+holiday_day = 1
+
+abbrev pub job_body : ℕ
+job_body = 2
+
+abbrev pub job_total : ℕ
+job_total = 3
+
+-- the columns that name a stream, where a row begins with them
+abbrev pub stream_columns : List ℕ
+stream_columns = 1 ∷ 2 ∷ []
+
+-- all columns of a table
+abbrev pub head_columns : List ℕ
+head_columns = 1 ∷ 2 ∷ 3 ∷ 4 ∷ 5 ∷ []
+
+abbrev pub version_columns : List ℕ
+version_columns = 1 ∷ 2 ∷ 3 ∷ 4 ∷ 5 ∷ 6 ∷ 7 ∷ 8 ∷ 9 ∷ []
+
+abbrev pub detail_columns : List ℕ
+detail_columns = detail_key
+
+abbrev pub event_columns : List ℕ
+event_columns = event_key
+
+abbrev pub period_columns : List ℕ
+period_columns = 1 ∷ 2 ∷ 3 ∷ 4 ∷ 5 ∷ 6 ∷ 7 ∷ []
+
 abbrev pub schema_table : Table
-schema_table = single_table (codes "mds_schema") 0 (number (codes "version"))
+schema_table = single_table (codes "mds_schema") schema_tree (number (codes "version"))
 
 abbrev pub head_table : Table
 head_table =
-    table_of (codes "mds_head") 2
+    table_of (codes "mds_head") head_tree
     (text (codes "nmi") ∷ text (codes "suffix") ∷ number (codes "day") ∷ number (codes "length") ∷ text (codes "unit")
     ∷ [])
     day_key
@@ -96,7 +163,7 @@ to_head = record {
 }
 
 abbrev pub version_table : Table
-version_table = record (table_of (codes "mds_version") 4
+version_table = record (table_of (codes "mds_version") version_tree
     (text (codes "nmi") ∷ text (codes "suffix") ∷ number (codes "day") ∷ number (codes "slot")
     ∷ number (codes "moment") ∷ text (codes "quality") ∷ number (codes "code") ∷ text (codes "note")
     ∷ number (codes "amount") ∷ [])
@@ -104,31 +171,31 @@ version_table = record (table_of (codes "mds_version") 4
 
 abbrev pub detail_table : Table
 detail_table =
-    table_of (codes "mds_detail") 6
+    table_of (codes "mds_detail") detail_tree
     (text (codes "nmi") ∷ text (codes "suffix") ∷ number (codes "moment") ∷ text (codes "configuration")
     ∷ text (codes "register") ∷ text (codes "datastream") ∷ text (codes "meter") ∷ number (codes "next") ∷ [])
     detail_key
 
 abbrev pub event_table : Table
 event_table =
-    table_of (codes "mds_event") 8
+    table_of (codes "mds_event") event_tree
     (text (codes "nmi") ∷ text (codes "suffix") ∷ number (codes "day") ∷ text (codes "trans") ∷ text (codes "ticket")
     ∷ number (codes "moment") ∷ text (codes "reading") ∷ [])
     event_key
 
 abbrev pub period_table : Table
 period_table =
-    table_of (codes "mds_period") 10
+    table_of (codes "mds_period") period_tree
     (text (codes "nmi") ∷ text (codes "suffix") ∷ text (codes "register") ∷ number (codes "start")
     ∷ number (codes "finish") ∷ number (codes "moment") ∷ text (codes "body") ∷ [])
     period_key
 
 abbrev pub holiday_table : Table
-holiday_table = single_table (codes "mds_holiday") 12 (number (codes "day"))
+holiday_table = single_table (codes "mds_holiday") holiday_tree (number (codes "day"))
 
 abbrev pub job_table : Table
 job_table =
-    table_of (codes "mds_job") 14
+    table_of (codes "mds_job") job_tree
     (text (codes "id") ∷ text (codes "body") ∷ number (codes "total") ∷ [])
     (1 ∷ [])
 
@@ -139,14 +206,14 @@ tables_1 =
 
 abbrev pub indexes_1 : List Index
 indexes_1 =
-    key_index (codes "sqlite_autoindex_mds_schema_1") 0 (1 ∷ [])
-    ∷ key_index (codes "sqlite_autoindex_mds_head_1") 2 day_key
-    ∷ key_index (codes "sqlite_autoindex_mds_version_1") 4 version_key
-    ∷ key_index (codes "sqlite_autoindex_mds_detail_1") 6 detail_key
-    ∷ key_index (codes "sqlite_autoindex_mds_event_1") 8 event_key
-    ∷ key_index (codes "sqlite_autoindex_mds_period_1") 10 period_key
-    ∷ key_index (codes "sqlite_autoindex_mds_holiday_1") 12 (1 ∷ [])
-    ∷ key_index (codes "sqlite_autoindex_mds_job_1") 14 (1 ∷ [])
+    key_index (codes "sqlite_autoindex_mds_schema_1") schema_tree (1 ∷ [])
+    ∷ key_index (codes "sqlite_autoindex_mds_head_1") head_tree day_key
+    ∷ key_index (codes "sqlite_autoindex_mds_version_1") version_tree version_key
+    ∷ key_index (codes "sqlite_autoindex_mds_detail_1") detail_tree detail_key
+    ∷ key_index (codes "sqlite_autoindex_mds_event_1") event_tree event_key
+    ∷ key_index (codes "sqlite_autoindex_mds_period_1") period_tree period_key
+    ∷ key_index (codes "sqlite_autoindex_mds_holiday_1") holiday_tree (1 ∷ [])
+    ∷ key_index (codes "sqlite_autoindex_mds_job_1") job_tree (1 ∷ [])
     ∷ []
 
 abbrev pub no_schema : Schema

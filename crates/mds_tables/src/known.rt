@@ -367,7 +367,7 @@ fn are_last_tables(event: &Table, period: &Table, holiday: &Table, job: &Table) 
     is_event(event) && is_period(period) && is_holiday(holiday) && is_job(job)
 }
 
-/// Whether these are the tables.
+/// Whether these are the eight tables of schema 1.
 fn are_tables(tables: &[Table]) -> bool
     ensures { IsTrue result ↔ (tables.now ≡ tables_1) }
 {
@@ -426,7 +426,7 @@ fn are_last_indexes(event: &Index, period: &Index, holiday: &Index, job: &Index)
         && is_key_index(job, "sqlite_autoindex_mds_job_1", 14, &[1])
 }
 
-/// Whether these are the indexes of the keys.
+/// Whether these are the indexes of the eight keys.
 fn are_indexes(indexes: &[Index]) -> bool
     ensures { IsTrue result ↔ (indexes.now ≡ indexes_1) }
 {
@@ -439,7 +439,8 @@ fn are_indexes(indexes: &[Index]) -> bool
     }
 }
 
-/// Whether a database has just the tables of schema 1, as the store makes them.
+/// Whether a database has just the tables of schema 1, as the store makes them. Else it is no store
+/// (U3).
 pub fn has_schema_1(schema: &Schema) -> bool
     ensures { MatchBool result (schema.now ≡ schema_1) (schema.now ≢ schema_1) }
 {

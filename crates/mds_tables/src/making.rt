@@ -12,7 +12,7 @@ use crate::readiness::ready;
 use sqlite::types::ValueRef;
 use sqlite::{Alter, Connection, Error, Transaction};
 
-/// The statement that makes a table: a table comes after those that it refers to.
+/// The statement that makes a table, by its number. A table comes after those that it refers to.
 fn statement(n: usize) -> &'static str
     ensures { result.now ≡ create n }
 {
@@ -65,7 +65,7 @@ fn make_empty<S: Alter>(tx: &mut Transaction<'_, S>) -> Result<(), Error>
     Ok(())
 }
 
-/// Says which schema it is.
+/// Puts the row that says which schema it is.
 fn say_version<S: Alter>(tx: &mut Transaction<'_, S>) -> Result<(), Error>
     ensures same_reference { tx.new.conn.ghost_name ≡ tx.old.conn.ghost_name }
     ensures ok { OnOk result (SaysVersion (state S.Store tx.old.conn.now) (state S.Store tx.new.conn.now)) }
@@ -83,7 +83,7 @@ fn say_version<S: Alter>(tx: &mut Transaction<'_, S>) -> Result<(), Error>
     Ok(())
 }
 
-/// Makes all of it in a transaction of its own.
+/// Makes the tables and that row in a transaction of its own.
 fn make_all<S: Alter>(conn: &mut Connection<S>) -> Result<(), Error>
     requires { conn.old.in_transaction ≡ false }
     ensures ok { HasCleanDisk (state S.Store conn.new) → OnOk result (CommitsMade (state S.Store conn.old) (state S.Store conn.new)) }
@@ -100,13 +100,13 @@ fn make_all<S: Alter>(conn: &mut Connection<S>) -> Result<(), Error>
     tx.commit()
 }
 
-/// Makes the tables of schema 1 in a database that has none, and says in them that it is 1: all in
-/// one transaction. A crash leaves what was there, or all of it.
+/// Makes the tables of schema 1 in a database that has none, and says in them that it is 1. It does all of that in one
+/// transaction. A crash leaves what was there, or all of it.
 pub fn make_tables<S: Alter>(conn: &mut Connection<S>) -> Result<(), Error>
     requires { conn.old.in_transaction ≡ false }
     ensures ok { HasCleanDisk (state S.Store conn.new) → OnOk result (IsMade (state S.Store conn.old) (state S.Store conn.new)) }
     ensures err { HasCleanDisk (state S.Store conn.new) → OnErr result (KeepsCommit (state S.Store conn.old) (state S.Store conn.new)) }
-    // No rule of the database is against these tables, so it is the store that fails, or the limit of steps.
+    // No rule of the database is against these tables. So it is the store that fails, or the limit of steps.
     ensures cause { HasCleanDisk (state S.Store conn.new)
         → (IsTrue (state S.Store conn.old).is_open → (state S.Store conn.old).committed.schema ≡ no_schema)
         → IfErr result (HasFailed (state S.Store conn.old) (state S.Store conn.new)) }

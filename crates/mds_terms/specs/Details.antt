@@ -1,6 +1,6 @@
 -- What a 200 record says of a meter, beside its stream, unit and length. MDFF Specification, the 200 record:
--- NMIConfiguration, RegisterID, MDMDataStreamIdentifier, MeterSerialNumber and NextScheduledReadDate. That each may be
--- empty is this project's profile.
+-- NMIConfiguration, RegisterID, MDMDataStreamIdentifier, MeterSerialNumber and NextScheduledReadDate. By this project's
+-- profile each may be empty.
 use Rattle.std.specs.Prelude.{◌≡◌, ℕ, Bool, if◌then◌else◌, List, [], ◌∷◌, Option, Some, None, option_map}
 use Rattle.std.specs.Cmp.Lexicographic.{slice_cmp}
 use Rattle.std.specs.List.{list_all}

@@ -1,5 +1,5 @@
 -- What a 500 record says of a stream on a day. MDFF Specification, the 500 record: TransCode, RetServiceOrder,
--- ReadDateTime and IndexRead. That each may be empty, and which texts they are, is this project's profile.
+-- ReadDateTime and IndexRead. Each may be empty by this project's profile, which also says what texts they are.
 use Rattle.std.specs.Prelude.{◌≡◌, ℕ, Bool, true, ◌&&◌, ◌==◌, if◌then◌else◌, List, [], ◌∷◌, length, slice_index, Option, Some, None, option_and_then}
 use Rattle.std.specs.Char.{is_ascii_uppercase}
 use Rattle.std.specs.Cmp.Lexicographic.{slice_cmp}
@@ -12,8 +12,8 @@ use Rattle.mds_names.specs.Names.{is_name, nmi_length, nmi_of, suffix_length, su
 use Rattle.mds_terms.specs.Printable.{is_printable}
 use Rattle.mds_terms.specs.Parts.{joined, optional}
 
--- The parts: the day by its number, the transaction code by its ASCII letter, the service order, the moment of the read
--- in seconds, and the index read.
+-- The parts. The day is its number, the transaction code its ASCII letter, and the moment of the read its seconds. The
+-- ticket is the service order, and the reading the index read.
 pub record EventValue : Type 0 where
   pub nmi : List ℕ
   pub suffix : List ℕ

@@ -17,9 +17,8 @@ use std::alloc::{AllocError, Global};
 use std::cmp::Ordering;
 use std::marker::Model;
 
-/// What is known of a meter: four printable texts, which are empty where they are absent, and its
-/// next scheduled read date. Its order goes field by field, texts by their bytes, and an absent
-/// date stands first.
+/// What is known of a meter: four printable texts, each empty where it is absent, and its next scheduled read date.
+/// Details are ordered field by field, texts by their bytes. An absent date stands first.
 #[derive(Drop)]
 pub struct Details {
     configuration: String,
@@ -53,8 +52,9 @@ impl Model for Details {
 }
 
 impl Details {
-    /// The details of five texts, each empty where it is absent: four printable ones and a day (CCYYMMDD). `None` where
-    /// one of them is not what it has to be. Fails only where memory is refused: never where the first four are empty.
+    /// Reads details from five texts, each empty where it is absent: four printable ones and a day (CCYYMMDD). `None`
+    /// where one of them isn't what it has to be. It fails only where memory is refused: never where the first four are
+    /// empty.
     pub fn read(
         alloc: Global,
         configuration: &[u8],
@@ -110,9 +110,8 @@ impl Details {
         self.next_read
     }
 
-    /// Appends their one text, the five parts joined by commas, as `E1,1,N1,01009,20240201`
-    /// (`details_read_back`). Fails only where `out` had no room for all of it and can't grow; a front of it may be
-    /// appended then.
+    /// Appends their one text, the five parts joined by commas, as `E1,1,N1,01009,20240201` (`details_read_back`). It
+    /// fails only where `out` has no room for all of it and can't grow. A front of it may be appended then.
     pub fn write_to(&self, out: &mut String) -> Result<(), AllocError>
         ensures done { OnOk result ((text : List ℕ) × IsDetailsText self.now text
             × Appends (string_bytes out.old) (string_bytes out.new) text) }
@@ -140,7 +139,7 @@ impl Details {
         )
     }
 
-    /// The same details once more. Fails only where memory is refused: never where all texts are empty.
+    /// A copy of the details. It fails only where memory is refused: never where all texts are empty.
     pub fn try_clone(&self) -> Result<Details, AllocError>
         ensures value { IfOk result (λ details. details ≡ self.now) }
         ensures full { OnErr result (0 < length self.now.configuration + length self.now.register
@@ -245,7 +244,8 @@ pub(crate) fn own_details(
     })
 }
 
-/// A law: the pieces between the commas of the details' text read back as these details, and they have one text.
+/// The laws of the text of details. The pieces between its commas read back as these details, and details have one
+/// text.
 pub fn details_read_back()
     ensures pieces { (details : DetailsValue) (text : List ℕ) → is_details details ≡ true → IsDetailsText details text
         → (next : List ℕ) × (slice_split is_comma text ≡ details.configuration ∷ details.register

@@ -27,8 +27,8 @@ impl<'a> DetailsRef<'a> {
     ghost use Rattle.mds_terms.specs.BorrowedTexts.{text_of, details_in};
     ghost use Rattle.mds_terms.specs.Details.{details_of};
 
-    /// The details of five texts, the last empty or a day (CCYYMMDD), or `None` where one of them is not what it has
-    /// to be.
+    /// Reads details from five texts: four printable ones, and one that is empty or a day (CCYYMMDD). `None` where one
+    /// of them isn't what it has to be.
     #[tactic(auto, unfolding(crate::specs::Details::details_of))]
     pub fn read(
         configuration: &'a [u8],
@@ -52,7 +52,8 @@ impl<'a> DetailsRef<'a> {
         })
     }
 
-    /// The same details with texts of their own. Fails only where memory is refused: never where all texts are empty.
+    /// A copy of the details with texts of their own. It fails only where memory is refused: never where all texts are
+    /// empty.
     pub fn to_details(&self, alloc: Global) -> Result<Details, AllocError>
         ensures value { IfOk result (λ details. details ≡ details_in self.now) }
         ensures full { OnErr result (0 < length (text_of self.now.configuration) + length (text_of self.now.register)

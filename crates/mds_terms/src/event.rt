@@ -22,9 +22,8 @@ use std::alloc::{AllocError, Global};
 use std::cmp::Ordering;
 use std::marker::Model;
 
-/// What happened to a stream on a day, as a 500 record says it: a transaction, a service order, and
-/// what was read when. Each of these may be absent. Its order goes field by field, texts by their
-/// bytes, and what is absent stands first.
+/// What happened to a stream on a day, as a 500 record says it: a transaction, a service order, and what was read when.
+/// Each of these may be absent. Events are ordered field by field, texts by their bytes. What is absent stands first.
 #[derive(Drop)]
 pub struct Event {
     stream: Stream,
@@ -63,9 +62,10 @@ impl Model for Event {
 }
 
 impl Event {
-    /// The event of seven texts: an NMI, a suffix, a day (CCYYMMDD), and, each empty where it is absent, a capital
-    /// letter, a printable text, a moment (CCYYMMDDhhmmss) and a printable text. `None` where one of them is not what
-    /// it has to be. Fails only where memory is refused: never where the service order and the index read are empty.
+    /// Reads an event from seven texts. The first three are an NMI, a suffix and a day (CCYYMMDD). The others are a
+    /// capital letter, a printable text, a moment (CCYYMMDDhhmmss) and a printable text, each empty where it is absent.
+    /// `None` where one of them isn't what it has to be. It fails only where memory is refused: never where the service
+    /// order and the index read are empty.
     pub fn read(
         alloc: Global,
         nmi: &[u8],
@@ -137,7 +137,7 @@ impl Event {
     }
 
     /// Appends its one text, the seven parts joined by commas, as `NEM1201009,E1,20240102,O,,20240102000000,15.5`
-    /// (`events_read_back`). Fails only where `out` had no room for all of it and can't grow; a front of it may be
+    /// (`events_read_back`). It fails only where `out` has no room for all of it and can't grow. A front of it may be
     /// appended then.
     pub fn write_to(&self, out: &mut String) -> Result<(), AllocError>
         ensures done { OnOk result ((text : List ℕ) × IsEventText self.now text
@@ -171,8 +171,8 @@ impl Event {
         )
     }
 
-    /// The same event once more. Fails only where memory is refused: never where the service order and the index read
-    /// are empty.
+    /// A copy of the event. It fails only where memory is refused: never where the service order and the index read are
+    /// empty.
     pub fn try_clone(&self) -> Result<Event, AllocError>
         ensures value { IfOk result (λ event. event ≡ self.now) }
         ensures full { OnErr result (0 < length self.now.ticket + length self.now.reading) }
@@ -250,7 +250,7 @@ impl Ord for Event {
     }
 }
 
-/// A law: the pieces between the commas of an event's text read back as this event, and it has one text.
+/// The laws of the text of an event. The pieces between its commas read back as this event, and an event has one text.
 pub fn events_read_back()
     ensures pieces { (event : EventValue) (text : List ℕ) → is_event event ≡ true → IsEventText event text
         → (day : List ℕ) × (moment : List ℕ) × (slice_split is_comma text ≡ event.nmi ∷ event.suffix ∷ day

@@ -34,9 +34,9 @@ impl<'a> EventRef<'a> {
     ghost use Rattle.mds_terms.specs.Event.{event_of, is_event};
     ghost use Rattle.mds_terms.specs.BorrowedTexts.{event_in, text_of};
 
-    /// The event of seven texts: an NMI, a suffix, a day (CCYYMMDD), and, each empty where it is absent, a capital
-    /// letter, a printable text, a moment (CCYYMMDDhhmmss) and a printable text. `None` where one of them is not what
-    /// it has to be. It takes no memory.
+    /// Reads an event from seven texts. The first three are an NMI, a suffix and a day (CCYYMMDD). The others are a
+    /// capital letter, a printable text, a moment (CCYYMMDDhhmmss) and a printable text, each empty where it is absent.
+    /// `None` where one of them isn't what it has to be. It takes no memory.
     #[tactic(auto, unfolding(crate::specs::Event::event_of))]
     pub fn read(
         nmi: &[u8],
@@ -64,8 +64,8 @@ impl<'a> EventRef<'a> {
         })
     }
 
-    /// The same event with texts of its own. Fails only where memory is refused: never where the service order and the
-    /// index read are empty.
+    /// A copy of the event with texts of its own. It fails only where memory is refused: never where the service order
+    /// and the index read are empty.
     pub fn to_event(&self, alloc: Global) -> Result<Event, AllocError>
         ensures value { IfOk result (λ event. event ≡ event_in self.now) }
         ensures full { OnErr result (0 < length (text_of self.now.ticket) + length (text_of self.now.reading)) }
@@ -73,7 +73,7 @@ impl<'a> EventRef<'a> {
         own_event(alloc, self)
     }
 
-    /// The law of every borrowed event: its parts are lawful. The function does nothing.
+    /// A law: the parts of every borrowed event are lawful. The function does nothing.
     pub(crate) fn parts_are_lawful(&self)
         ensures { is_event (event_in self.now) ≡ true }
     {
@@ -85,7 +85,7 @@ impl<'a> EventRef<'a> {
     }
 }
 
-/// The law of a transaction code that may be absent. The function does nothing.
+/// A law: a transaction code that may be absent is lawful. The function does nothing.
 fn code_is_lawful(trans: &Option<TransCode>)
     ensures { is_trans trans.now ≡ true }
 {

@@ -1,5 +1,6 @@
-//! The terms of metering data: the days, moments, lengths, names and marks of the crates that this one stands on, and
-//! what records say of meters and events. Each is read from its texts, and written as the one text that reads back.
+//! The terms of metering data. Here stands what records say of meters and events. The days, moments, lengths, names and
+//! marks of the crates below are given on. Each term is read from its texts, and written as the one text that reads
+//! back.
 #![tactic(auto)]
 
 mod details;

@@ -23,7 +23,7 @@ pub(crate) fn own_text(alloc: Global, text: &str) -> Result<String, AllocError>
     Ok(own)
 }
 
-/// The day of a text, no day where it is empty, or `None` where it is no day.
+/// Reads a day that may be absent: no day from the empty text. `None` where the text is no day.
 pub(crate) fn read_optional_day(text: &[u8]) -> Option<Option<Day>>
     ensures { result ≡ optional day_of text.now }
 {
@@ -33,7 +33,8 @@ pub(crate) fn read_optional_day(text: &[u8]) -> Option<Option<Day>>
     Day::read(text).map(Some)
 }
 
-/// The moment of a text, no moment where it is empty, or `None` where it is no moment.
+/// Reads a moment that may be absent: no moment from the empty text. `None` where the text is no
+/// moment.
 pub(crate) fn read_optional_moment(text: &[u8]) -> Option<Option<Moment>>
     ensures { result ≡ optional moment_of text.now }
 {
@@ -43,7 +44,8 @@ pub(crate) fn read_optional_moment(text: &[u8]) -> Option<Option<Moment>>
     Moment::read(text).map(Some)
 }
 
-/// The transaction code of a text, no code where it is empty, or `None` where it is no code.
+/// Reads a transaction code that may be absent: no code from the empty text. `None` where the text
+/// is no code.
 pub(crate) fn read_optional_trans(text: &[u8]) -> Option<Option<TransCode>>
     ensures { result ≡ optional letter_of text.now }
 {

@@ -32,7 +32,7 @@ impl Model for PrintableString {
 }
 
 impl PrintableString {
-    /// The printable text of these bytes, or `None` where they are none. Fails only where memory is refused: never where the
+    /// The printable text of these bytes, or `None` where they are none. It fails only where memory is refused: never where the
     /// text is empty.
     pub fn read(alloc: Global, text: &[u8]) -> Result<Option<PrintableString>, AllocError>
         ensures accepted { IfOk result (λ read. is_some read ≡ is_printable text.now) }
@@ -45,7 +45,7 @@ impl PrintableString {
         }
     }
 
-    /// A printable text as one of its own. Fails only where memory is refused: never where the text is empty.
+    /// A copy of a printable text, as one of its own. It fails only where memory is refused: never where the text is empty.
     pub fn of(alloc: Global, printable: &PrintableText<'_>) -> Result<PrintableString, AllocError>
         ensures value { IfOk result (λ own. own ≡ text_of printable.now) }
         ensures full { OnErr result (0 < length (text_of printable.now)) }
@@ -63,14 +63,14 @@ impl PrintableString {
         self.text.as_str()
     }
 
-    /// The same text, borrowed.
+    /// The text, borrowed.
     pub fn borrowed(&self) -> PrintableText<'_>
         ensures { text_of result ≡ self.now }
     {
         PrintableText::read(self.text().as_bytes()).unwrap()
     }
 
-    /// The same text once more. Fails only where memory is refused: never where the text is empty.
+    /// A copy of the text. It fails only where memory is refused: never where the text is empty.
     pub fn try_clone(&self) -> Result<PrintableString, AllocError>
         ensures value { IfOk result (λ own. own ≡ self.now) }
         ensures full { OnErr result (0 < length self.now) }

@@ -34,7 +34,7 @@ fn checked<R: Read + Drop, W: Write + Drop>(
     (answer, reader.failures(), writer.failures())
 }
 
-/// Each call of the reader fails in turn; no call is made that isn't needed.
+/// Each call of the reader fails in turn. No call is made that isn't needed.
 #[test]
 fn readers_fail(rt: HostRuntime) -> Result<(), Fail> {
     for calls in 0..TWO_DAYS.len() + 2 {
@@ -56,7 +56,7 @@ fn readers_fail(rt: HostRuntime) -> Result<(), Fail> {
     Ok(())
 }
 
-/// Each call of the writer fails in turn; no call is made that isn't needed.
+/// Each call of the writer fails in turn. No call is made that isn't needed.
 #[test]
 fn writers_fail(rt: HostRuntime) -> Result<(), Fail> {
     for calls in 0..TWO_LINES.len() + 1 {

@@ -1,5 +1,5 @@
-//! Tests of what no run of the program shows: readers and writers that fail in mid-stream, and calls that no program makes. What a run
-//! shows is tried by the scripts in `tests/`.
+//! Tests of what no run of the program shows: readers and writers that fail in mid-stream, and calls that no program makes. The
+//! scripts in `tests/` try what a run shows.
 #![tactic(auto)]
 
 #[cfg(test)]

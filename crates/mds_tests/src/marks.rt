@@ -4,7 +4,7 @@ use mds_marks::{Mark, MarkRef, Reading, Reason, ReasonRef};
 use mds_quantity::Quantity;
 use std::alloc::Global;
 
-/// Appends a reason, a mark or a reading of a quality, the code and the text of a reason, and a value.
+/// Appends a reason, a mark or a reading. It is made of a quality, the code and the text of a reason, and a value.
 pub fn tell_mark(alloc: Global, word: &str, parts: [&[u8]; 7], out: &mut String) -> Option<()> {
     let [quality, code, text, value, ..] = parts;
     match word {

@@ -1,4 +1,4 @@
-//! Rows: what a text is read as, a `:`, the text and, behind a `=`, what is told of it.
+//! Rows: what a text is read as, a `:`, the text, a `=`, and what is told of it.
 
 use crate::terms::tell_term;
 use mds_marks::Reading;

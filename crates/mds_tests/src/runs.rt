@@ -1,7 +1,7 @@
 //! Runs of marks over a day.
 
+use mds_export::{RunRow, write_run};
 use mds_marks::Mark;
-use mds_rows::{RunRow, write_run};
 use mds_runs::{Cover, Run, gather, spread};
 use std::alloc::Global;
 
@@ -21,7 +21,8 @@ fn written(alloc: Global, cover: &Cover) -> Option<Vec<u8>> {
     Some(out)
 }
 
-/// The 400 records that are gathered of the marks of a day: two runs, and an actual mark in the intervals between them.
+/// The 400 records that are gathered of the marks of a day. It has two runs, and an actual mark in the intervals
+/// between them.
 fn gathered(alloc: Global) -> Option<Vec<u8>> {
     let mut cover = Cover::new(alloc, 48);
     take(alloc, &mut cover, 1, 20, b"F14")?;

@@ -1,4 +1,4 @@
-//! A request over HTTP, where each call of a reader or of a writer fails in turn, or the writer takes no byte more.
+//! A request over HTTP, where each call of a reader or of a writer fails in turn. Another writer takes no byte more.
 
 use crate::failing::Failing;
 use mds_lines::Counted;
@@ -77,8 +77,8 @@ fn served<R: Read + Drop, W: Write + Drop>(
     (answer, reader.failures(), writer.failures())
 }
 
-/// Each call of the reader fails in turn, and the handler isn't asked: asked after that, it answers as for the first time. No call is
-/// made once the request is whole, though more bytes are there.
+/// Each call of the reader fails in turn, and the handler isn't asked. Asked after that, it answers as for the first time. No
+/// call is made once the request is whole, though more bytes are there.
 #[test]
 fn readers_fail(rt: HostRuntime) -> Result<(), Fail> {
     let routes = Routes::new(rt.alloc())?;

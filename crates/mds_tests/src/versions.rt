@@ -37,8 +37,8 @@ fn claim_of(alloc: Global, line: u64, seconds: i64, third: &str) -> Option<Claim
     })
 }
 
-/// What two claims of a day that isn't known add: of line 3 under an update of 10 seconds, and of line 9 under another update, with another
-/// third reading.
+/// What two claims of a day that isn't known add. Line 3 claims it under an update of 10 seconds. Line 9 claims it under another
+/// update, with another third reading.
 fn plan_of(alloc: Global, seconds: i64) -> Option<Result<Additions, Stop>> {
     let stream = Stream::read(b"NCDE001111", b"E1")?;
     let day = Day::read(b"20240101")?;
@@ -50,7 +50,8 @@ fn plan_of(alloc: Global, seconds: i64) -> Option<Result<Additions, Stop>> {
     Some(book.plan(alloc, &claims))
 }
 
-/// What they add, as a text: how many heads, days and rows there are, and the row at place 50; or why they are refused.
+/// What they add, as a text: how many heads, days and rows there are, and the row at place 50. Where they are refused, it says
+/// why.
 fn told(alloc: Global, seconds: i64) -> Option<String> {
     let added = match plan_of(alloc, seconds)? {
         Ok(added) => added,

@@ -1,13 +1,13 @@
-//! Tries the libraries without a store in a file: over the keeper in memory.
+//! Tries the libraries over the keeper in memory, without a store in a file.
 //!
 //! Without words it makes the call that README shows, and prints the answers. `mds_trials serve PORT COUNT` serves so many
-//! connections to a port of 127.0.0.1 from an empty keeper, one after the other, and ends. The other words measure:
-//! `mds_trials deliver PATH` reads all that a NEM12 file states, `mds_trials imports PATH` takes it into an empty keeper, and
-//! again, and `mds_trials exports PATH FROM TO` takes it in and exports each of its streams in that range.
+//! connections to a port of 127.0.0.1 from an empty keeper, one after the other, and ends. The other words measure.
+//! `mds_trials deliver PATH` reads all that a NEM12 file states. `mds_trials imports PATH` takes the file into an empty keeper,
+//! and then again. `mds_trials exports PATH FROM TO` takes it in and exports each of its streams in that range.
 #![tactic(auto)]
 
-use mds_answers::answer_json;
-use mds_arguments::{ExportArguments, read_export};
+use mds_answers::{list_json, short_json};
+use mds_arguments::{ExportArguments, export_request};
 use mds_http::{StoreHandler, listen, serve_connections};
 use mds_memory::MemoryKeeper;
 use mds_nem12::read_nem12;
@@ -51,7 +51,7 @@ fn usage(rt: &HostRuntime) -> io::Result<bool> {
     Ok(false)
 }
 
-/// The call that README shows stands here between two marks, by which tests/program holds one against the other.
+/// Makes the call that README shows. It stands between two marks, by which tests/program holds one against the other.
 fn call_of_the_readme(rt: &HostRuntime) -> io::Result<bool> {
     let alloc = rt.alloc();
     let (Some(stream), Some(day)) = (Stream::read(b"NEM1201009", b"E1"), Day::read(b"20240101"))
@@ -94,12 +94,15 @@ fn file_of_a_day(alloc: Global, stream: &Stream) -> Result<Vec<u8>, AllocError> 
     Ok(file)
 }
 
-/// Prints an answer as JSON. One that is a text of its own has none.
+/// Prints an answer as JSON, on a line. The line is empty for an answer that is a text of its own.
 fn print_answer(rt: &HostRuntime, answer: &Answer) -> io::Result<()> {
     let mut text = Vec::new(rt.alloc());
     match answer {
         Answer::Gaps(_) | Answer::Finals(_) | Answer::Exported(_) => (),
-        _ => answer_json(rt.alloc(), answer, &mut text)?,
+        Answer::Day(_) | Answer::Versions(_) | Answer::Period(_) | Answer::Streams(_) => {
+            text = list_json(rt.alloc(), answer)?;
+        }
+        _ => short_json(answer, &mut text)?,
     }
     text.push(b'\n')?;
     io::writer(rt).write_all(&text)
@@ -132,7 +135,7 @@ fn time_delivery(rt: &HostRuntime, path: &str) -> io::Result<bool> {
     Ok(true)
 }
 
-/// How many days a file states. None where it isn't well formed.
+/// How many days a file states, and 0 where it isn't well formed.
 fn days_in(alloc: Global, text: &[u8]) -> u64 {
     let mut days = 0u64;
     if let Ok(delivery) = read_nem12(alloc, text) {
@@ -143,7 +146,7 @@ fn days_in(alloc: Global, text: &[u8]) -> u64 {
     days
 }
 
-/// Reads a file, takes it into an empty keeper, and takes the same in again; prints the time for one of its days.
+/// Reads a file, takes it into an empty keeper, and takes it in again. Each time it prints the time for one of its days.
 fn time_imports(rt: &HostRuntime, path: &str) -> io::Result<bool> {
     let bytes = fs::read(rt, path)?;
     let start = Instant::now(rt)?;
@@ -222,10 +225,10 @@ fn export_of<'a>(
         receiver: b"RETAILER",
         suffixes,
     };
-    Ok(read_export(alloc, &arguments).ok())
+    Ok(export_request(alloc, &arguments).ok())
 }
 
-/// How many bytes an export has; none where it was refused.
+/// How many bytes an export has, and 0 where it was refused.
 fn size_of_export(answer: &Answer) -> u128 {
     match answer {
         Answer::Exported(text) => text.len() as u128,

@@ -4,7 +4,7 @@ use Rattle.std.specs.Prelude.{Bool, true, false, ℤ, pos, IsTrue}
 use Rattle.std.specs.List.{slice_get}
 use Rattle.std.proofs.lemmas.Option.{slice_get_read}
 use Rattle.std.proofs.lemmas.Bool.{cases_lt}
-use Rattle.std.specs.Prelude.{MatchBool, not, Result, Ok, Err, OnOk, OnErr, is_err}
+use Rattle.std.specs.Prelude.{MatchBool, not}
 use Rattle.mds_names.specs.declared.stream.Stream.{Stream}
 use Rattle.mds_marks.specs.Reading.{ReadingValue}
 use Rattle.mds_world.specs.Facts.Fact.{VersionIs}
@@ -78,11 +78,3 @@ judged w key held reading false g h f b = (held, h, λ e. let k = b e in cc)
 
 pub in_seconds : (a b : ℕ) (x y : ℤ) → a < 253402300800 → b < 253402300800 → x ≡ pos a → y ≡ pos b → of_z w64 x ≡ of_z w64 y → a ≡ b
 in_seconds a b x y h k e f g = omega (arith, ints)
-
-pub on_ok_now : {T E : Type 0} (r : Result T E) (failed : Bool) (P : Type 0) → OnOk r P → failed ≡ is_err r → failed ≡ false → P
-on_ok_now (Ok x) failed P h e f = h
-on_ok_now (Err x) failed P h e f = cc
-
-pub on_err_now : {T E : Type 0} (r : Result T E) (failed : Bool) (P : Type 0) → OnErr r P → failed ≡ is_err r → failed ≡ true → P
-on_err_now (Ok x) failed P h e f = cc
-on_err_now (Err x) failed P h e f = h

@@ -7,8 +7,8 @@ use std::alloc::{AllocError, Global};
 use std::marker::Model;
 use std::rc::Rc;
 
-/// Versions, each with the number of its interval. They don't change, so a keeper in memory shares them with those that it gives a
-/// copy to: a day that is asked for takes no memory then.
+/// Versions, each with the number of its interval. They don't change, so a keeper in memory shares them with its copies. A day that
+/// is asked for then takes no memory.
 #[derive(Drop)]
 pub(crate) struct BookRows {
     kept: Kept,

@@ -49,9 +49,9 @@ impl Model for DayBook {
 
 impl DayBook {
     /// The day of a stream that has this head, where it is known, and these versions, each with the
-    /// number of its interval. `None` where no lawful World holds that as this day: where there is
-    /// a version without a head or a head without a version, an interval is 0 or above the count of
-    /// the length, or an interval has two readings under one update.
+    /// number of its interval. `None` where no lawful World holds that as this day. Then there is a
+    /// version without a head or a head without a version, or an interval has two readings under
+    /// one update. Or an interval is 0 or above the count of the length.
     pub fn new(
         stream: Stream,
         day: Day,
@@ -82,6 +82,7 @@ impl DayBook {
     pub fn is_lawful(&self)
         ensures { IsLawful (book_world self.now) }
     {
+        // For the proof: the invariant of a book.
         let _ = &self.rows;
     }
 

@@ -13,7 +13,8 @@ ghost use Rattle.mds_world.specs.World.{Agrees, union};
 ghost use Rattle.mds_versions.specs.Books.{book_world};
 ghost use Rattle.mds_versions.specs.BookRows.{IsBefore};
 ghost use Rattle.mds_versions.specs.Content.{version_at, versions_of};
-ghost use Rattle.mds_versions.specs.declared.day_merge.Stop.TheVariants.{Refused};
+ghost use Rattle.mds_versions.specs.declared.day_merge.Stop.TheVariants.{Memory, Refused};
+ghost use Rattle.mds_versions.specs.declared.refusal.RefusalCode.TheVariants.{VersionConflict};
 ghost use Rattle.mds_versions.specs.DayMerges.{DayMergeValue, AreAscending, IfRefused, IsPlan, Settles};
 ghost use Rattle.mds_versions.specs.Claims.{Contradicts, IsFirst, Suits, BreaksForm, SuitsForm, AreShort, fresh_all, fresh_heads, fresh_versions, held_all, held_count, is_held, key_of};
 ghost use Rattle.mds_versions.specs.DayMergeSteps.{AreCounts, AreInBook, IsFrom, IsInBook, claimed_entries, claimed_readings, readings_under, row_of};
@@ -27,7 +28,7 @@ use mds_marks::Reading;
 use mds_quantity::Unit;
 use mds_terms::{Length, Moment};
 use mds_world::Head;
-use std::alloc::{AllocError, Global};
+use std::alloc::{AllocError, AllocFailed, Global};
 use std::collections::BTreeMap;
 use std::marker::Model;
 
@@ -40,8 +41,24 @@ pub enum Stop {
     Memory,
 }
 
-/// Of the versions that were claimed of a day, how many its book didn't have, which are added, and
-/// how many it had.
+impl From<AllocError> for Stop {
+    ghost from_gives = { λ _ stop. stop ≡ Memory };
+
+    fn from(_: AllocError) -> Stop {
+        Stop::Memory
+    }
+}
+
+impl<T: Drop> From<AllocFailed<T>> for Stop {
+    ghost from_gives = { λ _ stop. stop ≡ Memory };
+
+    fn from(_: AllocFailed<T>) -> Stop {
+        Stop::Memory
+    }
+}
+
+/// How many of the versions that were claimed of a day its book didn't have, which are added, and how
+/// many it had.
 #[derive(Clone, Copy)]
 pub struct MergeCounts {
     pub added: u64,
@@ -78,31 +95,31 @@ impl Model for DayMerge {
         × AreCounts d.book (claimed_entries d.book d.claimed.entries) d.held d.fresh };
 }
 
-/// A refusal of a line, at an interval or at none.
-fn refused(code: RefusalCode, line: u64, interval: u16) -> Stop
-    ensures { result ≡ Refused (record { code = code; line = line; field = 0; interval = interval }) }
-{
-    Stop::Refused(Refusal {
-        code,
-        line,
-        field: 0,
-        interval,
-    })
-}
-
-/// Which rule a claim's length and unit break where the day has others.
-fn head_conflict(form: Option<(Length, Unit)>, length: Length, unit: Unit) -> Option<RefusalCode>
+/// The rule that a length and a unit break where a day has others (M1, M2): on the length before the
+/// unit.
+pub fn head_conflict(
+    form: Option<(Length, Unit)>,
+    length: Length,
+    unit: Unit,
+) -> Option<RefusalCode>
     ensures some { IfSome result (BreaksForm form length unit) }
     ensures none { IfNone result (SuitsForm form length unit) }
 {
     let (known_length, known_unit) = form?;
-    if known_length.minutes() != length.minutes() {
+    if known_length != length {
         return Some(RefusalCode::LengthConflict);
     }
     if known_unit != unit {
         return Some(RefusalCode::UnitConflict);
     }
     None
+}
+
+/// The refusal of a line that has another reading of an interval than is known under its update (M3).
+fn conflict(line: u64, interval: u16) -> Stop
+    ensures { result ≡ Refused (record { code = VersionConflict; line = line; field = 0; interval = interval }) }
+{
+    Stop::Refused(Refusal::at_place(RefusalCode::VersionConflict, line, interval))
 }
 
 /// The reading that a book has of an interval under an update.
@@ -124,6 +141,7 @@ fn reading_in(book: &DayBook, interval: u16, update: Moment) -> Option<&Reading>
 fn has_reading(book: &DayBook, interval: u16, update: Moment, reading: &Reading) -> bool
     ensures { result ≡ is_held book.now update interval reading.now }
 {
+    // For the proof: what a book says is a lawful World.
     book.is_lawful();
     match reading_in(book, interval, update) {
         Some(held) => held.is_same(reading),
@@ -181,8 +199,8 @@ fn reading_at(rows: &[(u16, Version)], interval: u16, update: Moment) -> Option<
     None
 }
 
-/// 1 where a book has this reading of an interval under an update and 0 where it has none, by its
-/// rows from the interval on. `None` where it has another.
+/// 1 where a book has this reading of an interval under an update, and 0 where it has none. `None`
+/// where it has another. It looks at the book's rows from the interval on.
 fn count_at(
     book: &DayBook,
     rows: &[(u16, Version)],
@@ -197,6 +215,7 @@ fn count_at(
     ensures none { IfNone result ((other : ReadingValue)
         × (VersionIs (key_of book.now interval update) other ∈ book_world book.now) × (other ≢ reading.now)) }
 {
+    // For the proof: what a book says is a lawful World.
     book.is_lawful();
     let Some(kept) = reading_at(rows, interval, update) else {
         return Some(0);
@@ -238,6 +257,7 @@ fn difference_in(book: &DayBook, update: Moment, readings: &[Reading]) -> Option
     ensures none { IfNone result ((k : ℕ)
         → slice_get (readings_under update book.now.rows) k ≡ slice_get readings.now k) }
 {
+    // For the proof: what a book says is a lawful World.
     book.is_lawful();
     match count_held(book, update, readings) {
         Ok(_) => None,
@@ -281,7 +301,7 @@ fn kept_of(
     ensures same { claimed_readings book.now update result ≡ readings.items }
     ensures kept { IsNone result → IsInBook book.now update }
 {
-    // The laws of a book: its rows ascend, within the length of its head.
+    // For the proof: what a book says is a lawful World, and its rows ascend.
     book.is_lawful();
     book.ascending_rows();
     let has_all = held == readings.len() as u64;
@@ -371,8 +391,8 @@ fn settle_claimed(
     Ok(())
 }
 
-/// Puts the readings claimed that a book doesn't have behind the days to be added, where so many are
-/// in the book and so many aren't: nothing is looked at where all are.
+/// Puts the readings claimed that a book doesn't have behind the days to be added. So many are in the
+/// book and so many aren't: nothing is looked at where all are.
 fn settle_fresh(
     alloc: Global,
     book: &DayBook,
@@ -405,6 +425,7 @@ impl DayMerge {
     pub fn new(alloc: Global, book: DayBook) -> DayMerge
         ensures { result ≡ record { book = book; said = set.empty } }
     {
+        // For the proof: what a book says is a lawful World.
         book.is_lawful();
         let form = book.head();
         DayMerge {
@@ -442,19 +463,19 @@ impl DayMerge {
             readings,
         } = claim;
         if let Some(code) = head_conflict(self.form, length, unit) {
-            return Err(refused(code, line, 0));
+            return Err(Stop::Refused(Refusal::at_line(code, line)));
         }
-        // The laws of the order of updates, by which the map finds this one.
+        // For the proof: the order of updates is a total one, by which the map finds this one.
         update.seconds();
         if let Some(claimed) = self.claimed.get(&update) {
             if let Some(interval) = difference(&self.book, update, claimed, &readings) {
-                return Err(refused(RefusalCode::VersionConflict, line, interval));
+                return Err(conflict(line, interval));
             }
             return Ok(());
         }
         let held = match count_held(&self.book, update, &readings) {
             Ok(held) => held,
-            Err(interval) => return Err(refused(RefusalCode::VersionConflict, line, interval)),
+            Err(interval) => return Err(conflict(line, interval)),
         };
         let fresh = readings.len() as u64 - held;
         // There are fewer readings than 2^64 in a file.
@@ -465,9 +486,7 @@ impl DayMerge {
             return Err(Stop::Memory);
         };
         let kept = kept_of(&self.book, update, held, readings);
-        if self.claimed.insert(update, kept).is_err() {
-            return Err(Stop::Memory);
-        }
+        self.claimed.insert(update, kept)?;
         self.form = Some((length, unit));
         self.held = all_held;
         self.fresh = all_fresh;
@@ -496,7 +515,7 @@ impl DayMerge {
 
 impl DayBook {
     /// What claims of this day add to it, each once, or the first rule that one of them breaks. The claims come in the
-    /// order of their lines, as a file has them: the line that is refused is then the first that is reached.
+    /// order of their lines, as a file has them. The refused line is then the first that is reached.
     pub fn plan(&self, alloc: Global, claims: &[Claim]) -> Result<Additions, Stop>
         requires lines { AreAscending claims.now }
         ensures ok { IfOk result
@@ -504,23 +523,18 @@ impl DayBook {
         ensures refused { IfErr result (λ stop. IfRefused stop
             (IsRefusal (book_world self.now) (claims_upto self.now.stream self.now.day claims.now))) }
     {
+        // For the proof: what a book says is a lawful World.
         self.is_lawful();
-        let Ok(book) = self.try_clone(alloc) else {
-            return Err(Stop::Memory);
-        };
+        let book = self.try_clone(alloc)?;
         let mut merge = DayMerge::new(alloc, book);
         for claim in claims {
-            let Ok(copy) = claim.try_clone(alloc) else {
-                return Err(Stop::Memory);
-            };
+            let copy = claim.try_clone(alloc)?;
             if let Err(stop) = merge.take(copy) {
                 return Err(stop);
             }
         }
         let mut additions = Additions::new(alloc);
-        let Ok(_) = merge.settle(alloc, &mut additions) else {
-            return Err(Stop::Memory);
-        };
+        merge.settle(alloc, &mut additions)?;
         Ok(additions)
     }
 }

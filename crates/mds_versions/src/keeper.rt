@@ -15,16 +15,29 @@ use mds_jobs::{Job, JobId};
 use mds_statements::{Period, PeriodContent, PeriodKey};
 use mds_terms::{Day, Details, Event, Stream};
 use mds_world::Detail;
+use std::alloc::{AllocError, AllocFailed};
 
 /// The store can't answer now.
 #[derive(Clone, Copy, Debug, PartialEq, Eq)]
 pub struct Unavailable;
 
+impl From<AllocError> for Unavailable {
+    fn from(_: AllocError) -> Unavailable {
+        Unavailable
+    }
+}
+
+impl<T: Drop> From<AllocFailed<T>> for Unavailable {
+    fn from(_: AllocFailed<T>) -> Unavailable {
+        Unavailable
+    }
+}
+
 /// Keeps a World, however it does. Any call may be unavailable, and then nothing is changed.
 ///
 /// A keeper is honest while what lies outside of it is: a disk gives back what was written to it, and nobody else writes
-/// there. Where it is honest after a call it was before (`outside`), and then it answers only where it is sound: honest,
-/// and not shut by a fault (`open`). What the clauses say of the World they say where the keeper is sound.
+/// there. Where it is honest after a call it was before (`outside`). It then answers only where it is sound: honest, and
+/// not shut by a fault (`open`). What the clauses say of the World they say where the keeper is sound.
 pub trait Keeper {
     /// What is kept.
     ghost world: { Self → World };

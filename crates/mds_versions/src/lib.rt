@@ -13,7 +13,7 @@ mod refusal;
 pub use additions::{Additions, DayVersions};
 pub use claim::Claim;
 pub use day_book::{DayBook, Version};
-pub use day_merge::{DayMerge, MergeCounts, Stop};
+pub use day_merge::{DayMerge, MergeCounts, Stop, head_conflict};
 pub use keeper::{Keeper, Unavailable};
 pub use mds_world::{Detail, Head, Key, StreamDay};
 pub use refusal::{Refusal, RefusalCode};

@@ -76,6 +76,56 @@ pub struct Refusal {
     pub interval: u16,
 }
 
+impl Refusal {
+    /// A refusal of a request as a whole.
+    pub const fn of_request(code: RefusalCode) -> Refusal
+        ensures { result ≡ record { code = code; line = 0; field = 0; interval = 0 } }
+    {
+        Refusal {
+            code,
+            line: 0,
+            field: 0,
+            interval: 0,
+        }
+    }
+
+    /// A refusal of a line, at no interval of it.
+    pub const fn at_line(code: RefusalCode, line: u64) -> Refusal
+        ensures { result ≡ record { code = code; line = line; field = 0; interval = 0 } }
+    {
+        Refusal {
+            code,
+            line,
+            field: 0,
+            interval: 0,
+        }
+    }
+
+    /// A refusal at an interval that no line states.
+    pub const fn at_interval(code: RefusalCode, interval: u16) -> Refusal
+        ensures { result ≡ record { code = code; line = 0; field = 0; interval = interval } }
+    {
+        Refusal {
+            code,
+            line: 0,
+            field: 0,
+            interval,
+        }
+    }
+
+    /// A refusal of a line at one of its intervals.
+    pub const fn at_place(code: RefusalCode, line: u64, interval: u16) -> Refusal
+        ensures { result ≡ record { code = code; line = line; field = 0; interval = interval } }
+    {
+        Refusal {
+            code,
+            line,
+            field: 0,
+            interval,
+        }
+    }
+}
+
 impl fmt::Display for Refusal {
     ghost output = { λ refusal. Some (refusal_text refusal) };
 

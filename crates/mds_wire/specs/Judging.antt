@@ -1,6 +1,6 @@
--- What a head means: the answer of the first check that stands, or the route and the length of the body (RFC 9112,
--- sections 3.2, 6.1 and 6.3; RFC 9110, sections 8.6 and 15.5). That a target is UTF-8 is `httparse`'s: another begins
--- no head.
+-- What a head means: the answer of the first check that stands, or the route and the length of the body. RFC 9112,
+-- sections 3.2, 6.1 and 6.3, and RFC 9110, sections 8.6 and 15.5. A target is UTF-8 by `httparse`: another begins no
+-- head.
 use Rattle.std.specs.Prelude.{ℕ, Bool, true, false, ◌==◌, ◌&&◌, not, nat_lt, List, [], ◌∷◌, length, map, take, drop, ◌+◌, Option, Some, None, if◌then◌else◌, codes, bytes_eq, slice_index_or}
 use Rattle.std.specs.List.{list_all, position_or_len}
 use Rattle.std.specs.Char.{is_ascii_digit}

@@ -37,8 +37,8 @@ module _ {S : Type 0} (Step : StepOf S) (Same : S → S → Type 0) where
       → (((answer ≡ refused BadRequest false) × IsNoHead bytes)
       ⊎ ((answer ≡ refused FieldsTooLarge false) × (length bytes ≡ longest_head))) × (new ≡ old)
 
-  -- Whatever bytes mean is one step, of a whole request with its target and its body; or nothing is changed, and the answer
-  -- isn't 200: the bytes begin with no head that is in order, or it is 503.
+  -- Whatever bytes mean is one step, of a whole request with its target and its body. Else nothing is changed, and the answer
+  -- isn't 200. The bytes begin with no head that is in order then, or the answer is 503.
   abbrev pub OnlySteps : Type 0
   OnlySteps = (bytes : List ℕ) (old new : S) (answer : Answer) → Means Step Same bytes old answer new
       → ((head : RequestHead) × (rest : List ℕ) × (route : Route) × (size : ℕ) × ReadsRequest bytes head rest

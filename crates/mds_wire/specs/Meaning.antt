@@ -1,5 +1,5 @@
--- What the bytes of a connection mean: an answer, and a step of whoever handles requests (RFC 9112, section 2.2; the
--- order of checks is the profile's).
+-- What the bytes of a connection mean: an answer, and a step of whoever handles requests. RFC 9112, section 2.2. The
+-- order of checks is this project's profile.
 use Rattle.std.specs.Prelude.{◌≡◌, ℕ, ◌+◌, ◌≤◌, ◌⊎◌, List, length, take, bytes_eq, codes, false, Bool}
 use Rattle.httparse.specs.Grammar.{RequestHead, ReadsRequest, HasNoRequest}
 use Rattle.mds_wire.specs.Heads.{longest_head, most_fields, IsOpenHead, IsNoHead}
@@ -34,8 +34,8 @@ BeginsSo bytes no_head = IsNoHead bytes
 BeginsSo bytes overlong = (length bytes ≡ longest_head) × HasNoRequest bytes
 BeginsSo bytes (whole head rest) = ReadsRequest bytes head rest × (length head.fields ≤ most_fields)
 
--- After these bytes up to so many more are awaited: the rest of the room of a head that isn't whole, or what its body
--- lacks.
+-- After these bytes up to so many more are awaited. They are the rest of the room of a head that isn't whole, or what
+-- its body lacks.
 pub data Awaits (bytes : List ℕ) (count : ℕ) : Type 0 where
   in_head : IsOpenHead bytes → length bytes + count ≡ longest_head → Awaits bytes count
   in_body : (head : RequestHead) (rest : List ℕ) (route : Route) (size : ℕ) → BeginsSo bytes (whole head rest)

@@ -21,8 +21,8 @@ unfoldable pub part : ℕ → List ℕ → List ℕ
 part zero path = take (part_length path) path
 part (suc n) path = part n (drop (part_length path + 1) path)
 
--- a path is of a pattern: a star stands for one or more bytes up to the next slash or the end, any other byte for
--- itself
+-- Whether a path is of a pattern. A star stands for one or more bytes up to the next slash or the end. Any other byte
+-- stands for itself.
 abbrev pub fits : List ℕ → List ℕ → Bool
 fits [] path = length path == 0
 fits (p ∷ pattern) path =

@@ -33,7 +33,8 @@ abbrev pub IsUnfinished : List ℕ → Type 0
 IsUnfinished bytes = (count : ℕ) × (0 < count) × Awaits bytes count
 
 module _ {S : Type 0} (Step : StepOf S) (Same : S → S → Type 0) where
-  -- Of the bytes that were read: their answer was written, or a part of it; or nothing was written and nothing changed.
+  -- What became of the bytes that were read. Their answer was written, or a part of it. Or nothing was written, and
+  -- nothing changed.
   abbrev pub ServesAnswer : Option (List ℕ) → Option (List ℕ) → Option (List ℕ) → List ℕ → S → S
       → Result Status WireFault → Type 0
   ServesAnswer left held holds bytes old new (Ok status) =

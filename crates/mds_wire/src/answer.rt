@@ -13,7 +13,7 @@ pub enum Status {
     Success,
     BadRequest,
     NotFound,
-    /// With the method that is allowed.
+    /// The method that is allowed comes with it.
     MethodNotAllowed(Method),
     Conflict,
     LengthRequired,
@@ -78,7 +78,7 @@ impl Status {
         }
     }
 
-    /// The body of an answer that says no more than why nothing was done: `{"error":"404"}`, or `{"error":"U1"}` for
+    /// The body of an answer that says only why nothing was done. It is `{"error":"404"}`, or `{"error":"U1"}` for
     /// `Unavailable`.
     pub fn refusal(self) -> &'static [u8]
         ensures { result.now ≡ refusal_body self }
@@ -100,7 +100,7 @@ impl Status {
 }
 
 impl Kind {
-    /// As it is written.
+    /// The text of its `Content-Type`.
     fn text(self) -> &'static [u8]
         ensures value { result.now ≡ kind_text self }
         ensures size { length result.now ≤ 16 }

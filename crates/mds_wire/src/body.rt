@@ -17,7 +17,7 @@ pub(crate) enum BodyFault {
     Memory,
 }
 
-/// Room for so many bytes, which begins with those of the front.
+/// Room for so many bytes. It begins with the bytes of the front.
 fn room(alloc: Global, front: &[u8], size: usize) -> Result<Vec<u8>, AllocError>
     requires { length front.now ≤ size }
     ensures len { IfOk result (λ body. vec_len body ≡ size) }

@@ -8,7 +8,8 @@ use httparse::Status;
 use httparse::spans::{HeaderSpan, RequestSpans, parse_request};
 use mds_lines::{Source, read_more};
 
-/// A head that was read: how many bytes were, some of which may stand behind it, and where its parts are.
+/// A head that was read: how many bytes were read, and where its parts are. Some of the bytes may stand behind the
+/// head.
 #[derive(Clone, Copy)]
 pub(crate) struct HeadRead {
     pub(crate) filled: usize,
@@ -32,7 +33,7 @@ pub(crate) enum HeadFault {
 #[derive(Clone, Copy)]
 struct NoHead;
 
-/// Where the parts of the head are that the bytes begin with, or `None` where there may be one once more bytes come.
+/// Finds the parts of the head that the bytes begin with. `None` where there may be one once more bytes come.
 fn parse(bytes: &[u8], fields: &mut [HeaderSpan]) -> Result<Option<RequestSpans>, NoHead>
     requires { length fields.old ≡ most_fields }
     ensures ok { IfOk result (λ found. MatchOption found (IsOpenHead bytes.now) (IsWhole bytes.now fields.new)) }
@@ -45,8 +46,8 @@ fn parse(bytes: &[u8], fields: &mut [HeaderSpan]) -> Result<Option<RequestSpans>
     }
 }
 
-/// Reads a head to the front of a buffer, and whatever comes with it. The bytes are parsed after each read, so that
-/// none is made that isn't wanted.
+/// Reads a head to the front of a buffer, and whatever comes with it. The bytes are parsed after each read, so that no
+/// read is made without need.
 pub(crate) fn read_head<R: Source>(
     buffer: &mut [u8],
     fields: &mut [HeaderSpan],

@@ -36,7 +36,7 @@ enum Values<'b> {
 /// The most bytes of a body.
 const LONGEST_BODY: usize = 8_388_608;
 
-/// What a head means, of which the parser gave these spans.
+/// What a head means. The parser gave the places of its parts.
 pub(crate) fn judge_head<F: RouteFinder>(
     routes: &F,
     bytes: &[u8],
@@ -143,7 +143,8 @@ fn judge_length(route: Route, values: Values<'_>) -> Judged
     }
 }
 
-/// The number that digits write, or 8,388,609 where that is less, so that no row of digits is too long.
+/// The number that digits write, or `None` where some byte is no digit. From 8,388,609 on it is 8,388,609, so that no
+/// row of digits is too long.
 fn number(value: &[u8]) -> Option<usize>
     ensures { result ≡ (if list_all is_ascii_digit value.now
         then Some (min (digits_value 10 value.now) (longest_body + 1)) else None) }

@@ -1,5 +1,5 @@
-//! One HTTP request over any reader, writer and handler: its head and body are read and judged, it is handled, and
-//! its answer is written.
+//! One HTTP request over any reader, writer and handler. Its head and its body are read and judged. Then it is handled,
+//! and its answer is written.
 #![tactic(auto)]
 
 mod answer;

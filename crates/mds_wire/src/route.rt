@@ -27,7 +27,7 @@ impl Method {
     }
 }
 
-/// What a request is about.
+/// What a request is about, by the path of its target.
 #[derive(Clone, Copy)]
 pub enum Route {
     Imports,
@@ -67,7 +67,7 @@ impl Route {
         }
     }
 
-    /// What the router is told of its paths: a name in braces stands for any part that isn't empty.
+    /// What the router is told of its paths. A name in braces stands for any part that isn't empty.
     fn template(self) -> &'static str
         ensures { result.now ≡ template_of self }
     {
@@ -115,7 +115,7 @@ impl Model for Routes {
 }
 
 impl Routes {
-    /// Tells a router each route. No two of them conflict, so that nothing but memory can be wanting.
+    /// Tells a router each route. No two of them conflict, so that only memory can be wanting.
     pub fn new(alloc: Global) -> Result<Routes, AllocError> {
         let mut router = Router::new(alloc);
         for route in Route::ALL {

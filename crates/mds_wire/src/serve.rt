@@ -17,7 +17,7 @@ use mds_lines::{Sink, Source, write_whole};
 use std::alloc::{AllocError, Global};
 use std::io;
 
-/// Memory, or what is kept, was unavailable.
+/// Memory, or what is kept, was unavailable (U1).
 #[derive(Clone, Copy)]
 pub struct Unavailable;
 
@@ -28,8 +28,8 @@ pub trait Handler {
     ghost use Rattle.mds_wire.specs.declared.answer.Kind.{Kind};
     ghost use Rattle.mds_wire.specs.declared.route.Route.{Route};
 
-    /// A step: the state before, the route, the target, the body; the answer's status, type and body, and the state
-    /// after.
+    /// A step: the state before, the route, the target, the body, then the answer's status, type and body, and the
+    /// state after.
     ghost step: { Self → Route → List ℕ → List ℕ → Status → Kind → List ℕ → Self → Type 0 };
 
     /// What is kept is the same in both states.
@@ -39,7 +39,7 @@ pub trait Handler {
     ghost takes_memory: { Route → List ℕ → List ℕ → Type 0 };
 
     /// Makes a step, and writes the answer's body. There is room for 768 bytes of it. Where memory or what is kept is
-    /// unavailable, nothing has changed, and whatever was written counts for nothing: the answer is 503.
+    /// unavailable, nothing has changed. Whatever was written then counts for nothing, and the answer is 503.
     fn handle(
         &mut self,
         alloc: Global,
@@ -56,7 +56,7 @@ pub trait Handler {
         ensures only { OnErr result (takes_memory route target.now body.items) };
 }
 
-/// What is answered: a refusal, and whether the request's method is `HEAD`; or what the handler tells.
+/// What is answered. It is a refusal, and whether the request's method is `HEAD`, or what the handler tells.
 #[derive(Clone, Copy)]
 enum Reply {
     Refused(Status, bool),
@@ -280,8 +280,8 @@ fn room_of_head(alloc: Global) -> Result<Vec<u8>, AllocError>
 }
 
 /// Reads one request, handles it, and writes its answer, whose status it says. At most 16,384 bytes are read for the
-/// head, with whatever comes behind it, and none beyond the body. All the memory that a refusal needs is taken before
-/// the first read.
+/// head, with whatever comes behind it. No byte beyond the body is read. All the memory that a refusal needs is taken
+/// before the first read.
 ///
 /// # Errors
 ///

@@ -24,7 +24,7 @@ pub fn path_of(target: &[u8]) -> &[u8]
     &target[..mark_place(target)]
 }
 
-/// What stands behind the byte at a place: nothing, at the end.
+/// What stands behind the byte at a place, or nothing where that is the end.
 fn behind(text: &[u8], place: usize) -> &[u8]
     requires { place ≤ length text.now }
     ensures { result.now ≡ drop (place + 1) text.now }
@@ -42,8 +42,8 @@ pub fn query_of(target: &[u8]) -> &[u8]
     behind(target, mark_place(target))
 }
 
-/// What stands between two slashes of a path: the part of this number, where nothing stands before the first slash and has
-/// the number 0.
+/// The part of a path that has this number: what stands between two slashes. Part 0 stands before the first slash, where a path
+/// has nothing.
 pub fn part(path: &[u8], number: usize) -> &[u8]
     ensures { result.now ≡ part number path.now }
 {

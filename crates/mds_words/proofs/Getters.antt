@@ -1,12 +1,13 @@
 -- What the matches give where they are read.
-use Rattle.std.proofs.Common.{◌≡◌, ◌∙◌, ◌==◌, ◌∷◌, ◌^◌, ◌&&◌, ℕ, Bool, true, false, refl, sym, ap, subst, List, [], map, length, Option, Some, None, Result, Ok, Err, IfErr, IsErrAnd, nat_lt, lt-ltb, ltb-true}
+use Rattle.std.proofs.Common.{◌≡◌, ◌∙◌, ◌==◌, ◌∷◌, ◌^◌, ◌&&◌, inl, inr, ℕ, Bool, true, false, refl, sym, ap, subst, List, [], map, length, Option, Some, None, Result, Ok, Err, IfErr, IsErrAnd, nat_lt, lt-ltb, ltb-true}
 use Rattle.std.specs.List.{AllZip, each_same, list_all}
 use Rattle.std.specs.Option.{option_map, option_map_or, unwrap_or}
 use Rattle.std.specs.Borrow.{Bor}
 use Rattle.std.specs.Char.{digit_value}
 use Rattle.std.specs.Str.Parse.{AllDigits, ParsesUnsigned, digits_value, without_leading_plus}
-use Rattle.clap.specs.Words.{App, ReadsOne, Row, Text, subcommand_name_of, subcommand_rows_of, takes}
+use Rattle.clap.specs.Words.{App, HasKind, ReadsOne, Row, Text, fault_of, kind_of, subcommand_name_of, subcommand_rows_of, takes}
 use Rattle.clap.specs.declared.error.Error.{Error}
+use Rattle.clap.specs.declared.error.kind.ErrorKind.TheVariants.{OutOfMemory}
 use Rattle.clap.specs.declared.parser.matches.ArgMatches.{ArgMatches}
 use Rattle.clap.specs.declared.parser.matches.ArgMatches.TheViews.{out-ArgMatches}
 use Rattle.clap.specs.Walk.{texts}
@@ -14,7 +15,7 @@ use Rattle.clap.specs.ValueTests.{is_numeral}
 use Rattle.clap.proofs.WalkLemmas.{both}
 use Rattle.mds_words.specs.Asked.{IsAsked, IsAskedBy, number_below}
 use Rattle.mds_words.specs.Grammar.{IsMdstore}
-use Rattle.mds_words.specs.Refused.{IsRefused}
+use Rattle.mds_words.specs.Refused.{IsRefused, IsRefusedAs, IsRefusedBy}
 use Rattle.mds_words.specs.declared.words.Words.{Words}
 use Rattle.mds_words.specs.declared.words.WordsFault.{WordsFault}
 use Rattle.mds_words.specs.declared.words.WordsFault.TheVariants.{Memory}
@@ -88,14 +89,26 @@ pub passed_on : {T : Type 0} (r : Result T Error) (e : Error) (P : Error → Typ
 passed_on (Ok x) e P is h = absurd is
 passed_on (Err x) e P is h = subst P (sym is) h
 
+-- what clap has for words it has by another name of the app
+pub of_same_app : {app other : App} (words : List Text) (error : Error) → app ≡ other → HasKind (fault_of app words) error
+    → HasKind (fault_of other words) error
+of_same_app words error same has = subst (λ a. HasKind (fault_of a words) error) same has
+
 -- words that are there ask for what the grammar says
 pub by_grammar : {X : Type 0} (text_of : X → Text) (words : List X) (asked : Words) → (length words == 0) ≡ false
     → (app : App) × IsMdstore app × IsAskedBy app (map text_of words) asked → IsAsked (map text_of words) asked
 by_grammar text_of [] asked some by = cc
 by_grammar text_of (word ∷ words) asked some by = by
 
+-- an error that clap has for words refuses them
+pub refused_by : (app : App) (words : List Text) (error : Error) (refusal : WordsFault) → HasKind (fault_of app words) error
+    → (takes app words ≡ true → refusal ≡ Memory) → (kind_of error ≡ OutOfMemory → refusal ≡ Memory) → IsRefusedAs (kind_of error) refusal
+    → IsRefusedBy app words refusal
+refused_by app words error refusal (inl wanting) taken memory alike = (taken, inl (memory wanting))
+refused_by app words error refusal (inr among) taken memory alike = (taken, inr (kind_of error, among, alike))
+
 -- words that are there are refused as the grammar says
 pub refused : {X : Type 0} (text_of : X → Text) (words : List X) (fault : WordsFault) → (length words == 0) ≡ false
-    → (app : App) × IsMdstore app × (takes app (map text_of words) ≡ true → fault ≡ Memory) → IsRefused (map text_of words) fault
+    → (app : App) × IsMdstore app × IsRefusedBy app (map text_of words) fault → IsRefused (map text_of words) fault
 refused text_of [] fault some by = cc
 refused text_of (word ∷ words) fault some by = by

@@ -11,7 +11,7 @@ use Rattle.mds_words.specs.Grammar.{IsMdstore}
 use Rattle.mds_words.specs.declared.words.Input.{Input}
 use Rattle.mds_words.specs.declared.words.Input.TheVariants.{Standard, File}
 use Rattle.mds_words.specs.declared.words.Words.{Words}
-use Rattle.mds_words.specs.declared.words.Words.TheVariants.{Check, Init, Import, Substitute, Holidays, Streams, Day, Versions, Periods, Gaps, Finals, Export, Serve}
+use Rattle.mds_words.specs.declared.words.Words.TheVariants.{Check, Init, Import, Substitute, Holidays, Streams, Day, Versions, Periods, Gaps, Finals, Export, Serve, Explain}
 
 -- standard input, or the file of a name
 abbrev pub input_value : Input → Option Text
@@ -105,6 +105,8 @@ Asks (Some (name, rows)) (Serve store port count) = (name ≡ codes "serve")
     × (store.now ≡ value_of (codes "store") rows)
     × (port ≡ number_of (2 ^ 16) (codes "port") rows)
     × (count ≡ number_of (2 ^ 32) (codes "count") rows)
+Asks (Some (name, rows)) (Explain code) = (name ≡ codes "explain")
+    × (texts code.items ≡ values_of (codes "code") rows)
 
 -- Words, by the grammar of an app, ask for this: clap finds no fault in them, and the command that they name asks so.
 abbrev pub IsAskedBy : App → List Text → Words → Type 0

@@ -22,6 +22,16 @@ several id = record (placed id) {
   });
 }
 
+-- the words of a code, which may be left out
+abbrev pub code : Rule
+code = record (new_rule (codes "code")) {
+  value_names = 1;
+  range = Some (record {
+    start_inclusive = 1;
+    end_inclusive = usize_max;
+  });
+}
+
 -- an argument by the flag of its id
 abbrev pub flagged : Text → Rule
 flagged id = record (new_rule id) { value_names = 1; long = Some id }
@@ -118,17 +128,23 @@ abbrev pub store_commands : List Shape
 store_commands = streams_command ∷ day_command ∷ versions_command ∷ periods_command
     ∷ gaps_command ∷ finals_command ∷ export_command ∷ serve_command ∷ []
 
+-- ---- the command without a store
+
+abbrev pub explain_command : Shape
+explain_command = command_of (codes "explain") (code ∷ [])
+
 -- ---- the program
 
--- the program: all words are its own, and the first names a command
+-- the program: all words are its own, the first names a command, and it has a version
 abbrev pub mdstore_app : Bor (List (Bor Text)) → App
 mdstore_app kinds = record {
   top = record (new_shape (codes "mdstore")) {
     is_leaf = false;
     no_binary_name = true;
     subcommand_required = true;
+    has_version = true;
   };
-  subs = file_commands kinds ++ store_commands;
+  subs = file_commands kinds ++ store_commands ++ explain_command ∷ [];
 }
 
 -- the program's commands, wherever the names of the kinds of files lie

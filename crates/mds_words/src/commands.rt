@@ -3,13 +3,16 @@
 ghost use Rattle.std.specs.Prelude.{◌≡◌, ◌∷◌, [], codes, false, IfOk};
 ghost use Rattle.clap.specs.Words.{App, Rule, Shape, with_rule, with_subcommand};
 ghost use Rattle.mds_words.specs.Commands.{HasRule, IsApp, IsLeaf, with_commands};
-ghost use Rattle.mds_words.specs.Grammar.{AreKinds, command_of, count, file_commands, flagged, kind, mdstore_app, placed, port, range, several, store, store_commands, stream};
+ghost use Rattle.mds_words.specs.Grammar.{AreKinds, code, command_of, count, file_commands, flagged, kind, mdstore_app, placed, port, range, several, store, store_commands, stream};
 ghost use Rattle.mds_words.specs.Grammar.{check_command, init_command, import_command, substitute_command, holidays_command};
 ghost use Rattle.mds_words.specs.Grammar.{streams_command, day_command, versions_command, periods_command};
-ghost use Rattle.mds_words.specs.Grammar.{gaps_command, finals_command, export_command, serve_command};
+ghost use Rattle.mds_words.specs.Grammar.{gaps_command, finals_command, export_command, serve_command, explain_command};
 
 use clap::{Arg, Command, value_parser};
 use std::alloc::{AllocError, Global};
+
+/// The version of the program, and that of the schema of its stores.
+const VERSION: &str = "0.9.0 (stores of schema 1)";
 
 /// The kinds of files, by their names.
 const KINDS: [&str; 2] = ["nem12", "nem13"];
@@ -30,10 +33,13 @@ pub(crate) fn grammar<'a>(alloc: Global, kinds: &'a [&'a str]) -> Result<Command
 {
     let program = Command::new(alloc, "mdstore")
         .about("The interval data store of an electricity metering data provider")
+        .version(VERSION)
         .no_binary_name(true)
         .subcommand_required(true)
         .bin_name("mdstore");
-    with_store_commands(alloc, with_file_commands(alloc, program, kinds))
+    let program = with_file_commands(alloc, program, kinds);
+    let program = with_store_commands(alloc, program);
+    with_command(program, explain(alloc))
 }
 
 /// Adds the commands on files.
@@ -194,6 +200,13 @@ fn serve<'a>(alloc: Global) -> Result<Command<'a>, AllocError>
     with_argument(with_argument(serve, port(alloc)), count(alloc))
 }
 
+fn explain<'a>(alloc: Global) -> Result<Command<'a>, AllocError>
+    ensures { IfOk result (IsLeaf explain_command) }
+{
+    let about = "Tells what a printed code means, or what all of them mean";
+    command(alloc, "explain", about, code(alloc))
+}
+
 /// A command that takes one argument so far.
 fn command<'a>(
     alloc: Global,
@@ -245,6 +258,15 @@ fn files<'a>(alloc: Global) -> Arg<'a>
     ensures { HasRule (several (codes "file")) result }
 {
     file(alloc, MDFF).num_args(1..)
+}
+
+fn code<'a>(alloc: Global) -> Arg<'a>
+    ensures { HasRule code result }
+{
+    Arg::new(alloc, "code")
+        .value_name("CODE")
+        .help("The code, as L8, or the line that is printed, as bad job")
+        .num_args(1..)
 }
 
 fn kind<'a>(alloc: Global, kinds: &'a [&'a str]) -> Arg<'a>

@@ -4,9 +4,10 @@ ghost use Rattle.std.specs.Prelude.{◌≡◌, ◌∷◌, ◌^◌, List, [], Som
 ghost use Rattle.std.specs.List.{list_any};
 ghost use Rattle.std.specs.Borrow.{Bor};
 ghost use Rattle.clap.specs.Walk.{texts};
-ghost use Rattle.clap.specs.Words.{App, Text, found_of, kind_of, rows_of, takes};
+ghost use Rattle.clap.specs.Words.{App, HasKind, Text, fault_of, found_of, kind_of, rows_of, takes};
 ghost use Rattle.mds_words.specs.Asked.{Asks, IsAskedBy, input_of, input_value, kind_of_name, number_of, value_of, values_of};
 ghost use Rattle.mds_words.specs.Commands.{has_command};
+ghost use Rattle.mds_words.specs.Refused.{IsRefusedAs, IsRefusedBy};
 ghost use Rattle.mds_words.specs.Singles.{AreSingle};
 ghost use Rattle.mds_words.specs.Grammar.{IsMdstore, mdstore_app, check_command, init_command, substitute_command, holidays_command, streams_command};
 ghost use Rattle.mds_words.specs.Grammar.{day_command, versions_command, periods_command, gaps_command, finals_command, serve_command};
@@ -26,7 +27,7 @@ pub(crate) fn read_by_grammar<'a>(
     ensures asked { IfOk result (λ asked. (app : App) × IsMdstore app
         × IsAskedBy app (map string_bytes words.now) asked) }
     ensures passes { IfErr result (λ fault. (app : App) × IsMdstore app
-        × (takes app (map string_bytes words.now) ≡ true → fault ≡ WordsFault.Memory)) }
+        × IsRefusedBy app (map string_bytes words.now) fault) }
 {
     match matched(alloc, kinds(), words) {
         Ok(words) => Ok(words),
@@ -34,16 +35,18 @@ pub(crate) fn read_by_grammar<'a>(
     }
 }
 
-/// What an error of `clap` comes to. Its text says what is wrong with the words, or is the help that they ask for.
+/// What an error of `clap` comes to. Its text says what is wrong with the words, or is the help or the version that they ask for.
 fn words_fault(alloc: Global, error: &Error) -> WordsFault
     ensures memory { kind_of error.now ≡ ErrorKind.OutOfMemory → result ≡ WordsFault.Memory }
+    ensures kind { IsRefusedAs (kind_of error.now) result }
 {
-    if error.kind() == ErrorKind::OutOfMemory {
+    let Ok(text) = format!(in alloc; "{error}") else {
         return WordsFault::Memory;
-    }
-    match format!(in alloc; "{error}") {
-        Ok(text) => WordsFault::Text(text),
-        Err(_) => WordsFault::Memory,
+    };
+    match error.kind() {
+        ErrorKind::OutOfMemory => WordsFault::Memory,
+        ErrorKind::DisplayVersion => WordsFault::Version(text),
+        _ => WordsFault::Text(text),
     }
 }
 
@@ -53,6 +56,7 @@ fn matched<'a>(alloc: Global, kinds: &'a [&'a str], words: &'a [String]) -> Resu
     ensures passes { IfErr result (λ error.
         takes (mdstore_app kinds.entry) (map string_bytes words.now) ≡ true
         → kind_of error ≡ ErrorKind.OutOfMemory) }
+    ensures kinds { IfErr result (HasKind (fault_of (mdstore_app kinds.entry) (map string_bytes words.now))) }
 {
     let matches = grammar(alloc, kinds)?.try_get_matches_from(words)?;
     // The grammar asks for a command, so that there is one.
@@ -82,6 +86,9 @@ fn asked<'a>(alloc: Global, name: &str, found: &ArgMatches<'a>) -> Result<Words<
             sender: single.sender,
             receiver: single.receiver,
             suffixes: all_words(alloc, found, "suffixes")?,
+        }),
+        "explain" => Ok(Words::Explain {
+            code: all_words(alloc, found, "code")?,
         }),
         _ => Ok(asked_without_memory(name, found, single)),
     }

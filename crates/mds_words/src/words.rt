@@ -20,27 +20,27 @@ pub enum Input<'a> {
 /// What the words of a call ask for. What a query's words spell isn't judged here.
 #[derive(Drop)]
 pub enum Words<'a> {
-    /// That a file of a kind is checked.
+    /// A file of a kind is checked.
     Check {
         kind: FileKind,
         input: Input<'a>,
     },
-    /// That a store is made in the file of a name.
+    /// A store is made in the file of a name.
     Init {
         store: &'a str,
     },
-    /// That files of a kind are imported, one after the other, into the store in the file of a name.
+    /// Files of a kind are imported, one after the other, into the store in the file of a name.
     Import {
         store: &'a str,
         kind: FileKind,
         inputs: Vec<Input<'a>>,
     },
-    /// That the substitution job that a file says is done in the store in the file of a name.
+    /// The substitution job that a file says is done in the store in the file of a name.
     Substitute {
         store: &'a str,
         input: Input<'a>,
     },
-    /// That the days of a list in a file are listed as holidays in the store in the file of a name.
+    /// The days of a list in a file are listed as holidays in the store in the file of a name.
     Holidays {
         store: &'a str,
         input: Input<'a>,
@@ -97,11 +97,15 @@ pub enum Words<'a> {
         receiver: &'a str,
         suffixes: Vec<&'a str>,
     },
-    /// That so many connections to a port are served, one after the other, from the store in the file of a name.
+    /// So many connections to a port are served, one after the other, from the store in the file of a name.
     Serve {
         store: &'a str,
         port: u16,
         count: u32,
+    },
+    /// What a printed code means, which may be of several words. Without one it is what each code means.
+    Explain {
+        code: Vec<&'a str>,
     },
 }
 
@@ -112,6 +116,8 @@ pub enum WordsFault {
     Memory,
     /// What is wrong with them, or the help that they ask for: this is to be printed.
     Text(String),
+    /// They ask for the version of the program, which this is.
+    Version(String),
 }
 
 impl<'a> Input<'a> {
@@ -129,7 +135,7 @@ impl<'a> Input<'a> {
 /// What the words that follow the program's name ask for.
 pub fn read_words<'a>(alloc: Global, words: &'a [String]) -> Result<Words<'a>, WordsFault>
     ensures asked { IfOk result (IsAsked (map string_bytes words.now)) }
-    // No words are never refused, and words that the grammar takes only for want of memory.
+    // No words are never refused, and words that the grammar takes only for want of memory. `Version` is told just where they ask for it.
     ensures passes { IfErr result (IsRefused (map string_bytes words.now)) }
 {
     if words.is_empty() {

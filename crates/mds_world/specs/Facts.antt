@@ -25,8 +25,8 @@ pub record JobContent : Type 0 where
   pub text : List ℕ
   pub update : ℕ
 
--- the head of a day, a version of a reading, a meter's details, an event, an accumulation, a holiday, or a substitution
--- job with the count of what it made
+-- A fact that a World may hold: the head of a day, a version of a reading, or a meter's details. Or it is an event, an
+-- accumulation, a holiday, or a substitution job with the count of what it made.
 pub data Fact : Type 0 where
   HeadIs : Head → Fact
   VersionIs : Key → ReadingValue → Fact

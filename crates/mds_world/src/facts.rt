@@ -41,7 +41,8 @@ pub struct Detail {
 }
 
 impl Detail {
-    /// The same once more. Fails only where memory is refused: never where all texts are empty.
+    /// A copy of the details. It fails only where memory is refused: never where all texts are
+    /// empty.
     pub fn try_clone(&self) -> Result<Detail, AllocError>
         ensures value { IfOk result (λ detail. detail ≡ self.now) }
         ensures full { OnErr result (0 < length self.now.details.configuration + length self.now.details.register

@@ -15,7 +15,7 @@ pub fn counts_grow()
     ensures { (w s : World) → counted (union w s) ≡ counted w + added_by w s }
 {}
 
-/// Of the facts that come and count, each is known or added.
+/// Each of the facts that come and count is known or added.
 pub fn known_or_added()
     ensures { (w s : World) → counted s ≡ known_by w s + added_by w s }
 {}
@@ -40,7 +40,7 @@ pub fn one_current()
         → IsCurrent w stream day interval other another → (update ≡ other) × (reading ≡ another) }
 {}
 
-/// A World within one that agrees agrees.
+/// A part of a World that agrees agrees as well.
 pub fn parts_agree()
     ensures { (w part : World) → ((fact : Fact) → fact ∈ part → fact ∈ w) → Agrees w → Agrees part }
 {}

@@ -1,6 +1,6 @@
-//! The World: what a store of metering data holds, as one set of facts, with the rules that it
-//! keeps, what of it counts, what of it is current, and which facts a NEM12 file states. The
-//! definitions stand in `specs`. The code here are what facts are about, and the laws.
+//! The World: what a store of metering data holds, as one set of facts. The definitions stand in
+//! `specs`: the rules that it keeps, what of it counts, and what of it is current. They say, too,
+//! which facts a file states. The code here has what facts are about, and the laws.
 #![tactic(auto)]
 
 mod facts;

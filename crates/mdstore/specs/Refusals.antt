@@ -1,8 +1,8 @@
 -- What the want of a store, or of a request, comes to (profile).
 use Rattle.mds_store.specs.declared.starting.StoreFault.{StoreFault}
 use Rattle.mds_store.specs.declared.starting.StoreFault.TheVariants as store
-use Rattle.mds_requests.specs.declared.requests.RequestFault.{RequestFault}
-use Rattle.mds_requests.specs.declared.requests.RequestFault.TheVariants as request
+use Rattle.mds_requests.specs.declared.files.RequestFault.{RequestFault}
+use Rattle.mds_requests.specs.declared.files.RequestFault.TheVariants as request
 use Rattle.mds_desk.specs.declared.outcome.Outcome.{Outcome}
 use Rattle.mds_desk.specs.declared.outcome.Outcome.TheVariants as outcome
 

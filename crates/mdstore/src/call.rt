@@ -8,14 +8,19 @@ use crate::inputs::{ask_input, check_input, import_inputs};
 use crate::queries::{query, query_export};
 use crate::store_file::make_store;
 use mds_arguments::{
-    ExportArguments, RangeArguments, read_day, read_finals, read_gaps, read_periods, read_versions,
+    ExportArguments, RangeArguments, day_request, finals_request, gaps_request, periods_request,
+    versions_request,
 };
-use mds_desk::{Outcome, Status};
+use mds_desk::{EXPLANATIONS, Outcome, Status, section_of};
 use mds_messages::Request;
 use mds_requests::FileCommand;
 use mds_words::{Words, WordsFault, read_words};
 use std::io::ErrorKind;
 use std::{env, io};
+
+/// What is printed where no code is as the words spell it.
+const NO_SUCH_CODE: &str =
+    "unknown code; the codes are L1 to L12, M1 to M12, H1, U1, U3, bad job, bad argument, a word is not UTF-8, cannot read file and cannot listen\n";
 
 /// Runs the program, and gives the status to end with.
 pub(crate) fn run(rt: &HostRuntime) -> Status {
@@ -39,7 +44,8 @@ fn outcome_of_call(rt: &HostRuntime) -> Outcome {
     match read_words(rt.alloc(), words.as_slice()) {
         Ok(words) => outcome_of_words(rt, words),
         Err(WordsFault::Memory) => Outcome::Unavailable,
-        Err(WordsFault::Text(text)) => usage(rt, text.as_str()),
+        Err(WordsFault::Text(text)) => tell(rt, text.as_str(), Outcome::Usage),
+        Err(WordsFault::Version(text)) => tell(rt, text.as_str(), Outcome::Done),
     }
 }
 
@@ -64,7 +70,7 @@ fn outcome_of_words(rt: &HostRuntime, words: Words<'_>) -> Outcome {
         } => query(
             rt,
             store,
-            read_day(nmi.as_bytes(), suffix.as_bytes(), date.as_bytes()),
+            day_request(nmi.as_bytes(), suffix.as_bytes(), date.as_bytes()),
         ),
         Words::Versions {
             store,
@@ -75,7 +81,7 @@ fn outcome_of_words(rt: &HostRuntime, words: Words<'_>) -> Outcome {
         } => query(
             rt,
             store,
-            read_versions(
+            versions_request(
                 nmi.as_bytes(),
                 suffix.as_bytes(),
                 date.as_bytes(),
@@ -85,7 +91,7 @@ fn outcome_of_words(rt: &HostRuntime, words: Words<'_>) -> Outcome {
         Words::Periods { store, nmi, suffix } => query(
             rt,
             store,
-            read_periods(nmi.as_bytes(), suffix.as_bytes()),
+            periods_request(nmi.as_bytes(), suffix.as_bytes()),
         ),
         Words::Gaps {
             store,
@@ -93,14 +99,14 @@ fn outcome_of_words(rt: &HostRuntime, words: Words<'_>) -> Outcome {
             suffix,
             from,
             to,
-        } => query(rt, store, read_gaps(&range(nmi, suffix, from, to))),
+        } => query(rt, store, gaps_request(&range(nmi, suffix, from, to))),
         Words::Finals {
             store,
             nmi,
             suffix,
             from,
             to,
-        } => query(rt, store, read_finals(&range(nmi, suffix, from, to))),
+        } => query(rt, store, finals_request(&range(nmi, suffix, from, to))),
         Words::Export {
             store,
             nmi,
@@ -130,6 +136,7 @@ fn outcome_of_words(rt: &HostRuntime, words: Words<'_>) -> Outcome {
             query_export(rt, store, &arguments)
         }
         Words::Serve { store, port, count } => serve(rt, store, port, count),
+        Words::Explain { code } => explain(rt, &code),
     }
 }
 
@@ -153,10 +160,28 @@ fn without_words(error: &io::Error) -> Outcome
     }
 }
 
-/// Prints what is wrong with the words, or the help that they ask for.
-fn usage(rt: &HostRuntime, text: &str) -> Outcome {
+/// Tells what a code means that words spell, or, without words, what all codes mean.
+fn explain(rt: &HostRuntime, words: &[&str]) -> Outcome {
+    let Ok(code) = words.join(rt.alloc(), " ") else {
+        return Outcome::Unavailable;
+    };
+    if code.is_empty() {
+        return tell(rt, EXPLANATIONS, Outcome::Done);
+    }
+    let Some(section) = section_of(EXPLANATIONS, code.as_str()) else {
+        return tell(rt, NO_SUCH_CODE, Outcome::Usage);
+    };
+    let section = section.trim_end();
+    match print!(rt; "##{section}\n") {
+        Ok(()) => Outcome::Done,
+        Err(_) => Outcome::NoOutput,
+    }
+}
+
+/// Prints a text, and says what the call comes to then.
+fn tell(rt: &HostRuntime, text: &str, outcome: Outcome) -> Outcome {
     match print!(rt; "{text}") {
-        Ok(()) => Outcome::Usage,
+        Ok(()) => outcome,
         Err(_) => Outcome::NoOutput,
     }
 }

@@ -10,8 +10,8 @@ use mds_versions::Keeper;
 use mds_wire::Routes;
 use std::io::Read;
 
-/// Asks the store of a path, which isn't made where there is none, for what a reader gives. That is read before the store is
-/// opened, so that it may come from another command on the same store; a fault of the store is told first all the same.
+/// Asks the store of a path, which isn't made where there is none, for what a reader gives. What it gives is read before the store
+/// is opened, so that it may come from another command on the same store. A fault of the store is told first all the same.
 pub(crate) fn ask<R: Read + Drop>(
     rt: &HostRuntime,
     path: &str,

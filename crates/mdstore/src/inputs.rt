@@ -47,8 +47,8 @@ pub(crate) fn ask_input(
     }
 }
 
-/// Imports inputs of a kind into a store, one after the other, with one open of it. Of several each line begins with the name of its
-/// input.
+/// Imports inputs of a kind into a store, one after the other, with one open of it. Where they are several, each line begins with the
+/// name of its input.
 pub(crate) fn import_inputs(
     rt: &HostRuntime,
     store: &str,

@@ -1,7 +1,7 @@
 //! The program `mdstore`: from the words that it is called with to what it prints and the status that it ends with.
 //!
-//! `call` does what words ask for, `inputs` and `queries` put files and questions to a store, and `commands` are those on a store in a
-//! file, which `store_file` opens and closes; `place` knows what stood at its path, so that a refusal leaves that.
+//! `call` does what words ask for. `inputs` and `queries` put files and questions to a store. `commands` are those on a store in a
+//! file, which `store_file` opens and closes. `place` knows what stood at its path, so that a refusal leaves just that.
 #![tactic(auto)]
 
 mod asking;

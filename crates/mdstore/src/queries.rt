@@ -1,7 +1,7 @@
 //! Queries of a store, where their arguments are what they are to be.
 
 use crate::commands;
-use mds_arguments::{Argument, ArgumentsFault, ExportArguments, read_export};
+use mds_arguments::{Argument, ArgumentsFault, ExportArguments, export_request};
 use mds_desk::Outcome;
 use mds_messages::Request;
 
@@ -19,7 +19,7 @@ pub(crate) fn query_export(
     store: &str,
     arguments: &ExportArguments<'_>,
 ) -> Outcome {
-    match read_export(rt.alloc(), arguments) {
+    match export_request(rt.alloc(), arguments) {
         Ok(request) => commands::query(rt, store, &request),
         Err(ArgumentsFault::Bad(argument)) => Outcome::BadArgument(argument),
         Err(ArgumentsFault::Memory) => Outcome::Unavailable,

@@ -1,6 +1,6 @@
 use Rattle.std.proofs.Common.{◌≡◌, Some, slice_get, sym, ap, ◌∙◌, arith, inl, inr}
 use Rattle.std.proofs.lemmas.Bool.{cases_lt}
-use Rattle.mds_export.specs.Rows.{marks_of}
+use Rattle.mds_export.specs.Exports.{marks_of}
 use Rattle.mds_export.proofs.Stretches.{mark_here}
 use Rattle.mds_export.proofs.writer.end_of_run.Goals as goal
 

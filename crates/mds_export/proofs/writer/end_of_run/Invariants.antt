@@ -1,5 +1,5 @@
 use Rattle.std.proofs.Common.{◌≡◌, ◌<◌, ◌≤◌, ℕ, slice_get}
-use Rattle.mds_export.specs.Rows.{marks_of}
+use Rattle.mds_export.specs.Exports.{marks_of}
 use Rattle.mds_export.proofs.writer.end_of_run.Given as goal
 
 abbrev pub invariant-loop-end : goal.invariant-loop-end

@@ -1,6 +1,6 @@
 use Rattle.std.proofs.Common.{option_map}
 use Rattle.mds_quantity.proofs.Front.{on_err_from}
-use Rattle.mds_rows.proofs.Begun.{begun_after}
+use Rattle.mds_export.proofs.Begun.{begun_after}
 use Rattle.mds_export.proofs.Writes.{stream_step}
 use Rattle.mds_export.proofs.writer.write_stream.Goals as goal
 

@@ -1,5 +1,4 @@
-use Rattle.std.proofs.Common.{◌≡◌, [], refl, arith, subst}
-use Rattle.mds_http.specs.Connections.{HasServed}
+use Rattle.std.proofs.Common.{[], refl, arith}
 use Rattle.mds_http.proofs.Served.{more_served, most_served}
 use Rattle.mds_http.proofs.connections.serve_connections.Goals as goal
 

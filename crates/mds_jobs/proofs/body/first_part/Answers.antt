@@ -1,4 +1,4 @@
-use Rattle.std.proofs.Common.{◌≡◌, ◌∷◌, ◌∙◌, sym, ap, arith, take}
+use Rattle.std.proofs.Common.{◌∷◌, ◌∙◌, sym, ap, arith, take}
 use Rattle.mds_jobs.specs.Bodies.{parts_of}
 use Rattle.mds_jobs.proofs.BodySplits.{more_parts, one_part}
 use Rattle.mds_jobs.proofs.body.first_part.Goals as goal

@@ -1,10 +1,6 @@
-use Rattle.std.proofs.Common.{subst, sym}
-use Rattle.mds_versions.specs.Queries.{AreDaysOf}
 use Rattle.mds_ranges.proofs.registers.gaps_of.Goals as goal
 
-pub returns-in-Ok-gap_rows-clause-gaps : goal.returns-in-Ok-gap_rows-clause-gaps
-returns-in-Ok-gap_rows-clause-gaps g c = λ sound.
-    let k = g.K.Keeper in
-    c.in-Ok-gap_rows.ensures (k.world c.args.keeper.now) c.args.stream (subst
-    (AreDaysOf (k.world c.args.keeper.now) c.args.stream c.args.first c.args.last) (sym c.deref.ensures.value)
-    (c.in-Ok.ensures.days sound))
+pub returns-in-Ok-clause-gaps : goal.returns-in-Ok-clause-gaps
+returns-in-Ok-clause-gaps g c = λ sound.
+    c.in-Ok.ensures (g.K.Keeper.world c.args.keeper.now) c.args.stream
+    (rw c.deref.ensures.value (c.in_ok-books.ensures.days sound))

@@ -8,20 +8,20 @@ pub loop-suffix-preserved : goal.loop-suffix-preserved
 loop-suffix-preserved g c =
     let k = g.K.Keeper in
     let i = c.loop-suffix.invariant in
-    let d = c.in-Ok.ensures in
+    let d = c.in_ok-selected.ensures in
     record {
       outside = λ honest. i.outside (d.outside honest);
       before = λ sound. i.before (d.before sound);
       opens = λ honest _. d.open honest;
       same = λ sound. d.same sound ∙ i.same (d.before sound);
       crash = λ honest left it. i.crash (d.outside honest) left (d.crash honest left it);
-      names = names_more c.args.nmi c.args.suffixes.now c.loop-suffix.suffix-index c.suffix-item.result c.in-Ok.selected
+      names = names_more c.args.nmi c.args.suffixes.now c.loop-suffix.suffix-index c.suffix-item.result c.in_ok-selected.selected
           c.loop-suffix.streams.items c.push.new.self.items c.loop-suffix-test.true c.suffix-item.is d.name
-          c.in-Ok-push.ensures.items i.names;
+          c.in-Ok.ensures.items i.names;
       each = λ sound.
-          each_more _ _ _ c.in-Ok.selected c.loop-suffix.streams.items c.push.new.self.items c.in-Ok-push.ensures.items
+          each_more _ _ _ c.in_ok-selected.selected c.loop-suffix.streams.items c.push.new.self.items c.in-Ok.ensures.items
           (i.each (d.before sound))
-          (subst (λ (w : World). IsSelectedStream w c.args.first c.args.last c.in-Ok.selected) (i.same (d.before sound))
+          (subst (λ (w : World). IsSelectedStream w c.args.first c.args.last c.in_ok-selected.selected) (i.same (d.before sound))
           (d.selected sound));
     }
 

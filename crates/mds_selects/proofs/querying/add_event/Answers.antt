@@ -7,6 +7,6 @@ use Rattle.mds_selects.proofs.querying.add_event.Goals as goal
 pub returns : goal.returns
 returns c =
     on_ok_weaker c.put.result
-    (λ h. adds_one SaysEvent c.args.found.now.keys c.put.new.found.keys c.args.row.now c.in-Ok.event h c.in-Ok.ensures.ok
-    (λ q s. one_event c.args.row.now q c.in-Ok.event s c.in-Ok.ensures.ok))
+    (λ h. adds_one SaysEvent c.args.found.now.keys c.put.new.found.keys c.args.row.now c.in_ok-event.event h c.in_ok-event.ensures.ok
+    (λ q s. one_event c.args.row.now q c.in_ok-event.event s c.in_ok-event.ensures.ok))
     (c.put.ensures event_exact)

@@ -8,7 +8,7 @@ loop-i-init c = adds_none SaysEvent _
 pub loop-i-preserved : goal.loop-i-preserved
 loop-i-preserved c =
     adds_more SaysEvent _ _ c.add_event.new.found.keys c.args.rows.now c.loop-i.i c.index-rows-i.result c.loop-i-test.true
-    c.index-rows-i.is c.loop-i.invariant c.in-Ok.ensures
+    c.index-rows-i.is c.loop-i.invariant c.in_ok-add_event.ensures
 
 pub returns : goal.returns
 returns c = adds_all SaysEvent _ _ c.args.rows.now c.loop-i.i c.loop-i-test.false c.loop-i.invariant

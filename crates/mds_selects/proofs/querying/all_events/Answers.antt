@@ -11,5 +11,5 @@ returns-clause-each c =
     let keys = c.add_events.new.found.keys in
     IfOk-weaker c.in_order.result (λ all. all.items ≡ keys) _
     (λ all same. subst (AreEventsIn rows) (sym same)
-    (just SaysEvent c.new-found.result.keys keys rows c.new-found.ensures.empty c.in-Ok.ensures))
+    (just SaysEvent c.new-found.result.keys keys rows c.new-found.ensures.empty c.in_ok-add_events.ensures))
     c.in_order.ensures.same

@@ -14,6 +14,6 @@ returns-clause-each c =
     IfOk-weaker c.in_order.result (λ all. all.items ≡ keys) _
     (λ all same. subst (AreStreamsIn heads details periods) (sym same)
     (streams_in heads details periods keys (just_three SaysStream c.new-found.result.keys c.add_streams.new.found.keys
-    c.add_streams-2.new.found.keys keys heads details periods c.new-found.ensures.empty c.in-Ok.ensures
-    c.in-Ok-add_streams.ensures c.in-Ok-add_streams-2.ensures)))
+    c.add_streams-2.new.found.keys keys heads details periods c.new-found.ensures.empty c.in_ok-add_streams.ensures
+    c.in_ok-add_streams-2.ensures c.in_ok-add_streams-3.ensures)))
     c.in_order.ensures.same

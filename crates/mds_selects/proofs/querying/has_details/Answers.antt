@@ -1,20 +1,14 @@
-use Rattle.std.specs.Prelude.{◌≢◌, ◌↔◌, [], IsTrue}
-use Rattle.std.proofs.Common.{subst}
+use Rattle.std.specs.Prelude.{◌≢◌, [], IsTrue}
 use Rattle.sqlite.specs.Held.{state}
-use Rattle.mds_selects.proofs.Asked.{either_way, shows, sound, tables_held}
+use Rattle.mds_selects.proofs.Asked.{and_then, answers, either_way, steady, tables_held}
 use Rattle.mds_selects.proofs.Listed.{finds_details}
 use Rattle.mds_selects.proofs.querying.has_details.Goals as goal
 
-pub returns-clause-found : goal.returns-clause-found
-returns-clause-found g c clean holds =
-    let old = state g.S.Store c.args.conn.now in
+pub returns : goal.returns
+returns g c =
     let rows = c.in-Ok-same_details_rows.rows.items in
-    let ready = c.in-Ok.ensures.ok in
-    let begun = c.ready.ensures.survives in
-    let asked = c.same_details_rows.ensures.survives in
-    let held = tables_held old holds in
-    either_way (IsTrue c.has_any.result) (rows ≢ []) _
-    (subst (λ rs. IsTrue c.has_any.result ↔ (rs ≢ [])) c.deref.ensures.value c.has_any.ensures)
-    (finds_details old.committed.trees (sound ready begun asked held clean) c.args.detail.now
-    c.are_small.ensures.moment c.are_small.ensures.next rows
-    (shows ready begun asked held clean _ (c.in-Ok-same_details_rows.ensures.ok clean)))
+    let ready = steady c.in-Ok.ensures.ok c.ready.ensures.survives c.ready.ensures.mode in
+    answers (tables_held (state g.S.Store c.args.conn.now)) (and_then ready c.in-Ok-same_details_rows.ensures) _
+    (λ known. either_way (IsTrue c.has_any.result) (rows ≢ []) _
+    (rw c.deref.ensures.value at c.has_any.ensures)
+    (finds_details _ known.0 c.args.detail.now c.are_small.ensures.moment c.are_small.ensures.next rows known.1))

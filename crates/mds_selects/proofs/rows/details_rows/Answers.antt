@@ -1,24 +1,11 @@
-use Rattle.sqlite.specs.Held.{state}
 use Rattle.mds_selects.proofs.DetailLemmas.{finds_details}
-use Rattle.mds_selects.proofs.QueryLemmas.{fails, quiet}
+use Rattle.mds_selects.proofs.QueryLemmas.{queried}
 use Rattle.mds_selects.proofs.SelectTexts.{select_details, select_details_plain}
 use Rattle.mds_selects.proofs.rows.details_rows.Goals as goal
 
-pub returns-clause-ok : goal.returns-clause-ok
-returns-clause-ok g c clean =
-    let old = state g.S.Store c.args.conn.now in
-    let new = state g.S.Store c.query_all.new.self in
-    finds_details c.args.stream.now old new (λ v. v.items) c.query_all.result
-    (rw c.stream_cells.ensures at (c.query_all.ensures.ok clean))
-
-pub returns-clause-err : goal.returns-clause-err
-returns-clause-err g c clean has =
-    let old = state g.S.Store c.args.conn.now in
-    let new = state g.S.Store c.query_all.new.self in
-    fails select_details select_details_plain old new _ has
-    c.query_all.result (c.query_all.ensures.err clean)
-
-pub returns-clause-survives : goal.returns-clause-survives
-returns-clause-survives g c =
-    quiet select_details select_details_plain (state g.S.Store c.args.conn.now) (state g.S.Store c.query_all.new.self) _
-    c.query_all.ensures.survives
+pub returns : goal.returns
+returns g c =
+    queried select_details select_details_plain _
+    (λ clean. finds_details c.args.stream.now _ _ (λ v. v.items) c.query_all.result
+    (rw c.stream_cells.ensures at (c.query_all.ensures.ok clean)))
+    c.query_all.ensures.err c.query_all.ensures.mode c.query_all.ensures.survives

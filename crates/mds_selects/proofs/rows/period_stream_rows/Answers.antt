@@ -1,27 +1,14 @@
-use Rattle.std.proofs.Common.{[], ◌∷◌, refl}
-use Rattle.sqlite.specs.Held.{state}
-use Rattle.mds_tables.specs.Tables.{period_table}
-use Rattle.mds_selects.proofs.QueryLemmas.{fails, finds_rows, period_typed, quiet}
+use Rattle.std.proofs.Common.{[], refl}
+use Rattle.mds_tables.specs.Tables.{period_table, period_tree, stream_columns}
+use Rattle.mds_selects.proofs.QueryLemmas.{finds_rows, period_typed, queried}
 use Rattle.mds_selects.proofs.SelectTexts.{select_period_streams, select_period_streams_is, select_period_streams_plain}
 use Rattle.mds_selects.proofs.rows.period_stream_rows.Goals as goal
 
-pub returns-clause-ok : goal.returns-clause-ok
-returns-clause-ok g c clean =
-    let old = state g.S.Store c.args.conn.now in
-    let new = state g.S.Store c.query_all.new.self in
-    finds_rows select_period_streams select_period_streams_plain 10 (1 ∷ 2 ∷ []) _ (λ db. refl)
+pub returns : goal.returns
+returns g c =
+    queried select_period_streams select_period_streams_plain _
+    (λ clean. finds_rows select_period_streams select_period_streams_plain period_tree stream_columns _ (λ db. refl)
     [] select_period_streams_is
-    period_table.columns tt period_typed old new (λ v. v.items) c.query_all.result
-    (c.query_all.ensures.ok clean)
-
-pub returns-clause-err : goal.returns-clause-err
-returns-clause-err g c clean has =
-    let old = state g.S.Store c.args.conn.now in
-    let new = state g.S.Store c.query_all.new.self in
-    fails select_period_streams select_period_streams_plain old new _ has
-    c.query_all.result (c.query_all.ensures.err clean)
-
-pub returns-clause-survives : goal.returns-clause-survives
-returns-clause-survives g c =
-    quiet select_period_streams select_period_streams_plain (state g.S.Store c.args.conn.now) (state g.S.Store c.query_all.new.self) _
-    c.query_all.ensures.survives
+    period_table.columns tt period_typed _ _ (λ v. v.items) c.query_all.result
+    (c.query_all.ensures.ok clean))
+    c.query_all.ensures.err c.query_all.ensures.mode c.query_all.ensures.survives

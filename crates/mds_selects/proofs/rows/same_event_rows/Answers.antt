@@ -1,28 +1,15 @@
 use Rattle.std.proofs.Common.{[], ◌∷◌, refl}
-use Rattle.sqlite.specs.Held.{state}
 use Rattle.mds_tables.specs.Cells as row
-use Rattle.mds_tables.specs.Tables.{event_table}
-use Rattle.mds_selects.proofs.QueryLemmas.{event_for, event_typed, fails, finds_rows, quiet}
+use Rattle.mds_tables.specs.Tables.{event_nmi, event_table, event_tree}
+use Rattle.mds_selects.proofs.QueryLemmas.{event_for, event_typed, finds_rows, queried}
 use Rattle.mds_selects.proofs.SelectTexts.{select_event, select_event_is, select_event_plain}
 use Rattle.mds_selects.proofs.rows.same_event_rows.Goals as goal
 
-pub returns-clause-ok : goal.returns-clause-ok
-returns-clause-ok g c clean =
-    let old = state g.S.Store c.args.conn.now in
-    let new = state g.S.Store c.query_all.new.self in
-    finds_rows select_event select_event_plain 8 (1 ∷ []) _ (λ db. refl)
+pub returns : goal.returns
+returns g c =
+    queried select_event select_event_plain _
+    (λ clean. finds_rows select_event select_event_plain event_tree (event_nmi ∷ []) _ (λ db. refl)
     (row.event_cells c.args.event.now) select_event_is
-    event_table.columns (event_for c.args.event.now) event_typed old new (λ v. v.items) c.query_all.result
-    (rw c.event_cells.ensures at (c.query_all.ensures.ok clean))
-
-pub returns-clause-err : goal.returns-clause-err
-returns-clause-err g c clean has =
-    let old = state g.S.Store c.args.conn.now in
-    let new = state g.S.Store c.query_all.new.self in
-    fails select_event select_event_plain old new _ has
-    c.query_all.result (c.query_all.ensures.err clean)
-
-pub returns-clause-survives : goal.returns-clause-survives
-returns-clause-survives g c =
-    quiet select_event select_event_plain (state g.S.Store c.args.conn.now) (state g.S.Store c.query_all.new.self) _
-    c.query_all.ensures.survives
+    event_table.columns (event_for c.args.event.now) event_typed _ _ (λ v. v.items) c.query_all.result
+    (rw c.event_cells.ensures at (c.query_all.ensures.ok clean)))
+    c.query_all.ensures.err c.query_all.ensures.mode c.query_all.ensures.survives

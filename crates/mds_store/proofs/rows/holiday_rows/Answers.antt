@@ -1,27 +1,14 @@
 use Rattle.std.proofs.Common.{[], ◌∷◌, refl}
-use Rattle.sqlite.specs.Held.{state}
-use Rattle.mds_tables.specs.Tables.{holiday_table}
-use Rattle.mds_selects.proofs.QueryLemmas.{fails, finds_rows, holiday_typed, quiet}
+use Rattle.mds_tables.specs.Tables.{holiday_day, holiday_table, holiday_tree}
+use Rattle.mds_selects.proofs.QueryLemmas.{finds_rows, holiday_typed, queried}
 use Rattle.mds_store.proofs.ListTexts.{select_holidays, select_holidays_is, select_holidays_plain}
 use Rattle.mds_store.proofs.rows.holiday_rows.Goals as goal
 
-pub returns-clause-ok : goal.returns-clause-ok
-returns-clause-ok g c clean =
-    let old = state g.S.Store c.args.conn.now in
-    let new = state g.S.Store c.query_all.new.self in
-    finds_rows select_holidays select_holidays_plain 12 (1 ∷ []) _ (λ db. refl)
+pub returns : goal.returns
+returns g c =
+    queried select_holidays select_holidays_plain _
+    (λ clean. finds_rows select_holidays select_holidays_plain holiday_tree (holiday_day ∷ []) _ (λ db. refl)
     [] select_holidays_is
-    holiday_table.columns tt holiday_typed old new (λ v. v.items) c.query_all.result
-    (c.query_all.ensures.ok clean)
-
-pub returns-clause-err : goal.returns-clause-err
-returns-clause-err g c clean has =
-    let old = state g.S.Store c.args.conn.now in
-    let new = state g.S.Store c.query_all.new.self in
-    fails select_holidays select_holidays_plain old new _ has
-    c.query_all.result (c.query_all.ensures.err clean)
-
-pub returns-clause-survives : goal.returns-clause-survives
-returns-clause-survives g c =
-    quiet select_holidays select_holidays_plain (state g.S.Store c.args.conn.now) (state g.S.Store c.query_all.new.self) _
-    c.query_all.ensures.survives
+    holiday_table.columns tt holiday_typed _ _ (λ v. v.items) c.query_all.result
+    (c.query_all.ensures.ok clean))
+    c.query_all.ensures.err c.query_all.ensures.mode c.query_all.ensures.survives

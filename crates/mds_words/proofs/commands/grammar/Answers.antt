@@ -7,7 +7,7 @@ use Rattle.mds_words.proofs.commands.grammar.Goals as goal
 
 abbrev program : App
 program = record {
-  top = record (new_shape (codes "mdstore")) { no_binary_name = true; subcommand_required = true };
+  top = record (new_shape (codes "mdstore")) { no_binary_name = true; subcommand_required = true; has_version = true };
   subs = [];
 }
 
@@ -15,4 +15,5 @@ pub returns : goal.returns
 returns c =
     let bare : IfOk c.bin_name-program.result (IsApp program) =
     IfOk-weaker c.bin_name-program.result _ (IsApp program) (λ named is. search rules) c.bin_name-program.ensures in
-    c.with_store_commands.ensures _ (c.with_file_commands.ensures program bare)
+    let stores = c.with_store_commands-program.ensures _ (c.with_file_commands-program.ensures program bare) in
+    c.with_command.ensures _ _ stores c.explain.ensures

@@ -1,8 +1,8 @@
 use Rattle.std.proofs.Common.{◌≡◌, ◌∙◌, [], List, Some, map, string_bytes, ap, sym, subst}
-use Rattle.clap.specs.Words.{App, Text, fault_of, found_of, rows_of, is_simple, is_simple_and_free, subcommand_of, subcommand_rows_of, takes}
+use Rattle.clap.specs.Words.{App, HasKind, Text, fault_of, found_of, rows_of, is_simple, is_simple_and_free, subcommand_of, subcommand_rows_of, takes}
 use Rattle.mds_words.specs.Asked.{Asks}
 use Rattle.mds_words.specs.Grammar.{mdstore_app}
-use Rattle.mds_words.proofs.Getters.{pair_found, passed_on}
+use Rattle.mds_words.proofs.Getters.{of_same_app, pair_found, passed_on}
 use Rattle.mds_words.proofs.Stops.{names_command}
 use Rattle.mds_words.proofs.grammar.matched.Goals as goal
 
@@ -11,6 +11,13 @@ returns-in_err-matches-clause-passes c =
     let app = c.in_ok-grammar.ensures.app_is in
     let words : List Text = map string_bytes c.args.words.now in
     passed_on _ _ _ c.from_residual-in_err-matches.ensures.1 (λ takes_them. c.in_err-matches.ensures.passes (ap (λ (a : App). takes a words) app ∙ takes_them))
+
+pub returns-in_err-matches-clause-kinds : goal.returns-in_err-matches-clause-kinds
+returns-in_err-matches-clause-kinds c =
+    let app = c.in_ok-grammar.ensures.app_is in
+    let words : List Text = map string_bytes c.args.words.now in
+    passed_on _ _ (HasKind (fault_of (mdstore_app c.args.kinds) words)) c.from_residual-in_err-matches.ensures.1
+    (of_same_app words c.in_err-matches.field-0.0 app (c.in_err-matches.ensures.kinds (ap is_simple_and_free app)))
 
 pub returns-clause-asked : goal.returns-clause-asked
 returns-clause-asked c =

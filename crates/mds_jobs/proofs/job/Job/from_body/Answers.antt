@@ -1,10 +1,9 @@
-use Rattle.std.proofs.Common.{◌≡◌, ◌∙◌, List, ℕ, Some, None, length, sym, ap, subst, refl}
+use Rattle.std.proofs.Common.{◌≡◌, ◌∙◌, Some, None, length, sym, ap, subst, refl}
 use Rattle.mds_marks.specs.Reason.{reason_of}
 use Rattle.mds_jobs.specs.Bodies.{parts_of}
-use Rattle.mds_jobs.specs.BodySteps.{SaysManner, SaysPlace, part_at, texts_of}
+use Rattle.mds_jobs.specs.BodySteps.{SaysManner, SaysPlace, part_at}
 use Rattle.mds_jobs.specs.Jobs.{content_of}
 use Rattle.mds_jobs.proofs.BodyParts.{job_said, manner_of, manner_said, place_of, place_said, reason_at, reason_in, reason_said}
-use Rattle.mds_jobs.proofs.BodySplits.{part_is}
 use Rattle.mds_jobs.proofs.BodyTexts.{body_parts}
 use Rattle.mds_jobs.proofs.job.Job.from_body.Goals as goal
 
@@ -36,4 +35,4 @@ pub returns-clause-some : goal.returns-clause-some
 returns-clause-some c =
     let parts = parts_of c.args.body.now in
     let read : c.in_ok-reason.field-0 ≡ reason_of (part_at parts 9) (part_at parts 10) = reason_at c.in-Some.parts.texts parts _ c.in-Some.ensures c.in_ok-reason.ensures.value in
-    (refl, job_said parts _ (subst (λ texts. SaysPlace texts c.in-Some-place_in.place) c.in-Some.ensures c.in-Some-place_in.ensures.some) (subst (λ texts. SaysManner texts c.in-Some-manner_in.manner) c.in-Some.ensures c.in-Some-manner_in.ensures.some) (sym read ∙ c.in-Some-2.is))
+    rw c.new.ensures (refl, job_said parts _ (subst (λ texts. SaysPlace texts c.in-Some-place_in.place) c.in-Some.ensures c.in-Some-place_in.ensures.some) (subst (λ texts. SaysManner texts c.in-Some-manner_in.manner) c.in-Some.ensures c.in-Some-manner_in.ensures.some) (sym read ∙ c.in-Some-2.is))

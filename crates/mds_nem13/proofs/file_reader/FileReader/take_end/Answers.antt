@@ -1,7 +1,7 @@
 use Rattle.std.proofs.Common.{◌+◌, ap, length}
 use Rattle.std.specs.Option.{option_map}
 use Rattle.mds_records.specs.declared.header_name.HeaderName.TheVariants.{Nem13}
-use Rattle.mds_reading.specs.Faults.{at_field}
+use Rattle.mds_walk.specs.Faults.{at_field}
 use Rattle.mds_nem13.proofs.Kept.{kept_end}
 use Rattle.mds_nem13.proofs.file_reader.FileReader.take_end.Goals as goal
 

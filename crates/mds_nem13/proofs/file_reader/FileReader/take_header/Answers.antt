@@ -1,11 +1,12 @@
-use Rattle.std.proofs.Common.{refl}
-use Rattle.mds_lines.specs.declared.line.Kind.TheVariants as a
-use Rattle.mds_nem13.proofs.Kept.{takes_told}
+use Rattle.std.proofs.Common.{◌+◌, ap, length}
+use Rattle.std.specs.Option.{option_map}
+use Rattle.mds_walk.specs.Faults.{at_field}
+use Rattle.mds_nem13.proofs.Kept.{kept_header}
 use Rattle.mds_nem13.proofs.file_reader.FileReader.take_header.Goals as goal
 
-pub returns-in-Ok : goal.returns-in-Ok
-returns-in-Ok g c = λ before h number.
-    let text = c.args.line.now.text.now in
-    let read = rw c.text.ensures at (c.in-Ok.ensures 0) in
-    takes_told _ before text a.Header c.keep_header.result c.keep_header.new.self read.0 c.requires.known refl
-    (c.keep_header.ensures before text c.requires.known h read.1)
+pub returns-in_ok-header-in-Ok : goal.returns-in_ok-header-in-Ok
+returns-in_ok-header-in-Ok g c = λ before h number.
+    let read = rw c.text.ensures at (c.in-Ok.ensures 0) in (
+      ap (option_map (at_field (length before + 1))) read.0,
+      kept_header _ before _ c.args.self.now c.header.new.self _ c.requires.known h c.requires.place read.1 c.in_ok-header-in-Ok.ensures,
+    )

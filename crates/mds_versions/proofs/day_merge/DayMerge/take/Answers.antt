@@ -1,5 +1,4 @@
 use Rattle.std.proofs.Common.{refl, sym, ap, ◌∙◌, subst, length, arith}
-use Rattle.mds_versions.proofs.Rows.{on_err_now, on_ok_now}
 use Rattle.mds_versions.specs.DayMergeSteps.{AreInBook, claimed_entries}
 use Rattle.mds_versions.proofs.Taken.{absent_claimed, absent_entry, as_many, book_end, claim_end, claimed_entry_in, comes_in, merge_more, merge_same, none_kept, form_end, found_entry, known_end, lacking_end, still_in_book, taken_end, unsaid_end}
 use Rattle.mds_versions.proofs.Walks.{counts_more, counts_same}
@@ -7,7 +6,7 @@ use Rattle.mds_versions.proofs.day_merge.DayMerge.take.Goals as goal
 
 pub returns-in-Some-clause-refused : goal.returns-in-Some-clause-refused
 returns-in-Some-clause-refused c =
-    rw c.refused.ensures (refl, refl, form_end _ _ _ _ c.self.view_is c.self.invariant.0 c.args.claim c.in-Some.code c.in-Some.ensures.some)
+    rw c.at_line.ensures (refl, refl, form_end _ _ _ _ c.self.view_is c.self.invariant.0 c.args.claim c.in-Some.code c.in-Some.ensures.some)
 
 pub difference-requires-clause-as_many : goal.difference-requires-clause-as_many
 difference-requires-clause-as_many c =
@@ -27,7 +26,7 @@ returns-in-Some-difference-clause-refused c =
     (found_entry _ c.args.claim.update c.seconds.ensures.order _ _ c.in-Some-get.ensures.value) in
     let many = as_many _ _ _ c.self.invariant.0 c.args.claim c.in_default.ensures.none _ m ∙ sym c.args.claim.whole in
     let q = rw c.deref.ensures.value at c.in-Some-difference.ensures.some in
-    rw c.refused-in-Some-difference.ensures (
+    rw c.conflict.ensures (
       refl,
       refl,
       claim_end _ _ _ _ c.self.view_is c.self.invariant.0 c.args.claim c.in_default.ensures.none _ m many
@@ -47,7 +46,7 @@ returns-in-Err-clause-refused c =
     let absent = absent_claimed c.self.inside.book _ c.args.claim.update
     (absent_entry _ c.args.claim.update c.seconds.ensures.order _ c.in_default-get.ensures.value) in
     let q = rw c.deref-2.ensures.value at c.in-Err.ensures.conflict in
-    rw c.refused-in-Err.ensures (
+    rw c.conflict-in-Err.ensures (
       refl,
       refl,
       book_end _ _ _ _ c.self.view_is c.self.invariant.0 c.args.claim c.in_default.ensures.none absent c.in-Err.interval q,
@@ -55,7 +54,7 @@ returns-in-Err-clause-refused c =
 
 pub invariant_of-self : goal.invariant_of-self
 invariant_of-self c =
-    let same = on_err_now c.insert.result c.is_err.result _ c.insert.ensures.err c.is_err.ensures.value c.if-is_err.true in
+    let same = c.in_err-insert.ensures.err in
     let of_book = ap (claimed_entries c.self.inside.book) same in (
       merge_same _ _ _ _ of_book c.self.invariant.0,
       subst (λ l. AreInBook c.self.inside.book l) (sym same) c.self.invariant.1,
@@ -66,7 +65,7 @@ pub invariant_of-self-2 : goal.invariant_of-self-2
 invariant_of-self-2 c =
     let raw = absent_entry _ c.args.claim.update c.seconds.ensures.order _ c.in_default-get.ensures.value in
     let absent = absent_claimed c.self.inside.book _ c.args.claim.update raw in
-    let put = on_ok_now c.insert.result c.is_err.result _ c.insert.ensures.entries c.is_err.ensures.value c.if-is_err.false in
+    let put = c.in_ok-insert.ensures.entries in
     let free = rw c.deref-2.ensures.value at c.in-Ok.ensures.suits in
     let held = rw c.deref-2.ensures.value at c.in-Ok.ensures.held in
     let few = rw c.deref-2.ensures.value at c.in-Ok.ensures.few in
@@ -82,20 +81,20 @@ pub returns-clause-ok : goal.returns-clause-ok
 returns-clause-ok c =
     let raw = absent_entry _ c.args.claim.update c.seconds.ensures.order _ c.in_default-get.ensures.value in
     let absent = absent_claimed c.self.inside.book _ c.args.claim.update raw in
-    let put = on_ok_now c.insert.result c.is_err.result _ c.insert.ensures.entries c.is_err.ensures.value c.if-is_err.false in
+    let put = c.in_ok-insert.ensures.entries in
     let free = rw c.deref-2.ensures.value at c.in-Ok.ensures.suits in
     let comes = comes_in c.self.inside.book _ _ c.args.claim.update c.kept_of-kept.result _ c.kept_of-kept.ensures.same raw _ c.seconds.ensures.order put in
     taken_end _ _ _ _ c.self.view_is c.self.invariant.0 c.args.claim c.in_default.ensures.none absent _ comes free
 
-pub returns-then-is_err-clause-agrees : goal.returns-then-is_err-clause-agrees
-returns-then-is_err-clause-agrees c = λ _.
+pub returns-in_err-insert-clause-agrees : goal.returns-in_err-insert-clause-agrees
+returns-in_err-insert-clause-agrees c = λ _.
     let absent = absent_claimed c.self.inside.book _ c.args.claim.update
     (absent_entry _ c.args.claim.update c.seconds.ensures.order _ c.in_default-get.ensures.value) in
     let free = rw c.deref-2.ensures.value at c.in-Ok.ensures.suits in
     lacking_end _ _ _ _ c.self.view_is c.self.invariant.0 c.args.claim c.in_default.ensures.none absent free
 
-pub returns-then-is_err-clause-unsaid : goal.returns-then-is_err-clause-unsaid
-returns-then-is_err-clause-unsaid c = λ _.
+pub returns-in_err-insert-clause-unsaid : goal.returns-in_err-insert-clause-unsaid
+returns-in_err-insert-clause-unsaid c = λ _.
     let absent = absent_claimed c.self.inside.book _ c.args.claim.update
     (absent_entry _ c.args.claim.update c.seconds.ensures.order _ c.in_default-get.ensures.value) in
     unsaid_end _ _ _ _ c.self.view_is c.self.invariant.0 c.args.claim c.in_default.ensures.none absent

@@ -1,0 +1,177 @@
+-- The texts of fields, and rows as lines of them.
+use Rattle.std.proofs.Common.{◌≡◌, ℕ, ◌<◌, ◌+◌, ◌*◌, ◌/◌, ◌%◌, ◌==◌, inl, inr, true, false, List, [], ◌∷◌, ◌++◌, length, length-append, append_assoc, codes, take, drop, map, refl, sym, ap, ◌∙◌, arith, Option, Some, get_or, decimal}
+use Rattle.std.specs.Char.{is_ascii_digit}
+use Rattle.std.specs.List.{All, list_all}
+use Rattle.std.proofs.lemmas.List.Elements.{All-append, All-cons, All-nil, All-same}
+use Rattle.std.specs.Str.Parse.{digits_value}
+use Rattle.std.proofs.lemmas.Bool.Decides.{nat_tests}
+use Rattle.std.proofs.lemmas.List.{take-append-drop, take_all, length-take-le, length-drop, take_more}
+use Rattle.std.proofs.lemmas.List.Folds.{list_all-append}
+use Rattle.std.proofs.lemmas.Grind.{flat_map-append}
+use Rattle.std.proofs.lemmas.List.{append-nil}
+use Rattle.mds_terms.specs.Parts.{joined, optional}
+use Rattle.mds_terms.specs.Details.{DetailsValue}
+use Rattle.mds_names.specs.declared.stream.Stream.{Stream}
+use Rattle.mds_quantity.specs.Unit.{unit_text}
+use Rattle.mds_quantity.specs.declared.unit.Unit.{Unit as MeasureUnit}
+use Rattle.mds_calendar.specs.Calendar.{are_digits, date_time_of, day_of, moment_of, number_at}
+use Rattle.mds_calendar.proofs.Digits.{both, same_digits}
+use Rattle.mds_calendar.specs.Length.{is_length}
+use Rattle.mds_calendar.proofs.Lengths.{cases_length, decimal_5, decimal_15, decimal_30}
+use Rattle.mds_calendar.proofs.Moments.{date_time_short, date_time_other, moment_parts, time_parts}
+use Rattle.mds_quantity.specs.Append.{Appends}
+use Rattle.mds_marks.specs.Reading.{ReadingValue, is_lawful}
+use Rattle.mds_marks.specs.declared.mark.Mark.{Mark}
+use Rattle.mds_export.specs.Rows.{DayRow, DetailsRow, HeaderRow, IsHeaderMoment, IsRowText, line_of, own_fields, value_field}
+use Rattle.mds_export.specs.RowSteps.{closed, value_texts}
+
+-- the end of digits is of digits
+digits_end : (n : ℕ) (text : List ℕ) → list_all is_ascii_digit text ≡ true → list_all is_ascii_digit (drop n text) ≡ true
+digits_end n text h =
+    (both (list_all is_ascii_digit (take n text)) (list_all is_ascii_digit (drop n text))
+    (sym (list_all-append is_ascii_digit (take n text) (drop n text)) ∙ ap (list_all is_ascii_digit) (take-append-drop n text) ∙ h)).1
+
+fourteen : (text : List ℕ) → are_digits 14 text ≡ true → (length text ≡ 14) × (list_all is_ascii_digit text ≡ true)
+fourteen text h =
+    let p = both (length text == 14) (list_all is_ascii_digit text) h in
+    (grind (arith, nat_tests, p.0), p.1)
+
+no_seconds : (d h m s n : ℕ) → s < 60 → d * 86400 + h * 3600 + m * 60 + s ≡ n → n % 60 ≡ 0 → s ≡ 0
+no_seconds d h m s n less e zero = omega arith
+
+-- the last two digits of a moment whose seconds are 00
+last_zeros : (digits : List ℕ) (moment : ℕ) → moment_of digits ≡ Some moment → moment % 60 ≡ 0 → (length digits ≡ 14) × (drop 12 digits ≡ codes "00")
+last_zeros digits moment e zero =
+    let p = moment_parts digits moment e in
+    let all = fourteen digits p.1.1 in
+    let time = time_parts (number_at 8 2 digits) (number_at 10 2 digits) (number_at 12 2 digits) p.1.2 in
+    let s = no_seconds p.0 (number_at 8 2 digits) (number_at 10 2 digits) (number_at 12 2 digits) moment time.2 p.1.3 zero in
+    let size : length (drop 12 digits) ≡ 2 = omega (arith, length-drop 12 digits, all.0) in
+    let whole : take 2 (drop 12 digits) ≡ drop 12 digits = take_all 2 (drop 12 digits) (omega arith) in
+    (all.0, same_digits (drop 12 digits) (codes "00") size (digits_end 12 digits all.1) refl (ap (digits_value 10) (sym whole) ∙ s))
+
+pub short_moment : (digits : List ℕ) (moment : ℕ) → moment_of digits ≡ Some moment → moment % 60 ≡ 0 → IsHeaderMoment moment (take 12 digits)
+short_moment digits moment e zero =
+    let last = last_zeros digits moment e zero in
+    let size : length (take 12 digits) ≡ 12 = length-take-le 12 digits (omega (arith, last.0)) in (
+      date_time_short (take 12 digits) size ∙ ap (λ t. moment_of (take 12 digits ++ t)) (sym last.1) ∙ ap moment_of (take-append-drop 12 digits) ∙ e,
+      rw zero size,
+    )
+
+pub long_moment : (digits : List ℕ) (moment : ℕ) → moment_of digits ≡ Some moment → (moment % 60 ≡ 0 → ⊥) → IsHeaderMoment moment (take 14 digits)
+long_moment digits moment e some =
+    let p = moment_parts digits moment e in
+    let all = fourteen digits p.1.1 in
+    let whole : take 14 digits ≡ digits = take_all 14 digits (omega (arith, all.0)) in
+    let other : (moment % 60 == 0) ≡ false = grind (arith, nat_tests) in (
+      ap date_time_of whole ∙ date_time_other digits (λ twelve. omega (arith, all.0)) ∙ e,
+      rw other (ap length whole ∙ all.0),
+    )
+
+-- the value fields of readings, one more
+pub values_more : (readings : List ReadingValue) (i : ℕ) (d : ReadingValue) → i < length readings
+    → value_texts (take (i + 1) readings) ≡ value_texts (take i readings) ++ closed (value_field (get_or readings i d))
+values_more readings i d h =
+    ap value_texts (take_more readings i d h)
+    ∙ flat_map-append (λ reading. closed (value_field reading)) (take i readings) (get_or readings i d ∷ [])
+    ∙ ap (λ t. value_texts (take i readings) ++ t) (append-nil (closed (value_field (get_or readings i d))))
+
+-- a value field and the comma after it are appended
+pub values_step : (readings : List ReadingValue) (i : ℕ) (r : ReadingValue) (old a b new text : List ℕ) → i < length readings
+    → r ≡ get_or readings i r → text ≡ value_field r → a ≡ old ++ value_texts (take i readings) → b ≡ a ++ text → new ≡ b ++ 44 ∷ []
+    → new ≡ old ++ value_texts (take (i + 1) readings)
+values_step readings i r old a b new text h is value ea eb en =
+    let front = value_texts (take i readings) in
+    let last = value_field (get_or readings i r) in
+    en ∙ ap (λ t. t ++ 44 ∷ []) (eb ∙ ap (λ t. t ++ text) ea ∙ ap (λ t. old ++ front ++ t) (value ∙ ap value_field is))
+    ∙ append_assoc (old ++ front) last (44 ∷ []) ∙ append_assoc old front (closed last)
+    ∙ ap (λ t. old ++ t) (sym (values_more readings i r h))
+
+pub lawful_more : (readings : List ReadingValue) (i : ℕ) (r : ReadingValue) → i < length readings → r ≡ get_or readings i r
+    → All (λ reading. is_lawful reading ≡ true) (take i readings) → is_lawful r ≡ true → All (λ reading. is_lawful reading ≡ true) (take (i + 1) readings)
+lawful_more readings i r h is all here =
+    All-same (λ reading. is_lawful reading ≡ true) (take (i + 1) readings) (take i readings ++ r ∷ []) (take_more readings i r h ∙ ap (λ x. take i readings ++ x ∷ []) (sym is))
+    (All-append (λ reading. is_lawful reading ≡ true) (take i readings) (r ∷ []) all (All-cons (λ reading. is_lawful reading ≡ true) r [] here (All-nil (λ reading. is_lawful reading ≡ true))))
+
+-- the first field of a line, and the others
+line_more : (x : List ℕ) (xs : List (List ℕ)) → 0 < length xs → line_of (x ∷ xs) ≡ closed x ++ line_of xs
+line_more x [] h = absurd (omega arith)
+line_more x (y ∷ ys) h =
+    let rest = joined (y ∷ ys) in
+    let end = 13 ∷ 10 ∷ [] in
+    ap (λ t. t ++ end) (sym (append_assoc x (44 ∷ []) rest)) ∙ append_assoc (closed x) rest end
+
+values_line : (readings : List ReadingValue) (tail : List (List ℕ)) → 0 < length tail
+    → line_of (map value_field readings ++ tail) ≡ value_texts readings ++ line_of tail
+values_line [] tail h = refl
+values_line (r ∷ readings) tail h =
+    line_more (value_field r) (map value_field readings ++ tail) (omega (arith, length-append (map value_field readings) tail))
+    ∙ ap (λ t. closed (value_field r) ++ t) (values_line readings tail h)
+    ∙ sym (append_assoc (closed (value_field r)) (value_texts readings) (line_of tail))
+
+-- a row, appended piece by piece
+pub header_row : (moment : ℕ) (sender receiver made a b old new : List ℕ) → IsHeaderMoment moment made → a ≡ sender → b ≡ receiver
+    → Appends old new (line_of (codes "100" ∷ codes "NEM12" ∷ made ∷ a ∷ b ∷ []))
+    → (text : List ℕ) × IsRowText (HeaderRow moment sender receiver) text × Appends old new text
+header_row moment sender receiver made a b old new m ea eb e = (
+  line_of (codes "100" ∷ codes "NEM12" ∷ made ∷ a ∷ b ∷ []),
+  (codes "100" ∷ codes "NEM12" ∷ made ∷ a ∷ b ∷ [], (made, m, ap (λ x. codes "100" ∷ codes "NEM12" ∷ made ∷ x ∷ b ∷ []) ea ∙ ap (λ x. codes "100" ∷ codes "NEM12" ∷ made ∷ sender ∷ x ∷ []) eb), refl),
+  e,
+)
+
+pub day_row : (date update : ℕ) (readings : List ReadingValue) (mark : Option Mark) (old a b c new day : List ℕ) → day_of day ≡ Some date
+    → Appends old a (closed (codes "300")) → Appends a b (closed day) → Appends b c (value_texts readings)
+    → ((updated : List ℕ) × (moment_of updated ≡ Some update) × Appends c new (line_of (own_fields mark ++ updated ∷ [] ∷ [])))
+    → (text : List ℕ) × IsRowText (DayRow date readings mark update) text × Appends old new text
+day_row date update readings mark old a b c new day d ea eb ec own =
+    let tail = own_fields mark ++ own.0 ∷ [] ∷ [] in
+    let size : 0 < length tail = omega (arith, length-append (own_fields mark) (own.0 ∷ [] ∷ [])) in
+    let values = map value_field readings ++ tail in
+    let fields = codes "300" ∷ day ∷ values in
+    let first = closed (codes "300") in
+    let more : 0 < length values = omega (arith, length-append (map value_field readings) tail) in
+    let line : line_of fields ≡ closed (codes "300") ++ (closed day ++ (value_texts readings ++ line_of tail)) =
+    line_more (codes "300") (day ∷ values) (omega arith)
+    ∙ ap (λ t. closed (codes "300") ++ t) (line_more day values more ∙ ap (λ t. closed day ++ t) (values_line readings tail size)) in (
+      line_of fields,
+      (fields, (day, own.0, d, own.1, refl), refl),
+      own.2 ∙ ap (λ t. t ++ line_of tail) (ec ∙ ap (λ t. t ++ value_texts readings) (eb ∙ ap (λ t. t ++ closed day) ea))
+          ∙ (append_assoc (old ++ first ++ closed day) (value_texts readings) (line_of tail)
+          ∙ append_assoc (old ++ first) (closed day) (value_texts readings ++ line_of tail)
+          ∙ append_assoc old first (closed day ++ (value_texts readings ++ line_of tail))
+          ∙ ap (λ t. old ++ t) (sym line)),
+    )
+
+pub details_row : (stream : Stream) (details : DetailsValue) (unit : MeasureUnit) (minutes : ℕ) (nmi suffix name digits next old new : List ℕ)
+    → optional day_of next ≡ Some details.next → nmi ≡ stream.nmi → suffix ≡ stream.suffix → name ≡ unit_text unit → digits ≡ decimal minutes
+    → Appends old new (line_of (codes "200" ∷ nmi ∷ details.configuration ∷ details.register ∷ suffix ∷ details.datastream ∷ details.meter ∷ name ∷ digits ∷ next ∷ []))
+    → (text : List ℕ) × IsRowText (DetailsRow stream details unit minutes) text × Appends old new text
+details_row stream details unit minutes nmi suffix name digits next old new day en es eu ed e =
+    let fields : (nmi suffix name digits : List ℕ) → List (List ℕ) =
+    λ nmi suffix name digits. codes "200" ∷ nmi ∷ details.configuration ∷ details.register ∷ suffix ∷ details.datastream ∷ details.meter ∷ name ∷ digits ∷ next ∷ [] in (
+      line_of (fields nmi suffix name digits),
+      (fields nmi suffix name digits, (next, day, λ i. fields (en i) (es i) (eu i) (ed i)), refl),
+      e,
+    )
+
+-- the text of each length, by the number of its intervals
+pub length_5 : (minutes count : ℕ) → is_length minutes ≡ true → count ≡ 1440 / minutes → count ≡ 288 → codes "5" ≡ decimal minutes
+length_5 minutes count h e k = elim (cases_length minutes h) [
+  | inl m ↦ sym decimal_5 ∙ ap decimal (sym m)
+  | inr (inl m) ↦ absurd (omega (arith, e, k, ap (λ n. 1440 / n) m))
+  | inr (inr m) ↦ absurd (omega (arith, e, k, ap (λ n. 1440 / n) m))
+]
+
+pub length_15 : (minutes count : ℕ) → is_length minutes ≡ true → count ≡ 1440 / minutes → count ≡ 96 → codes "15" ≡ decimal minutes
+length_15 minutes count h e k = elim (cases_length minutes h) [
+  | inl m ↦ absurd (omega (arith, e, k, ap (λ n. 1440 / n) m))
+  | inr (inl m) ↦ sym decimal_15 ∙ ap decimal (sym m)
+  | inr (inr m) ↦ absurd (omega (arith, e, k, ap (λ n. 1440 / n) m))
+]
+
+pub length_30 : (minutes count : ℕ) → is_length minutes ≡ true → count ≡ 1440 / minutes → (count ≡ 288 → ⊥) → (count ≡ 96 → ⊥) → codes "30" ≡ decimal minutes
+length_30 minutes count h e k l = elim (cases_length minutes h) [
+  | inl m ↦ absurd (k (e ∙ ap (λ n. 1440 / n) m))
+  | inr (inl m) ↦ absurd (l (e ∙ ap (λ n. 1440 / n) m))
+  | inr (inr m) ↦ sym decimal_30 ∙ ap decimal (sym m)
+]

@@ -1,0 +1,27 @@
+use Rattle.std.proofs.Common.{◌++◌, ◌∙◌, ap, arith}
+use Rattle.std.specs.Int.{w64}
+use Rattle.std.proofs.lemmas.Int.{to_z-of_z, fits_signed_from_abs}
+use Rattle.mds_quantity.specs.Quantity.{written}
+use Rattle.mds_quantity.proofs.Front.{on_err_from}
+use Rattle.mds_export.proofs.Begun.{begun_after, begun_kept}
+use Rattle.mds_export.proofs.Fields.{lawful_more, values_step}
+use Rattle.mds_export.proofs.value.write_values.Goals as goal
+
+pub returns-in_err-write_quantity-clause-grown : goal.returns-in_err-write_quantity-clause-grown
+returns-in_err-write_quantity-clause-grown c =
+    on_err_from c.from_residual.result _ (begun_after _ _ _ _ c.loop-reading.invariant.text c.in_err-write_quantity.ensures.grown)
+
+pub returns-in_err-push-clause-grown : goal.returns-in_err-push-clause-grown
+returns-in_err-push-clause-grown c =
+    on_err_from c.from_residual-in_err-push.result _
+    (begun_after _ _ _ _ c.loop-reading.invariant.text (begun_after _ _ _ _ c.in_ok-write_quantity.ensures.done (begun_kept _ _ c.in_err-push.ensures.items)))
+
+pub loop-reading-preserved : goal.loop-reading-preserved
+loop-reading-preserved c =
+    let z = c.millionths_of.result in
+    let back = to_z-of_z w64 z (fits_signed_from_abs w64 z (omega (arith, c.millionths_of.ensures.small))) in
+    record {
+      text = values_step c.args.readings.now c.loop-reading.reading-index c.reading-item.result _ c.loop-reading.out.items c.write_quantity.new.out.items _ _
+          (omega arith) c.reading-item.is c.millionths_of.ensures.value c.loop-reading.invariant.text (c.in_ok-write_quantity.ensures.done ∙ ap (λ k. c.loop-reading.out.items ++ written k) back) c.in_ok-push.ensures.items;
+      lawful = lawful_more c.args.readings.now c.loop-reading.reading-index c.reading-item.result (omega arith) c.reading-item.is c.loop-reading.invariant.lawful c.millionths_of.ensures.lawful;
+    }

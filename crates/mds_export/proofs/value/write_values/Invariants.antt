@@ -1,0 +1,11 @@
+use Rattle.std.proofs.Common.{◌≡◌, ◌++◌, take, IsTrue}
+use Rattle.std.specs.List.{All}
+use Rattle.mds_marks.specs.Reading.{is_lawful}
+use Rattle.mds_export.specs.RowSteps.{value_texts}
+use Rattle.mds_export.proofs.value.write_values.Given as goal
+
+abbrev pub invariant-loop-reading : goal.invariant-loop-reading
+invariant-loop-reading l = record {
+  text : l.out.items ≡ l.fn.out.items ++ value_texts (take l.reading-index l.readings);
+  lawful : All (λ reading. IsTrue (is_lawful reading)) (take l.reading-index l.readings);
+}

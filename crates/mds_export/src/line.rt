@@ -1,0 +1,37 @@
+//! Lines, as they are appended to a text.
+
+ghost use Rattle.std.specs.Prelude.{◌≡◌, ◌++◌, ◌∷◌, [], map, OnOk, OnErr};
+ghost use Rattle.mds_quantity.specs.Append.{Appends};
+ghost use Rattle.mds_export.specs.Rows.{line_of};
+ghost use Rattle.mds_export.specs.Begun.{Begins};
+ghost use Rattle.mds_export.specs.RowSteps.{closed};
+
+use std::alloc::AllocError;
+
+/// Appends texts joined by commas, CR and LF, or after an error something of that.
+pub(crate) fn write_line(out: &mut Vec<u8>, texts: &[&[u8]]) -> Result<(), AllocError>
+    ensures done { OnOk result (Appends out.old.items out.new.items (line_of (map (λ text. text.now) texts.now))) }
+    ensures grown { OnErr result (Begins out.old.items out.new.items) }
+{
+    match texts {
+        [] => out.extend_from_slice(b"\r\n"),
+        [last] => {
+            out.extend_from_slice(last)?;
+            out.extend_from_slice(b"\r\n")
+        }
+        [first, rest @ ..] => {
+            write_field(out, first)?;
+            write_line(out, rest)
+        }
+    }
+}
+
+/// Appends a text and the comma after it, or after an error something of that.
+pub(crate) fn write_field(out: &mut Vec<u8>, text: &[u8]) -> Result<(), AllocError>
+    ensures done { OnOk result (Appends out.old.items out.new.items (closed text.now)) }
+    ensures grown { OnErr result (Begins out.old.items out.new.items) }
+{
+    out.extend_from_slice(text)?;
+    out.push(b',')?;
+    Ok(())
+}

@@ -1,0 +1,92 @@
+//! Values, as they are appended to a text.
+
+ghost use Rattle.std.specs.Prelude.{◌≡◌, ◌++◌, ◌^◌, ◌<◌, ◌≤◌, pos, unsigned_abs, unwrap_or, IsTrue, OnOk, OnErr};
+ghost use Rattle.mds_quantity.specs.Append.{Appends};
+ghost use Rattle.mds_quantity.specs.Quantity.{limit, point_and_decimals, sign_of, written};
+ghost use Rattle.std.specs.List.{All};
+ghost use Rattle.mds_marks.specs.Reading.{is_lawful};
+ghost use Rattle.mds_export.specs.Rows.{value_field};
+ghost use Rattle.mds_export.specs.Begun.{Begins};
+ghost use Rattle.mds_export.specs.RowSteps.{closed, value_texts};
+
+use itoa::Buffer;
+use mds_terms::Reading;
+use std::alloc::AllocError;
+
+/// Millionths in one.
+const ONE: u64 = 1_000_000;
+
+/// Appends the value field of each reading and the comma after it, or after an error something of that.
+pub(crate) fn write_values(readings: &[Reading], out: &mut Vec<u8>) -> Result<(), AllocError>
+    ensures done { OnOk result (Appends out.old.items out.new.items (value_texts readings.now)) }
+    ensures lawful { OnOk result (All (λ reading. IsTrue (is_lawful reading)) readings.now) }
+    ensures grown { OnErr result (Begins out.old.items out.new.items) }
+{
+    for reading in readings {
+        write_quantity(millionths_of(reading), out)?;
+        out.push(b',')?;
+    }
+    Ok(())
+}
+
+/// The millionths of a reading's value, and 0 where it has none.
+fn millionths_of(reading: &Reading) -> i64
+    ensures value { written result ≡ value_field reading.now }
+    ensures small { unsigned_abs result < limit }
+    ensures lawful { IsTrue (is_lawful reading.now) }
+{
+    match reading.value() {
+        Some(value) => value.millionths(),
+        None => 0,
+    }
+}
+
+/// Appends the written text of a quantity of so many millionths, or after an error something of it.
+fn write_quantity(millionths: i64, out: &mut Vec<u8>) -> Result<(), AllocError>
+    requires { unsigned_abs millionths < limit }
+    ensures done { OnOk result (Appends out.old.items out.new.items (written millionths)) }
+    ensures grown { OnErr result (Begins out.old.items out.new.items) }
+{
+    write_sign(millionths, out)?;
+    let magnitude = millionths.unsigned_abs();
+    let mut buffer = Buffer::new();
+    out.extend_from_slice(buffer.format(magnitude / ONE).as_bytes())?;
+    write_decimals((magnitude % ONE) as u32, out)
+}
+
+/// Appends a minus sign, if the number is negative.
+fn write_sign(millionths: i64, out: &mut Vec<u8>) -> Result<(), AllocError>
+    ensures done { OnOk result (Appends out.old.items out.new.items (sign_of millionths)) }
+    ensures grown { OnErr result (Begins out.old.items out.new.items) }
+{
+    let has_minus = millionths < 0;
+    if has_minus {
+        out.push(b'-')?;
+    }
+    Ok(())
+}
+
+/// The millionths that each of the six decimals stands for.
+const PLACES: [u32; 6] = [100_000, 10_000, 1_000, 100, 10, 1];
+
+/// Appends a point and the decimals of a number of millionths below one, down to the last that isn't 0. Without such a
+/// decimal it appends nothing. After an error something of that is appended.
+fn write_decimals(part: u32, out: &mut Vec<u8>) -> Result<(), AllocError>
+    requires { part < 10 ^ 6 }
+    ensures done { OnOk result (Appends out.old.items out.new.items (point_and_decimals part)) }
+    ensures grown { OnErr result (Begins out.old.items out.new.items) }
+{
+    if part == 0 {
+        return Ok(());
+    }
+    out.push(b'.')?;
+    let mut rest = part;
+    for place in PLACES {
+        if rest == 0 {
+            break;
+        }
+        out.push(b'0' + (rest / place) as u8)?;
+        rest %= place;
+    }
+    Ok(())
+}

@@ -1,5 +1,0 @@
-pub mod Holidays
-pub mod HolidaysSteps
-pub mod JobFields
-pub mod JobObjects
-pub mod JobSteps

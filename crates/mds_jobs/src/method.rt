@@ -1,0 +1,33 @@
+//! The method of a substitution job.
+
+ghost use Rattle.std.specs.Prelude.{◌≡◌, MatchOption};
+ghost use Rattle.mds_world.specs.Lists.{Member};
+ghost use Rattle.mds_jobs.specs.Jobs.{method_code, methods};
+
+/// How a substitution job gets its values. MDFF Specification, appendix of method flags, of which a job may have four.
+#[derive(Clone, Copy, Debug, PartialEq, Eq)]
+pub enum Method {
+    /// 14: the values of the nearest like day.
+    LikeDay,
+    /// 15: the mean of the values of the like days.
+    MeanOfLikeDays,
+    /// 17: the line between the values before and after the intervals.
+    Interpolation,
+    /// 19: zeros.
+    Zeros,
+}
+
+impl Method {
+    /// The method of a code. `None` where a job may not have it.
+    pub fn of_code(code: u8) -> Option<Method>
+        ensures { MatchOption result (Member code methods → ⊥) (λ method. code ≡ method_code method) }
+    {
+        match code {
+            14 => Some(Method::LikeDay),
+            15 => Some(Method::MeanOfLikeDays),
+            17 => Some(Method::Interpolation),
+            19 => Some(Method::Zeros),
+            _ => None,
+        }
+    }
+}

@@ -1,0 +1,70 @@
+//! A NEM12 file read from a source, or from memory.
+
+ghost use Rattle.std.specs.Prelude.{ℕ, ◌≡◌, ◌≤◌, ◌+◌, ◌-◌, ◌*◌, ◌^◌, ◌<◌, List, [], length, true, None, Some, Err, IfSome, IfOk, if◌then◌else◌};
+ghost use Rattle.std.specs.List.{concat};
+ghost use Rattle.mds_lines.specs.Lines.{longest_line, most_lines};
+ghost use Rattle.mds_lines.specs.Reads.{Reads, block};
+ghost use Rattle.mds_records.specs.declared.file.FileFault.{FileFault};
+ghost use Rattle.mds_nem12.specs.Answers.{is_read_fault};
+ghost use Rattle.mds_statements.specs.Delivered.{delivery_statements};
+ghost use Rattle.mds_nem12.specs.Faults.{fault_of};
+ghost use Rattle.mds_nem12.specs.Statements.{statements_of};
+ghost use Rattle.mds_nem12.specs.Told.{is_headed};
+
+use crate::delivery::DeliveryBuilder;
+use crate::file_reader::FileReader;
+use crate::sink::StatementSink;
+use mds_lines::{Source, TextSource};
+use mds_records::FileFault;
+use mds_statements::Delivery;
+use mds_walk::{ReadFault, TakeFault, read_file};
+use std::alloc::Global;
+
+#[tactic(auto, unfolding(crate::specs::Faults::fault_of, crate::specs::Statements::statements_of))]
+/// Reads a NEM12 file from a source, and tells a sink what it states. It holds a line and a day at a time.
+pub fn read_lines<R: Source, T: StatementSink + Drop>(
+    alloc: Global,
+    source: &mut R,
+    sink: T,
+) -> Result<T, ReadFault>
+    requires failures { R.failures source.old < 2 ^ 64 - 1 }
+    requires nothing { T.told sink [] }
+
+    // The text is well formed, and the sink was told what it states, the header first.
+    ensures done { IfOk result (λ out. IfSome (R.remaining source.old) (λ text. (fault_of text ≡ None)
+        × T.told out (statements_of text) × (is_headed (statements_of text) ≡ true))) }
+
+    // The fault is that of the text.
+    ensures fault { (fault : FileFault) → result ≡ Err (ReadFault.File fault)
+        → IfSome (R.remaining source.old) (λ text. fault_of text ≡ Some fault) }
+
+    // `Read` is answered just where the source failed, once.
+    ensures counted { R.failures source.new ≡ R.failures source.old + (if is_read_fault result then 1 else 0) }
+
+    // It reads no more of the source, whatever that gives, than the lines that a file may have, and a block.
+    ensures bounded { (given : List (List ℕ)) × Reads R.gives source.old given source.new
+        × (length (concat given) ≤ most_lines * (longest_line + 1) + block) }
+{
+    let Ok(file) = FileReader::new(alloc, sink) else {
+        return Err(ReadFault::Memory);
+    };
+    read_file(alloc, source, file)
+}
+
+/// Reads a whole NEM12 file: what it states, or its first fault.
+pub fn read_nem12(alloc: Global, text: &[u8]) -> Result<Delivery, TakeFault>
+    ensures done { IfOk result (λ delivery. (fault_of text.now ≡ None)
+        × (delivery_statements delivery ≡ statements_of text.now)) }
+    ensures fault { (fault : FileFault) → result ≡ Err (TakeFault.File fault) → fault_of text.now ≡ Some fault }
+{
+    let mut source = TextSource::new(text);
+    match read_lines(alloc, &mut source, DeliveryBuilder::new(alloc)) {
+        Ok(builder) => match builder.into_delivery() {
+            Some(delivery) => Ok(delivery),
+            None => unreachable!(),
+        },
+        Err(ReadFault::File(fault)) => Err(TakeFault::File(fault)),
+        Err(ReadFault::Memory) => Err(TakeFault::Memory),
+        Err(ReadFault::Read) => unreachable!(),
+    }
+}

@@ -1,0 +1,64 @@
+//! A NEM13 file read from a source, or from memory.
+
+ghost use Rattle.std.specs.Prelude.{ℕ, ◌≡◌, ◌≤◌, ◌+◌, ◌-◌, ◌*◌, ◌^◌, ◌<◌, List, [], length, true, None, Some, Err, IfSome, IfOk, if◌then◌else◌};
+ghost use Rattle.std.specs.List.{concat};
+ghost use Rattle.mds_lines.specs.Lines.{longest_line, most_lines};
+ghost use Rattle.mds_lines.specs.Reads.{Reads, block};
+ghost use Rattle.mds_records.specs.declared.file.FileFault.{FileFault};
+ghost use Rattle.mds_walk.specs.Answers.{is_read_fault};
+ghost use Rattle.mds_walk.specs.Said.{is_headed};
+ghost use Rattle.mds_nem13.specs.Accumulations.{AreStatedBy};
+ghost use Rattle.mds_nem13.specs.Faults.{fault_of};
+ghost use Rattle.mds_nem13.specs.Statements.{statements_of};
+
+use crate::accumulation::Accumulation;
+use crate::builder::AccumulationBuilder;
+use crate::file_reader::FileReader;
+use crate::sink::PeriodSink;
+use mds_lines::{Source, TextSource};
+use mds_records::FileFault;
+use mds_walk::{ReadFault, TakeFault, read_file};
+use std::alloc::Global;
+
+/// Reads a NEM13 file from a source, and tells a sink what it states. It holds a line at a time.
+#[tactic(auto, unfolding(crate::specs::Faults::fault_of, crate::specs::Statements::statements_of))]
+pub fn read_lines<R: Source, T: PeriodSink + Drop>(
+    alloc: Global,
+    source: &mut R,
+    sink: T,
+) -> Result<T, ReadFault>
+    requires failures { R.failures source.old < 2 ^ 64 - 1 }
+    requires nothing { T.told sink [] }
+
+    // The text is well formed, and the sink was told what it states, the header first.
+    ensures done { IfOk result (λ out. IfSome (R.remaining source.old) (λ text. (fault_of text ≡ None)
+        × T.told out (statements_of text) × (is_headed (statements_of text) ≡ true))) }
+
+    // The fault is that of the text.
+    ensures fault { (fault : FileFault) → result ≡ Err (ReadFault.File fault)
+        → IfSome (R.remaining source.old) (λ text. fault_of text ≡ Some fault) }
+
+    // `Read` is answered just where the source failed, once.
+    ensures counted { R.failures source.new ≡ R.failures source.old + (if is_read_fault result then 1 else 0) }
+
+    // It reads no more of the source, whatever that gives, than the lines that a file may have, and a block.
+    ensures bounded { (given : List (List ℕ)) × Reads R.gives source.old given source.new
+        × (length (concat given) ≤ most_lines * (longest_line + 1) + block) }
+{
+    read_file(alloc, source, FileReader::new(sink))
+}
+
+/// Reads a whole NEM13 file: the accumulations that it states, in the order of its lines, or its first fault.
+pub fn read_nem13(alloc: Global, text: &[u8]) -> Result<Vec<Accumulation>, TakeFault>
+    ensures done { IfOk result (λ accumulations. (fault_of text.now ≡ None)
+        × AreStatedBy (statements_of text.now) accumulations.items) }
+    ensures fault { (fault : FileFault) → result ≡ Err (TakeFault.File fault) → fault_of text.now ≡ Some fault }
+{
+    let mut source = TextSource::new(text);
+    match read_lines(alloc, &mut source, AccumulationBuilder::new(alloc)) {
+        Ok(builder) => Ok(builder.into_accumulations()),
+        Err(ReadFault::File(fault)) => Err(TakeFault::File(fault)),
+        Err(ReadFault::Memory) => Err(TakeFault::Memory),
+        Err(ReadFault::Read) => unreachable!(),
+    }
+}

@@ -1,5 +1,0 @@
-pub mod Answers
-pub mod Faults
-pub mod Governing
-pub mod ReadingSteps
-pub mod Said

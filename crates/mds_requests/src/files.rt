@@ -1,0 +1,69 @@
+//! The request that a file says.
+
+ghost use Rattle.std.specs.Prelude.{MatchResult};
+ghost use Rattle.mds_requests.specs.Asking.{Asks, AsksNothing};
+
+use crate::holidays::{HolidaysFault, read_holidays};
+use crate::job::job_from_json;
+use mds_messages::Request;
+use mds_records::FileKind;
+use std::alloc::Global;
+
+/// A command that takes a file to a store.
+#[derive(Clone, Copy)]
+pub enum FileCommand {
+    /// The file is one of a kind, which is to be imported.
+    Import(FileKind),
+    /// The file is a substitution job in JSON.
+    Substitute,
+    /// The file is a list of holidays.
+    Holidays,
+}
+
+/// Why a file asks for nothing.
+#[derive(Clone, Copy)]
+pub enum RequestFault {
+    /// It says no substitution job.
+    BadJob,
+    /// It is no list of holidays: the row of this number, from 1, is the first that differs (H1).
+    BadHolidays(u64),
+    /// There was no memory.
+    Memory,
+}
+
+/// The request that a file says which comes with a command. The bytes of an import may be any.
+pub fn request_in(
+    alloc: Global,
+    command: FileCommand,
+    bytes: Vec<u8>,
+) -> Result<Request, RequestFault>
+    ensures { MatchResult result (Asks command bytes.items) (AsksNothing command bytes.items) }
+{
+    match command {
+        FileCommand::Import(kind) => Ok(Request::Import { kind, bytes }),
+        FileCommand::Substitute => substitution_in(alloc, &bytes),
+        FileCommand::Holidays => holidays_in(alloc, &bytes),
+    }
+}
+
+/// The request to do the job that a text says.
+fn substitution_in(alloc: Global, text: &[u8]) -> Result<Request, RequestFault>
+    ensures { MatchResult result (Asks FileCommand.Substitute text.now) (AsksNothing FileCommand.Substitute text.now) }
+{
+    match job_from_json(alloc, text) {
+        Ok(Some(job)) => Ok(Request::Substitute(job)),
+        Ok(None) => Err(RequestFault::BadJob),
+        Err(_) => Err(RequestFault::Memory),
+    }
+}
+
+/// The request to list the days of a list.
+fn holidays_in(alloc: Global, text: &[u8]) -> Result<Request, RequestFault>
+    ensures { MatchResult result (Asks FileCommand.Holidays text.now) (AsksNothing FileCommand.Holidays text.now) }
+{
+    match read_holidays(alloc, text) {
+        Ok(days) => Ok(Request::Holidays(days)),
+        Err(HolidaysFault::BadHolidays(row)) => Err(RequestFault::BadHolidays(row)),
+        Err(HolidaysFault::Memory) => Err(RequestFault::Memory),
+    }
+}

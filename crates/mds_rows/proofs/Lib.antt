@@ -1,6 +1,0 @@
-pub mod Begun
-pub mod Fields
-pub mod PlainFields
-pub mod RowFaults
-pub mod RowLines
-pub mod RowTexts

@@ -1,4 +1,0 @@
-pub mod Begun
-pub mod ReadBack
-pub mod RowSteps
-pub mod Rows

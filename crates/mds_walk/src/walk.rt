@@ -1,0 +1,87 @@
+//! A walk through the lines of a file.
+
+ghost use Rattle.std.specs.Prelude.{◌≡◌, ◌^◌, ◌-◌, ◌<◌, ◌+◌, ℕ, List, [], length, None, Some, Err, IfSome, IfErr, MatchResult};
+ghost use Rattle.mds_lines.specs.Numbered.{number_of, text_of};
+ghost use Rattle.mds_walk.specs.Answers.{HasWalked, IsEndFault, Takes, fault_answered};
+ghost use Rattle.mds_walk.specs.Faults.{end_fault, text_fault};
+
+use crate::fault::{TakeFault, at_end, at_line};
+use crate::sink::RecordSink;
+use mds_lines::{KindFault, Line};
+use mds_records::FaultCode;
+
+/// A walk through the lines of a file, as far as it has come. Its records go to a sink. After a fault it
+/// answers the same fault to every further line.
+#[derive(Drop)]
+pub struct Walk<T> {
+    sink: T,
+    fault: Option<TakeFault>,
+}
+
+impl<T: RecordSink + Drop> Walk<T> {
+    /// Before the first line of a file.
+    pub fn new(sink: T) -> Walk<T>
+        requires { T.taken sink [] }
+        ensures { HasWalked T.taken result [] }
+    {
+        Walk { sink, fault: None }
+    }
+
+    /// Takes the next line, or answers the fault that it has after the lines before it. After a
+    /// fault, or want of memory, it answers the same.
+    pub fn take(&mut self, line: &Line<'_>) -> Result<(), TakeFault>
+        ensures taken { (before : List (List ℕ)) → HasWalked T.taken self.old before
+            → number_of line.now ≡ length before + 1
+            → Takes (HasWalked T.taken) T.may_lack before (text_of line.now)
+            (text_fault T.judge before (text_of line.now)) result self.new }
+        ensures again { IfSome (fault_answered self.old) (λ fault. (result ≡ Err fault)
+            × (fault_answered self.new ≡ Some fault)) }
+        ensures kept { IfErr result (λ fault. fault_answered self.new ≡ Some fault) }
+    {
+        match self.fault {
+            Some(fault) => Err(fault),
+            None => match take_line(&mut self.sink, line) {
+                Ok(()) => Ok(()),
+                Err(fault) => {
+                    self.fault = Some(fault);
+                    Err(fault)
+                }
+            },
+        }
+    }
+
+    /// Ends the file after so many lines, and gives what the sink made of them; or answers the fault
+    /// of the line after the last. After a fault it answers the same.
+    pub fn finish(self, lines: u64) -> Result<T::Output, TakeFault>
+        requires { lines < 2 ^ 64 - 1 }
+        ensures ended { (before : List (List ℕ)) → HasWalked T.taken self before → lines ≡ length before
+            → MatchResult result (λ output. (end_fault T.judge before ≡ None) × T.made output before)
+            (IsEndFault (end_fault T.judge before)) }
+        ensures again { IfSome (fault_answered self) (λ fault. result ≡ Err fault) }
+    {
+        if let Some(fault) = self.fault {
+            return Err(fault);
+        }
+        match self.sink.finish() {
+            Ok(output) => Ok(output),
+            Err(code) => Err(at_end(code, lines)),
+        }
+    }
+}
+
+/// Gives a sink the next line.
+fn take_line<T: RecordSink>(sink: &mut T, line: &Line<'_>) -> Result<(), TakeFault>
+    ensures { (before : List (List ℕ)) → T.taken sink.old before → number_of line.now ≡ length before + 1
+        → Takes T.taken T.may_lack before (text_of line.now) (text_fault T.judge before (text_of line.now))
+        result sink.new }
+{
+    if line.is_empty() {
+        sink.take_empty();
+        return Ok(());
+    }
+    match line.kind() {
+        Ok(kind) => sink.take_record(line, kind),
+        Err(KindFault::NotText) => Err(at_line(FaultCode::NotText, line)),
+        Err(KindFault::Unknown) => Err(at_line(FaultCode::UnknownRecord, line)),
+    }
+}

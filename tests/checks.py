@@ -1,0 +1,74 @@
+"""What the scripts share: the program that they run, the checks of what it does, and their end. They run at the root of the repository."""
+
+import os
+import resource
+import signal
+import socket
+import subprocess
+import sys
+
+os.chdir(os.path.join(os.path.dirname(os.path.abspath(__file__)), ".."))
+
+
+def program(number, otherwise):
+    """The path of a program: the argument of this number, or another path where it isn't given."""
+    return os.path.abspath(sys.argv[number] if len(sys.argv) > number else otherwise)
+
+
+SCRIPT = "tests/" + os.path.basename(sys.argv[0])
+MDSTORE = program(1, "bin/mdstore")
+failed = []
+
+
+def beginning(value, most):
+    """So many characters of a value, or all of them where no number is given."""
+    text = repr(value)
+    return text if most is None or len(text) <= most else text[:most] + ".."
+
+
+def check(what, got, wanted, most=None):
+    """Notes a failure where something isn't what is wanted, and prints it, with at most so many characters of each value."""
+    if got != wanted:
+        failed.append(what)
+        print(f"{SCRIPT}: {what}: {beginning(got, most)} is not {beginning(wanted, most)}", file=sys.stderr)
+
+
+def finish():
+    """Ends the script, with status 1 where a check has failed."""
+    sys.exit(1 if failed else 0)
+
+
+def mdstore(*words, given=None, **more):
+    """Runs the program with words, and gives it these bytes on standard input, or none. What it prints and its status are noted."""
+    source = {"stdin": subprocess.DEVNULL} if given is None else {"input": given}
+    return subprocess.run([MDSTORE, *words], capture_output=True, **source, **more)
+
+
+def limited(most):
+    """What a process does before it runs the program (`preexec_fn`), so that it can't write a file of more bytes. None is no limit."""
+    def limit():
+        if most is not None:
+            signal.signal(signal.SIGXFSZ, signal.SIG_IGN)
+            resource.setrlimit(resource.RLIMIT_FSIZE, (most, most))
+
+    return limit
+
+
+def free_port():
+    """A port of 127.0.0.1 that nobody has. Another process may take it before it is used."""
+    with socket.socket() as probe:
+        probe.bind(("127.0.0.1", 0))
+        return probe.getsockname()[1]
+
+
+def is_listening(port):
+    """Whether somebody listens to a port of 127.0.0.1. Those that listen are listed before the many connections that were closed."""
+    with open("/proc/net/tcp") as table:
+        next(table)
+        for line in table:
+            _, address, _, state, *_ = line.split()
+            if state != "0A":
+                return False
+            if address == f"0100007F:{port:04X}":
+                return True
+    return False
