@@ -1,3 +1,5 @@
+pub mod GapRuns
+pub mod Overlays
 pub mod RunFacts
 pub mod Spreads
 pub mod Tilings

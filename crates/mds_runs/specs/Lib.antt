@@ -1,2 +1,4 @@
+pub mod Gaps
+pub mod GapSteps
 pub mod RunSteps
 pub mod Runs

@@ -3,7 +3,9 @@
 ghost use Rattle.std.specs.Prelude.{◌≡◌, ◌≢◌, ◌↔◌, ◌+◌, ◌-◌, ◌^◌, ◌<◌, ◌≤◌, ℕ, List, [], ◌∷◌, ◌++◌, filter, length, nat_le, replicate, slice_get, Contains, Some, IfOk, IfErr, OnOk, OnErr, IsTrue, not};
 ghost use Rattle.std.specs.Option.{unwrap_or};
 ghost use Rattle.mds_marks.specs.declared.mark.Mark.{Mark};
-ghost use Rattle.mds_runs.specs.RunSteps.{first_mark, runs_from};
+ghost use Rattle.mds_runs.specs.Gaps.{runs_of, spread_with_gaps, IsLeastWithGaps, over, overlaid};
+ghost use Rattle.mds_runs.specs.GapSteps.{stretch_of, first_begun};
+ghost use Rattle.mds_runs.specs.RunSteps.{first_mark, runs_from, held_by};
 ghost use Rattle.mds_runs.specs.Runs.{holds, is_in_range, AreRuns, AreAscending, run_at, mark_at, spread_of, IsFull, leaves_out, IsLeast, last_end, refusal};
 ghost use Rattle.mds_runs.specs.declared.cover.Run.{Run};
 ghost use Rattle.mds_runs.specs.declared.cover.RunFault.{RunFault};
@@ -261,6 +263,117 @@ fn end_of_run(marks: &[Mark], start: usize) -> usize
         }
     }
     marks.len()
+}
+
+/// The cover with the fewest runs of a list of marks and gaps, one for each interval and at most 65,535. Its runs hold
+/// the intervals that have a mark, and no gap. It fails only for want of memory, and only for a day that isn't empty.
+pub fn gather_some(alloc: Global, marks: &[Option<Mark>]) -> Result<Cover, AllocError>
+    requires { length marks.now < 2 ^ 16 }
+    ensures count { IfOk result (λ cover. cover.count ≡ length marks.now) }
+    ensures lawful { IfOk result (λ cover. AreRuns cover.count cover.runs) }
+    ensures same { IfOk result (λ cover. spread_with_gaps cover.count cover.runs ≡ marks.now) }
+    ensures least { IfOk result (λ cover. IsLeastWithGaps cover.count cover.runs) }
+    ensures value { IfOk result (λ cover. cover.runs ≡ runs_of 1 marks.now) }
+    ensures full { OnErr result (0 < length marks.now) }
+{
+    let count = marks.len() as u16;
+    let mut runs = Vec::new(alloc);
+    let mut held = 0;
+    let mut start = 0;
+    while start < marks.len() {
+        let end = end_of_stretch(marks, start);
+        held += push_stretch(&mut runs, start as u16 + 1, end as u16, &marks[start])?;
+        start = end;
+    }
+    Ok(Cover { count, held, runs })
+}
+
+/// Appends the run of intervals `first` to `last` where they have a mark, and tells how many it holds. A gap has no run.
+fn push_stretch(
+    runs: &mut Vec<Run>,
+    first: u16,
+    last: u16,
+    mark: &Option<Mark>,
+) -> Result<u16, AllocError>
+    requires { (0 < first) × (first ≤ last) }
+    ensures held { IfOk result (λ held. held ≡ held_by (stretch_of first last mark.now)) }
+    ensures done { OnOk result (runs.new.items ≡ runs.old.items ++ stretch_of first last mark.now) }
+{
+    let Some(mark) = mark else {
+        return Ok(0);
+    };
+    let mark = mark.try_clone()?;
+    runs.push(Run { first, last, mark })?;
+    Ok(last - first + 1)
+}
+
+/// The index of the first place after this one that differs from it, or how many places there are. A gap differs from
+/// each mark.
+fn end_of_stretch(marks: &[Option<Mark>], start: usize) -> usize
+    requires { start < length marks.now }
+    ensures within { (start < result) × (result ≤ length marks.now) }
+    ensures alike { (k : ℕ) → start ≤ k → k < result
+        → slice_get marks.now k ≡ slice_get marks.now start }
+    ensures differs { result < length marks.now
+        → slice_get marks.now result ≢ slice_get marks.now start }
+{
+    let mark = &marks[start];
+    for end in start + 1..marks.len() {
+        if !are_alike(&marks[end], mark) {
+            return end;
+        }
+    }
+    marks.len()
+}
+
+/// Whether both are one mark, or both are gaps.
+fn are_alike(one: &Option<Mark>, other: &Option<Mark>) -> bool
+    ensures { IsTrue result ↔ (one.now ≡ other.now) }
+{
+    match (one, other) {
+        (Some(one), Some(other)) => one.is_same(other),
+        (None, None) => true,
+        _ => false,
+    }
+}
+
+/// Lays a cover over marks and gaps. An interval has the mark of the run that holds it, or else what stood there. It
+/// goes over both once. It fails only for want of memory, and drops the marks then.
+pub fn overlay(marks: Vec<Option<Mark>>, cover: &Cover) -> Result<Vec<Option<Mark>>, AllocError>
+    requires { length marks.items < 2 ^ 16 }
+    ensures value { IfOk result (λ new. new.items ≡ overlaid cover.now.runs 1 marks.items) }
+    ensures full { OnErr result (0 < length marks.items) }
+{
+    let mut new = marks;
+    set_marks(&mut new, cover.runs.as_slice())?;
+    Ok(new)
+}
+
+/// Sets the mark of each interval that a run holds.
+fn set_marks(marks: &mut Vec<Option<Mark>>, runs: &[Run]) -> Result<(), AllocError>
+    requires few { length marks.old.items < 2 ^ 16 }
+    requires lawful { AreAscending runs.now }
+    ensures done { OnOk result (marks.new.items ≡ overlaid runs.now 1 marks.old.items) }
+    ensures full { OnErr result (0 < length marks.old.items) }
+{
+    let mut left = runs;
+    for k in 0..marks.len() {
+        left = runs_from(left, k as u16 + 1);
+        set_mark(&mut marks[k], left, k as u16 + 1)?;
+    }
+    Ok(())
+}
+
+/// Sets the mark of an interval to that of the first run, where this one has begun.
+fn set_mark(mark: &mut Option<Mark>, runs: &[Run], interval: u16) -> Result<(), AllocError>
+    ensures { OnOk result (mark.new ≡ over (first_begun runs.now interval) mark.old) }
+{
+    if let [run, ..] = runs {
+        if run.first <= interval {
+            *mark = Some(run.mark.try_clone()?);
+        }
+    }
+    Ok(())
 }
 
 /// The law of faults: `==` says whether two are the same. The function does nothing.

@@ -4,4 +4,7 @@
 
 mod cover;
 
-pub use cover::{Cover, Run, RunFault, equal_faults, gather, mark_from, one_run_holds, spread};
+pub use cover::{
+    Cover, Run, RunFault, equal_faults, gather, gather_some, mark_from, one_run_holds, overlay,
+    spread,
+};

@@ -9,6 +9,8 @@ mod failing;
 #[cfg(test)]
 mod marks;
 #[cfg(test)]
+mod packs;
+#[cfg(test)]
 mod rows;
 #[cfg(test)]
 mod runs;

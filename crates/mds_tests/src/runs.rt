@@ -2,7 +2,7 @@
 
 use mds_export::{RunRow, write_run};
 use mds_marks::Mark;
-use mds_runs::{Cover, Run, gather, spread};
+use mds_runs::{Cover, Run, gather, gather_some, overlay, spread};
 use std::alloc::Global;
 
 /// Has a cover take a run of a quality.
@@ -35,9 +35,29 @@ fn gathered(alloc: Global) -> Option<Vec<u8>> {
     written(alloc, &gather(alloc, &marks).ok()?)
 }
 
+/// The 400 records that are gathered of a day of gaps with one run laid over them.
+fn laid(alloc: Global) -> Option<Vec<u8>> {
+    let mut cover = Cover::new(alloc, 48);
+    take(alloc, &mut cover, 21, 24, b"A")?;
+    let mut gaps = Vec::new(alloc);
+    for _ in 0..48 {
+        gaps.push(None).ok()?;
+    }
+    if gaps.len() > 48 {
+        return None;
+    }
+    let marks = overlay(gaps, &cover).ok()?;
+    if marks.len() > 48 {
+        return None;
+    }
+    written(alloc, &gather_some(alloc, &marks).ok()?)
+}
+
 #[test]
 fn runs_are_spread_and_gathered(rt: HostRuntime) {
     let runs = gathered(rt.alloc());
     let wanted = b"400,1,20,F14,,\r\n400,21,46,A,,\r\n400,47,48,F14,,\r\n";
     assert!(rt; runs.as_deref() == Some(wanted.as_slice()));
+    let runs = laid(rt.alloc());
+    assert!(rt; runs.as_deref() == Some(b"400,21,24,A,,\r\n".as_slice()));
 }

@@ -1,0 +1,17 @@
+-- What the loops of unpacking keep: private (profile).
+use Rattle.std.specs.Prelude.{ℕ, List, ◌++◌, Option, Some}
+use Rattle.mds_marks.specs.Reading.{ReadingValue}
+use Rattle.mds_packs.specs.Unpacked.{◌>>=◌, PartsValue}
+use Rattle.mds_packs.specs.declared.unpacking.Parts.{Parts}
+
+-- the fields of a run, with the bytes of the text that is borrowed
+abbrev pub parts_value : Parts → PartsValue
+parts_value p = record { first = p.first; last = p.last; flag = p.flag; method = p.method; code = p.code; text = p.text.now }
+
+-- what was read before, and what is still read
+abbrev pub with_front : {A : Type 0} → List A → Option (List A × List ℕ) → Option (List A × List ℕ)
+with_front front read = read >>= λ x. Some (front ++ x.0, x.1)
+
+-- the same of readings
+abbrev pub held_front : List (Option ReadingValue) → Option (List (Option ReadingValue) × List ℕ) → Option (List (Option ReadingValue) × List ℕ)
+held_front front read = with_front front read
