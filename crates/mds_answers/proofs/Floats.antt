@@ -5,7 +5,7 @@ use Rattle.serde_json.specs.View.{items_of}
 use Rattle.serde_json.specs.Written.{has_float, items_have_float}
 use Rattle.mds_statements.specs.declared.periods.Period.{Period}
 use Rattle.mds_terms.specs.Event.{EventValue}
-use Rattle.mds_versions.specs.declared.day_book.Version.{Version}
+use Rattle.mds_keeper.specs.declared.day_book.Version.{Version}
 use Rattle.mds_messages.specs.declared.answer.Answer.{Answer}
 use Rattle.mds_messages.specs.declared.answer.Answer.TheVariants as told
 use Rattle.mds_messages.specs.declared.answer.DayAnswer.{DayAnswer}

@@ -3,7 +3,7 @@ use Rattle.std.proofs.Common.{◌≡◌, ℕ, ◌==◌, Bool, true, false, cond,
 use Rattle.serde_json.specs.Data.{Members, boolean, member, no_members, string}
 use Rattle.serde_json.specs.Written.{compact_text, members_text}
 use Rattle.serde_json.proofs.OnLiterals.{serde_json_on_literals}
-use Rattle.mds_versions.specs.Refusals.{place_text}
+use Rattle.mds_keeper.specs.Refusals.{place_text}
 use Rattle.mds_answers.specs.Json.{counts, filled, place, refused, whole}
 use Rattle.mds_answers.specs.JsonSteps.{IsPlain}
 

@@ -13,8 +13,8 @@ use Rattle.mds_terms.specs.Event.{EventValue, trans_text}
 use Rattle.mds_terms.specs.Parts.{optional}
 use Rattle.mds_records.specs.Printed.{code_text as fault_code_text}
 use Rattle.mds_statements.specs.declared.periods.Period.{Period}
-use Rattle.mds_versions.specs.Refusals.{code_text as rule_code_text}
-use Rattle.mds_versions.specs.declared.day_book.Version.{Version}
+use Rattle.mds_keeper.specs.Refusals.{code_text as rule_code_text}
+use Rattle.mds_keeper.specs.declared.day_book.Version.{Version}
 use Rattle.mds_messages.specs.declared.answer.Answer.{Answer}
 use Rattle.mds_messages.specs.declared.answer.Answer.TheVariants as told
 use Rattle.mds_messages.specs.declared.answer.DayAnswer.{DayAnswer}

@@ -11,10 +11,10 @@ ghost use Rattle.mds_answers.specs.Json.{IsDayData, IsEvent, IsVersion, IsVersio
 
 use crate::told::{ToJson, day_text, list_of, moment_text, optional_moment_text, put_text};
 use itoa::Buffer;
+use mds_keeper::Version;
 use mds_messages::{DayAnswer, VersionsAnswer};
 use mds_quantity::Quantity;
 use mds_terms::{Event, Quality, Reading, TransCode};
-use mds_versions::Version;
 use serde_json::{Map, Value, push, put};
 use std::alloc::{AllocError, Global};
 

@@ -4,16 +4,16 @@ ghost use Rattle.std.specs.Prelude.{◌≡◌, ◌+◌, ◌≤◌, ◌++◌, fal
 ghost use Rattle.serde_json.specs.Data.{boolean};
 ghost use Rattle.serde_json.specs.Written.{compact_text};
 ghost use Rattle.mds_records.specs.Printed.{code_text as fault_code_text};
-ghost use Rattle.mds_versions.specs.Refusals.{code_text as rule_code_text, place_text};
+ghost use Rattle.mds_keeper.specs.Refusals.{code_text as rule_code_text, place_text};
 ghost use Rattle.mds_messages.specs.Answers.{has_list, has_text};
 ghost use Rattle.mds_answers.specs.Json.{IsJson, counts, filled, refused};
 ghost use Rattle.mds_answers.specs.JsonSteps.{IsPlain};
 
 use arrayvec::ArrayString;
 use itoa::Buffer;
+use mds_keeper::Refusal;
 use mds_messages::Answer;
 use mds_records::FileFault;
-use mds_versions::Refusal;
 
 /// Room for a text. The longest is a refusal's with a field, an interval and a line, of at most 89 bytes.
 const ROOM: usize = 160;

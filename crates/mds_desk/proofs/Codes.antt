@@ -3,9 +3,9 @@ use Rattle.std.proofs.Common.{◌≤◌, length, arith}
 use Rattle.mds_records.specs.Printed.{code_text}
 use Rattle.mds_records.specs.declared.file.FaultCode.{FaultCode}
 use Rattle.mds_records.specs.declared.file.FaultCode.TheVariants.{NotText, UnknownRecord, OutOfPlace, FieldCount, BadField, RunRange, RunOrder, RunGap, MissingEnd, TooLarge, WrongFile, NoValue}
-use Rattle.mds_versions.specs.Refusals.{code_text as rule_text}
-use Rattle.mds_versions.specs.declared.refusal.RefusalCode.{RefusalCode}
-use Rattle.mds_versions.specs.declared.refusal.RefusalCode.TheVariants.{LengthConflict, UnitConflict, VersionConflict, JobReused, Protected, StaleUpdate, NoLikeDay, TooLong, NoAnchor, UnknownDay, BadJob, RangeTooWide}
+use Rattle.mds_keeper.specs.Refusals.{code_text as rule_text}
+use Rattle.mds_keeper.specs.declared.refusal.RefusalCode.{RefusalCode}
+use Rattle.mds_keeper.specs.declared.refusal.RefusalCode.TheVariants.{LengthConflict, UnitConflict, VersionConflict, JobReused, Protected, StaleUpdate, NoLikeDay, TooLong, NoAnchor, UnknownDay, BadJob, RangeTooWide}
 
 pub code_short : (code : FaultCode) → length (code_text code) ≤ 3
 code_short NotText = omega arith

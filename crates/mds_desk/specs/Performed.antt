@@ -1,7 +1,7 @@
 -- What a command prints of an answer, and the status that it ends with (profile).
 use Rattle.std.specs.Prelude.{◌≡◌, ◌⊎◌, ℕ, List, ◌++◌, codes, decimal, Bool, true, false, Result, Ok, Err}
 use Rattle.mds_records.specs.Printed.{fault_text}
-use Rattle.mds_versions.specs.Refusals.{refusal_text}
+use Rattle.mds_keeper.specs.Refusals.{refusal_text}
 use Rattle.mds_messages.specs.declared.answer.Answer.{Answer}
 use Rattle.mds_messages.specs.declared.answer.Answer.TheVariants as told
 use Rattle.mds_messages.specs.Answers.{has_list}

@@ -4,7 +4,7 @@ ghost use Rattle.std.specs.Prelude.{◌≡◌, ◌+◌, ◌-◌, ◌<◌, ◌≤
 ghost use Rattle.std.specs.Io.KnownBytes.{Appends as AppendsKnown, Keeps};
 ghost use Rattle.mds_messages.specs.declared.answer.Answer.{Answer as AnAnswer};
 ghost use Rattle.mds_records.specs.Printed.{fault_text};
-ghost use Rattle.mds_versions.specs.Refusals.{place_text, refusal_text};
+ghost use Rattle.mds_keeper.specs.Refusals.{place_text, refusal_text};
 ghost use Rattle.mds_messages.specs.Answers.{has_list};
 ghost use Rattle.mds_service.specs.Crashes.{Goes};
 ghost use Rattle.mds_desk.specs.Performed.{IsAnswerText, IsJsonLine, IsToldAs, answer_status, is_write_failure};
@@ -14,11 +14,11 @@ use crate::outcome::Status;
 use arrayvec::ArrayString;
 use itoa::Buffer;
 use mds_answers::list_json;
+use mds_keeper::{Keeper, Refusal};
 use mds_lines::{Sink, write_whole};
 use mds_messages::{Answer, Request};
 use mds_records::FileFault;
 use mds_service::run;
-use mds_versions::{Keeper, Refusal};
 use std::alloc::{AllocError, Global};
 
 /// Room for a line. The longest is a refusal's, of at most 87 bytes.
@@ -88,22 +88,16 @@ pub fn perform<K: Keeper, W: Sink>(
 ) -> Result<Status, PerformFault>
     requires { W.failures writer.old < 2 ^ 64 - 1 }
 
-    // A keeper that is honest, or sound, in the end was so throughout.
-    ensures outside { K.honest keeper.new → K.honest keeper.old }
-    ensures before { K.sound keeper.new → K.sound keeper.old }
-
     // A step of the machine was done, and its answer printed, whole and nothing else. It is one from every lawful World that is
     // kept where the keeper is sound, so also after a fault that shut it.
-    ensures done { IfOk result (λ status. K.honest keeper.new → (answer : AnAnswer)
-        × Goes (K.sound keeper.old) (K.sound keeper.new) (K.world keeper.old) (K.world keeper.new)
-        (K.may_leave keeper.old) (K.may_leave keeper.new) request.now answer
+    ensures done { IfOk result (λ status. (answer : AnAnswer)
+        × Goes (K.kept keeper.old) (K.kept keeper.new) request.now answer
         × (status ≡ answer_status answer) × (text : List ℕ) × IsAnswerText answer text
         × AppendsKnown (W.contents writer.old) (W.contents writer.new) text) }
 
     // Where the writer fails the step was done all the same, and a part of its answer was printed.
-    ensures part { result ≡ Err PerformFault.Write → K.honest keeper.new → (answer : AnAnswer)
-        × Goes (K.sound keeper.old) (K.sound keeper.new) (K.world keeper.old) (K.world keeper.new)
-        (K.may_leave keeper.old) (K.may_leave keeper.new) request.now answer
+    ensures part { result ≡ Err PerformFault.Write → (answer : AnAnswer)
+        × Goes (K.kept keeper.old) (K.kept keeper.new) request.now answer
         × (text : List ℕ) × IsAnswerText answer text × (n : ℕ) × (n < length text)
         × AppendsKnown (W.contents writer.old) (W.contents writer.new) (take n text) }
 

@@ -8,9 +8,9 @@ use Rattle.mds_world.specs.Facts.{JobContent}
 use Rattle.mds_world.specs.Facts.Fact.{HeadIs, VersionIs}
 use Rattle.mds_world.specs.Sets.{◌∈◌}
 use Rattle.mds_world.specs.World.{IsCurrent, IsLawful, World}
-use Rattle.mds_versions.specs.Books.{BookValue, book_world}
-use Rattle.mds_versions.specs.declared.day_book.Version.{Version}
-use Rattle.mds_versions.proofs.BookFacts.{head_in_book, head_of_book}
+use Rattle.mds_keeper.specs.Books.{BookValue, book_world}
+use Rattle.mds_keeper.specs.declared.day_book.Version.{Version}
+use Rattle.mds_keeper.proofs.BookFacts.{head_in_book, head_of_book}
 use Rattle.mds_fill.specs.Fills.{Finds, IsActualOrFinal, IsBookOf, IsProtected, IsUsable}
 
 -- what holds of a book's stream and day holds of those that it is of, and the other way

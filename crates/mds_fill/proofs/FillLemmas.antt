@@ -7,12 +7,12 @@ use Rattle.std.proofs.Math.Seq.{get_or-append_seam}
 use Rattle.mds_marks.specs.Reading.{ReadingValue}
 use Rattle.mds_world.specs.Facts.{JobContent}
 use Rattle.mds_world.specs.World.{World}
-use Rattle.mds_versions.specs.DayMerges.{IfRefused}
-use Rattle.mds_versions.specs.declared.day_merge.Stop.{Stop}
-use Rattle.mds_versions.specs.declared.day_merge.Stop.TheVariants.{Refused, Memory}
-use Rattle.mds_versions.specs.declared.refusal.Refusal.{Refusal}
-use Rattle.mds_versions.specs.declared.refusal.RefusalCode.{RefusalCode}
-use Rattle.mds_versions.specs.declared.refusal.RefusalCode.TheVariants.{LengthConflict, UnitConflict, VersionConflict, JobReused, Protected, StaleUpdate, NoLikeDay, TooLong, NoAnchor, UnknownDay, BadJob, RangeTooWide}
+use Rattle.mds_keeper.specs.DayMerges.{IfRefused}
+use Rattle.mds_keeper.specs.declared.day_merge.Stop.{Stop}
+use Rattle.mds_keeper.specs.declared.day_merge.Stop.TheVariants.{Refused, Memory}
+use Rattle.mds_keeper.specs.declared.refusal.Refusal.{Refusal}
+use Rattle.mds_keeper.specs.declared.refusal.RefusalCode.{RefusalCode}
+use Rattle.mds_keeper.specs.declared.refusal.RefusalCode.TheVariants.{LengthConflict, UnitConflict, VersionConflict, JobReused, Protected, StaleUpdate, NoLikeDay, TooLong, NoAnchor, UnknownDay, BadJob, RangeTooWide}
 use Rattle.mds_fill.specs.Fills.{AreSubstitutes, IsFillFault, IsFillRefusal, IsFilled, IsFree, IsSubstitute, IsTooLong, LacksLikeDay, target_count}
 use Rattle.mds_fill.specs.FillSteps.{AreFilled, IsLack}
 

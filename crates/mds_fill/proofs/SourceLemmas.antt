@@ -9,7 +9,7 @@ use Rattle.mds_world.specs.Facts.{JobContent}
 use Rattle.mds_world.specs.Facts.Fact.{HolidayIs}
 use Rattle.mds_world.specs.Sets.{◌∈◌}
 use Rattle.mds_world.specs.World.{World}
-use Rattle.mds_versions.specs.Books.{BookValue}
+use Rattle.mds_keeper.specs.Books.{BookValue}
 use Rattle.mds_fill.specs.Candidates.{IsCandidate, IsSunday}
 use Rattle.mds_fill.specs.Fills.{Finds, IsLike, IsLikeBook, IsLikeValue, HasAll, IsFilled, IsNearestLike, IsTally, IsTarget, IsUsable, IsValueAfter, IsValueBefore, count_some}
 use Rattle.mds_fill.specs.FillSteps.{HasNoLikeValue}

@@ -5,8 +5,8 @@ use Rattle.mds_marks.specs.Reading.{ReadingValue}
 use Rattle.mds_world.specs.Facts.{JobContent}
 use Rattle.mds_world.specs.Lists.{Member}
 use Rattle.mds_world.specs.World.{World}
-use Rattle.mds_versions.specs.declared.refusal.RefusalCode.{RefusalCode}
-use Rattle.mds_versions.specs.declared.refusal.RefusalCode.TheVariants.{NoLikeDay, NoAnchor}
+use Rattle.mds_keeper.specs.declared.refusal.RefusalCode.{RefusalCode}
+use Rattle.mds_keeper.specs.declared.refusal.RefusalCode.TheVariants.{NoLikeDay, NoAnchor}
 use Rattle.mds_jobs.specs.Jobs.{flags, methods}
 use Rattle.mds_fill.specs.Fills.{IsBookOf, IsLikeValue, IsNearestLike, IsSubstitute, IsValueAfter, IsValueBefore, LacksAnchor, LacksLikeDay}
 use Rattle.mds_fill.specs.declared.sources.Source.{Source}

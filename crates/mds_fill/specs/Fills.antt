@@ -11,10 +11,10 @@ use Rattle.mds_world.specs.Facts.{JobContent}
 use Rattle.mds_world.specs.Facts.Fact.{HeadIs, VersionIs, HolidayIs}
 use Rattle.mds_world.specs.Sets.{◌∈◌}
 use Rattle.mds_world.specs.World.{IsCurrent, World}
-use Rattle.mds_versions.specs.Books.{BookValue, IsDay}
-use Rattle.mds_versions.specs.declared.refusal.Refusal.{Refusal}
-use Rattle.mds_versions.specs.declared.refusal.RefusalCode.{RefusalCode}
-use Rattle.mds_versions.specs.declared.refusal.RefusalCode.TheVariants.{Protected, StaleUpdate, NoLikeDay, TooLong, NoAnchor}
+use Rattle.mds_keeper.specs.Books.{BookValue, IsDay}
+use Rattle.mds_keeper.specs.declared.refusal.Refusal.{Refusal}
+use Rattle.mds_keeper.specs.declared.refusal.RefusalCode.{RefusalCode}
+use Rattle.mds_keeper.specs.declared.refusal.RefusalCode.TheVariants.{Protected, StaleUpdate, NoLikeDay, TooLong, NoAnchor}
 use Rattle.mds_fill.specs.Candidates.{IsCandidate}
 use Rattle.mds_fill.specs.declared.context.Context.{Context}
 

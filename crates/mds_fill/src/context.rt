@@ -1,6 +1,6 @@
 //! What a substitution job looks at.
 
-use mds_versions::DayBook;
+use mds_keeper::DayBook;
 
 /// The days that a job looks at: its own, its candidates, and the days before and after it.
 #[derive(Drop)]

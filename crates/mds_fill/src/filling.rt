@@ -2,7 +2,7 @@
 
 ghost use Rattle.std.specs.Prelude.{◌≡◌, length, IfOk, IfErr, Some};
 ghost use Rattle.mds_world.specs.World.{World};
-ghost use Rattle.mds_versions.specs.DayMerges.{IfRefused};
+ghost use Rattle.mds_keeper.specs.DayMerges.{IfRefused};
 ghost use Rattle.mds_jobs.specs.Jobs.{IsBad, content_of};
 ghost use Rattle.mds_fill.specs.Fills.{AreSubstitutes, IsContext, IsFillRefusal, LacksLikeDay, target_count};
 ghost use Rattle.mds_fill.specs.FillSteps.{AreFilled, IsGood, IsSource};
@@ -11,9 +11,9 @@ use crate::context::Context;
 use crate::sources::{Source, source_of, value_at};
 use crate::targets::{blocked, is_good};
 use mds_jobs::Job;
+use mds_keeper::{Refusal, RefusalCode, Stop};
 use mds_quantity::Quantity;
 use mds_terms::{Mark, Quality, Reading};
-use mds_versions::{Refusal, RefusalCode, Stop};
 use std::alloc::{AllocError, Global};
 
 /// The readings that a job fills in, one for each interval from its first to its last. Else the first rule that stops it:

@@ -12,8 +12,8 @@ use crate::context::Context;
 use crate::targets::method_of;
 use crate::usable::{candidate_value, has_all, usable_value};
 use mds_jobs::{Job, Method};
+use mds_keeper::{DayBook, RefusalCode};
 use mds_quantity::{Quantity, between, mean};
-use mds_versions::{DayBook, RefusalCode};
 
 /// Where the values of a job come from.
 #[derive(Clone, Copy)]

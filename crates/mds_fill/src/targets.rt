@@ -10,8 +10,8 @@ ghost use Rattle.mds_fill.specs.FillSteps.{IsGood};
 
 use crate::usable::is_actual_or_final;
 use mds_jobs::{Job, Method};
+use mds_keeper::{DayBook, Refusal, RefusalCode};
 use mds_terms::Moment;
-use mds_versions::{DayBook, Refusal, RefusalCode};
 
 /// The most minutes that are interpolated.
 const MOST_MINUTES: i64 = 120;

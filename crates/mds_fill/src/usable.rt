@@ -8,10 +8,10 @@ ghost use Rattle.mds_jobs.specs.Jobs.{content_of};
 ghost use Rattle.mds_fill.specs.Fills.{Finds, HasAll, IsActualOrFinal, IsBookOf, IsLikeBook, IsLikeValue, IsUsable};
 
 use mds_jobs::Job;
+use mds_keeper::DayBook;
 use mds_marks::flags::{ACTUAL, FINAL};
 use mds_quantity::Quantity;
 use mds_terms::Reading;
-use mds_versions::DayBook;
 
 /// The usable value of an interval of a day.
 pub(crate) fn usable_value(book: &DayBook, job: &Job, interval: u16) -> Option<Quantity>

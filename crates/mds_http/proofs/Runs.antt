@@ -5,6 +5,7 @@ use Rattle.httparse.proofs.GrammarLemmas.{request_unique}
 use Rattle.std.proofs.Common.{inl, inr, sym, ap, subst}
 use Rattle.std.proofs.lemmas.List.{append-nil, append_assoc}
 use Rattle.mds_world.specs.World.{IsLawful, World}
+use Rattle.mds_keeper.specs.Kept.{Kept}
 use Rattle.mds_service.specs.Crashes.{Goes, MayLeave}
 use Rattle.mds_service.specs.Machine.{Run}
 use Rattle.mds_messages.specs.declared.request.Request.{Request}
@@ -54,26 +55,22 @@ asks_for_none bytes head rest route size reason reads is is_fault no_memory othe
           (subst (λ (r : Route). IsFaultAt r head.target (take size rest) reason) one.0 is_fault)),
     )
 
-module _ {K : Type 0} (honest sound : K → Type 0) (world : K → World) (may_leave : K → World → Type 0) where
+module _ {K : Type 0} (kept : K → Kept) where
   -- how a request went
   abbrev Went : StoreHandler K → StoreHandler K → Request → Told → Type 0
-  Went old new request told =
-      honest new.keeper → Goes (sound old.keeper) (sound new.keeper) (world old.keeper) (world new.keeper)
-      (may_leave old.keeper) (may_leave new.keeper) request told
+  Went old new request told = Goes (kept old.keeper) (kept new.keeper) request told
 
   -- by a connection a request was done, and is told; or nothing was, since its bytes ask for nothing or it was told 503
   abbrev Effect : List ℕ → StoreHandler K → Answer → StoreHandler K → Type 0
   Effect bytes old answer new =
-      ((request : Request) × (told : Told) × AskFor bytes request × IsTold told answer × Went old new request told
-      × (honest new.keeper → honest old.keeper))
+      ((request : Request) × (told : Told) × AskFor bytes request × IsTold told answer × Went old new request told)
       ⊎ ((AskForNone bytes ⊎ (answer.status ≡ Unavailable)) × (new ≡ old))
 
-  effect : OnlySteps (Handles honest sound world may_leave) IsSame → (bytes : List ℕ) (old new : StoreHandler K)
-      (answer : Answer) → MeansOver honest sound world may_leave bytes old answer new → Effect bytes old answer new
+  effect : OnlySteps (Handles kept) IsSame → (bytes : List ℕ) (old new : StoreHandler K) (answer : Answer)
+      → MeansOver kept bytes old answer new → Effect bytes old answer new
   effect steps bytes old new answer means = elim (steps bytes old new answer means) [
     | inl it ↦
-        let done = it.9 in
-        elim done.2 [
+        elim it.9 [
           | inl asked ↦
               inl (
                 asked.0,
@@ -81,7 +78,6 @@ module _ {K : Type 0} (honest sound : K → Type 0) (world : K → World) (may_l
                 (it.0, it.1, it.2, it.3, (it.4, it.5, it.6), it.7, asked.2),
                 (asked.4, asked.5, it.8),
                 asked.3,
-                done.0,
               )
           | inr none ↦
               inr (inl (asks_for_none bytes it.0 it.1 it.2 it.3 none.0 it.4 it.6 none.1 (tells_no_memory none.0 _ _ _ none.2)), none.3)
@@ -97,14 +93,14 @@ module _ {K : Type 0} (honest sound : K → Type 0) (world : K → World) (may_l
 
   -- a keeper that is honest in the end was so before
   honest_before : (bytes : List ℕ) (old new : StoreHandler K) (answer : Answer) → Effect bytes old answer new
-      → honest new.keeper → honest old.keeper
-  honest_before bytes old new answer (inl done) = done.5
-  honest_before bytes old new answer (inr idle) = subst (λ (s : StoreHandler K). honest s.keeper) idle.1
+      → (kept new.keeper).honest → (kept old.keeper).honest
+  honest_before bytes old new answer (inl done) = done.4.outside
+  honest_before bytes old new answer (inr idle) = subst (λ (s : StoreHandler K). (kept s.keeper).honest) idle.1
 
-  module _ (steps : OnlySteps (Handles honest sound world may_leave) IsSame) where
+  module _ (steps : OnlySteps (Handles kept) IsSame) where
     honest_first : (connections : List (List ℕ × Answer)) (first last : StoreHandler K)
-        → AreServed honest sound world may_leave first connections last → honest last.keeper → honest first.keeper
-    honest_first [] first last served h = subst (λ (s : StoreHandler K). honest s.keeper) served h
+        → AreServed kept first connections last → (kept last.keeper).honest → (kept first.keeper).honest
+    honest_first [] first last served h = subst (λ (s : StoreHandler K). (kept s.keeper).honest) served h
     honest_first (connection ∷ connections) first last served h =
         honest_before connection.0 first served.0 connection.1
         (effect steps connection.0 first served.0 connection.1 served.1)
@@ -114,35 +110,35 @@ module _ {K : Type 0} (honest sound : K → Type 0) (world : K → World) (may_l
     abbrev GoesOn : World → List Request → List Told → List (List ℕ × Answer) → StoreHandler K → Type 0
     GoesOn a rs ss connections last =
         (requests : List Request) × (answers : List Told) × (w : World) × AreDone connections requests answers × IsLawful w
-        × Run a (rs ++ requests) (ss ++ answers) w × (sound last.keeper → world last.keeper ≡ w)
-        × ((left : World) → may_leave last.keeper left → MayLeave w (rs ++ requests) (ss ++ answers) left)
+        × Run a (rs ++ requests) (ss ++ answers) w × ((kept last.keeper).sound → (kept last.keeper).world ≡ w)
+        × ((left : World) → (kept last.keeper).may_leave left → MayLeave w (rs ++ requests) (ss ++ answers) left)
 
     run_on : (connections : List (List ℕ × Answer)) (a : World) (rs : List Request) (ss : List Told) (b : World)
-        (first last : StoreHandler K) → AreServed honest sound world may_leave first connections last → honest last.keeper
-        → IsLawful b → (sound first.keeper → world first.keeper ≡ b) → Run a rs ss b
-        → ((left : World) → may_leave first.keeper left → MayLeave b rs ss left) → GoesOn a rs ss connections last
-    run_on [] a rs ss b first last served h lawful kept run may = (
+        (first last : StoreHandler K) → AreServed kept first connections last → (kept last.keeper).honest
+        → IsLawful b → ((kept first.keeper).sound → (kept first.keeper).world ≡ b) → Run a rs ss b
+        → ((left : World) → (kept first.keeper).may_leave left → MayLeave b rs ss left) → GoesOn a rs ss connections last
+    run_on [] a rs ss b first last served h lawful shows run may = (
       [],
       [],
       b,
       (refl, refl),
       lawful,
       subst (λ l. Run a l (ss ++ []) b) (sym (append-nil rs)) (subst (λ l. Run a rs l b) (sym (append-nil ss)) run),
-      subst (λ (s : StoreHandler K). sound s.keeper → world s.keeper ≡ b) (sym served) kept,
+      subst (λ (s : StoreHandler K). (kept s.keeper).sound → (kept s.keeper).world ≡ b) (sym served) shows,
       λ left it. subst (λ l. MayLeave b l (ss ++ []) left) (sym (append-nil rs))
           (subst (λ l. MayLeave b rs l left) (sym (append-nil ss))
-          (may left (subst (λ (s : StoreHandler K). may_leave s.keeper left) served it))),
+          (may left (subst (λ (s : StoreHandler K). (kept s.keeper).may_leave left) served it))),
     )
-    run_on (connection ∷ connections) a rs ss b first last served h lawful kept run may =
+    run_on (connection ∷ connections) a rs ss b first last served h lawful shows run may =
         let next = served.0 in
         elim (effect steps connection.0 first next connection.1 served.1) [
           | inl done ↦
               let request = done.0 in
               let told = done.1 in
-              let it = done.4 (honest_first connections next last served.2 h) b lawful kept in
+              let it = done.4.step (honest_first connections next last served.2 h) b lawful shows in
               let more = run_on connections a (rs ++ request ∷ []) (ss ++ told ∷ []) it.0 next last served.2 h it.1 it.3
               (run_more a rs ss b request told it.0 run it.2)
-              (λ left may_be. leaves_more a rs ss b it.0 request told (may_leave first.keeper left) left run it.2
+              (λ left may_be. leaves_more a rs ss b it.0 request told ((kept first.keeper).may_leave left) left run it.2
               (may left) (it.4 left may_be)) in
               let asked = append_assoc rs (request ∷ []) more.0 in
               let answered = append_assoc ss (told ∷ []) more.1 in (
@@ -160,24 +156,23 @@ module _ {K : Type 0} (honest sound : K → Type 0) (world : K → World) (may_l
           | inr idle ↦
               let same = idle.1 in
               let more = run_on connections a rs ss b next last served.2 h lawful
-              (subst (λ (s : StoreHandler K). sound s.keeper → world s.keeper ≡ b) (sym same) kept) run
-              (λ left it. may left (subst (λ (s : StoreHandler K). may_leave s.keeper left) same it)) in
+              (subst (λ (s : StoreHandler K). (kept s.keeper).sound → (kept s.keeper).world ≡ b) (sym same) shows) run
+              (λ left it. may left (subst (λ (s : StoreHandler K). (kept s.keeper).may_leave left) same it)) in
               (more.0, more.1, more.2, inl (idle.0, more.3), more.4, more.5, more.6, more.7)
         ]
 
-    pub connections_run : ((k : K) → sound k → (left : World) → may_leave k left → left ≡ world k)
-        → ConnectionsRun honest sound world may_leave
+    pub connections_run : ((k : K) → (kept k).sound → (left : World) → (kept k).may_leave left → left ≡ (kept k).world)
+        → ConnectionsRun kept
     connections_run settled connections first last served h sound_first lawful =
-        run_on connections (world first.keeper) [] [] (world first.keeper) first last served h lawful (λ _. refl) refl
+        run_on connections (kept first.keeper).world [] [] (kept first.keeper).world first last served h lawful (λ _. refl) refl
         (λ left it. inl (settled first.keeper sound_first left it))
 
   -- what asks for no request changes nothing
-  pub unasked : HeadDecides (Handles honest sound world may_leave) IsSame
-      → UnaskedNoChange honest sound world may_leave
+  pub unasked : HeadDecides (Handles kept) IsSame → UnaskedNoChange kept
   unasked decides bytes rest head route size old new answer wants none means =
-      elim (subst (λ j. AnswersJudged (Handles honest sound world may_leave) IsSame j head rest old answer new) wants.2
+      elim (subst (λ j. AnswersJudged (Handles kept) IsSame j head rest old answer new) wants.2
       (decides bytes rest head old new answer wants.0 wants.1 means)) [
-        | inl step ↦ elim step.2.2 [
+        | inl step ↦ elim step.2 [
           | inl asked ↦ absurd (none asked.0 asked.2)
           | inr fault ↦ (fault_is_no_success fault.0 _ _ _ fault.2, fault.3)
         ]
@@ -188,8 +183,7 @@ module _ {K : Type 0} (honest sound : K → Type 0) (world : K → World) (may_l
       ]
 
   -- a head that is refused changes nothing
-  pub refused_none : HeadDecides (Handles honest sound world may_leave) IsSame
-      → RefusedNoChange honest sound world may_leave
+  pub refused_none : HeadDecides (Handles kept) IsSame → RefusedNoChange kept
   refused_none decides bytes rest head status old new answer reads few is means =
-      subst (λ j. AnswersJudged (Handles honest sound world may_leave) IsSame j head rest old answer new) is
+      subst (λ j. AnswersJudged (Handles kept) IsSame j head rest old answer new) is
       (decides bytes rest head old new answer reads few means)

@@ -1,9 +1,9 @@
 -- What a request over HTTP does to a store, and what is answered (profile).
 use Rattle.std.specs.Prelude.{◌≡◌, ◌⊎◌, ℕ, List, codes}
 use Rattle.serde_json.specs.Written.{compact_text}
-use Rattle.mds_versions.specs.declared.refusal.RefusalCode.{RefusalCode}
-use Rattle.mds_versions.specs.declared.refusal.RefusalCode.TheVariants.{LengthConflict, UnitConflict, VersionConflict, JobReused, Protected, StaleUpdate, NoLikeDay, TooLong, NoAnchor, UnknownDay, BadJob, RangeTooWide}
-use Rattle.mds_world.specs.World.{World}
+use Rattle.mds_keeper.specs.declared.refusal.RefusalCode.{RefusalCode}
+use Rattle.mds_keeper.specs.declared.refusal.RefusalCode.TheVariants.{LengthConflict, UnitConflict, VersionConflict, JobReused, Protected, StaleUpdate, NoLikeDay, TooLong, NoAnchor, UnknownDay, BadJob, RangeTooWide}
+use Rattle.mds_keeper.specs.Kept.{Kept}
 use Rattle.mds_service.specs.Crashes.{Goes}
 use Rattle.mds_messages.specs.declared.request.Request.{Request}
 use Rattle.mds_messages.specs.declared.answer.Answer.{Answer}
@@ -66,12 +66,8 @@ Handled route target body status kind text is_same goes =
     × (status ≡ status_of answer) × Tells answer kind text)
     ⊎ ((fault : TargetFault) × IsFaultAt route target body fault × TellsFault fault status kind text × is_same)
 
--- A step of a store over HTTP, by its keeper before and after: the request is done by a step of the machine. A keeper that is
--- honest, or sound, in the end was so throughout.
-module _ {K : Type 0} (honest sound : K → Type 0) (world : K → World) (may_leave : K → World → Type 0) where
+-- A step of a store over HTTP, by its keeper before and after: the request is done by a step of the machine.
+module _ {K : Type 0} (kept : K → Kept) where
   abbrev pub Handles : StepOf (StoreHandler K)
   Handles old route target body status kind text new =
-      (honest new.keeper → honest old.keeper) × (sound new.keeper → sound old.keeper)
-      × Handled route target body status kind text (new ≡ old) (λ request answer. honest new.keeper
-      → Goes (sound old.keeper) (sound new.keeper) (world old.keeper) (world new.keeper) (may_leave old.keeper)
-      (may_leave new.keeper) request answer)
+      Handled route target body status kind text (new ≡ old) (Goes (kept old.keeper) (kept new.keeper))

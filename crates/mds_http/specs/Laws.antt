@@ -2,6 +2,7 @@
 use Rattle.std.specs.Prelude.{◌≡◌, ◌≢◌, ◌⊎◌, ◌≤◌, ℕ, false, List, [], ◌∷◌, length, take}
 use Rattle.httparse.specs.Grammar.{RequestHead, ReadsRequest, HasNoRequest}
 use Rattle.mds_world.specs.World.{IsLawful, World}
+use Rattle.mds_keeper.specs.Kept.{Kept}
 use Rattle.mds_service.specs.Crashes.{MayLeave}
 use Rattle.mds_service.specs.Machine.{Run}
 use Rattle.mds_messages.specs.declared.request.Request.{Request}
@@ -51,12 +52,12 @@ AreDone (connection ∷ connections) requests answers =
     × (requests ≡ request ∷ later) × (answers ≡ told ∷ more) × AskFor connection.0 request × IsTold told connection.1
     × AreDone connections later more)
 
-module _ {K : Type 0} (honest sound : K → Type 0) (world : K → World) (may_leave : K → World → Type 0) where
+module _ {K : Type 0} (kept : K → Kept) where
   -- the bytes of connections, one after the other, and what they were answered
   abbrev pub AreServed : StoreHandler K → List (List ℕ × Answer) → StoreHandler K → Type 0
   AreServed old [] new = new ≡ old
   AreServed old (connection ∷ connections) new =
-      (next : StoreHandler K) × MeansOver honest sound world may_leave connection.0 old connection.1 next
+      (next : StoreHandler K) × MeansOver kept connection.0 old connection.1 next
       × AreServed next connections new
 
   -- Connections are a run of the machine. It does the requests that they ask for, each once and in their order, with the answers
@@ -64,22 +65,24 @@ module _ {K : Type 0} (honest sound : K → Type 0) (world : K → World) (may_l
   -- whose answer was Unavailable.
   abbrev pub ConnectionsRun : Type 0
   ConnectionsRun = (connections : List (List ℕ × Answer)) (first last : StoreHandler K)
-      → AreServed first connections last → honest last.keeper → sound first.keeper → IsLawful (world first.keeper)
+      → AreServed first connections last → (kept last.keeper).honest → (kept first.keeper).sound
+      → IsLawful (kept first.keeper).world
       → (requests : List Request) × (answers : List Told) × (w : World) × AreDone connections requests answers
-      × IsLawful w × Run (world first.keeper) requests answers w × (sound last.keeper → world last.keeper ≡ w)
-      × ((left : World) → may_leave last.keeper left → MayLeave w requests answers left)
+      × IsLawful w × Run (kept first.keeper).world requests answers w
+      × ((kept last.keeper).sound → (kept last.keeper).world ≡ w)
+      × ((left : World) → (kept last.keeper).may_leave left → MayLeave w requests answers left)
 
   -- bytes that hold no head change nothing
   abbrev pub NoHeadNoChange : Type 0
   NoHeadNoChange = (bytes : List ℕ) (old new : StoreHandler K) (answer : Answer) → HasNoRequest bytes
-      → MeansOver honest sound world may_leave bytes old answer new
+      → MeansOver kept bytes old answer new
       → ((answer ≡ refused BadRequest false) ⊎ (answer ≡ refused FieldsTooLarge false)) × (new ≡ old)
 
   -- nor do those of a head that is refused
   abbrev pub RefusedNoChange : Type 0
   RefusedNoChange = (bytes rest : List ℕ) (head : RequestHead) (status : Status) (old new : StoreHandler K)
       (answer : Answer) → ReadsRequest bytes head rest → length head.fields ≤ most_fields
-      → IsRefusedHead head status → MeansOver honest sound world may_leave bytes old answer new
+      → IsRefusedHead head status → MeansOver kept bytes old answer new
       → (answer ≡ refused status (is_head_method head)) × (new ≡ old)
 
   -- nor those of a target and a body that ask for no request
@@ -87,4 +90,4 @@ module _ {K : Type 0} (honest sound : K → Type 0) (world : K → World) (may_l
   UnaskedNoChange = (bytes rest : List ℕ) (head : RequestHead) (route : Route) (size : ℕ) (old new : StoreHandler K)
       (answer : Answer) → Wants bytes head rest route size
       → ((request : Request) → AsksAt route head.target (take size rest) request → ⊥)
-      → MeansOver honest sound world may_leave bytes old answer new → (answer.status ≢ Success) × (new ≡ old)
+      → MeansOver kept bytes old answer new → (answer.status ≢ Success) × (new ≡ old)

@@ -5,8 +5,8 @@ ghost use Rattle.mds_http.specs.Connections.{HasServed};
 use crate::handling::StoreHandler;
 use crate::serving::serve_one;
 use crate::timely::{Timely, TimelyRequest};
+use mds_keeper::Keeper;
 use mds_lines::Counted;
-use mds_versions::Keeper;
 use mds_wire::{RouteFinder, Status};
 use std::io::Read;
 use std::net::{Ipv4Addr, Shutdown, SocketAddr, TcpListener, TcpStream};
@@ -41,7 +41,7 @@ pub fn serve_connections<F: RouteFinder, K: Keeper>(
     listener: &TcpListener,
     count: u32,
 )
-    ensures { HasServed K.honest K.sound K.world K.may_leave handler.old count handler.new }
+    ensures { HasServed K.kept handler.old count handler.new }
 {
     for _ in 0..count {
         match accept(rt, listener) {
@@ -69,7 +69,7 @@ fn serve_connection<F: RouteFinder, K: Keeper>(
     handler: &mut StoreHandler<K>,
     stream: &TcpStream,
 )
-    ensures { HasServed K.honest K.sound K.world K.may_leave handler.old 1 handler.new }
+    ensures { HasServed K.kept handler.old 1 handler.new }
 {
     let mut reader = Counted::new(TimelyRequest::new(rt, stream));
     let mut writer = Counted::new(Timely::new(rt, stream, ANSWER_SECONDS));

@@ -6,9 +6,9 @@ ghost use Rattle.mds_http.specs.Handling.{Handles};
 ghost use Rattle.mds_http.specs.Serving.{IsSame};
 
 use crate::telling::{refuse_holidays, refuse_target, tell};
+use mds_keeper::Keeper;
 use mds_requests::{TargetFault, request_at};
 use mds_service::apply;
-use mds_versions::Keeper;
 use mds_wire::{Handler, Kind, Route, Status, Unavailable};
 use std::alloc::Global;
 
@@ -19,7 +19,7 @@ pub struct StoreHandler<K> {
 }
 
 impl<K: Keeper> Handler for StoreHandler<K> {
-    ghost step = { Handles K.honest K.sound K.world K.may_leave };
+    ghost step = { Handles K.kept };
 
     ghost same = { IsSame };
 

@@ -4,8 +4,8 @@ ghost use Rattle.std.specs.Prelude.{◌≡◌, ◌≢◌, ◌+◌, ◌-◌, ◌^
 ghost use Rattle.mds_http.specs.Serving.{ServesOver};
 
 use crate::handling::StoreHandler;
+use mds_keeper::Keeper;
 use mds_lines::{Sink, Source};
-use mds_versions::Keeper;
 use mds_wire::{RouteFinder, Status, WireFault};
 use std::alloc::Global;
 
@@ -24,7 +24,7 @@ pub fn serve_one<F: RouteFinder, K: Keeper, R: Source, W: Sink>(
 ) -> Result<Status, WireFault>
     requires reader { R.failures reader.old < 2 ^ 64 - 1 }
     requires writer { W.failures writer.old < 2 ^ 64 - 1 }
-    ensures serves { ServesOver K.honest K.sound K.world K.may_leave R.gives reader.old reader.new (R.remaining reader.old)
+    ensures serves { ServesOver K.kept R.gives reader.old reader.new (R.remaining reader.old)
         (R.remaining reader.new) (W.contents writer.old) (W.contents writer.new) handler.old handler.new result }
     ensures reader { (result ≡ Err WireFault.Read → R.failures reader.new ≡ R.failures reader.old + 1)
         × (result ≢ Err WireFault.Read → R.failures reader.new ≡ R.failures reader.old) }

@@ -8,8 +8,8 @@ ghost use Rattle.mds_http.specs.Handling.{TellsFault, status_of as status_of_ans
 ghost use Rattle.mds_http.specs.TellingSteps.{TellsOrNot, TellsWhole};
 
 use mds_answers::{holidays_json, list_json, short_json};
+use mds_keeper::RefusalCode;
 use mds_messages::Answer;
-use mds_versions::RefusalCode;
 use mds_wire::{Kind, Status};
 use std::alloc::Global;
 

@@ -10,8 +10,8 @@ use Rattle.sqlite.specs.declared.error.Error.{Error}
 use Rattle.sqlite_catalog.specs.Listing.{IsSound}
 use Rattle.sqlite_trees.specs.View.{doubt}
 use Rattle.mds_names.specs.declared.stream.Stream.{Stream}
-use Rattle.mds_versions.specs.Content.{version_at}
-use Rattle.mds_versions.specs.declared.day_book.Version.{Version}
+use Rattle.mds_keeper.specs.Content.{version_at}
+use Rattle.mds_keeper.specs.declared.day_book.Version.{Version}
 use Rattle.mds_tables.specs.Tables.{schema_1}
 use Rattle.mds_inserts.specs.Parts.{rows_of, version_part}
 use Rattle.mds_inserts.specs.Refusals.{FailsToPut}

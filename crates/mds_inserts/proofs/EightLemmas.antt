@@ -40,8 +40,8 @@ use Rattle.mds_marks.specs.Reading.{ReadingValue, is_lawful, is_reading, is_valu
 use Rattle.mds_marks.specs.Reason.{are_reason_chars, is_code, is_reason, is_reason_char, is_reason_text}
 use Rattle.mds_names.specs.declared.stream.Stream.{Stream}
 use Rattle.mds_world.specs.declared.facts.Key.{Key}
-use Rattle.mds_versions.specs.Content.{version_at}
-use Rattle.mds_versions.specs.declared.day_book.Version.{Version}
+use Rattle.mds_keeper.specs.Content.{version_at}
+use Rattle.mds_keeper.specs.declared.day_book.Version.{Version}
 use Rattle.mds_tables.proofs.CallLemmas.{still}
 use Rattle.mds_tables.proofs.CauseLemmas.{IsWhole, fails_until, stopped_as}
 use Rattle.mds_tables.proofs.FactLemmas.{version_back}

@@ -6,8 +6,8 @@ use Rattle.sqlite.specs.State.{HasCleanDisk, State, Survives}
 use Rattle.sqlite.specs.Steps.{FailsToCommit}
 use Rattle.sqlite.specs.declared.error.Error.{Error}
 use Rattle.sqlite_catalog.specs.Listing.{IsSound}
-use Rattle.mds_versions.specs.Content.{versions_of}
-use Rattle.mds_versions.specs.declared.additions.Additions.{Additions}
+use Rattle.mds_keeper.specs.Content.{versions_of}
+use Rattle.mds_keeper.specs.declared.additions.Additions.{Additions}
 use Rattle.mds_tables.specs.Tables.{schema_1}
 use Rattle.mds_tables.proofs.CauseLemmas.{fails_since, store_fails}
 use Rattle.mds_inserts.specs.declared.jobs.JobRow.{JobRow}

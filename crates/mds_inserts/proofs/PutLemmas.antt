@@ -33,12 +33,12 @@ use Rattle.mds_world.specs.Facts.Fact.{DetailIs, EventIs, HeadIs, HolidayIs}
 use Rattle.mds_world.specs.declared.facts.Detail.{Detail}
 use Rattle.mds_world.specs.declared.facts.Head.{Head}
 use Rattle.mds_world.specs.declared.facts.Key.{Key}
-use Rattle.mds_versions.specs.declared.day_book.Version.{Version}
+use Rattle.mds_keeper.specs.declared.day_book.Version.{Version}
 use Rattle.mds_names.specs.declared.stream.Stream.{Stream}
-use Rattle.mds_versions.specs.Content as content
-use Rattle.mds_versions.specs.Content.{day_versions, version_at, versions_of}
-use Rattle.mds_versions.specs.declared.additions.DayVersions.{DayVersions}
-use Rattle.mds_versions.specs.declared.additions.Additions.{Additions}
+use Rattle.mds_keeper.specs.Content as content
+use Rattle.mds_keeper.specs.Content.{day_versions, version_at, versions_of}
+use Rattle.mds_keeper.specs.declared.additions.DayVersions.{DayVersions}
+use Rattle.mds_keeper.specs.declared.additions.Additions.{Additions}
 use Rattle.mds_tables.proofs.InsertLemmas.{Adds as OneMore, adds, cast_int, either, simple}
 use Rattle.mds_tables.proofs.InsertTexts.{detail_terms, event_terms, head_terms, holiday_terms, insert_detail, insert_detail_is, insert_detail_plain, insert_event, insert_event_is, insert_event_plain, insert_head, insert_head_is, insert_head_plain, insert_holiday, insert_holiday_is, insert_holiday_plain, insert_job, insert_job_is, insert_job_plain, insert_period, insert_period_is, insert_period_plain, job_terms, period_terms, insert_version, insert_version_is, insert_version_plain, version_terms}
 use Rattle.mds_tables.specs.Cells.{detail_cells, event_cells, head_cells, holiday_cells, optional_cell, version_cells}

@@ -20,8 +20,8 @@ use Rattle.mds_world.specs.Facts.{Fact}
 use Rattle.mds_world.specs.Facts.Fact.{JobIs, PeriodIs}
 use Rattle.mds_world.proofs.Sets.{list_append, union_assoc, union_comm}
 use Rattle.mds_world.specs.World.{World, union}
-use Rattle.mds_versions.specs.Content.{content, versions_of, job_fact as content_fact, period_fact as content_period_fact}
-use Rattle.mds_versions.specs.declared.additions.Additions.{Additions}
+use Rattle.mds_keeper.specs.Content.{content, versions_of, job_fact as content_fact, period_fact as content_period_fact}
+use Rattle.mds_keeper.specs.declared.additions.Additions.{Additions}
 use Rattle.mds_tables.specs.RowFacts.{detail_fact, event_fact, head_fact, holiday_fact, job_fact, natural, period_fact, version_fact, world_in}
 use Rattle.mds_tables.specs.Stores.{Adds, AreRowsOf, Gains, IsJobRow, IsPeriodRow}
 use Rattle.mds_tables.specs.Cells.{job_cells, period_cells}

@@ -7,8 +7,8 @@ use Rattle.sqlite.specs.declared.types.Value.{Value}
 use Rattle.sqlite_catalog.specs.Listing.{IsSound}
 use Rattle.sqlite_trees.specs.Tree.{Trees}
 use Rattle.mds_world.specs.World.{union}
-use Rattle.mds_versions.specs.Content as content
-use Rattle.mds_versions.specs.declared.additions.Additions.{Additions}
+use Rattle.mds_keeper.specs.Content as content
+use Rattle.mds_keeper.specs.declared.additions.Additions.{Additions}
 use Rattle.mds_tables.specs.RowFacts.{world_in}
 use Rattle.mds_tables.specs.Stores.{Adds, Gains}
 use Rattle.mds_tables.specs.Tables.{schema_1, tables_1}

@@ -15,7 +15,7 @@ use crate::jobs::JobRow;
 use crate::periods::PeriodRow;
 use crate::putting::{put_days, put_each};
 use mds_tables::ready;
-use mds_versions::Additions;
+use mds_keeper::Additions;
 use sqlite::{Alter, Connection, Error, Transaction};
 
 /// Puts all rows. Those of a table come before those that refer to them.

@@ -7,7 +7,7 @@ ghost use Rattle.mds_tables.specs.Stores.{AreRowsOf};
 ghost use Rattle.mds_inserts.specs.MadeRows.{IsRowOfJob};
 
 use mds_jobs::{Job, JobId};
-use mds_versions::Unavailable;
+use mds_keeper::Unavailable;
 use std::alloc::Global;
 
 /// What the row of a job holds: its id, its body, and the count of the readings that it made.

@@ -6,7 +6,7 @@ ghost use Rattle.mds_tables.specs.Stores.{AreRowsOf};
 ghost use Rattle.mds_inserts.specs.MadeRows.{IsRowOfPeriod};
 
 use mds_statements::{Period, PeriodKey};
-use mds_versions::Unavailable;
+use mds_keeper::Unavailable;
 use std::alloc::Global;
 
 /// What the row of an accumulation holds: its key, and its body.

@@ -11,7 +11,7 @@ ghost use Rattle.mds_marks.specs.Reading.{is_lawful};
 ghost use Rattle.mds_tables.specs.Causes.{StoreFails};
 ghost use Rattle.mds_tables.specs.Cells.{day_and_versions, reading_cells, slot_cells};
 ghost use Rattle.mds_tables.specs.Tables.{schema_1};
-ghost use Rattle.mds_versions.specs.Content.{day_versions, version_at, versions_of};
+ghost use Rattle.mds_keeper.specs.Content.{day_versions, version_at, versions_of};
 ghost use Rattle.mds_inserts.specs.Parts.{Part, detail_part, event_part, head_part, holiday_part, job_part, period_part, rows_of, version_part};
 ghost use Rattle.mds_inserts.specs.Refusals.{FailsToPut, is_store_error};
 ghost use Rattle.mds_inserts.specs.Writing.{PutsThere, StaysAs};
@@ -25,7 +25,7 @@ use mds_tables::{
     period_cells, reading_cells, slot_cells, version_cells,
 };
 use mds_terms::{Day, Event, Stream};
-use mds_versions::{DayVersions, Version};
+use mds_keeper::{DayVersions, Version};
 use mds_world::{Detail, Head, Key};
 use sqlite::types::ValueRef;
 use sqlite::{Alter, Error, ErrorCode, Transaction};

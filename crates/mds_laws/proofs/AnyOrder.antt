@@ -16,8 +16,8 @@ use Rattle.mds_world.proofs.Sets.{union_assoc}
 use Rattle.mds_world.specs.Sets.{◌∈◌}
 use Rattle.mds_world.specs.Stated.{stated}
 use Rattle.mds_world.specs.World.{Agrees, World, union}
-use Rattle.mds_versions.specs.Merge.{IsRefusal, upto}
-use Rattle.mds_versions.specs.declared.refusal.Refusal.{Refusal}
+use Rattle.mds_keeper.specs.Merge.{IsRefusal, upto}
+use Rattle.mds_keeper.specs.declared.refusal.Refusal.{Refusal}
 use Rattle.mds_messages.specs.declared.request.Request.{Request}
 use Rattle.mds_messages.specs.declared.request.Request.TheVariants as asked
 use Rattle.mds_messages.specs.declared.answer.Answer.{Answer}

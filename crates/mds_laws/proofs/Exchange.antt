@@ -19,9 +19,9 @@ use Rattle.mds_world.specs.World.{World, union}
 use Rattle.mds_world.proofs.Worlds.{either_order}
 use Rattle.mds_jobs.specs.Jobs.{content_of}
 use Rattle.mds_jobs.specs.declared.job.Job.{Job}
-use Rattle.mds_versions.specs.Merge.{IsRefusal, upto}
-use Rattle.mds_versions.specs.declared.refusal.Refusal.{Refusal}
-use Rattle.mds_versions.proofs.Taken.{from_versions}
+use Rattle.mds_keeper.specs.Merge.{IsRefusal, upto}
+use Rattle.mds_keeper.specs.declared.refusal.Refusal.{Refusal}
+use Rattle.mds_keeper.proofs.Taken.{from_versions}
 use Rattle.mds_fill.specs.Fills.{AreSubstitutes}
 use Rattle.mds_messages.specs.declared.request.Request.TheVariants as asked
 use Rattle.mds_messages.specs.declared.answer.Answer.{Answer}

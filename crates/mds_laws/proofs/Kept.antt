@@ -24,7 +24,7 @@ use Rattle.mds_world.specs.World.{IsLawful, World, union}
 use Rattle.mds_world.proofs.Worlds.{counts}
 use Rattle.mds_jobs.specs.Jobs.{content_of}
 use Rattle.mds_jobs.specs.declared.job.Job.{Job}
-use Rattle.mds_versions.proofs.Taken.{from_versions}
+use Rattle.mds_keeper.proofs.Taken.{from_versions}
 use Rattle.mds_fill.specs.Fills.{AreSubstitutes, IsTarget, target_count}
 use Rattle.mds_messages.specs.declared.request.Request.{Request}
 use Rattle.mds_messages.specs.declared.request.Request.TheVariants as asked

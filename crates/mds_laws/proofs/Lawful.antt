@@ -20,7 +20,7 @@ use Rattle.mds_world.specs.World.{Agrees, HasHead, HasVersion, IsLawful, World, 
 use Rattle.mds_statements.specs.Statements.{DayStatement, Statement, days_in, days_of}
 use Rattle.mds_statements.specs.Statements.Statement.{HeaderOf, DetailsOf, DayOf, EventOf, PeriodOf}
 use Rattle.mds_nem12.proofs.Orderly.{days_have_lengths, days_whole}
-use Rattle.mds_versions.proofs.Taken.{from_versions}
+use Rattle.mds_keeper.proofs.Taken.{from_versions}
 use Rattle.std.proofs.lemmas.List.Elements.{All-nil}
 use Rattle.mds_service.proofs.FileKinds.{no_days}
 use Rattle.mds_service.specs.Imports.{IsWholeDay}

@@ -18,7 +18,7 @@ use Rattle.mds_world.specs.Sets.{◌∈◌}
 use Rattle.mds_world.specs.Stated.{facts_of, stated, versions_from}
 use Rattle.mds_world.specs.World.{World, union}
 use Rattle.mds_statements.specs.Statements.{Statement}
-use Rattle.mds_versions.proofs.Taken.{from_versions}
+use Rattle.mds_keeper.proofs.Taken.{from_versions}
 
 -- what holds of all holds of a member
 pub all_member : {A : Type 0} (P : A → Type 0) (xs : List A) (x : A) → All P xs → Member x xs → P x

@@ -6,8 +6,8 @@ use Rattle.mds_records.specs.declared.file.FileKind.{FileKind}
 use Rattle.mds_world.specs.World.{IsLawful, World, union}
 use Rattle.mds_jobs.specs.Jobs.{content_of}
 use Rattle.mds_jobs.specs.declared.job.Job.{Job}
-use Rattle.mds_versions.specs.Merge.{upto}
-use Rattle.mds_versions.specs.declared.refusal.Refusal.{Refusal}
+use Rattle.mds_keeper.specs.Merge.{upto}
+use Rattle.mds_keeper.specs.declared.refusal.Refusal.{Refusal}
 use Rattle.mds_messages.specs.declared.answer.Answer.{Answer}
 use Rattle.mds_messages.specs.declared.answer.Answer.TheVariants as told
 use Rattle.mds_service.specs.Holidays.{HolidaysStep}

@@ -13,9 +13,9 @@ use Rattle.mds_world.specs.Sets.{◌∈◌}
 use Rattle.mds_world.specs.World.{Agrees, IsLawful, World}
 use Rattle.mds_jobs.specs.Jobs.{IsBad, content_of}
 use Rattle.mds_jobs.specs.declared.job.Job.{Job}
-use Rattle.mds_versions.specs.declared.refusal.Refusal.{Refusal}
-use Rattle.mds_versions.specs.declared.refusal.RefusalCode.{RefusalCode}
-use Rattle.mds_versions.specs.declared.refusal.RefusalCode.TheVariants as code
+use Rattle.mds_keeper.specs.declared.refusal.Refusal.{Refusal}
+use Rattle.mds_keeper.specs.declared.refusal.RefusalCode.{RefusalCode}
+use Rattle.mds_keeper.specs.declared.refusal.RefusalCode.TheVariants as code
 use Rattle.mds_fill.specs.Fills.{AreSubstitutes, IsCopied, IsFillFault, IsFilled, IsLeast, IsMean, IsOnLine, IsProtectedTarget, IsStaleTarget, IsTarget, IsTooLong, LacksAnchor, LacksLikeDay, count_some}
 use Rattle.mds_service.specs.Substitution.{HasOtherLength, HasOtherUnit, IsJobFault, IsJobRefusal, IsNewJob, IsReused, SuitsDay}
 use Rattle.mds_laws.proofs.OneList.{first_of}

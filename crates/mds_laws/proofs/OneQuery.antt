@@ -17,9 +17,9 @@ use Rattle.mds_statements.specs.declared.periods.PeriodKey.{PeriodKey}
 use Rattle.mds_world.specs.declared.facts.Head.{Head}
 use Rattle.mds_world.specs.Current.{IsCurrentDetails}
 use Rattle.mds_world.specs.World.{Agrees, IsKnownDay, World}
-use Rattle.mds_versions.specs.Queries.{period_cmp, stream_cmp}
-use Rattle.mds_versions.specs.declared.day_book.Version.{Version}
-use Rattle.mds_versions.specs.declared.refusal.Refusal.{Refusal}
+use Rattle.mds_keeper.specs.Queries.{period_cmp, stream_cmp}
+use Rattle.mds_keeper.specs.declared.day_book.Version.{Version}
+use Rattle.mds_keeper.specs.declared.refusal.Refusal.{Refusal}
 use Rattle.mds_messages.specs.declared.answer.Answer.{Answer}
 use Rattle.mds_messages.specs.declared.answer.Answer.TheVariants as told
 use Rattle.mds_messages.specs.declared.answer.DayAnswer.{DayAnswer}

@@ -7,7 +7,7 @@ use Rattle.mds_calendar.proofs.Days.{one_day_text}
 use Rattle.mds_names.specs.declared.stream.Stream.{Stream}
 use Rattle.mds_statements.specs.Statements.{HeaderValue}
 use Rattle.mds_world.specs.World.{Agrees, World}
-use Rattle.mds_versions.specs.declared.refusal.Refusal.{Refusal}
+use Rattle.mds_keeper.specs.declared.refusal.Refusal.{Refusal}
 use Rattle.mds_registers.specs.Registers.{AreRows as AreTextRows, IsFinalsText, IsGapsText, final_fields, gap_fields}
 use Rattle.mds_registers.specs.declared.writing.FinalRow.{FinalRow}
 use Rattle.mds_registers.specs.declared.writing.GapRow.{GapRow}

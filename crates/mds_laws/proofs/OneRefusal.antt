@@ -4,10 +4,10 @@ use Rattle.std.proofs.Common.{sym, ◌∙◌, subst, inl, inr, refl}
 use Rattle.std.proofs.lemmas.Bool.{cases_lt}
 use Rattle.std.proofs.Math.Nat.{le_antisymm}
 use Rattle.mds_world.specs.World.{World, union}
-use Rattle.mds_versions.specs.Merge.{Breaks, HasTwoLengths, HasTwoReadings, HasTwoUnits, IsRefusal}
-use Rattle.mds_versions.specs.declared.refusal.Refusal.{Refusal}
-use Rattle.mds_versions.specs.declared.refusal.RefusalCode.{RefusalCode}
-use Rattle.mds_versions.specs.declared.refusal.RefusalCode.TheVariants as code
+use Rattle.mds_keeper.specs.Merge.{Breaks, HasTwoLengths, HasTwoReadings, HasTwoUnits, IsRefusal}
+use Rattle.mds_keeper.specs.declared.refusal.Refusal.{Refusal}
+use Rattle.mds_keeper.specs.declared.refusal.RefusalCode.{RefusalCode}
+use Rattle.mds_keeper.specs.declared.refusal.RefusalCode.TheVariants as code
 use Rattle.mds_laws.proofs.Conflicts.{breaks_none}
 use Rattle.mds_laws.proofs.OneList.{first_of}
 

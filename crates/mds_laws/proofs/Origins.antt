@@ -11,7 +11,7 @@ use Rattle.mds_world.specs.Lists.{Member}
 use Rattle.mds_world.specs.Sets.{◌∈◌}
 use Rattle.mds_world.specs.Stated.{facts_of}
 use Rattle.mds_world.specs.World.{World}
-use Rattle.mds_versions.proofs.Taken.{from_versions}
+use Rattle.mds_keeper.proofs.Taken.{from_versions}
 use Rattle.mds_service.proofs.FileKinds.{no_periods}
 use Rattle.mds_service.specs.Machine.{Run, stated_in}
 use Rattle.mds_messages.specs.declared.request.Request.{Request}

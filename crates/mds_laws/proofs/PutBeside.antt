@@ -18,10 +18,10 @@ use Rattle.mds_world.specs.Stated.{versions_from}
 use Rattle.mds_world.specs.World.{Agrees, World, union}
 use Rattle.mds_jobs.specs.Jobs.{content_of}
 use Rattle.mds_jobs.specs.declared.job.Job.{Job}
-use Rattle.mds_versions.specs.Merge.{Breaks, HasTwoLengths, HasTwoReadings, HasTwoUnits}
-use Rattle.mds_versions.specs.declared.refusal.RefusalCode.{RefusalCode}
-use Rattle.mds_versions.specs.declared.refusal.RefusalCode.TheVariants as code
-use Rattle.mds_versions.proofs.Taken.{from_versions}
+use Rattle.mds_keeper.specs.Merge.{Breaks, HasTwoLengths, HasTwoReadings, HasTwoUnits}
+use Rattle.mds_keeper.specs.declared.refusal.RefusalCode.{RefusalCode}
+use Rattle.mds_keeper.specs.declared.refusal.RefusalCode.TheVariants as code
+use Rattle.mds_keeper.proofs.Taken.{from_versions}
 use Rattle.mds_fill.specs.Fills.{AreSubstitutes}
 use Rattle.mds_service.specs.Substitution.{SuitsDay, head_of, job_world}
 use Rattle.mds_laws.proofs.Conflicts.{agrees_within}

@@ -25,7 +25,7 @@ use Rattle.mds_world.specs.Sets.{◌∈◌}
 use Rattle.mds_world.specs.Stated.{facts_of, stated, versions_from}
 use Rattle.mds_world.specs.World.{World}
 use Rattle.mds_world.proofs.Worlds.{known_or_added}
-use Rattle.mds_versions.proofs.Taken.{from_versions}
+use Rattle.mds_keeper.proofs.Taken.{from_versions}
 use Rattle.mds_statements.specs.Selected.{stream_cmp}
 use Rattle.mds_export.specs.Placed.{PlacedDay, is_governed, placed_after, placed_days}
 use Rattle.mds_export.specs.Shows.{day_selected, day_stated, details_selected, selection_stated}

@@ -18,7 +18,7 @@ use Rattle.mds_world.proofs.Lists.{append_left, append_right, flat_in, in_flat, 
 use Rattle.mds_world.specs.Lists.{Member}
 use Rattle.mds_world.specs.Sets.{◌∈◌}
 use Rattle.mds_world.specs.Stated.{day_facts, facts_of, stated}
-use Rattle.mds_versions.proofs.Taken.{from_versions, to_versions}
+use Rattle.mds_keeper.proofs.Taken.{from_versions, to_versions}
 use Rattle.mds_export.specs.Placed.{PlacedDay, is_governed, placed_after, placed_days}
 use Rattle.mds_export.specs.Shows.{day_selected, day_stated, details_selected, selection_stated, unlined}
 use Rattle.mds_statements.specs.declared.selected.SelectedDay.{SelectedDay}

@@ -10,9 +10,9 @@ use Rattle.mds_world.specs.Sets.{◌∈◌}
 use Rattle.mds_world.specs.World.{IsCurrent, World}
 use Rattle.mds_jobs.specs.Jobs.{content_of}
 use Rattle.mds_jobs.specs.declared.job.Job.{Job}
-use Rattle.mds_versions.specs.declared.refusal.Refusal.{Refusal}
-use Rattle.mds_versions.specs.declared.refusal.RefusalCode.{RefusalCode}
-use Rattle.mds_versions.specs.declared.refusal.RefusalCode.TheVariants as code
+use Rattle.mds_keeper.specs.declared.refusal.Refusal.{Refusal}
+use Rattle.mds_keeper.specs.declared.refusal.RefusalCode.{RefusalCode}
+use Rattle.mds_keeper.specs.declared.refusal.RefusalCode.TheVariants as code
 use Rattle.mds_fill.specs.Fills.{AreSubstitutes, Finds, HasAll, IsFillFault, IsFilled, IsFree, IsLike, IsLikeValue, IsNearestLike, IsProtected, IsStale, IsTally, IsUsable, IsValueAfter, IsValueBefore, LacksAnchor, LacksLikeDay}
 use Rattle.mds_service.specs.Substitution.{IsJobFault, IsJobRefusal, IsNewJob, SuitsDay}
 use Rattle.mds_laws.specs.Exchange.{MayLookAt}

@@ -23,12 +23,12 @@ use Rattle.mds_world.specs.Lists.{Member}
 use Rattle.mds_world.proofs.Members.{in_list, in_union, list_in, union_left, union_right}
 use Rattle.mds_world.specs.Sets.{◌∈◌}
 use Rattle.mds_world.specs.World.{IsLawful, IsOn, World, union}
-use Rattle.mds_versions.specs.Books.{BookValue, IsDay, book_facts, book_world, head_facts, row_fact}
-use Rattle.mds_versions.specs.Content.{day_versions, version_at, version_fact, versions_of}
+use Rattle.mds_keeper.specs.Books.{BookValue, IsDay, book_facts, book_world, head_facts, row_fact}
+use Rattle.mds_keeper.specs.Content.{day_versions, version_at, version_fact, versions_of}
 use Rattle.mds_memory.specs.Stored.{AreOfTheirDays, IsChange, days_world, place_cmp}
 use Rattle.mds_memory.specs.StoredSteps.{AreBooks, AreChanged, AreLawfulDays, Holds, rows_book}
-use Rattle.mds_versions.specs.declared.additions.DayVersions.{DayVersions}
-use Rattle.mds_versions.specs.declared.day_book.Version.{Version}
+use Rattle.mds_keeper.specs.declared.additions.DayVersions.{DayVersions}
+use Rattle.mds_keeper.specs.declared.day_book.Version.{Version}
 use Rattle.mds_memory.specs.declared.stored_days.InHand.{InHand}
 use Rattle.mds_memory.specs.declared.stored_days.Rows.{Rows}
 use Rattle.mds_memory.proofs.Places.{found_in, insert_here, insert_only, insert_other, not_absent, one_entry, place_exact, place_total}

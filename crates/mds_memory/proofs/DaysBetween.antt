@@ -16,8 +16,8 @@ use Rattle.mds_world.specs.Facts.Fact.{HeadIs}
 use Rattle.mds_world.proofs.Lists.{append_left, flat_in, in_flat, in_map, map_in}
 use Rattle.mds_world.specs.Lists.{Member}
 use Rattle.mds_world.proofs.Sets.{both_and, split_and}
-use Rattle.mds_versions.specs.Books.{BookValue, IsDay}
-use Rattle.mds_versions.specs.Queries.{AreDaysOf, stream_cmp}
+use Rattle.mds_keeper.specs.Books.{BookValue, IsDay}
+use Rattle.mds_keeper.specs.Queries.{AreDaysOf, stream_cmp}
 use Rattle.mds_memory.specs.Stored.{AreOfTheirDays, days_world, place_cmp}
 use Rattle.mds_memory.proofs.Ascending as up
 use Rattle.mds_memory.proofs.Ascending.{Ascends}

@@ -10,7 +10,7 @@ use Rattle.mds_names.specs.declared.stream.Stream.{Stream}
 use Rattle.mds_world.specs.declared.facts.Detail.{Detail}
 use Rattle.mds_world.proofs.Lists.{append_left, append_right, member_append}
 use Rattle.mds_world.specs.Lists.{Member}
-use Rattle.mds_versions.specs.Queries.{stream_cmp}
+use Rattle.mds_keeper.specs.Queries.{stream_cmp}
 use Rattle.mds_memory.specs.Stored.{AreDetailStreams, notes_world}
 use Rattle.mds_memory.specs.StoredNotes.{IsAtEnd, PutsLast}
 use Rattle.mds_memory.specs.declared.stored_notes.Note.{Note}

@@ -14,7 +14,7 @@ use Rattle.mds_terms.specs.Event.{EventValue, event_cmp}
 use Rattle.mds_world.specs.Current.{no_details}
 use Rattle.mds_world.specs.declared.facts.Detail.{Detail}
 use Rattle.mds_world.specs.World.{IsEventOf}
-use Rattle.mds_versions.specs.Queries.{stream_cmp}
+use Rattle.mds_keeper.specs.Queries.{stream_cmp}
 use Rattle.mds_memory.specs.StoredNotes.{HasDetailsOf, IsEventNoteOf, IsHolidayNote, first_of_day}
 use Rattle.mds_memory.specs.declared.stored_notes.Note.{Note}
 use Rattle.mds_memory.specs.declared.stored_notes.Note.TheVariants.{Details, Event, Holiday}

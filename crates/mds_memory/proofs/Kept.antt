@@ -1,6 +1,6 @@
 -- What a keeper in memory keeps: a World of days, of notes, of jobs and of accumulations.
 use Rattle.std.proofs.Common.{◌≡◌, ℕ, List, [], ◌∷◌, ◌++◌, refl, sym, ap, ◌∙◌, subst, inl, inr}
-use Rattle.std.specs.Prelude.{◌⊎◌, ◌↔◌, map, is_err, false, IfOk, OnOk, Option, Some, None, Result, Ok, Err}
+use Rattle.std.specs.Prelude.{◌⊎◌, ◌↔◌, map, Option, Some, None}
 use Rattle.std.specs.BTreeMap.{IsOrdered}
 use Rattle.std.specs.BTreeSet.{BTreeSet}
 use Rattle.std.specs.FinSet as set
@@ -21,11 +21,11 @@ use Rattle.mds_world.proofs.Members.{in_list, in_union, list_in, same_by, union_
 use Rattle.mds_world.proofs.Sets.{not_in_empty}
 use Rattle.mds_world.specs.Sets.{◌∈◌}
 use Rattle.mds_world.specs.World.{Agrees, IsLawful, IsOn, World, union}
-use Rattle.mds_versions.specs.Books.{BookValue, IsDay}
-use Rattle.mds_versions.specs.Content.{AreNew, content, content_facts, job_fact, period_fact, version_fact, versions_of}
-use Rattle.mds_versions.specs.Queries.{AreDaysOf, AreEventsOf, AreHolidays, ArePeriodsOf, IsContentOf, IsJobOf}
+use Rattle.mds_keeper.specs.Books.{BookValue, IsDay}
+use Rattle.mds_keeper.specs.Content.{AreNew, content, content_facts, job_fact, period_fact, version_fact, versions_of}
+use Rattle.mds_keeper.specs.Queries.{AreDaysOf, AreEventsOf, AreHolidays, ArePeriodsOf, IsContentOf, IsJobOf}
 use Rattle.mds_memory.specs.Stored.{IsStored, days_world, id_cmp, jobs_world, key_cmp, note_fact, notes_world, periods_world, place_cmp, stored_world}
-use Rattle.mds_versions.specs.declared.additions.Additions.{Additions}
+use Rattle.mds_keeper.specs.declared.additions.Additions.{Additions}
 use Rattle.mds_memory.specs.declared.stored_notes.Note.{Note}
 use Rattle.mds_memory.specs.declared.stored_notes.Note.TheVariants.{Details, Event, Holiday}
 use Rattle.mds_memory.proofs.StoredDays.{Kept, fact_on, in_days, nothing_lawful}
@@ -595,12 +595,3 @@ nothing_stored days notes jobs periods d n j p o i k = record {
   };
   keys = k;
 }
-
--- what holds where a call is Ok
-pub ok_now : {X E : Type 0} (r : Result X E) (P : Type 0) → OnOk r P → false ≡ is_err r → P
-ok_now (Ok x) P h e = h
-ok_now (Err x) P h e = cc
-
-pub if_ok_both : {X E : Type 0} (r : Result X E) (P Q : X → Type 0) → IfOk r P → IfOk r Q → IfOk r (λ x. P x × Q x)
-if_ok_both (Ok x) P Q p q = (p, q)
-if_ok_both (Err e) P Q p q = tt

@@ -14,3 +14,4 @@ pub mod StoredJobs
 pub mod StoredPeriods
 pub mod Kept
 pub mod Streams
+pub mod Told

@@ -11,7 +11,7 @@ use Rattle.mds_terms.specs.Details.{details_cmp}
 use Rattle.mds_terms.specs.Event.{EventValue, event_cmp}
 use Rattle.mds_terms.proofs.TermOrder.{details_exact, event_exact}
 use Rattle.mds_world.specs.declared.facts.Detail.{Detail}
-use Rattle.mds_versions.specs.Queries.{stream_cmp}
+use Rattle.mds_keeper.specs.Queries.{stream_cmp}
 use Rattle.mds_memory.specs.declared.stored_notes.Note.{Note}
 use Rattle.mds_memory.specs.declared.stored_notes.Note.TheVariants.{Details, Event, Holiday}
 use Rattle.mds_memory.specs.contracts.stored_notes.NoteOrd.TheImpl as note_ord

@@ -14,7 +14,7 @@ use Rattle.mds_world.specs.declared.facts.StreamDay.{StreamDay}
 use Rattle.mds_world.specs.contracts.facts.StreamDayOrd.TheImpl.Laws as place_laws
 use Rattle.mds_names.specs.contracts.stream.StreamOrd.TheImpl.Laws as stream_laws
 use Rattle.mds_world.specs.Lists.{Member}
-use Rattle.mds_versions.specs.Queries.{stream_cmp}
+use Rattle.mds_keeper.specs.Queries.{stream_cmp}
 use Rattle.mds_memory.specs.Stored.{place_cmp}
 use Rattle.mds_memory.proofs.Entries as entries
 

@@ -19,7 +19,7 @@ use Rattle.mds_world.specs.Lists.{Apart, Member}
 use Rattle.mds_world.proofs.Sets.{both_and, split_and}
 use Rattle.mds_world.specs.Sets.{◌∈◌}
 use Rattle.mds_world.specs.World.{IsEventOf}
-use Rattle.mds_versions.specs.Queries.{AreEventsOf, AreHolidays}
+use Rattle.mds_keeper.specs.Queries.{AreEventsOf, AreHolidays}
 use Rattle.mds_memory.specs.Stored.{notes_world}
 use Rattle.mds_memory.specs.StoredNotes.{HasDetailsOf, IsEventNoteOf, IsHolidayNote, first_of_day}
 use Rattle.mds_memory.specs.declared.stored_notes.Note.{Note}

@@ -22,8 +22,8 @@ use Rattle.mds_world.specs.Lists.{Member}
 use Rattle.mds_world.proofs.Members.{in_list, in_union, list_in, same_by, union_left, union_right}
 use Rattle.mds_world.specs.Sets.{◌∈◌}
 use Rattle.mds_world.specs.World.{IsLawful, World, union}
-use Rattle.mds_versions.specs.Content.{job_fact}
-use Rattle.mds_versions.specs.Queries.{IsJobOf}
+use Rattle.mds_keeper.specs.Content.{job_fact}
+use Rattle.mds_keeper.specs.Queries.{IsJobOf}
 use Rattle.mds_memory.specs.Stored.{AreOfTheirIds, HasPlaces, id_cmp, jobs_world, kept_facts}
 use Rattle.mds_memory.proofs.Entries as entries
 use Rattle.mds_memory.proofs.Notes.{taken_more}

@@ -26,8 +26,8 @@ use Rattle.mds_world.proofs.Members.{in_list, in_union, list_in, same_by, union_
 use Rattle.mds_world.proofs.Sets.{both_and, split_and}
 use Rattle.mds_world.specs.Sets.{◌∈◌}
 use Rattle.mds_world.specs.World.{Agrees, World, union}
-use Rattle.mds_versions.specs.Content.{period_fact}
-use Rattle.mds_versions.specs.Queries.{ArePeriodsOf, IsContentOf, period_cmp, stream_cmp}
+use Rattle.mds_keeper.specs.Content.{period_fact}
+use Rattle.mds_keeper.specs.Queries.{ArePeriodsOf, IsContentOf, period_cmp, stream_cmp}
 use Rattle.mds_memory.specs.Stored.{HasKeys, key_cmp, periods_world, place_facts}
 use Rattle.mds_memory.specs.StoredPeriods.{first_key_of}
 use Rattle.mds_memory.proofs.Ascending as up

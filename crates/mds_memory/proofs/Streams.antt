@@ -18,11 +18,11 @@ use Rattle.mds_statements.specs.declared.periods.PeriodKey.{PeriodKey}
 use Rattle.mds_world.specs.Facts.Fact.{HeadIs}
 use Rattle.mds_world.proofs.Lists.{append_left, append_right, in_map, member_append}
 use Rattle.mds_world.specs.Lists.{Member}
-use Rattle.mds_versions.specs.Books.{BookValue, book_facts, head_facts, row_fact}
-use Rattle.mds_versions.specs.Queries.{AreKnownStreams, stream_cmp}
+use Rattle.mds_keeper.specs.Books.{BookValue, book_facts, head_facts, row_fact}
+use Rattle.mds_keeper.specs.Queries.{AreKnownStreams, stream_cmp}
 use Rattle.mds_memory.specs.Stored.{AreDetailStreams, AreHeadStreams, AreOfTheirDays, ArePeriodStreams, days_world, key_cmp, notes_world, periods_world, place_cmp, stored_world}
 use Rattle.mds_memory.specs.StoredNotes.{IsAtEnd, PutsLast}
-use Rattle.mds_versions.specs.declared.day_book.Version.{Version}
+use Rattle.mds_keeper.specs.declared.day_book.Version.{Version}
 use Rattle.mds_memory.specs.declared.stored_notes.Note.{Note}
 use Rattle.mds_memory.proofs.Ascending as up
 use Rattle.mds_memory.proofs.Ascending.{Ascends}

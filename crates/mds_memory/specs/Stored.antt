@@ -20,9 +20,9 @@ use Rattle.mds_world.specs.Facts.Fact.{HeadIs, DetailIs, EventIs, PeriodIs, Holi
 use Rattle.mds_world.specs.Lists.{Member}
 use Rattle.mds_world.specs.Sets.{◌∈◌}
 use Rattle.mds_world.specs.World.{IsLawful, IsOn, World, union}
-use Rattle.mds_versions.specs.Books.{BookValue, book_facts, book_world}
-use Rattle.mds_versions.specs.Content.{job_fact}
-use Rattle.mds_versions.specs.Queries.{period_cmp, stream_cmp}
+use Rattle.mds_keeper.specs.Books.{BookValue, book_facts, book_world}
+use Rattle.mds_keeper.specs.Content.{job_fact}
+use Rattle.mds_keeper.specs.Queries.{period_cmp, stream_cmp}
 use Rattle.mds_memory.specs.declared.stored_notes.Note.{Note}
 use Rattle.mds_memory.specs.declared.stored_notes.Note.TheVariants.{Details, Event, Holiday}
 

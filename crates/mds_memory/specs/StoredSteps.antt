@@ -6,7 +6,7 @@ use Rattle.mds_world.specs.Facts.{Fact}
 use Rattle.mds_world.specs.Lists.{Member}
 use Rattle.mds_world.specs.Sets.{◌∈◌}
 use Rattle.mds_world.specs.World.{IsLawful, IsOn, World}
-use Rattle.mds_versions.specs.Books.{BookValue, IsDay, book_facts, book_world}
+use Rattle.mds_keeper.specs.Books.{BookValue, IsDay, book_facts, book_world}
 use Rattle.mds_memory.specs.Stored.{place_cmp}
 use Rattle.mds_memory.specs.declared.stored_days.InHand.{InHand}
 use Rattle.mds_memory.specs.declared.stored_days.Rows.{Rows}

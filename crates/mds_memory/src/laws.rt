@@ -4,13 +4,13 @@ ghost use Rattle.std.specs.Prelude.{◌≡◌, ◌↔◌};
 ghost use Rattle.mds_world.specs.World.{World};
 
 use crate::memory::MemoryKeeper;
-use mds_versions::Keeper;
+use mds_keeper::Keeper;
 
 /// A keeper in memory takes nothing on trust. The World that it keeps is its value, and it is honest and sound at any
 /// time. What it leaves is the World that it keeps, and no other.
 pub fn a_memory_keeper_is_sound(_keeper: &MemoryKeeper)
-    ensures world { ⟦<MemoryKeeper as Keeper>⟧.world _keeper.now ≡ _keeper.now }
-    ensures honest { ⟦<MemoryKeeper as Keeper>⟧.honest _keeper.now }
-    ensures sound { ⟦<MemoryKeeper as Keeper>⟧.sound _keeper.now }
-    ensures may_leave { (left : World) → ⟦<MemoryKeeper as Keeper>⟧.may_leave _keeper.now left ↔ (left ≡ _keeper.now) }
+    ensures world { (⟦<MemoryKeeper as Keeper>⟧.kept _keeper.now).world ≡ _keeper.now }
+    ensures honest { (⟦<MemoryKeeper as Keeper>⟧.kept _keeper.now).honest }
+    ensures sound { (⟦<MemoryKeeper as Keeper>⟧.kept _keeper.now).sound }
+    ensures may_leave { (left : World) → (⟦<MemoryKeeper as Keeper>⟧.kept _keeper.now).may_leave left ↔ (left ≡ _keeper.now) }
 {}

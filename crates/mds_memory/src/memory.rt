@@ -7,7 +7,7 @@ ghost use Rattle.std.specs.declared.cmp.Ordering.TheVariants.{Less};
 ghost use Rattle.mds_names.specs.declared.stream.Stream.{Stream as AStream};
 ghost use Rattle.mds_world.specs.Lists.{Member};
 ghost use Rattle.mds_world.specs.World.{IsLawful};
-ghost use Rattle.mds_versions.specs.Queries.{stream_cmp};
+ghost use Rattle.mds_keeper.specs.Queries.{stream_cmp};
 ghost use Rattle.mds_memory.specs.Stored.{AreHeadStreams, AreOfTheirDays, days_world};
 
 use crate::stored_days::{changed_days, day_of, days_of, has_head, make_room, put_days};
@@ -18,9 +18,9 @@ use crate::stored_notes::{
 };
 use crate::stored_periods::{content_of, make_keys, period_streams, periods_of, put_periods};
 use mds_jobs::{Job, JobId};
+use mds_keeper::{Additions, DayBook, Keeper, Unavailable};
 use mds_statements::{Period, PeriodContent, PeriodKey};
 use mds_terms::{Day, Details, Event, Stream};
-use mds_versions::{Additions, DayBook, Keeper, Unavailable};
 use mds_world::{Detail, StreamDay};
 use std::alloc::{AllocError, Global};
 use std::cmp::Ordering;
@@ -73,77 +73,60 @@ impl MemoryKeeper {
 }
 
 impl Keeper for MemoryKeeper {
-    ghost world = { λ w. w };
-
-    // Nothing outside of the program has a hand in it, and no fault shuts it.
-    ghost honest = { λ _. Unit {0} };
-
-    ghost sound = { λ _. Unit {0} };
-
-    // It leaves its World as it is: nothing less, nothing more.
-    ghost may_leave = { λ keeper left. left ≡ keeper };
+    // Nothing outside of the program has a hand in it, and no fault shuts it. It leaves its World as it is.
+    ghost kept = { λ w. record { world = w; honest = Unit {0}; sound = Unit {0}; may_leave = λ left. left ≡ w } };
 
     ghost sound_honest = { λ _ _. tt };
 
     ghost settled = { λ _ _ _ is. is };
 
     fn day(&mut self, stream: Stream, day: Day) -> Result<DayBook, Unavailable> {
-        day_of(self.alloc, &self.days, stream, day).map_err(|_| Unavailable)
+        Ok(day_of(self.alloc, &self.days, stream, day)?)
     }
 
     fn days(&mut self, stream: Stream, first: Day, last: Day) -> Result<Vec<DayBook>, Unavailable> {
-        days_of(self.alloc, &self.days, stream, first, last).map_err(|_| Unavailable)
+        Ok(days_of(self.alloc, &self.days, stream, first, last)?)
     }
 
     fn streams(&mut self) -> Result<Vec<Stream>, Unavailable> {
-        let Ok(of_days) = head_streams(self.alloc, &self.days) else {
-            return Err(Unavailable);
-        };
-        let Ok(of_details) = detail_streams(self.alloc, &self.notes) else {
-            return Err(Unavailable);
-        };
-        let Ok(of_periods) = period_streams(self.alloc, &self.periods) else {
-            return Err(Unavailable);
-        };
-        let Ok(others) = merged(self.alloc, &of_details, &of_periods) else {
-            return Err(Unavailable);
-        };
-        let Ok(streams) = merged(self.alloc, &of_days, &others) else {
-            return Err(Unavailable);
-        };
+        let of_days = head_streams(self.alloc, &self.days)?;
+        let of_details = detail_streams(self.alloc, &self.notes)?;
+        let of_periods = period_streams(self.alloc, &self.periods)?;
+        let others = merged(self.alloc, &of_details, &of_periods)?;
+        let streams = merged(self.alloc, &of_days, &others)?;
         Ok(streams)
     }
 
     fn details(&mut self, stream: Stream) -> Result<Details, Unavailable> {
-        current_details(self.alloc, &self.notes, stream).map_err(|_| Unavailable)
+        Ok(current_details(self.alloc, &self.notes, stream)?)
     }
 
     fn has_details(&mut self, detail: &Detail) -> Result<bool, Unavailable> {
-        has_details(&self.notes, detail).map_err(|_| Unavailable)
+        Ok(has_details(&self.notes, detail)?)
     }
 
     fn events(&mut self, stream: Stream, day: Day) -> Result<Vec<Event>, Unavailable> {
-        events_of(self.alloc, &self.notes, stream, day).map_err(|_| Unavailable)
+        Ok(events_of(self.alloc, &self.notes, stream, day)?)
     }
 
     fn has_event(&mut self, event: &Event) -> Result<bool, Unavailable> {
-        has_event(&self.notes, event).map_err(|_| Unavailable)
+        Ok(has_event(&self.notes, event)?)
     }
 
     fn period(&mut self, stream: Stream) -> Result<Vec<Period>, Unavailable> {
-        periods_of(self.alloc, &self.periods, stream).map_err(|_| Unavailable)
+        Ok(periods_of(self.alloc, &self.periods, stream)?)
     }
 
     fn content(&mut self, key: &PeriodKey) -> Result<Option<PeriodContent>, Unavailable> {
-        content_of(&self.periods, key).map_err(|_| Unavailable)
+        Ok(content_of(&self.periods, key)?)
     }
 
     fn holidays(&mut self) -> Result<Vec<Day>, Unavailable> {
-        holidays_of(self.alloc, &self.notes).map_err(|_| Unavailable)
+        Ok(holidays_of(self.alloc, &self.notes)?)
     }
 
     fn job(&mut self, id: JobId) -> Result<Option<(Job, u64)>, Unavailable> {
-        job_of(&self.jobs, &id).map_err(|_| Unavailable)
+        Ok(job_of(&self.jobs, &id)?)
     }
 
     // All that needs memory comes before the first change that shows, or is taken back.
@@ -157,24 +140,12 @@ impl Keeper for MemoryKeeper {
             holidays,
             jobs,
         } = additions;
-        let Ok(notes) = notes_of(self.alloc, details, events, holidays) else {
-            return Err(Unavailable);
-        };
-        let Ok(changed) = changed_days(self.alloc, &self.days, heads, days) else {
-            return Err(Unavailable);
-        };
-        if make_room(self.alloc, &mut self.days, &changed).is_err() {
-            return Err(Unavailable);
-        }
-        if make_places(&mut self.jobs, &jobs).is_err() {
-            return Err(Unavailable);
-        }
-        if make_keys(&mut self.periods, &periods).is_err() {
-            return Err(Unavailable);
-        }
-        if insert_notes(&mut self.notes, &notes).is_err() {
-            return Err(Unavailable);
-        }
+        let notes = notes_of(self.alloc, details, events, holidays)?;
+        let changed = changed_days(self.alloc, &self.days, heads, days)?;
+        make_room(self.alloc, &mut self.days, &changed)?;
+        make_places(&mut self.jobs, &jobs)?;
+        make_keys(&mut self.periods, &periods)?;
+        insert_notes(&mut self.notes, &notes)?;
         put_days(&mut self.days, changed);
         put_jobs(&mut self.jobs, jobs);
         put_periods(&mut self.periods, periods);

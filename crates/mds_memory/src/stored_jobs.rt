@@ -3,8 +3,8 @@
 ghost use Rattle.std.specs.Prelude.{◌≡◌, IfOk, OnOk, map};
 ghost use Rattle.std.specs.FinSet as set;
 ghost use Rattle.mds_world.specs.World.{IsLawful, union};
-ghost use Rattle.mds_versions.specs.Content.{job_fact};
-ghost use Rattle.mds_versions.specs.Queries.{IsJobOf};
+ghost use Rattle.mds_keeper.specs.Content.{job_fact};
+ghost use Rattle.mds_keeper.specs.Queries.{IsJobOf};
 ghost use Rattle.mds_memory.specs.Stored.{AreOfTheirIds, HasPlaces, jobs_world};
 
 use mds_jobs::{Job, JobId};

@@ -8,7 +8,7 @@ ghost use Rattle.mds_world.specs.Facts.Fact.{DetailIs, EventIs, HolidayIs};
 ghost use Rattle.mds_world.specs.Lists.{Apart, Member};
 ghost use Rattle.mds_world.specs.Sets.{◌∈◌};
 ghost use Rattle.mds_world.specs.World.{IsEventOf, union};
-ghost use Rattle.mds_versions.specs.Queries.{AreEventsOf, AreHolidays};
+ghost use Rattle.mds_keeper.specs.Queries.{AreEventsOf, AreHolidays};
 ghost use Rattle.mds_memory.specs.Stored.{AreDetailStreams, note_fact, notes_world};
 ghost use Rattle.mds_memory.specs.StoredNotes.{HasDetailsOf, IsAtEnd, IsEventNoteOf, PutsLast, first_of_day};
 ghost use Rattle.mds_memory.specs.declared.stored_notes.Note.{Note as ANote};

@@ -4,8 +4,8 @@ ghost use Rattle.std.specs.Prelude.{◌≡◌, IfOk, OnOk, map};
 ghost use Rattle.std.specs.BTreeMap.{IsOrdered};
 ghost use Rattle.std.specs.FinSet as set;
 ghost use Rattle.mds_world.specs.World.{Agrees, union};
-ghost use Rattle.mds_versions.specs.Content.{period_fact};
-ghost use Rattle.mds_versions.specs.Queries.{ArePeriodsOf, IsContentOf};
+ghost use Rattle.mds_keeper.specs.Content.{period_fact};
+ghost use Rattle.mds_keeper.specs.Queries.{ArePeriodsOf, IsContentOf};
 ghost use Rattle.mds_memory.specs.Stored.{ArePeriodStreams, HasKeys, key_cmp, periods_world};
 ghost use Rattle.mds_memory.specs.StoredPeriods.{first_key_of};
 

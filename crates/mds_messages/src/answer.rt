@@ -1,10 +1,10 @@
 //! What the machine answers.
 
+use mds_keeper::{Refusal, Version};
 use mds_quantity::Unit;
 use mds_records::FileFault;
 use mds_statements::Period;
 use mds_terms::{Day, Details, Event, Length, Moment, Reading, Stream};
-use mds_versions::{Refusal, Version};
 
 /// What the machine answers.
 #[derive(Drop)]

@@ -12,8 +12,8 @@ use Rattle.mds_world.specs.Current.{HasNoVersion, IsLatest, IsReading}
 use Rattle.mds_world.specs.Facts.Fact.{HeadIs}
 use Rattle.mds_world.specs.Sets.{◌∈◌}
 use Rattle.mds_world.specs.World.{IsCurrent, IsKnownDay, IsLawful, World}
-use Rattle.mds_versions.specs.Books.{BookValue, IsDay, book_world}
-use Rattle.mds_versions.proofs.BookFacts.{head_in_book, head_of_book, row_in_book, row_of_head}
+use Rattle.mds_keeper.specs.Books.{BookValue, IsDay, book_world}
+use Rattle.mds_keeper.proofs.BookFacts.{head_in_book, head_of_book, row_in_book, row_of_head}
 use Rattle.mds_statements.specs.declared.selected.SelectedDay.{SelectedDay}
 use Rattle.mds_ranges.specs.Readings.{AreReadings}
 use Rattle.mds_ranges.specs.Selections.{IsSelectedDay}

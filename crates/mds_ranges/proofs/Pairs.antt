@@ -5,7 +5,7 @@ use Rattle.std.proofs.lemmas.List.{get_or-map, length-map}
 use Rattle.std.proofs.lemmas.List.Kept.{AllPairs-cons}
 use Rattle.mds_world.proofs.Lists.{append_left, append_right, member_append}
 use Rattle.mds_world.specs.Lists.{Apart, Member}
-use Rattle.mds_versions.proofs.BookPlaces.{member_at, place_of}
+use Rattle.mds_keeper.proofs.BookPlaces.{member_at, place_of}
 
 module _ {X : Type 0} where
   -- what holds of all holds of each member

@@ -8,9 +8,9 @@ use Rattle.mds_names.specs.declared.stream.Stream.{Stream}
 use Rattle.mds_world.proofs.Lists.{append_left, append_right, in_map, map_in, member_append}
 use Rattle.mds_world.specs.Lists.{Member}
 use Rattle.mds_world.specs.World.{IsKnownDay, World}
-use Rattle.mds_versions.specs.Books.{BookValue, IsDay}
-use Rattle.mds_versions.specs.Queries.{AreDaysOf}
-use Rattle.mds_versions.proofs.BookPlaces.{member_at}
+use Rattle.mds_keeper.specs.Books.{BookValue, IsDay}
+use Rattle.mds_keeper.specs.Queries.{AreDaysOf}
+use Rattle.mds_keeper.proofs.BookPlaces.{member_at}
 use Rattle.mds_registers.specs.Stretches.{AreGaps, IsFinal, IsGap}
 use Rattle.mds_registers.specs.declared.stretches.Final.{Final}
 use Rattle.mds_registers.specs.declared.stretches.Gap.{Gap}

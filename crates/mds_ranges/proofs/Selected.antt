@@ -12,9 +12,9 @@ use Rattle.mds_names.specs.declared.stream.Stream.{Stream}
 use Rattle.mds_world.proofs.Lists.{in_map, map_in}
 use Rattle.mds_world.specs.Lists.{Member}
 use Rattle.mds_world.specs.World.{IsKnownDay, World}
-use Rattle.mds_versions.specs.Books.{BookValue, IsDay}
-use Rattle.mds_versions.specs.Queries.{AreDaysOf}
-use Rattle.mds_versions.proofs.BookPlaces.{member_at}
+use Rattle.mds_keeper.specs.Books.{BookValue, IsDay}
+use Rattle.mds_keeper.specs.Queries.{AreDaysOf}
+use Rattle.mds_keeper.proofs.BookPlaces.{member_at}
 use Rattle.mds_statements.specs.Selected.{AreOrderly, IsWhole, days_of, stream_cmp}
 use Rattle.mds_statements.specs.declared.selected.SelectedDay.{SelectedDay}
 use Rattle.mds_statements.specs.declared.selected.SelectedStream.{SelectedStream}

@@ -1,7 +1,7 @@
 -- What is put behind the rows of a range. No public contract cites it.
 use Rattle.std.specs.Prelude.{◌≡◌, ◌+◌, ℕ, suc, zero, List, [], ◌∷◌, ◌++◌, map}
 use Rattle.mds_world.specs.World.{World}
-use Rattle.mds_versions.specs.Books.{BookValue, IsDay}
+use Rattle.mds_keeper.specs.Books.{BookValue, IsDay}
 use Rattle.mds_registers.specs.Stretches.{AreFinals, AreGaps}
 use Rattle.mds_registers.specs.declared.stretches.Final.{Final}
 use Rattle.mds_registers.specs.declared.stretches.Gap.{Gap}

@@ -4,11 +4,11 @@ ghost use Rattle.std.specs.Prelude.{◌≡◌, IfOk};
 ghost use Rattle.mds_calendar.specs.Length.{count_of};
 ghost use Rattle.mds_world.specs.Current.{IsReading, no_reading as bare_n};
 ghost use Rattle.mds_world.specs.World.{World};
-ghost use Rattle.mds_versions.specs.Books.{IsDay};
+ghost use Rattle.mds_keeper.specs.Books.{IsDay};
 ghost use Rattle.mds_ranges.specs.Readings.{AreReadings};
 
+use mds_keeper::DayBook;
 use mds_terms::{Length, Mark, Reading};
-use mds_versions::DayBook;
 use std::alloc::{AllocError, Global};
 
 /// The current readings of a day with intervals of this length: one for each interval of the day, in their order. Each is

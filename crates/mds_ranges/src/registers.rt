@@ -4,13 +4,14 @@ ghost use Rattle.std.specs.Prelude.{◌≡◌, ◌+◌, ◌-◌, ◌≤◌, ℕ,
 ghost use Rattle.mds_calendar.specs.Calendar.{last_day};
 ghost use Rattle.mds_names.specs.declared.stream.Stream.{Stream};
 ghost use Rattle.mds_world.specs.World.{World};
-ghost use Rattle.mds_versions.specs.Queries.{AreDaysOf};
+ghost use Rattle.mds_keeper.specs.Kept.{Asks};
+ghost use Rattle.mds_keeper.specs.Queries.{AreDaysOf};
 ghost use Rattle.mds_ranges.specs.Ranges.{AreFinalRows, AreGapRows};
 ghost use Rattle.mds_ranges.specs.RangesSteps.{AddsFinals, AddsGaps, whole_days};
 
+use mds_keeper::{DayBook, Keeper, Unavailable};
 use mds_registers::{FinalRow, Gap, GapRow, finals, gaps};
 use mds_terms::{Day, Stream};
-use mds_versions::{DayBook, Keeper, Unavailable};
 use std::alloc::{AllocError, Global};
 
 /// The gap that a day is which isn't known.
@@ -25,19 +26,10 @@ pub fn gaps_of<K: Keeper>(
     first: Day,
     last: Day,
 ) -> Result<Vec<GapRow>, Unavailable>
-    ensures outside { K.honest keeper.new → K.honest keeper.old }
-    ensures before { K.sound keeper.new → K.sound keeper.old }
-    ensures open { K.honest keeper.new → OnOk result (K.sound keeper.new) }
-    ensures gaps { K.sound keeper.new
-        → IfOk result (λ rows. AreGapRows (K.world keeper.old) stream first last rows.items) }
-    ensures same { K.sound keeper.new → K.world keeper.new ≡ K.world keeper.old }
-    ensures crash { K.honest keeper.new → (left : World) → K.may_leave keeper.new left → K.may_leave keeper.old left }
+    ensures { Asks (K.kept keeper.old) (K.kept keeper.new) result (λ w rows. AreGapRows w stream first last rows.items) }
 {
     let books = keeper.days(stream, first, last)?;
-    match gap_rows(alloc, &books, first, last) {
-        Ok(rows) => Ok(rows),
-        Err(_) => Err(Unavailable),
-    }
+    Ok(gap_rows(alloc, &books, first, last)?)
 }
 
 /// The finals of a range of days of a stream, ascending by day and then by first interval.
@@ -48,19 +40,10 @@ pub fn finals_of<K: Keeper>(
     first: Day,
     last: Day,
 ) -> Result<Vec<FinalRow>, Unavailable>
-    ensures outside { K.honest keeper.new → K.honest keeper.old }
-    ensures before { K.sound keeper.new → K.sound keeper.old }
-    ensures open { K.honest keeper.new → OnOk result (K.sound keeper.new) }
-    ensures finals { K.sound keeper.new
-        → IfOk result (λ rows. AreFinalRows (K.world keeper.old) stream first last rows.items) }
-    ensures same { K.sound keeper.new → K.world keeper.new ≡ K.world keeper.old }
-    ensures crash { K.honest keeper.new → (left : World) → K.may_leave keeper.new left → K.may_leave keeper.old left }
+    ensures { Asks (K.kept keeper.old) (K.kept keeper.new) result (λ w rows. AreFinalRows w stream first last rows.items) }
 {
     let books = keeper.days(stream, first, last)?;
-    match final_rows(alloc, &books) {
-        Ok(rows) => Ok(rows),
-        Err(_) => Err(Unavailable),
-    }
+    Ok(final_rows(alloc, &books)?)
 }
 
 /// The gaps of the days of a range, of which these are the known ones.

@@ -3,15 +3,16 @@
 ghost use Rattle.std.specs.Prelude.{◌≡◌, ◌<◌, ◌≤◌, ℕ, List, [], IfOk, IfNone, IfSome, None, OnOk, length};
 ghost use Rattle.mds_names.specs.declared.stream.Stream.{Stream};
 ghost use Rattle.mds_world.specs.World.{World};
-ghost use Rattle.mds_versions.specs.Books.{IsDay};
-ghost use Rattle.mds_versions.specs.Queries.{AreDaysOf};
+ghost use Rattle.mds_keeper.specs.Books.{IsDay};
+ghost use Rattle.mds_keeper.specs.Kept.{Asks, Stays};
+ghost use Rattle.mds_keeper.specs.Queries.{AreDaysOf};
 ghost use Rattle.mds_ranges.specs.Ranges.{IsTooWide};
 ghost use Rattle.mds_ranges.specs.Selections.{AreSelectedDays, Ascend, IsSelectedDay, IsSelectedStream, IsSelection};
 
 use crate::readings::current_readings;
+use mds_keeper::{DayBook, Keeper, Unavailable};
 use mds_statements::{SelectedDay, SelectedStream, Selection};
 use mds_terms::{Day, Nmi, Stream, Suffix};
-use mds_versions::{DayBook, Keeper, Unavailable};
 use std::alloc::{AllocError, Global};
 
 /// What an export of the days of a range selects: the streams of an NMI with one of these suffixes. Each has its current
@@ -27,14 +28,11 @@ pub fn selection_of<K: Keeper>(
     requires narrow { IsTooWide first last → ⊥ }
     requires few { length suffixes.now ≤ 8 }
     requires ascend { Ascend suffixes.now }
-    ensures outside { K.honest keeper.new → K.honest keeper.old }
-    ensures before { K.sound keeper.new → K.sound keeper.old }
-    ensures open { K.honest keeper.new → 0 < length suffixes.now → OnOk result (K.sound keeper.new) }
-    ensures selection { K.sound keeper.new → IfOk result
-        (λ selection. IsSelection (K.world keeper.old) nmi suffixes.now first last selection.streams.items) }
+    ensures stays { Stays (K.kept keeper.old) (K.kept keeper.new) }
+    ensures opens { (K.kept keeper.new).honest → 0 < length suffixes.now → OnOk result (K.kept keeper.new).sound }
+    ensures selection { (K.kept keeper.new).sound → IfOk result
+        (λ selection. IsSelection (K.kept keeper.old).world nmi suffixes.now first last selection.streams.items) }
     ensures unasked { length suffixes.now ≡ 0 → IfOk result (λ selection. selection.streams.items ≡ []) }
-    ensures same { K.sound keeper.new → K.world keeper.new ≡ K.world keeper.old }
-    ensures crash { K.honest keeper.new → (left : World) → K.may_leave keeper.new left → K.may_leave keeper.old left }
 {
     let streams = selected_streams(alloc, keeper, nmi, suffixes, first, last)?;
     // It is one where the keeper is sound.
@@ -61,14 +59,11 @@ fn selected_streams<K: Keeper>(
     last: Day,
 ) -> Result<Vec<SelectedStream>, Unavailable>
     requires { Ascend suffixes.now }
-    ensures outside { K.honest keeper.new → K.honest keeper.old }
-    ensures before { K.sound keeper.new → K.sound keeper.old }
-    ensures open { K.honest keeper.new → 0 < length suffixes.now → OnOk result (K.sound keeper.new) }
-    ensures streams { K.sound keeper.new → IfOk result
-        (λ streams. IsSelection (K.world keeper.old) nmi suffixes.now first last streams.items) }
+    ensures stays { Stays (K.kept keeper.old) (K.kept keeper.new) }
+    ensures opens { (K.kept keeper.new).honest → 0 < length suffixes.now → OnOk result (K.kept keeper.new).sound }
+    ensures streams { (K.kept keeper.new).sound → IfOk result
+        (λ streams. IsSelection (K.kept keeper.old).world nmi suffixes.now first last streams.items) }
     ensures unasked { length suffixes.now ≡ 0 → IfOk result (λ streams. streams.items ≡ []) }
-    ensures same { K.sound keeper.new → K.world keeper.new ≡ K.world keeper.old }
-    ensures crash { K.honest keeper.new → (left : World) → K.may_leave keeper.new left → K.may_leave keeper.old left }
 {
     let mut streams = Vec::new(alloc);
     for suffix in suffixes {
@@ -77,9 +72,7 @@ fn selected_streams<K: Keeper>(
             suffix: *suffix,
         };
         let selected = selected_stream(alloc, keeper, &stream, first, last)?;
-        let Ok(()) = streams.push(selected) else {
-            return Err(Unavailable);
-        };
+        streams.push(selected)?;
     }
     Ok(streams)
 }
@@ -92,19 +85,12 @@ fn selected_stream<K: Keeper>(
     first: Day,
     last: Day,
 ) -> Result<SelectedStream, Unavailable>
-    ensures outside { K.honest keeper.new → K.honest keeper.old }
-    ensures before { K.sound keeper.new → K.sound keeper.old }
-    ensures open { K.honest keeper.new → OnOk result (K.sound keeper.new) }
     ensures name { IfOk result (λ selected. selected.stream ≡ stream.now) }
-    ensures selected { K.sound keeper.new → IfOk result (IsSelectedStream (K.world keeper.old) first last) }
-    ensures same { K.sound keeper.new → K.world keeper.new ≡ K.world keeper.old }
-    ensures crash { K.honest keeper.new → (left : World) → K.may_leave keeper.new left → K.may_leave keeper.old left }
+    ensures selected { Asks (K.kept keeper.old) (K.kept keeper.new) result (λ w. IsSelectedStream w first last) }
 {
     let details = keeper.details(*stream)?;
     let books = keeper.days(*stream, first, last)?;
-    let Ok(days) = selected_days(alloc, &books) else {
-        return Err(Unavailable);
-    };
+    let days = selected_days(alloc, &books)?;
     Ok(SelectedStream {
         stream: *stream,
         details,

@@ -11,8 +11,8 @@ use Rattle.mds_world.specs.Current.{HasNoVersion, IsReading, no_reading}
 use Rattle.mds_world.specs.Facts.Fact.{HeadIs, VersionIs}
 use Rattle.mds_world.specs.Sets.{◌∈◌}
 use Rattle.mds_world.specs.World.{IsCurrent, IsKnownDay, IsLawful, World}
-use Rattle.mds_versions.specs.Books.{BookValue, IsDay, book_world}
-use Rattle.mds_versions.proofs.BookFacts.{head_in_book, head_of_book}
+use Rattle.mds_keeper.specs.Books.{BookValue, IsDay, book_world}
+use Rattle.mds_keeper.proofs.BookFacts.{head_in_book, head_of_book}
 use Rattle.mds_registers.specs.Stretches.{HasIntervals, IsFinalWith, IsNull}
 
 -- what is current in the book is current in the World

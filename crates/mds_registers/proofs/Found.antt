@@ -5,7 +5,7 @@ use Rattle.mds_calendar.specs.Length.{count_of}
 use Rattle.mds_quantity.specs.declared.unit.Unit.{Unit as MeasureUnit}
 use Rattle.mds_marks.specs.declared.mark.Mark.{Mark}
 use Rattle.mds_world.specs.World.{IsLawful, World}
-use Rattle.mds_versions.specs.Books.{BookValue, IsDay, book_world}
+use Rattle.mds_keeper.specs.Books.{BookValue, IsDay, book_world}
 use Rattle.mds_registers.specs.Stretches.{AreFinals, AreGaps, HasIntervals, IsFinalWith, IsNull, IsStretch}
 use Rattle.mds_registers.specs.StretchesSteps.{TakesInFinal, TakesInNull}
 use Rattle.mds_registers.specs.declared.stretches.Final.{Final}

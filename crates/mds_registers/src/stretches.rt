@@ -4,13 +4,13 @@ ghost use Rattle.std.specs.Prelude.{◌≤◌, IfOk, OnOk, OnErr, MatchOption};
 ghost use Rattle.std.specs.Bool.{MatchBool};
 ghost use Rattle.mds_marks.specs.declared.mark.Mark.{Mark};
 ghost use Rattle.mds_world.specs.World.{World};
-ghost use Rattle.mds_versions.specs.Books.{IsDay};
+ghost use Rattle.mds_keeper.specs.Books.{IsDay};
 ghost use Rattle.mds_registers.specs.Stretches.{AreFinals, AreGaps, HasFinal, IsFinalWith, IsNull, LacksReading};
 ghost use Rattle.mds_registers.specs.StretchesSteps.{GoesOn, TakesInFinal, TakesInNull};
 
+use mds_keeper::DayBook;
 use mds_marks::Mark;
 use mds_marks::flags::{FINAL, NULL};
-use mds_versions::DayBook;
 use std::alloc::{AllocError, Global};
 
 /// Intervals `first` to `last` of a day, counted from 1, that have no reading. They are a longest run of those whose

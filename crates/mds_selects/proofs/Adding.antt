@@ -20,7 +20,7 @@ use Rattle.mds_world.specs.Facts.Fact.{EventIs}
 use Rattle.mds_world.proofs.Lists.{append_left, append_right, member_append}
 use Rattle.mds_world.specs.Lists.{Apart, Member}
 use Rattle.mds_world.proofs.Sets.{or_left, or_right, split_or}
-use Rattle.mds_versions.specs.Queries.{stream_cmp}
+use Rattle.mds_keeper.specs.Queries.{stream_cmp}
 use Rattle.mds_selects.specs.Added.{AreAdded, IsAdded, SaysEvent, SaysStream}
 use Rattle.mds_selects.specs.Shown.{AreStreamsIn}
 

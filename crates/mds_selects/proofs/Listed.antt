@@ -20,9 +20,9 @@ use Rattle.mds_world.specs.Facts.Fact.{DetailIs, EventIs, HeadIs, HolidayIs, Job
 use Rattle.mds_world.specs.Lists.{Apart, Member}
 use Rattle.mds_world.specs.Sets.{◌∈◌}
 use Rattle.mds_world.specs.World.{IsEventOf, IsOn}
-use Rattle.mds_versions.specs.Books.{row_fact}
-use Rattle.mds_versions.specs.Queries.{AreEventsOf, AreKnownStreams, stream_cmp}
-use Rattle.mds_versions.specs.declared.day_book.Version.{Version}
+use Rattle.mds_keeper.specs.Books.{row_fact}
+use Rattle.mds_keeper.specs.Queries.{AreEventsOf, AreKnownStreams, stream_cmp}
+use Rattle.mds_keeper.specs.declared.day_book.Version.{Version}
 use Rattle.mds_tables.specs.Cells as cells
 use Rattle.mds_tables.specs.RowFacts.{detail_fact, event_fact, head_fact, int_at, letter_in, natural, natural_at, optional, optional_at, period_fact, stream_in, text_at, unit_named, version_fact, world_in}
 use Rattle.mds_tables.specs.Stores.{Begins, Selects}

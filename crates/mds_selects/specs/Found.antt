@@ -9,8 +9,8 @@ use Rattle.mds_world.specs.Facts.Fact.{HeadIs, VersionIs}
 use Rattle.mds_world.specs.Lists.{Member}
 use Rattle.mds_world.specs.Sets.{◌∈◌}
 use Rattle.mds_world.specs.World.{World}
-use Rattle.mds_versions.specs.Books.{head_facts, row_fact}
-use Rattle.mds_versions.specs.declared.day_book.Version.{Version}
+use Rattle.mds_keeper.specs.Books.{head_facts, row_fact}
+use Rattle.mds_keeper.specs.declared.day_book.Version.{Version}
 
 -- the length and unit are those of the one head that the World has of a day, or there is none
 abbrev pub IsHeadOf : World → Stream → ℕ → Option (ℕ × MeasureUnit) → Type 0

@@ -16,7 +16,7 @@ use Rattle.mds_world.specs.declared.facts.Head.{Head}
 use Rattle.mds_world.specs.declared.facts.Key.{Key}
 use Rattle.mds_world.specs.Facts.Fact.{DetailIs, EventIs, HeadIs, VersionIs}
 use Rattle.mds_world.specs.Lists.{Member}
-use Rattle.mds_versions.specs.declared.day_book.Version.{Version}
+use Rattle.mds_keeper.specs.declared.day_book.Version.{Version}
 use Rattle.mds_tables.specs.RowFacts.{detail_fact, event_fact, head_fact, int_at, natural_at, optional_at, quality_named, reading_in, stream_in, text_at, version_fact}
 
 -- where a version stands

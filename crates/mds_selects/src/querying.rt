@@ -13,7 +13,7 @@ ghost use Rattle.mds_world.specs.Current.{IsCurrentDetails, no_details};
 ghost use Rattle.mds_world.specs.Facts.Fact.{DetailIs, EventIs};
 ghost use Rattle.mds_world.specs.Lists.{Apart, Member};
 ghost use Rattle.mds_world.specs.Sets.{◌∈◌};
-ghost use Rattle.mds_versions.specs.Queries.{AreEventsOf, AreKnownStreams, stream_cmp};
+ghost use Rattle.mds_keeper.specs.Queries.{AreEventsOf, AreKnownStreams, stream_cmp};
 ghost use Rattle.mds_tables.specs.Causes.{HasFailed};
 ghost use Rattle.mds_tables.specs.Queries.{Answers};
 ghost use Rattle.mds_tables.specs.RowFacts.{world_in};
@@ -33,10 +33,10 @@ use crate::rows::{
     same_details_rows, same_event_rows, version_numbers, version_rows,
 };
 use crate::terms::{detail_in, event_at, head_in, is_detail_row, stream_in, version_in};
+use mds_keeper::{Unavailable, Version};
 use mds_quantity::Unit;
 use mds_tables::{letter_of, ready};
 use mds_terms::{Day, Details, Event, Length, Moment, Stream, TransCode};
-use mds_versions::{Unavailable, Version};
 use mds_world::Detail;
 use sqlite::types::ValueRef;
 use sqlite::{Alter, Connection, Error, Row};

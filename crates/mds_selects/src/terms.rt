@@ -25,13 +25,13 @@ ghost use Rattle.mds_terms.specs.Printable.{is_printable};
 ghost use Rattle.mds_selects.specs.Shown.{IsDetailRow, amount_in, shown_details, shown_key, shown_reading};
 ghost use Rattle.mds_selects.specs.Written.{BeginsWith, IsDay, IsMoment, IsRowOfDetail, IsRowOfEvent, IsRowOfHead, IsRowOfVersion, text_length};
 
+use mds_keeper::Unavailable;
 use mds_marks::flags::NULL;
 use mds_marks::{Mark, Quality, Reading, Reason, qualities_read_back};
 use mds_quantity::{Quantity, Unit, units_read_back};
 use mds_terms::{
     Day, DetailsRef, Event, EventRef, Length, Moment, Nmi, PrintableText, Stream, Suffix, TransCode,
 };
-use mds_versions::Unavailable;
 use mds_world::{Detail, Head, Key};
 use sqlite::Row;
 use sqlite::types::ValueRef;

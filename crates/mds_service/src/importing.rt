@@ -8,10 +8,10 @@ use crate::accumulating::import_nem13;
 use crate::gathering::{Gathered, gather};
 use crate::news::new_notes;
 use crate::settling::settle;
+use mds_keeper::{Keeper, MergeCounts, Stop};
 use mds_messages::Answer;
 use mds_nem12::{Nem12Fault, read_nem12};
 use mds_records::FileKind;
-use mds_versions::{Keeper, MergeCounts, Stop};
 use std::alloc::Global;
 
 /// Takes in what a file of a kind states: all of it by one commit, or nothing.
@@ -21,13 +21,9 @@ pub(crate) fn import<K: Keeper>(
     kind: FileKind,
     text: &[u8],
 ) -> Answer
-    ensures outside { K.honest keeper.new → K.honest keeper.old }
-    ensures before { K.sound keeper.new → K.sound keeper.old }
-
     // It is a step of the machine. A crash leaves what it left before, or the World after it. Where the answer is
     // Unavailable, it may leave the World that another answer would have made.
-    ensures step { K.honest keeper.new → GoesBy (K.sound keeper.old) (K.sound keeper.new) (K.world keeper.old)
-        (K.world keeper.new) (K.may_leave keeper.old) (K.may_leave keeper.new) (λ w. ImportStep w kind text.now) result }
+    ensures { GoesBy (K.kept keeper.old) (K.kept keeper.new) (λ w. ImportStep w kind text.now) result }
 {
     match kind {
         FileKind::Nem12 => import_nem12(alloc, keeper, text),
@@ -37,10 +33,7 @@ pub(crate) fn import<K: Keeper>(
 
 /// Takes in the days, details and events that a NEM12 file states: all of them by one commit, or none.
 fn import_nem12<K: Keeper>(alloc: Global, keeper: &mut K, text: &[u8]) -> Answer
-    ensures outside { K.honest keeper.new → K.honest keeper.old }
-    ensures before { K.sound keeper.new → K.sound keeper.old }
-    ensures step { K.honest keeper.new → GoesBy (K.sound keeper.old) (K.sound keeper.new) (K.world keeper.old)
-        (K.world keeper.new) (K.may_leave keeper.old) (K.may_leave keeper.new) (λ w. ImportStep w kinds.Nem12 text.now) result }
+    ensures { GoesBy (K.kept keeper.old) (K.kept keeper.new) (λ w. ImportStep w kinds.Nem12 text.now) result }
 {
     let delivery = match read_nem12(alloc, text) {
         Ok(delivery) => delivery,

@@ -22,9 +22,9 @@ use Rattle.mds_world.specs.Lists.{Member}
 use Rattle.mds_world.proofs.Members.{list_in}
 use Rattle.mds_world.specs.Sets.{◌∈◌}
 use Rattle.mds_world.specs.World.{IsKnownDay, IsOn}
-use Rattle.mds_versions.specs.Books.{BookValue, IsDay, book_facts, book_world, head_facts, row_fact}
-use Rattle.mds_versions.specs.Queries.{AreDaysOf}
-use Rattle.mds_versions.proofs.BookFacts.{from_book}
+use Rattle.mds_keeper.specs.Books.{BookValue, IsDay, book_facts, book_world, head_facts, row_fact}
+use Rattle.mds_keeper.specs.Queries.{AreDaysOf}
+use Rattle.mds_keeper.proofs.BookFacts.{from_book}
 use Rattle.mds_tables.specs.Cells.{day_cells}
 use Rattle.mds_tables.specs.RowFacts.{head_fact, natural_at, version_fact, world_in}
 use Rattle.mds_tables.specs.Stores.{Begins}

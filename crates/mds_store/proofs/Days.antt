@@ -1,10 +1,7 @@
 -- A day's book, from the head and the versions that are found one after the other.
-use Rattle.std.specs.Prelude.{◌≡◌, ℕ, ◌≤◌, map, Option, Some, None, IfOk, IfSome, IsTrue, refl}
+use Rattle.std.specs.Prelude.{◌≡◌, ℕ, map, Option, Some, None, IfOk, IfSome, refl}
 use Rattle.std.specs.Option.{ok_or}
-use Rattle.std.proofs.Common.{sym, ap, subst, inl, inr, arith}
-use Rattle.sqlite.specs.Effect.{Database}
-use Rattle.sqlite.specs.State.{HasCleanDisk, KeepsCommit, State}
-use Rattle.sqlite_trees.specs.View.{doubt}
+use Rattle.std.proofs.Common.{sym, subst, inl, inr}
 use Rattle.mds_quantity.specs.declared.unit.Unit.{Unit as MeasureUnit}
 use Rattle.mds_names.specs.declared.stream.Stream.{Stream}
 use Rattle.mds_world.specs.declared.facts.Head.{Head}
@@ -16,19 +13,10 @@ use Rattle.mds_world.specs.Lists.{Member}
 use Rattle.mds_world.proofs.Members.{list_in}
 use Rattle.mds_world.specs.Sets.{◌∈◌}
 use Rattle.mds_world.specs.World.{IsOn, World}
-use Rattle.mds_versions.specs.declared.keeper.Unavailable.{Unavailable}
-use Rattle.mds_versions.specs.Books.{BookValue, IsDay, book_facts, book_world, head_facts, row_fact}
-use Rattle.mds_versions.proofs.BookFacts.{from_book}
-use Rattle.mds_tables.specs.RowFacts.{world_in}
-use Rattle.mds_tables.specs.Stores.{Holds, IsStore, world_of}
+use Rattle.mds_keeper.specs.declared.keeper.Unavailable.{Unavailable}
+use Rattle.mds_keeper.specs.Books.{BookValue, IsDay, book_facts, book_world, head_facts, row_fact}
+use Rattle.mds_keeper.proofs.BookFacts.{from_book}
 use Rattle.mds_selects.specs.Found.{AreRowsOf, IsHeadOf}
-
--- what was not changed holds as it did
-pub holds_on : (old new : State) → doubt old.is_clean ≤ doubt new.is_clean → (HasCleanDisk new → KeepsCommit old new)
-    → Holds old → Holds new
-holds_on old new less kept holds clean is_open =
-    let before : HasCleanDisk old = omega arith in
-    subst IsStore (sym ((kept clean).committed is_open)) (holds before ((kept clean).was_open is_open))
 
 -- the head of a day is one of the World
 head_there : (w : World) (stream : Stream) (day : ℕ) (known : Option (ℕ × MeasureUnit)) → IsHeadOf w stream day known
@@ -66,11 +54,11 @@ module _ (w : World) (book : BookValue) (heads : IsHeadOf w book.stream book.day
   ]
 
   -- its head and its versions are all that the World has of a day
-  pub is_day : IsDay w book
+  is_day : IsDay w book
   is_day = record { whole = on_day; only = of_day }
 
 -- a book that says the same is the same day's
-pub same_day : (w : World) (book other : BookValue) → book.stream ≡ other.stream → book.day ≡ other.day
+same_day : (w : World) (book other : BookValue) → book.stream ≡ other.stream → book.day ≡ other.day
     → book_world book ≡ book_world other → IsDay w other → IsDay w book
 same_day w book other stream day says is = record {
   whole = λ f on h.
@@ -79,25 +67,12 @@ same_day w book other stream day says is = record {
   only = λ f h. is.only f (subst (λ v. f ∈ v) says h);
 }
 
--- where a book was made of it, it is what is answered
-pub if_made : (w : World) (other : BookValue) (made : Option BookValue) (fault : Unavailable)
+-- where a book was made of what was found of a day, it is what is answered
+pub if_made : (other : BookValue) (made : Option BookValue) (fault : Unavailable)
     → IfSome made (λ book. (book.stream ≡ other.stream) × (book.day ≡ other.day) × (book.head ≡ other.head)
     × (book_world book ≡ book_world other))
-    → IsDay w other → IfOk (ok_or made fault) (IsDay w)
-if_made w other None fault says is = tt
-if_made w other (Some book) fault says is = same_day w book other says.0 says.1 says.3 is
-
-module _ (old mid new : State) (less : doubt old.is_clean ≤ doubt mid.is_clean)
-    (less_then : doubt mid.is_clean ≤ doubt new.is_clean) (kept : HasCleanDisk mid → KeepsCommit old mid)
-    (kept_then : HasCleanDisk new → KeepsCommit mid new) (clean : HasCleanDisk new) (is_open : IsTrue new.is_open) where
-  between : HasCleanDisk mid
-  between = omega (arith, less_then)
-
-  -- the versions are those of the World in which the head was found
-  pub day_found : (book : BookValue) → IsHeadOf (world_of old) book.stream book.day book.head
-      → AreRowsOf (world_of mid) book.stream book.day book.rows → IsDay (world_of old) book
-  day_found book heads rows =
-      let same : mid.committed ≡ old.committed = (kept between).committed ((kept_then clean).was_open is_open) in
-      is_day (world_of old) book heads
-      (subst (λ (w : World). AreRowsOf w book.stream book.day book.rows)
-      (ap (λ (db : Database). world_in db.trees) same) rows)
+    → (w : World) → IsHeadOf w other.stream other.day other.head → AreRowsOf w other.stream other.day other.rows
+    → IfOk (ok_or made fault) (IsDay w)
+if_made other None fault says w heads rows = tt
+if_made other (Some book) fault says w heads rows =
+    same_day w book other says.0 says.1 says.3 (is_day w other heads rows)

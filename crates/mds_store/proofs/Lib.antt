@@ -2,6 +2,7 @@ pub mod Adopting
 pub mod Ascending
 pub mod BookLemmas
 pub mod Days
+pub mod Keeping
 pub mod ListTexts
 pub mod Listed
 pub mod PeriodLemmas

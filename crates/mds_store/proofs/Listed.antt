@@ -20,7 +20,7 @@ use Rattle.mds_world.specs.Facts.{Fact, JobContent}
 use Rattle.mds_world.specs.Facts.Fact.{DetailIs, EventIs, HeadIs, HolidayIs, JobIs, PeriodIs, VersionIs}
 use Rattle.mds_world.specs.Lists.{Member}
 use Rattle.mds_world.specs.Sets.{◌∈◌}
-use Rattle.mds_versions.specs.Queries.{AreHolidays, IsJobOf}
+use Rattle.mds_keeper.specs.Queries.{AreHolidays, IsJobOf}
 use Rattle.mds_tables.specs.RowFacts.{holiday_fact, natural, natural_at, text_at, world_in}
 use Rattle.mds_tables.specs.Stores.{Begins, Selects}
 use Rattle.mds_tables.specs.Tables.{job_table, schema_1}

@@ -20,7 +20,7 @@ use Rattle.mds_statements.specs.declared.periods.PeriodKey.{PeriodKey}
 use Rattle.mds_world.specs.Facts.{Fact, PeriodContent}
 use Rattle.mds_world.specs.Facts.Fact.{DetailIs, EventIs, HeadIs, HolidayIs, JobIs, PeriodIs, VersionIs}
 use Rattle.mds_world.specs.Lists.{Member}
-use Rattle.mds_versions.specs.Queries.{ArePeriodsOf, IsContentOf, period_cmp}
+use Rattle.mds_keeper.specs.Queries.{ArePeriodsOf, IsContentOf, period_cmp}
 use Rattle.mds_tables.specs.Cells as cells
 use Rattle.mds_tables.specs.RowFacts.{int_at, natural, natural_at, period_fact, stream_in, text_at, world_in}
 use Rattle.mds_tables.specs.Stores.{Begins, Selects}

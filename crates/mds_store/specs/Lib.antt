@@ -1,3 +1,4 @@
+pub mod KeptRows
 pub mod Periods
 pub mod Props
 pub mod Ranges

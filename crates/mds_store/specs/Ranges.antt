@@ -8,8 +8,8 @@ use Rattle.mds_names.specs.declared.stream.Stream.{Stream}
 use Rattle.mds_world.specs.declared.facts.Head.{Head}
 use Rattle.mds_world.specs.Facts.Fact.{HeadIs}
 use Rattle.mds_world.specs.Lists.{Member}
-use Rattle.mds_versions.specs.Books.{BookValue, book_world}
-use Rattle.mds_versions.specs.declared.day_book.Version.{Version}
+use Rattle.mds_keeper.specs.Books.{BookValue, book_world}
+use Rattle.mds_keeper.specs.declared.day_book.Version.{Version}
 use Rattle.mds_tables.specs.Cells.{day_cells}
 use Rattle.mds_tables.specs.RowFacts.{head_fact, natural_at}
 use Rattle.mds_tables.specs.Stores.{Begins}

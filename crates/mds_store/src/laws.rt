@@ -9,16 +9,16 @@ ghost use Rattle.mds_tables.specs.Stores.{world_of};
 ghost use Rattle.mds_world.specs.World.{World};
 
 use crate::row_keeper::RowKeeper;
-use mds_versions::Keeper;
+use mds_keeper::Keeper;
 use sqlite::Alter;
 
 /// It keeps the World that the rows of its tables name. It is honest while its disk is, and sound while its connection is open
 /// too. A crash may leave any World that is named by tables which the library's store may leave.
 pub fn a_keeper_is_its_tables<S: Alter>(_keeper: &RowKeeper<S>)
-    ensures world { ⟦<RowKeeper<S> as Keeper>⟧.world _keeper.now ≡ world_of (state S.Store _keeper.now.conn) }
-    ensures honest { ⟦<RowKeeper<S> as Keeper>⟧.honest _keeper.now ↔ HasCleanDisk (state S.Store _keeper.now.conn) }
-    ensures sound { ⟦<RowKeeper<S> as Keeper>⟧.sound _keeper.now
+    ensures world { (⟦<RowKeeper<S> as Keeper>⟧.kept _keeper.now).world ≡ world_of (state S.Store _keeper.now.conn) }
+    ensures honest { (⟦<RowKeeper<S> as Keeper>⟧.kept _keeper.now).honest ↔ HasCleanDisk (state S.Store _keeper.now.conn) }
+    ensures sound { (⟦<RowKeeper<S> as Keeper>⟧.kept _keeper.now).sound
         ↔ (HasCleanDisk (state S.Store _keeper.now.conn) × IsTrue (state S.Store _keeper.now.conn).is_open) }
-    ensures may_leave { (left : World) → ⟦<RowKeeper<S> as Keeper>⟧.may_leave _keeper.now left
+    ensures may_leave { (left : World) → (⟦<RowKeeper<S> as Keeper>⟧.kept _keeper.now).may_leave left
         ↔ ((trees : Trees) × (state S.Store _keeper.now.conn).may_leave trees × (world_in trees ≡ left)) }
 {}

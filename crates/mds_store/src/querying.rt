@@ -4,7 +4,7 @@
 ghost use Rattle.std.specs.Prelude.{◌≡◌, ◌<◌, false, IfOk, OnOk};
 ghost use Rattle.std.specs.List.{AllPairs};
 ghost use Rattle.sqlite.specs.Held.{state};
-ghost use Rattle.mds_versions.specs.Queries.{AreHolidays, IsJobOf};
+ghost use Rattle.mds_keeper.specs.Queries.{AreHolidays, IsJobOf};
 ghost use Rattle.mds_tables.specs.Queries.{Answers};
 ghost use Rattle.mds_tables.specs.RowFacts.{world_in};
 ghost use Rattle.mds_tables.specs.Stores.{Holds};
@@ -13,10 +13,10 @@ ghost use Rattle.mds_store.specs.Said.{AreHolidaysIn, IsOnlyJob, SaysHoliday, Sa
 
 use crate::rows::{holiday_rows, job_rows};
 use mds_jobs::{Job, JobId};
+use mds_keeper::Unavailable;
 use mds_selects::{day_at, in_order, int_at, put, text_at};
 use mds_tables::ready;
 use mds_terms::Day;
-use mds_versions::Unavailable;
 use sqlite::{Alter, Connection, Row};
 use std::alloc::Global;
 use std::collections::BTreeSet;

@@ -1,11 +1,9 @@
 //! A keeper over tables.
 
-ghost use Rattle.std.specs.Prelude.{◌≡◌, false, IsTrue};
+ghost use Rattle.std.specs.Prelude.{◌≡◌, false};
 ghost use Rattle.sqlite.specs.Held.{state};
-ghost use Rattle.sqlite.specs.State.{HasCleanDisk};
-ghost use Rattle.sqlite_trees.specs.Tree.{Trees};
-ghost use Rattle.mds_tables.specs.RowFacts.{world_in};
-ghost use Rattle.mds_tables.specs.Stores.{Holds, world_of};
+ghost use Rattle.mds_tables.specs.Stores.{Holds};
+ghost use Rattle.mds_store.specs.KeptRows.{kept_in};
 ghost use Rattle.mds_store.specs.Props.{Holds-prop, settles};
 
 use crate::periods::{content_of_period, periods_of};
@@ -13,12 +11,12 @@ use crate::querying::{holidays_of, job_of};
 use crate::ranges::days_of;
 use mds_inserts::{commit, job_rows, period_rows};
 use mds_jobs::{Job, JobId};
+use mds_keeper::{Additions, DayBook, Keeper, Unavailable};
 use mds_selects::{
     current_details, events_of, has_details, has_event, head_of, streams, versions_of,
 };
 use mds_statements::{Period, PeriodContent, PeriodKey};
 use mds_terms::{Day, Details, Event, Stream};
-use mds_versions::{Additions, DayBook, Keeper, Unavailable};
 use mds_world::Detail;
 use sqlite::{Alter, Connection};
 use std::alloc::Global;
@@ -56,17 +54,7 @@ impl<S: Alter> RowKeeper<S> {
 }
 
 impl<S: Alter> Keeper for RowKeeper<S> {
-    // What the rows of the tables name, as they were last committed.
-    ghost world = { λ k. world_of (state S.Store k.conn) };
-
-    // The disk gave back what was written to it.
-    ghost honest = { λ k. HasCleanDisk (state S.Store k.conn) };
-
-    // The disk did so, and the connection is open.
-    ghost sound = { λ k. HasCleanDisk (state S.Store k.conn) × IsTrue (state S.Store k.conn).is_open };
-
-    // It may leave any World that the tables name which the next open may find.
-    ghost may_leave = { λ k left. (trees : Trees) × (state S.Store k.conn).may_leave trees × (world_in trees ≡ left) };
+    ghost kept = { λ k. kept_in (state S.Store k.conn) };
 
     ghost sound_honest = { λ _ sound. sound.0 };
 
@@ -120,12 +108,8 @@ impl<S: Alter> Keeper for RowKeeper<S> {
     }
 
     fn commit(&mut self, additions: Additions) -> Result<(), Unavailable> {
-        let Ok(periods) = period_rows(self.alloc, &additions.periods) else {
-            return Err(Unavailable);
-        };
-        let Ok(jobs) = job_rows(self.alloc, &additions.jobs) else {
-            return Err(Unavailable);
-        };
+        let periods = period_rows(self.alloc, &additions.periods)?;
+        let jobs = job_rows(self.alloc, &additions.jobs)?;
         commit(&mut self.conn, &additions, &periods, &jobs).map_err(|_| Unavailable)
     }
 }

@@ -8,8 +8,8 @@ use Rattle.sqlite_trees.specs.Tree.{Trees}
 use Rattle.sqlite_value.specs.Order.{Row, column}
 use Rattle.mds_world.specs.Lists.{Member}
 use Rattle.mds_world.specs.World.{World, union}
-use Rattle.mds_versions.specs.Content.{content, versions_of}
-use Rattle.mds_versions.specs.declared.additions.Additions.{Additions}
+use Rattle.mds_keeper.specs.Content.{content, versions_of}
+use Rattle.mds_keeper.specs.declared.additions.Additions.{Additions}
 use Rattle.mds_jobs.specs.Bodies.{IsJobBody}
 use Rattle.mds_jobs.specs.Jobs.{content_of}
 use Rattle.mds_jobs.specs.declared.job.Job.{Job}

@@ -2,9 +2,9 @@
 
 ghost use Rattle.std.specs.Prelude.{◌≡◌, IfSome};
 
+use mds_keeper::{Additions, Claim, DayBook, Stop};
 use mds_quantity::Unit;
 use mds_terms::{Day, Length, Moment, Reading, Stream};
-use mds_versions::{Additions, Claim, DayBook, Stop};
 use std::alloc::Global;
 
 /// Half-hourly readings of quality A: all are 1 but the third.

@@ -4,10 +4,10 @@ ghost use Rattle.std.specs.Prelude.{◌≡◌};
 ghost use Rattle.mdstore.specs.Refusals.{of_request_fault};
 
 use mds_desk::{Outcome, perform};
+use mds_keeper::Keeper;
 use mds_lines::Counted;
 use mds_messages::Request;
 use mds_requests::{FileCommand, RequestFault, request_in};
-use mds_versions::Keeper;
 use std::io;
 use std::io::{ErrorKind, Read};
 

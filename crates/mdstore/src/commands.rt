@@ -4,9 +4,9 @@ use crate::asking::{ask_keeper, perform_request, read_whole};
 use crate::store_file::{Task, in_store};
 use mds_desk::Outcome;
 use mds_http::{StoreHandler, listen, serve_connections};
+use mds_keeper::Keeper;
 use mds_messages::Request;
 use mds_requests::FileCommand;
-use mds_versions::Keeper;
 use mds_wire::Routes;
 use std::io::Read;
 

@@ -5,8 +5,8 @@ ghost use Rattle.mdstore.specs.Refusals.{of_store};
 
 use crate::place::{Place, Standing};
 use mds_desk::Outcome;
+use mds_keeper::Keeper;
 use mds_store::{StoreFault, adopt, create};
-use mds_versions::Keeper;
 use sqlite::{Alter, Connection, Error, ErrorCode, FileFrom, FileStore, Files, Wary};
 
 /// What is done with an open store. It is written over any keeper, so that it is proved without all that the library says of files.

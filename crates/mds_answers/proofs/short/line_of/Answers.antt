@@ -1,6 +1,6 @@
 use Rattle.std.proofs.Common.{true, false, codes, refl}
 use Rattle.mds_records.specs.Printed.{code_text as fault_code_text}
-use Rattle.mds_versions.specs.Refusals.{code_text as rule_code_text}
+use Rattle.mds_keeper.specs.Refusals.{code_text as rule_code_text}
 use Rattle.mds_answers.specs.Json.{counts, filled, refused}
 use Rattle.mds_answers.proofs.short.line_of.Goals as goal
 

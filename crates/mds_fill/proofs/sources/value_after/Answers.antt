@@ -1,7 +1,7 @@
 use Rattle.std.proofs.Common.{◌≤◌, ◌<◌, ◌+◌, Option, subst, arith}
 use Rattle.std.specs.Prelude.{MatchOption}
 use Rattle.mds_calendar.specs.Calendar.{last_day}
-use Rattle.mds_versions.specs.Books.{BookValue}
+use Rattle.mds_keeper.specs.Books.{BookValue}
 use Rattle.mds_jobs.specs.Jobs.{content_of}
 use Rattle.mds_fill.specs.Fills.{IsBookOf}
 use Rattle.mds_fill.proofs.SourceLemmas.{after_here, after_there}

@@ -1,6 +1,6 @@
 use Rattle.std.proofs.Common.{◌≡◌, ◌+◌, ℕ, Option, subst, arith}
 use Rattle.std.specs.Prelude.{MatchOption}
-use Rattle.mds_versions.specs.Books.{BookValue}
+use Rattle.mds_keeper.specs.Books.{BookValue}
 use Rattle.mds_jobs.specs.Jobs.{content_of}
 use Rattle.mds_fill.specs.Fills.{Finds, IsBookOf, IsUsable}
 use Rattle.mds_fill.proofs.SourceLemmas.{before_here, before_there}

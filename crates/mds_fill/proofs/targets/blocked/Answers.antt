@@ -1,5 +1,5 @@
 use Rattle.mds_jobs.specs.Jobs.{content_of}
-use Rattle.mds_versions.specs.declared.refusal.RefusalCode.TheVariants.{Protected, StaleUpdate}
+use Rattle.mds_keeper.specs.declared.refusal.RefusalCode.TheVariants.{Protected, StaleUpdate}
 use Rattle.mds_fill.proofs.FillLemmas.{refusal_is}
 use Rattle.mds_fill.proofs.targets.blocked.Goals as goal
 

@@ -6,7 +6,7 @@ pub loop-init : goal.loop-init
 loop-init g c = ([], omega arith, refl)
 
 pub loop-preserved : goal.loop-preserved
-loop-preserved g c = more_served _ _ _ _ _ _ _ _ c.loop.invariant c.serve_connection.ensures
+loop-preserved g c = more_served _ _ _ _ _ c.loop.invariant c.serve_connection.ensures
 
 pub returns : goal.returns
-returns g c = most_served _ _ _ _ _ _ _ _ c.loop.auto.counter-end c.loop.invariant
+returns g c = most_served _ _ _ _ _ c.loop.auto.counter-end c.loop.invariant

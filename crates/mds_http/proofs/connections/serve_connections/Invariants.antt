@@ -2,4 +2,4 @@ use Rattle.mds_http.specs.Connections.{HasServed}
 use Rattle.mds_http.proofs.connections.serve_connections.Given as goal
 
 abbrev pub invariant-loop : goal.invariant-loop
-invariant-loop g l = HasServed g.K.Keeper.honest g.K.Keeper.sound g.K.Keeper.world g.K.Keeper.may_leave l.initial.handler l.counter l.handler
+invariant-loop g l = HasServed g.K.Keeper.kept l.initial.handler l.counter l.handler

@@ -3,7 +3,7 @@ use Rattle.sqlite.specs.Held.{state}
 use Rattle.sqlite.specs.Values.{bound}
 use Rattle.mds_tables.proofs.CallLemmas.{keeps}
 use Rattle.mds_tables.specs.Cells.{day_and_versions}
-use Rattle.mds_versions.specs.Content.{version_at}
+use Rattle.mds_keeper.specs.Content.{version_at}
 use Rattle.mds_inserts.proofs.EightCells.{eight_got}
 use Rattle.mds_inserts.proofs.EightLemmas.{AreLawful, eight_fail, eight_there, itself, untouched}
 use Rattle.mds_inserts.proofs.putting.insert_eight.Given.{Over}

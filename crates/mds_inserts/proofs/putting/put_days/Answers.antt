@@ -3,7 +3,7 @@ use Rattle.std.proofs.lemmas.Result.{err_from_is_err_and}
 use Rattle.sqlite.specs.Held.{state}
 use Rattle.sqlite.proofs.InsideLemmas.{keeps_then}
 use Rattle.mds_tables.proofs.CallLemmas.{keeps_same, survives_more, survives_same}
-use Rattle.mds_versions.specs.Content.{versions_of}
+use Rattle.mds_keeper.specs.Content.{versions_of}
 use Rattle.mds_inserts.specs.Parts.{version_part}
 use Rattle.mds_inserts.specs.Writing.{PutsThere}
 use Rattle.mds_inserts.proofs.PutLemmas.{next_day_fails, next_day_there, none_there}

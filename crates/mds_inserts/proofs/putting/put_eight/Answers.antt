@@ -1,6 +1,6 @@
 use Rattle.std.proofs.Common.{map, sym, ◌∙◌}
 use Rattle.sqlite.specs.Held.{state}
-use Rattle.mds_versions.specs.Content.{version_at}
+use Rattle.mds_keeper.specs.Content.{version_at}
 use Rattle.mds_inserts.proofs.EightLemmas.{stays_there}
 use Rattle.mds_inserts.proofs.PutLemmas.{if_ok}
 use Rattle.mds_inserts.proofs.putting.put_eight.Goals as goal

@@ -1,7 +1,7 @@
 use Rattle.std.proofs.Common.{◌≡◌, map, take}
 use Rattle.sqlite.specs.Held.{state}
 use Rattle.sqlite.specs.State.{HasCleanDisk, KeepsCommit, Survives}
-use Rattle.mds_versions.specs.Content.{version_at}
+use Rattle.mds_keeper.specs.Content.{version_at}
 use Rattle.mds_inserts.specs.Parts.{version_part}
 use Rattle.mds_inserts.specs.Writing.{PutsThere}
 use Rattle.mds_inserts.proofs.putting.put_rows.Given as goal

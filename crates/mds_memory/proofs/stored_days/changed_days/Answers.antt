@@ -1,6 +1,6 @@
 use Rattle.std.proofs.Common.{refl, map}
 use Rattle.mds_world.specs.Facts.Fact.{HeadIs}
-use Rattle.mds_versions.specs.Content.{versions_of}
+use Rattle.mds_keeper.specs.Content.{versions_of}
 use Rattle.mds_memory.specs.Stored.{days_world}
 use Rattle.mds_memory.proofs.Changed.{changed_all, changed_end, changed_lawful, changed_start, head_pushed, fronts_start, none_left, split_end, split_step, versions_pushed}
 use Rattle.mds_memory.proofs.Places.{if_ok_map}

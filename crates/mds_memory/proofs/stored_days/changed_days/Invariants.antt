@@ -1,6 +1,6 @@
 use Rattle.std.proofs.Common.{◌≡◌, ◌++◌, map}
 use Rattle.mds_world.specs.Facts.Fact.{HeadIs}
-use Rattle.mds_versions.specs.Content.{version_fact, versions_of}
+use Rattle.mds_keeper.specs.Content.{version_fact, versions_of}
 use Rattle.mds_memory.specs.Stored.{days_world}
 use Rattle.mds_memory.specs.StoredSteps.{AreChanged}
 use Rattle.mds_memory.proofs.stored_days.changed_days.Given as goal

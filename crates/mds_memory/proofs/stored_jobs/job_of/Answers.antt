@@ -1,5 +1,5 @@
 use Rattle.std.proofs.Common.{sym}
-use Rattle.mds_versions.specs.Queries.{IsJobOf}
+use Rattle.mds_keeper.specs.Queries.{IsJobOf}
 use Rattle.mds_memory.specs.Stored.{jobs_world}
 use Rattle.mds_memory.proofs.Places.{if_ok_at}
 use Rattle.mds_memory.proofs.StoredJobs.{job_absent, job_found}

@@ -1,5 +1,5 @@
 use Rattle.std.proofs.Common.{sym}
-use Rattle.mds_versions.specs.Queries.{IsContentOf}
+use Rattle.mds_keeper.specs.Queries.{IsContentOf}
 use Rattle.mds_memory.specs.Stored.{periods_world}
 use Rattle.mds_memory.proofs.Places.{if_ok_at}
 use Rattle.mds_memory.proofs.StoredPeriods.{content_absent, content_found}

@@ -1,5 +1,5 @@
 use Rattle.mds_world.specs.World.{World}
-use Rattle.mds_versions.specs.Books.{IsDay}
+use Rattle.mds_keeper.specs.Books.{IsDay}
 use Rattle.mds_ranges.specs.Readings.{AreReadings}
 use Rattle.mds_ranges.proofs.readings.current_readings.Given as goal
 

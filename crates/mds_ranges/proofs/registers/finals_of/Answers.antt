@@ -1,6 +1,7 @@
+use Rattle.mds_keeper.proofs.Asked.{asks_so}
 use Rattle.mds_ranges.proofs.registers.finals_of.Goals as goal
 
-pub returns-in-Ok-clause-finals : goal.returns-in-Ok-clause-finals
-returns-in-Ok-clause-finals g c = λ sound.
-    c.in-Ok.ensures (g.K.Keeper.world c.args.keeper.now) c.args.stream c.args.first c.args.last
-    (rw c.deref.ensures.value (c.in_ok-books.ensures.days sound))
+pub returns : goal.returns
+returns g c =
+    asks_so c.in_ok-books.ensures
+    (λ w are. c.in_ok-final_rows.ensures w c.args.stream c.args.first c.args.last (rw c.deref.ensures.value are))

@@ -2,7 +2,7 @@ use Rattle.std.proofs.Common.{◌+◌, ◌≤◌, drop}
 use Rattle.mds_calendar.specs.Calendar.{last_day}
 use Rattle.mds_names.specs.declared.stream.Stream.{Stream}
 use Rattle.mds_world.specs.World.{World}
-use Rattle.mds_versions.specs.Queries.{AreDaysOf}
+use Rattle.mds_keeper.specs.Queries.{AreDaysOf}
 use Rattle.mds_ranges.proofs.Ranged.{GapsOnWay}
 use Rattle.mds_ranges.proofs.registers.gap_rows.Given as goal
 

@@ -1,7 +1,7 @@
 use Rattle.std.proofs.Common.{ℕ, take}
 use Rattle.mds_names.specs.declared.stream.Stream.{Stream}
 use Rattle.mds_world.specs.World.{World}
-use Rattle.mds_versions.specs.Queries.{AreDaysOf}
+use Rattle.mds_keeper.specs.Queries.{AreDaysOf}
 use Rattle.mds_ranges.proofs.Selected.{AreTaken}
 use Rattle.mds_ranges.proofs.selecting.selected_days.Given as goal
 

@@ -1,5 +1,5 @@
 use Rattle.mds_world.specs.World.{World}
-use Rattle.mds_versions.specs.Books.{IsDay}
+use Rattle.mds_keeper.specs.Books.{IsDay}
 use Rattle.mds_registers.proofs.Found.{AreFinalsTo}
 use Rattle.mds_registers.proofs.stretches.finals.Given as goal
 

@@ -1,5 +1,5 @@
 use Rattle.mds_world.specs.World.{World}
-use Rattle.mds_versions.specs.Books.{IsDay}
+use Rattle.mds_keeper.specs.Books.{IsDay}
 use Rattle.mds_registers.proofs.Found.{AreGapsTo}
 use Rattle.mds_registers.proofs.stretches.gaps.Given as goal
 

@@ -2,7 +2,7 @@ use Rattle.std.proofs.Common.{◌≡◌}
 use Rattle.std.specs.List.{AllPairs}
 use Rattle.std.specs.declared.cmp.Ordering.TheVariants.{Less}
 use Rattle.sqlite.specs.Held.{state}
-use Rattle.mds_versions.specs.Queries.{stream_cmp}
+use Rattle.mds_keeper.specs.Queries.{stream_cmp}
 use Rattle.mds_selects.specs.Shown.{AreStreamsIn}
 use Rattle.mds_selects.proofs.Asked.{and_then, answers, steady, tables_held, with_both}
 use Rattle.mds_selects.proofs.Listed.{finds_streams}

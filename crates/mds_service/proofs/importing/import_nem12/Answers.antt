@@ -1,210 +1,105 @@
-use Rattle.std.proofs.Common.{◌≡◌, Some, Err, inl, inr, refl, sym, ap, ◌∙◌, subst}
+use Rattle.std.proofs.Common.{Some, Err, refl, sym, ap, ◌∙◌}
 use Rattle.mds_records.specs.declared.file.FileKind.TheVariants.{Nem12}
-use Rattle.mds_world.specs.Stated.{stated}
-use Rattle.mds_world.specs.World.{IsLawful, World}
-use Rattle.mds_versions.specs.declared.additions.Additions.{Additions}
-use Rattle.mds_messages.specs.declared.answer.Answer.TheVariants as told
-use Rattle.mds_service.proofs.Committed.{are_new, comes, lawful_commit, refusal_as, taken_in}
-use Rattle.mds_service.proofs.Sifting.{detail_exact}
+use Rattle.mds_statements.specs.Delivered.{delivery_statements}
+use Rattle.mds_statements.specs.Statements.{days_of}
 use Rattle.mds_terms.proofs.TermOrder.{event_exact}
+use Rattle.mds_world.specs.Stated.{stated}
+use Rattle.mds_world.specs.World.{IsLawful, union}
+use Rattle.mds_keeper.specs.Content.{content}
+use Rattle.mds_keeper.specs.Kept.{OfKept, Stays}
+use Rattle.mds_keeper.proofs.Asked.{stays_on}
+use Rattle.mds_keeper.specs.declared.additions.Additions.{Additions}
+use Rattle.mds_messages.specs.declared.answer.Answer.TheVariants as told
+use Rattle.mds_service.specs.Machine.{ImportStep}
+use Rattle.mds_service.proofs.Committed.{Comes, are_new, comes, refusal_as, taken_in, with_notes}
+use Rattle.mds_service.proofs.OfKept.{still}
+use Rattle.mds_service.proofs.Sifting.{detail_exact}
+use Rattle.mds_service.proofs.Steps.{added, cut, failed, stood, unasked}
+use Rattle.mds_service.proofs.importing.import_nem12.Given.{Over}
+use Rattle.mds_service.proofs.importing.import_nem12.Goals.{After-new_notes-2, In-Ok-settle}
 use Rattle.mds_service.proofs.importing.import_nem12.Goals as goal
 
-pub returns-in-Err-File-clause-step : goal.returns-in-Err-File-clause-step
-returns-in-Err-File-clause-step g c = λ honest w lawful shows. (
-  w,
-  lawful,
-  (
-    c.in-Err-File.ensures.fault c.in-Err-File.fault (ap Err c.in-Err-File.field-0-is)
-        ∙ ap Some (sym c.in-Err-File.fault-is),
-    refl,
-  ),
-  shows,
-  λ left may. inr (inl (refl, may)),
-)
-
-pub returns-in-Err-Memory-clause-step : goal.returns-in-Err-Memory-clause-step
-returns-in-Err-Memory-clause-step g c = λ honest w lawful shows. (w, lawful, refl, shows, λ left may. inr (inl (refl, may)))
-
-pub returns-in-Err-Refused-clause-step : goal.returns-in-Err-Refused-clause-step
-returns-in-Err-Refused-clause-step g c = λ honest w lawful shows. (
-  w,
-  lawful,
-  (
-    c.in-Ok.ensures.done.0,
-    refusal_as _ _ _ c.in-Err-Refused.field-0 c.in-Err-Refused.refusal _ c.in-Ok.ensures.done.1 (c.in-Err-Refused.ensures.refused honest w shows lawful) c.in-Err-Refused.field-0-is
-        c.in-Err-Refused.refusal-is,
-    refl,
-  ),
-  c.gather.ensures.kept honest w shows,
-  λ left may. inr (inl (refl, c.gather.ensures.crash honest left may)),
-)
-
-pub returns-in-Err-Memory-gather-clause-step : goal.returns-in-Err-Memory-gather-clause-step
-returns-in-Err-Memory-gather-clause-step g c = λ honest w lawful shows. (
-  w,
-  lawful,
+pub returns-in-Err-File : goal.returns-in-Err-File
+returns-in-Err-File g c = unasked (λ w. (
+  c.in-Err-File.ensures.fault c.in-Err-File.fault (ap Err c.in-Err-File.field-0-is)
+      ∙ ap Some (sym c.in-Err-File.fault-is),
   refl,
-  c.gather.ensures.kept honest w shows,
-  λ left may. inr (inl (refl, c.gather.ensures.crash honest left may)),
-)
+))
 
-pub returns-in_default-clause-step : goal.returns-in_default-clause-step
-returns-in_default-clause-step g c = λ honest w lawful shows.
-    let early = c.new_notes.ensures.outside honest in (
-      w,
-      lawful,
-      refl,
-      c.new_notes.ensures.kept honest w (c.gather.ensures.kept early w shows),
-      λ left may. inr (inl (refl, c.gather.ensures.crash early left (c.new_notes.ensures.crash honest left may))),
-    )
+pub returns-in-Err-Memory : goal.returns-in-Err-Memory
+returns-in-Err-Memory g c = unasked (λ w. refl)
 
-pub returns-in_default-new_notes-clause-step : goal.returns-in_default-new_notes-clause-step
-returns-in_default-new_notes-clause-step g c = λ honest w lawful shows.
-    let later = c.new_notes-2.ensures.outside honest in
-    let early = c.new_notes.ensures.outside later in (
-      w,
-      lawful,
-      refl,
-      c.new_notes-2.ensures.kept honest w (c.new_notes.ensures.kept later w (c.gather.ensures.kept early w shows)),
-      λ left may. inr (inl (
-        refl,
-        c.gather.ensures.crash early left (c.new_notes.ensures.crash later left
-            (c.new_notes-2.ensures.crash honest left may)),
-      )),
-    )
+pub returns-in-Err-Refused : goal.returns-in-Err-Refused
+returns-in-Err-Refused g c = stood c.gather.ensures.stays (λ honest w lawful shows. (
+  c.in-Ok.ensures.done.0,
+  refusal_as _ _ _ c.in-Err-Refused.field-0 c.in-Err-Refused.refusal _ c.in-Ok.ensures.done.1
+      (c.in-Err-Refused.ensures.refused honest w shows lawful) c.in-Err-Refused.field-0-is c.in-Err-Refused.refusal-is,
+  refl,
+))
 
-pub returns-in_default-settle-clause-step : goal.returns-in_default-settle-clause-step
-returns-in_default-settle-clause-step g c = λ honest w lawful shows.
-    let later = c.new_notes-2.ensures.outside honest in
-    let early = c.new_notes.ensures.outside later in (
-      w,
-      lawful,
-      refl,
-      c.new_notes-2.ensures.kept honest w (c.new_notes.ensures.kept later w (c.gather.ensures.kept early w shows)),
-      λ left may. inr (inl (
-        refl,
-        c.gather.ensures.crash early left (c.new_notes.ensures.crash later left
-            (c.new_notes-2.ensures.crash honest left may)),
-      )),
-    )
+pub returns-in-Err-Memory-gather : goal.returns-in-Err-Memory-gather
+returns-in-Err-Memory-gather g c = failed c.gather.ensures.stays (λ w. refl)
+
+pub returns-in_default : goal.returns-in_default
+returns-in_default g c = failed (stays_on c.gather.ensures.stays c.new_notes.ensures.stays) (λ w. refl)
+
+-- all that was asked before the commit
+asked : (g : Over) (c : After-new_notes-2 g)
+    → Stays (g.K.Keeper.kept c.args.keeper.now) (g.K.Keeper.kept c.new_notes-2.new.keeper)
+asked g c = stays_on (stays_on c.gather.ensures.stays c.new_notes.ensures.stays) c.new_notes-2.ensures.stays
+
+pub returns-in_default-new_notes : goal.returns-in_default-new_notes
+returns-in_default-new_notes g c = failed (asked g (goal.at.returns-in_default-new_notes g c).After-new_notes-2) (λ w. refl)
+
+pub returns-in_default-settle : goal.returns-in_default-settle
+returns-in_default-settle g c = failed (asked g (goal.at.returns-in_default-settle g c).After-new_notes-2) (λ w. refl)
+
+coming : (g : Over) (c : In-Ok-settle g)
+    → OfKept (g.K.Keeper.kept c.args.keeper.now) (g.K.Keeper.kept c.new_notes-2.new.keeper)
+    (λ w. Comes w (days_of (delivery_statements c.in-Ok.delivery)) c.in-Ok-gather.gathered c.in-Ok-settle.additions
+    c.in-Ok-settle.counts c.in-Ok-new_notes.details c.in-Ok-new_notes-2.events)
+coming g c = λ honest w shows.
+    let later = c.new_notes-2.ensures.stays.outside honest in
+    let gathered = c.in-Ok-gather.ensures.gathered (c.new_notes.ensures.stays.outside later) w shows in
+    let one = still c.gather.ensures.stays shows in
+    comes w _ c.in-Ok-gather.gathered c.in-Ok-settle.additions c.in-Ok-settle.counts c.in-Ok-new_notes.details
+    c.in-Ok-new_notes-2.events gathered.whole (c.in-Ok-settle.ensures w _ gathered.merges) c.in-Ok-new_notes.ensures.apart
+    (c.in-Ok-new_notes.ensures.just detail_exact later w one) c.in-Ok-new_notes-2.ensures.apart
+    (c.in-Ok-new_notes-2.ensures.just event_exact honest w (still c.new_notes.ensures.stays one))
+
+abbrev its : (g : Over) (c : In-Ok-settle g) → Additions
+its g c = with_notes c.in-Ok-settle.additions c.in-Ok-new_notes.details c.in-Ok-new_notes-2.events
+
+taken : (g : Over) (c : In-Ok-settle g)
+    → OfKept (g.K.Keeper.kept c.args.keeper.now) (g.K.Keeper.kept c.new_notes-2.new.keeper)
+    (λ w. IsLawful w → IsLawful (union w (content (its g c))) × ImportStep w Nem12 c.args.text.now
+    (told.Imported c.in-Ok-settle.counts.added c.in-Ok-settle.counts.known) (union w (content (its g c))))
+taken g c = λ honest w shows lawful.
+    let early = c.new_notes.ensures.stays.outside (c.new_notes-2.ensures.stays.outside honest) in
+    taken_in (coming g c honest w shows) Nem12 c.args.text.now c.in-Ok.ensures.done.0
+    (ap stated (sym c.in-Ok.ensures.done.1) ∙ (c.in-Ok-gather.ensures.gathered early w shows).all) lawful
+    (c.in-Ok-gather.ensures.agrees early w shows lawful)
 
 pub commit-requires-clause-new : goal.commit-requires-clause-new
 commit-requires-clause-new g c = λ sound.
-    let w : World = g.K.Keeper.world c.args.keeper.now in
-    let shows : g.K.Keeper.sound c.args.keeper.now → w ≡ w = λ _. refl in
-    let honest = g.met.K.Keeper.sound_honest c.new_notes-2.new.keeper sound in
-    let later = c.new_notes-2.ensures.outside honest in
-    let early = c.new_notes.ensures.outside later in
-    let one = c.gather.ensures.kept early w shows in
-    let two = c.new_notes.ensures.kept later w one in
-    let x = comes w _ c.in-Ok-gather.gathered c.in-Ok-settle.additions c.in-Ok-settle.counts _ _ (c.in-Ok-gather.ensures.gathered early w shows).whole
-    (c.in-Ok-settle.ensures w _ (c.in-Ok-gather.ensures.gathered early w shows).merges) c.in-Ok-new_notes.ensures.apart
-    (c.in-Ok-new_notes.ensures.just detail_exact later w one) c.in-Ok-new_notes-2.ensures.apart
-    (c.in-Ok-new_notes-2.ensures.just event_exact honest w two) in
-    let a : Additions = record {
-      heads = c.in-Ok-settle.additions.heads;
-      days = c.in-Ok-settle.additions.days;
-      details = c.in-Ok-new_notes.details;
-      events = c.in-Ok-new_notes-2.events;
-      periods = c.in-Ok-settle.additions.periods;
-      holidays = c.in-Ok-settle.additions.holidays;
-      jobs = c.in-Ok-settle.additions.jobs;
-    } in
-    are_new _ _ _ _ _ _ _ x _ a (c.new_notes-2.ensures.kept honest w two sound) refl refl refl refl refl refl refl
+    let at = goal.at.commit-requires-clause-new g c in
+    are_new (coming g at.In-Ok-settle (g.met.K.Keeper.sound_honest c.new_notes-2.new.keeper sound)
+    (g.K.Keeper.kept c.new_notes-2.new.keeper).world (λ _. sym ((asked g at.After-new_notes-2).same sound)))
 
 pub commit-requires-clause-lawful : goal.commit-requires-clause-lawful
 commit-requires-clause-lawful g c = λ sound lawful.
-    let w : World = g.K.Keeper.world c.args.keeper.now in
-    let shows : g.K.Keeper.sound c.args.keeper.now → w ≡ w = λ _. refl in
-    let honest = g.met.K.Keeper.sound_honest c.new_notes-2.new.keeper sound in
-    let later = c.new_notes-2.ensures.outside honest in
-    let early = c.new_notes.ensures.outside later in
-    let one = c.gather.ensures.kept early w shows in
-    let two = c.new_notes.ensures.kept later w one in
-    let now = c.new_notes-2.ensures.kept honest w two sound in
-    let x = comes w _ c.in-Ok-gather.gathered c.in-Ok-settle.additions c.in-Ok-settle.counts _ _ (c.in-Ok-gather.ensures.gathered early w shows).whole
-    (c.in-Ok-settle.ensures w _ (c.in-Ok-gather.ensures.gathered early w shows).merges) c.in-Ok-new_notes.ensures.apart
-    (c.in-Ok-new_notes.ensures.just detail_exact later w one) c.in-Ok-new_notes-2.ensures.apart
-    (c.in-Ok-new_notes-2.ensures.just event_exact honest w two) in
-    let a : Additions = record {
-      heads = c.in-Ok-settle.additions.heads;
-      days = c.in-Ok-settle.additions.days;
-      details = c.in-Ok-new_notes.details;
-      events = c.in-Ok-new_notes-2.events;
-      periods = c.in-Ok-settle.additions.periods;
-      holidays = c.in-Ok-settle.additions.holidays;
-      jobs = c.in-Ok-settle.additions.jobs;
-    } in
-    let was : IsLawful w = subst IsLawful now lawful in
-    lawful_commit _ _ _ _ _ _ _ x _ a now refl refl refl refl refl refl refl was (c.in-Ok-gather.ensures.agrees early w shows was)
+    let at = goal.at.commit-requires-clause-lawful g c in
+    (taken g at.In-Ok-settle (g.met.K.Keeper.sound_honest c.new_notes-2.new.keeper sound)
+    (g.K.Keeper.kept c.new_notes-2.new.keeper).world (λ _. sym ((asked g at.After-new_notes-2).same sound)) lawful).0
 
-pub returns-in-Ok-commit-clause-step : goal.returns-in-Ok-commit-clause-step
-returns-in-Ok-commit-clause-step g c = λ honest w lawful shows.
-    let last = c.commit.ensures.outside honest in
-    let later = c.new_notes-2.ensures.outside last in
-    let early = c.new_notes.ensures.outside later in
-    let one = c.gather.ensures.kept early w shows in
-    let two = c.new_notes.ensures.kept later w one in
-    let x = comes w _ c.in-Ok-gather.gathered c.in-Ok-settle.additions c.in-Ok-settle.counts _ _ (c.in-Ok-gather.ensures.gathered early w shows).whole
-    (c.in-Ok-settle.ensures w _ (c.in-Ok-gather.ensures.gathered early w shows).merges) c.in-Ok-new_notes.ensures.apart
-    (c.in-Ok-new_notes.ensures.just detail_exact later w one) c.in-Ok-new_notes-2.ensures.apart
-    (c.in-Ok-new_notes-2.ensures.just event_exact last w two) in
-    let a : Additions = record {
-      heads = c.in-Ok-settle.additions.heads;
-      days = c.in-Ok-settle.additions.days;
-      details = c.in-Ok-new_notes.details;
-      events = c.in-Ok-new_notes-2.events;
-      periods = c.in-Ok-settle.additions.periods;
-      holidays = c.in-Ok-settle.additions.holidays;
-      jobs = c.in-Ok-settle.additions.jobs;
-    } in
-    let sound = c.in-Ok-commit.ensures.open honest in
-    let now = c.new_notes-2.ensures.kept last w two (c.commit.ensures.before sound) in
-    let t = taken_in _ _ _ _ _ _ _ x Nem12 c.args.text.now _ _ a c.in-Ok.ensures.done.0
-    (ap stated (sym c.in-Ok.ensures.done.1) ∙ (c.in-Ok-gather.ensures.gathered early w shows).all) now (c.in-Ok-commit.ensures.ok sound)
-    refl refl refl refl refl refl refl lawful (c.in-Ok-gather.ensures.agrees early w shows lawful) in (
-      g.K.Keeper.world c.commit.new.self,
-      t.0,
-      t.1,
-      λ _. refl,
-      λ left may. inl (g.met.K.Keeper.settled c.commit.new.self sound left may),
-    )
+pub returns-in-Ok-commit : goal.returns-in-Ok-commit
+returns-in-Ok-commit g c =
+    let at = goal.at.returns-in-Ok-commit g c in
+    added (asked g at.After-new_notes-2) c.in-Ok-commit.ensures (g.met.K.Keeper.settled c.commit.new.self)
+    (λ honest w lawful _ is. taken g at.In-Ok-settle (c.commit.ensures.outside honest) w (λ _. is) lawful)
 
-pub returns-in-Err-clause-step : goal.returns-in-Err-clause-step
-returns-in-Err-clause-step g c = λ honest w lawful shows.
-    let last = c.commit.ensures.outside honest in
-    let later = c.new_notes-2.ensures.outside last in
-    let early = c.new_notes.ensures.outside later in
-    let one = c.gather.ensures.kept early w shows in
-    let two = c.new_notes.ensures.kept later w one in
-    let three = c.new_notes-2.ensures.kept last w two in
-    let x = comes w _ c.in-Ok-gather.gathered c.in-Ok-settle.additions c.in-Ok-settle.counts _ _ (c.in-Ok-gather.ensures.gathered early w shows).whole
-    (c.in-Ok-settle.ensures w _ (c.in-Ok-gather.ensures.gathered early w shows).merges) c.in-Ok-new_notes.ensures.apart
-    (c.in-Ok-new_notes.ensures.just detail_exact later w one) c.in-Ok-new_notes-2.ensures.apart
-    (c.in-Ok-new_notes-2.ensures.just event_exact last w two) in
-    let a : Additions = record {
-      heads = c.in-Ok-settle.additions.heads;
-      days = c.in-Ok-settle.additions.days;
-      details = c.in-Ok-new_notes.details;
-      events = c.in-Ok-new_notes-2.events;
-      periods = c.in-Ok-settle.additions.periods;
-      holidays = c.in-Ok-settle.additions.holidays;
-      jobs = c.in-Ok-settle.additions.jobs;
-    } in (
-      w,
-      lawful,
-      refl,
-      λ sound. c.in-Err.ensures.err sound ∙ three (c.commit.ensures.before sound),
-      λ left may. elim (c.commit.ensures.crash honest left may) [
-        | inl was ↦ inr (inl (
-          refl,
-          c.gather.ensures.crash early left (c.new_notes.ensures.crash later left
-              (c.new_notes-2.ensures.crash last left was)),
-        ))
-        | inr it ↦
-            let t = taken_in _ _ _ _ _ _ _ x Nem12 c.args.text.now _ left a
-            c.in-Ok.ensures.done.0 (ap stated (sym c.in-Ok.ensures.done.1) ∙ (c.in-Ok-gather.ensures.gathered early w shows).all)
-            (three it.0) it.1 refl refl refl refl refl refl refl lawful (c.in-Ok-gather.ensures.agrees early w shows lawful) in
-            inr (inr (refl, told.Imported c.in-Ok-settle.counts.added c.in-Ok-settle.counts.known, (λ e. cc), t.1))
-      ],
-    )
+pub returns-in-Err : goal.returns-in-Err
+returns-in-Err g c =
+    let at = goal.at.returns-in-Err g c in
+    cut (told.Imported c.in-Ok-settle.counts.added c.in-Ok-settle.counts.known) (λ e. cc) (asked g at.After-new_notes-2)
+    c.in-Err.ensures (λ w. refl) (λ honest w lawful _ is. (taken g at.In-Ok-settle honest w (λ _. is) lawful).1)

@@ -7,7 +7,7 @@ use Rattle.mds_store_runs.proofs.runs.run_rows.Goals as goal
 pub returns : goal.returns
 returns g c = record {
   run = if_ok c.run.result _ _ (λ answers run clean was lawful.
-      let it = run clean _ lawful (λ _. refl) in (
+      let it = run.run clean _ lawful (λ _. refl) in (
         it.0,
         it.1,
         it.2,

@@ -1,69 +1,54 @@
-use Rattle.std.proofs.Common.{◌≡◌, ◌++◌, ◌∙◌, ap, inr, map, subst, sym}
+use Rattle.std.proofs.Common.{◌≡◌, ◌++◌, ◌∙◌, ap, map, subst, sym}
 use Rattle.std.specs.FinSet as set
 use Rattle.mds_world.specs.Facts.Fact.{HeadIs}
 use Rattle.mds_world.specs.World.{Agrees, IsLawful, union}
-use Rattle.mds_versions.specs.Content.{content, job_fact, period_fact, version_fact, versions_of}
-use Rattle.mds_memory.specs.Stored.{HasKeys, HasPlaces, IsChange, days_world, stored_world}
-use Rattle.mds_memory.proofs.Kept.{committed, lawful_days, lawful_jobs, notes_absent, notes_apart, ok_now, periods_agree}
+use Rattle.mds_keeper.specs.Content.{content, job_fact, period_fact, version_fact, versions_of}
+use Rattle.mds_memory.specs.Stored.{IsChange, days_world, stored_world}
+use Rattle.mds_memory.proofs.Kept.{committed, lawful_days, lawful_jobs, notes_absent, notes_apart, periods_agree}
+use Rattle.mds_memory.proofs.Told.{added}
 use Rattle.mds_memory.proofs.memory.MemoryKeeperKeeper.commit.Goals as goal
 use Rattle.mds_memory.proofs.memory.MemoryKeeperKeeper.commit.Goals.{After-drop-notes-2}
 
 pub changed_days-requires-clause-lawful : goal.changed_days-requires-clause-lawful
 changed_days-requires-clause-lawful c =
     lawful_days c.self.inside.days c.self.inside.notes c.self.inside.jobs c.self.inside.periods c.args.additions
-    (subst (λ w. IsLawful (union w (content c.args.additions))) (sym c.self.view_is)
-    (c.requires.lawful tt (subst IsLawful c.self.view_is c.self.invariant.lawful)))
+    (rw c.self.view_is (c.requires.lawful tt (rw c.self.view_is at c.self.invariant.lawful)))
 
 pub insert_notes-requires-clause-apart : goal.insert_notes-requires-clause-apart
 insert_notes-requires-clause-apart c =
-    rw c.deref-3.ensures.value (notes_apart c.args.self.now c.args.additions c.in-Ok.notes.items (c.requires.new tt) c.in-Ok.ensures)
+    rw c.deref-3.ensures.value (notes_apart c.args.self.now c.args.additions c.in_ok-notes.notes.items (c.requires.new tt) c.in_ok-notes.ensures)
 
 pub insert_notes-requires-clause-absent : goal.insert_notes-requires-clause-absent
 insert_notes-requires-clause-absent c =
     rw c.deref-3.ensures.value
-    (notes_absent c.self.inside.days c.self.inside.notes c.self.inside.jobs c.self.inside.periods c.args.self.now c.args.additions c.in-Ok.notes.items c.self.view_is
-    (c.requires.new tt) c.in-Ok.ensures)
-
-pub put_days-requires-clause-room : goal.put_days-requires-clause-room
-put_days-requires-clause-room c = ok_now c.make_room.result _ c.make_room.ensures.room c.if-is_err.ensures.value
-
-pub put_jobs-requires-clause-room : goal.put_jobs-requires-clause-room
-put_jobs-requires-clause-room c =
-    subst (HasPlaces c.make_places.new.jobs) c.deref.ensures.value
-    (ok_now c.make_places.result _ c.make_places.ensures.room c.if-is_err-2.ensures.value)
+    (notes_absent c.self.inside.days c.self.inside.notes c.self.inside.jobs c.self.inside.periods c.args.self.now c.args.additions c.in_ok-notes.notes.items c.self.view_is
+    (c.requires.new tt) c.in_ok-notes.ensures)
 
 pub put_jobs-requires-clause-lawful : goal.put_jobs-requires-clause-lawful
 put_jobs-requires-clause-lawful c =
     subst (λ w. IsLawful (union w (set.from_list (map job_fact c.args.additions.jobs.items)))) (sym c.make_places.ensures.same)
     (lawful_jobs c.self.inside.days c.self.inside.notes c.self.inside.jobs c.self.inside.periods c.args.additions
-    (subst (λ w. IsLawful (union w (content c.args.additions))) (sym c.self.view_is)
-    (c.requires.lawful tt (subst IsLawful c.self.view_is c.self.invariant.lawful))))
-
-pub put_periods-requires-clause-room : goal.put_periods-requires-clause-room
-put_periods-requires-clause-room c =
-    subst (HasKeys c.make_keys.new.periods) c.deref-2.ensures.value
-    (ok_now c.make_keys.result _ c.make_keys.ensures.room c.if-is_err-3.ensures.value)
+    (rw c.self.view_is (c.requires.lawful tt (rw c.self.view_is at c.self.invariant.lawful))))
 
 pub put_periods-requires-clause-agrees : goal.put_periods-requires-clause-agrees
 put_periods-requires-clause-agrees c =
     subst (λ w. Agrees (union w (set.from_list (map period_fact c.args.additions.periods.items)))) (sym c.make_keys.ensures.same)
     (periods_agree c.self.inside.days c.self.inside.notes c.self.inside.jobs c.self.inside.periods c.args.additions
-    (subst (λ w. IsLawful (union w (content c.args.additions))) (sym c.self.view_is)
-    (c.requires.lawful tt (subst IsLawful c.self.view_is c.self.invariant.lawful))))
+    (rw c.self.view_is (c.requires.lawful tt (rw c.self.view_is at c.self.invariant.lawful))))
 
 made : (c : After-drop-notes-2)
     → stored_world c.put_days.new.days c.insert_notes.new.notes c.put_jobs.new.jobs c.put_periods.new.periods
     ≡ union (stored_world c.self.inside.days c.self.inside.notes c.self.inside.jobs c.self.inside.periods) (content c.args.additions)
 made c =
-    let change = c.in-Ok-changed_days.ensures in
-    let here : IsChange (days_world c.make_room.new.days) (set.from_list (map HeadIs c.args.additions.heads.items ++ map version_fact (versions_of c.args.additions.days.items))) c.in-Ok-changed_days.changed =
-    subst (λ w. IsChange w (set.from_list (map HeadIs c.args.additions.heads.items ++ map version_fact (versions_of c.args.additions.days.items))) c.in-Ok-changed_days.changed)
+    let change = c.in_ok-changed.ensures in
+    let here : IsChange (days_world c.make_room.new.days) (set.from_list (map HeadIs c.args.additions.heads.items ++ map version_fact (versions_of c.args.additions.days.items))) c.in_ok-changed.changed =
+    subst (λ w. IsChange w (set.from_list (map HeadIs c.args.additions.heads.items ++ map version_fact (versions_of c.args.additions.days.items))) c.in_ok-changed.changed)
     (sym c.make_room.ensures.same) change.1 in
-    committed c.self.inside.days c.put_days.new.days c.self.inside.notes c.insert_notes.new.notes c.self.inside.jobs c.put_jobs.new.jobs c.self.inside.periods c.put_periods.new.periods c.args.additions c.in-Ok.notes.items
+    committed c.self.inside.days c.put_days.new.days c.self.inside.notes c.insert_notes.new.notes c.self.inside.jobs c.put_jobs.new.jobs c.self.inside.periods c.put_periods.new.periods c.args.additions c.in_ok-notes.notes.items
     (c.put_days.ensures.put _ here
     ∙ ap (λ w. union w (set.from_list (map HeadIs c.args.additions.heads.items ++ map version_fact (versions_of c.args.additions.days.items)))) c.make_room.ensures.same)
-    (rw c.deref-3.ensures.value at (ok_now c.insert_notes.result _ c.insert_notes.ensures.ok c.if-is_err-4.ensures.value))
-    c.in-Ok.ensures
+    (rw c.deref-3.ensures.value at c.in_ok-insert_notes.ensures.ok)
+    c.in_ok-notes.ensures
     (c.put_jobs.ensures.put ∙ ap (λ w. union w (set.from_list (map job_fact c.args.additions.jobs.items))) c.make_places.ensures.same)
     (c.put_periods.ensures.put
     ∙ ap (λ w. union w (set.from_list (map period_fact c.args.additions.periods.items))) c.make_keys.ensures.same)
@@ -77,9 +62,5 @@ invariant_of-self-2 c = record {
   keys = c.put_periods.ensures.ordered;
 }
 
-pub returns-clause-ok : goal.returns-clause-ok
-returns-clause-ok c = λ sound. made c ∙ ap (λ w. union w (content c.args.additions)) c.self.view_is
-
-pub returns-clause-crash : goal.returns-clause-crash
-returns-clause-crash c = λ honest left is.
-    inr (tt, is ∙ (made c ∙ ap (λ w. union w (content c.args.additions)) c.self.view_is))
+pub returns : goal.returns
+returns c = added (made c ∙ ap (λ w. union w (content c.args.additions)) c.self.view_is)

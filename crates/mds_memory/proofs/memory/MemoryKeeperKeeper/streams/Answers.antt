@@ -1,21 +1,12 @@
-use Rattle.std.proofs.Common.{subst, sym}
-use Rattle.std.specs.Prelude.{◌↔◌, ◌⊎◌}
-use Rattle.mds_world.specs.Lists.{Member}
-use Rattle.mds_versions.specs.Queries.{AreKnownStreams}
-use Rattle.mds_memory.specs.Stored.{AreDetailStreams, AreHeadStreams, ArePeriodStreams, days_world, notes_world, periods_world}
 use Rattle.mds_memory.proofs.Streams.{known_streams}
+use Rattle.mds_memory.proofs.Told.{told}
 use Rattle.mds_memory.proofs.memory.MemoryKeeperKeeper.streams.Goals as goal
 
-pub returns-clause-streams : goal.returns-clause-streams
-returns-clause-streams c = λ sound.
-    let heads : AreHeadStreams (days_world c.self.inside.days) c.deref-3.result.now =
-    subst (AreHeadStreams (days_world c.self.inside.days)) (sym c.deref-3.ensures.value) c.in-Ok.ensures in
-    let details : AreDetailStreams (notes_world c.self.inside.notes) c.deref.result.now =
-    subst (AreDetailStreams (notes_world c.self.inside.notes)) (sym c.deref.ensures.value) c.in-Ok-detail_streams.ensures in
-    let keys : ArePeriodStreams (periods_world c.self.inside.periods) c.deref-2.result.now =
-    subst (ArePeriodStreams (periods_world c.self.inside.periods)) (sym c.deref-2.ensures.value) c.in-Ok-period_streams.ensures in
-    subst (λ w. AreKnownStreams w c.in-Ok-merged-2.streams.items) c.self.view_is
-    (known_streams c.self.inside.days c.self.inside.notes c.self.inside.jobs c.self.inside.periods _ _ _ c.deref-4.result.now _ heads details keys
-    (subst (λ os. (s : _) → Member s os ↔ (Member s c.deref.result.now ⊎ Member s c.deref-2.result.now)) (sym c.deref-4.ensures.value)
-    c.in-Ok-merged.ensures.each)
-    c.in-Ok-merged-2.ensures.each c.in-Ok-merged-2.ensures.ascending)
+pub returns : goal.returns
+returns c =
+    let k = c.self.inside in
+    told c.self.view_is (known_streams k.days k.notes k.jobs k.periods c.in_ok-of_days.of_days.items c.in_ok-of_details.of_details.items
+    c.in_ok-of_periods.of_periods.items c.in_ok-others.others.items _ c.in_ok-of_days.ensures c.in_ok-of_details.ensures
+    c.in_ok-of_periods.ensures
+    (rw (c.deref.ensures.value, c.deref-2.ensures.value) at c.in_ok-others.ensures.each)
+    (rw (c.deref-3.ensures.value, c.deref-4.ensures.value) at c.in_ok-streams.ensures.each) c.in_ok-streams.ensures.ascending)

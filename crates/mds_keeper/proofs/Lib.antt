@@ -1,0 +1,12 @@
+pub mod Asked
+pub mod BookFacts
+pub mod BookPlaces
+pub mod BookReads
+pub mod BookRowsMade
+pub mod BooksMade
+pub mod KeptReadings
+pub mod Planned
+pub mod Rows
+pub mod Settled
+pub mod Taken
+pub mod Walks

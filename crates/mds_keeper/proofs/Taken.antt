@@ -1,0 +1,728 @@
+-- What a claim does to a merge.
+use Rattle.std.proofs.Common.{◌≡◌, ◌≢◌, ℕ, zero, suc, ◌+◌, ◌<◌, List, [], ◌∷◌, length, map, Option, Some, None, refl, sym, ap, ◌∙◌, subst, inl, inr, arith}
+use Rattle.std.specs.Prelude.{Bool, true, false, cond, ◌⊎◌, IsNone, is_some}
+use Rattle.std.specs.BTreeMap.{insert_entry}
+use Rattle.std.specs.FinSet as set
+use Rattle.std.specs.List.{slice_get, flat_map}
+use Rattle.std.specs.Map.{lookup}
+use Rattle.std.specs.Ordering.{is_eq, nat_cmp, match_ordering}
+use Rattle.std.specs.declared.alloc.Global.{Global}
+use Rattle.std.specs.declared.cmp.Ordering.{Ordering}
+use Rattle.std.specs.declared.cmp.Ordering.TheVariants.{Less, Equal, Greater}
+use Rattle.std.specs.declared.vec.Vec.{Vec}
+use Rattle.std.proofs.lemmas.Bool.Decides.{nat_tests}
+use Rattle.std.proofs.lemmas.Option.{slice_get_cases}
+use Rattle.mds_calendar.specs.Length.{count_of}
+use Rattle.mds_quantity.specs.declared.unit.Unit.{Unit as MeasureUnit}
+use Rattle.mds_names.specs.declared.stream.Stream.{Stream}
+use Rattle.mds_marks.specs.Reading.{ReadingValue}
+use Rattle.mds_world.specs.declared.facts.Head.{Head}
+use Rattle.mds_world.specs.declared.facts.Key.{Key}
+use Rattle.mds_world.specs.FactOrder.{exact, total}
+use Rattle.mds_world.specs.Facts.{Fact, PeriodContent}
+use Rattle.mds_statements.specs.declared.periods.PeriodKey.{PeriodKey}
+use Rattle.mds_world.specs.Facts.Fact.{HeadIs, VersionIs, PeriodIs}
+use Rattle.mds_world.proofs.Lists.{member_append, append_left, in_flat, flat_in, in_map, map_in}
+use Rattle.mds_world.specs.Lists.{Apart, Member}
+use Rattle.mds_world.proofs.Members.{same_by, in_union, union_left, union_right, in_list, list_in}
+use Rattle.mds_world.proofs.Sets.{union_assoc, union_absorbs, union_empty}
+use Rattle.mds_world.specs.Sets.{◌∈◌}
+use Rattle.mds_world.specs.Stated.{day_facts, versions_from}
+use Rattle.mds_world.specs.World.{Agrees, IsLawful, World, union}
+use Rattle.mds_keeper.specs.Books.{BookValue, book_facts, book_world, head_facts, row_fact}
+use Rattle.mds_keeper.specs.Claims.{BreaksForm, Contradicts, IsFirst, Suits, SuitsForm, key_of}
+use Rattle.mds_keeper.specs.DayMerges.{DayMergeValue}
+use Rattle.mds_keeper.specs.DayMergeSteps.{AreInBook, IsDayMerge, IsInBook, all_claimed, claimed_entries, claimed_entry, claimed_facts, claimed_readings, merge_value}
+use Rattle.mds_keeper.specs.Merge.{Breaks, HasTwoLengths, HasTwoUnits, claim_facts, claim_world}
+use Rattle.mds_keeper.specs.declared.claim.Claim.{Claim}
+use Rattle.mds_keeper.specs.declared.day_book.Version.{Version}
+use Rattle.mds_keeper.specs.declared.refusal.RefusalCode.{RefusalCode}
+use Rattle.mds_keeper.specs.declared.refusal.RefusalCode.TheVariants.{LengthConflict, UnitConflict, VersionConflict, JobReused, Protected, StaleUpdate, NoLikeDay, TooLong, NoAnchor, UnknownDay, BadJob, RangeTooWide}
+use Rattle.mds_keeper.proofs.Rows.{same_some}
+
+nat_tied : (a b : ℕ) → is_eq (nat_cmp a b) ≡ true → a ≡ b
+nat_tied a b e = grind (arith, nat_tests)
+
+nat_tie : (a : ℕ) → is_eq (nat_cmp a a) ≡ true
+nat_tie a = grind (arith, nat_tests)
+
+-- the head of a book's day
+abbrev pub head_of : BookValue → ℕ × MeasureUnit → Head
+head_of b form = record { stream = b.stream; day = b.day; length = form.0; unit = form.1 }
+
+same_head : (x y : Head) → HeadIs x ≡ HeadIs y → x ≡ y
+same_head x y e = cc
+
+same_key : (x y : Key) (r q : ReadingValue) → VersionIs x r ≡ VersionIs y q → (x ≡ y) × (r ≡ q)
+same_key x y r q e = (cc, cc)
+
+-- the versions of a day's readings, by their places
+pub from_versions : (stream : Stream) (day update i : ℕ) (rs : List ReadingValue) (f : Fact) → Member f (versions_from stream day update i rs)
+    → (k : ℕ) × (r : ReadingValue) × (slice_get rs k ≡ Some r)
+    × (f ≡ VersionIs (record { stream = stream; day = day; interval = i + k; update = update }) r)
+from_versions stream day update i [] f m = absurd m
+from_versions stream day update i (r ∷ rs) f (inl e) =
+    let z : i ≡ i + 0 = omega arith in
+    (0, r, refl, e ∙ ap (λ n. VersionIs (record { stream = stream; day = day; interval = n; update = update }) r) z)
+from_versions stream day update i (r ∷ rs) f (inr m) =
+    let n = from_versions stream day update (i + 1) rs f m in
+    let z : i + 1 + n.0 ≡ i + suc n.0 = omega arith in
+    (suc n.0, n.1, n.2, n.3 ∙ ap (λ x. VersionIs (record { stream = stream; day = day; interval = x; update = update }) n.1) z)
+
+pub to_versions : (stream : Stream) (day update i : ℕ) (rs : List ReadingValue) (k : ℕ) (r : ReadingValue) → slice_get rs k ≡ Some r
+    → Member (VersionIs (record { stream = stream; day = day; interval = i + k; update = update }) r) (versions_from stream day update i rs)
+to_versions stream day update i [] k r e = cc
+to_versions stream day update i (x ∷ rs) zero r e =
+    let z : i + 0 ≡ i = omega arith in
+    let s : r ≡ x = cc in
+    inl (λ j. VersionIs (record { stream = stream; day = day; interval = z j; update = update }) (s j))
+to_versions stream day update i (x ∷ rs) (suc k) r e =
+    let z : i + 1 + k ≡ i + suc k = omega arith in
+    inr (subst (λ n. Member (VersionIs (record { stream = stream; day = day; interval = n; update = update }) r) (versions_from stream day update (i + 1) rs)) z
+    (to_versions stream day update (i + 1) rs k r e))
+
+-- a fact that a claim of a form under an update states
+abbrev pub IsOfClaim : BookValue → ℕ × MeasureUnit → ℕ → List ReadingValue → Fact → Type 0
+IsOfClaim b form update readings f =
+    (f ≡ HeadIs (head_of b form))
+    ⊎ ((k : ℕ) × (r : ReadingValue) × (slice_get readings k ≡ Some r) × (f ≡ VersionIs (key_of b (k + 1) update) r))
+
+pub of_claim : (b : BookValue) (form : ℕ × MeasureUnit) (update : ℕ) (readings : List ReadingValue) (f : Fact)
+    → Member f (day_facts b.stream b.day form.0 form.1 update readings) → IsOfClaim b form update readings f
+of_claim b form update readings f (inl e) = inl e
+of_claim b form update readings f (inr m) =
+    let n = from_versions b.stream b.day update 1 readings f m in
+    let z : 1 + n.0 ≡ n.0 + 1 = omega arith in
+    inr (n.0, n.1, n.2, n.3 ∙ ap (λ i. VersionIs (key_of b i update) n.1) z)
+
+pub claim_of : (b : BookValue) (form : ℕ × MeasureUnit) (update : ℕ) (readings : List ReadingValue) (f : Fact)
+    → IsOfClaim b form update readings f → Member f (day_facts b.stream b.day form.0 form.1 update readings)
+claim_of b form update readings f (inl e) = inl e
+claim_of b form update readings f (inr n) =
+    let z : 1 + n.0 ≡ n.0 + 1 = omega arith in
+    inr (subst (λ g. Member g (versions_from b.stream b.day update 1 readings))
+    (ap (λ i. VersionIs (key_of b i update) n.1) z ∙ sym n.3)
+    (to_versions b.stream b.day update 1 readings n.0 n.1 n.2))
+
+-- a merge's World: of one day, with the head of the form where it has one
+pub record IsBase (b : BookValue) (form : Option (ℕ × MeasureUnit)) (w : World) : Type 0 where
+  pub agrees : Agrees w
+  pub heads : (h : Head) → HeadIs h ∈ w → (known : ℕ × MeasureUnit) × (form ≡ Some known) × (h ≡ head_of b known)
+  pub headed : (known : ℕ × MeasureUnit) → form ≡ Some known → HeadIs (head_of b known) ∈ w
+  pub periods : (key : PeriodKey) (content : PeriodContent) → PeriodIs key content ∈ w → ⊥
+
+module _ (b : BookValue) (c : Claim) where
+  pub in_claim : (f : Fact) → f ∈ claim_world b.stream b.day c → IsOfClaim b (c.length, c.unit) c.update c.readings.items f
+  in_claim f i = of_claim b (c.length, c.unit) c.update c.readings.items f (in_list (claim_facts b.stream b.day c) f i)
+
+  pub claim_in : (f : Fact) → IsOfClaim b (c.length, c.unit) c.update c.readings.items f → f ∈ claim_world b.stream b.day c
+  claim_in f i = list_in (claim_facts b.stream b.day c) f (claim_of b (c.length, c.unit) c.update c.readings.items f i)
+
+module _ (b : BookValue) (form : Option (ℕ × MeasureUnit)) (w : World) (c : Claim) (is : IsBase b form w) where
+  length_breaks : (known : ℕ × MeasureUnit) → form ≡ Some known → known.0 ≢ c.length
+      → HasTwoLengths (union w (claim_world b.stream b.day c))
+  length_breaks known e apart = (
+    head_of b known,
+    head_of b (c.length, c.unit),
+    union_left w _ _ (is.headed known e),
+    union_right w _ _ (claim_in b c _ (inl refl)),
+    refl,
+    refl,
+    apart,
+  )
+
+  -- the heads are those of the form and of the claim
+  head_is : (h : Head) → HeadIs h ∈ union w (claim_world b.stream b.day c)
+      → ((known : ℕ × MeasureUnit) × (form ≡ Some known) × (h ≡ head_of b known)) ⊎ (h ≡ head_of b (c.length, c.unit))
+  head_is h i = elim (in_union w _ _ i) [
+    | inl a ↦ inl (is.heads h a)
+    | inr a ↦ elim (in_claim b c _ a) [
+      | inl e ↦ inr (same_head h _ e)
+      | inr n ↦ let k = n.3 in cc
+    ]
+  ]
+
+  -- where the form suits the claim in a part of a head, all heads have that part
+  length_is : ((known : ℕ × MeasureUnit) → form ≡ Some known → known.0 ≡ c.length)
+      → (h : Head) → HeadIs h ∈ union w (claim_world b.stream b.day c) → h.length ≡ c.length
+  length_is suits h i = elim (head_is h i) [
+    | inl k ↦ ap (λ x. x.length) k.2 ∙ suits k.0 k.1
+    | inr e ↦ ap (λ x. x.length) e
+  ]
+
+  unit_is : ((known : ℕ × MeasureUnit) → form ≡ Some known → known.1 ≡ c.unit)
+      → (h : Head) → HeadIs h ∈ union w (claim_world b.stream b.day c) → h.unit ≡ c.unit
+  unit_is suits h i = elim (head_is h i) [
+    | inl k ↦ ap (λ x. x.unit) k.2 ∙ suits k.0 k.1
+    | inr e ↦ ap (λ x. x.unit) e
+  ]
+
+  no_lengths : ((known : ℕ × MeasureUnit) → form ≡ Some known → known.0 ≡ c.length)
+      → HasTwoLengths (union w (claim_world b.stream b.day c)) → ⊥
+  no_lengths suits q = q.6 (length_is suits q.0 q.2 ∙ sym (length_is suits q.1 q.3))
+
+  no_units : ((known : ℕ × MeasureUnit) → form ≡ Some known → known.1 ≡ c.unit)
+      → HasTwoUnits (union w (claim_world b.stream b.day c)) → ⊥
+  no_units suits q = q.6 (unit_is suits q.0 q.2 ∙ sym (unit_is suits q.1 q.3))
+
+  pub form_refused : (code : RefusalCode) → BreaksForm form c.length c.unit code
+      → Breaks (union w (claim_world b.stream b.day c)) code 0
+  form_refused LengthConflict q = (length_breaks q.0 q.1 q.2, refl)
+  form_refused UnitConflict q = (
+    no_lengths (λ known e. ap (λ x. x.0) (same_some known q.0 (sym e ∙ q.1)) ∙ q.2),
+    (
+      head_of b q.0,
+      head_of b (c.length, c.unit),
+      union_left w _ _ (is.headed q.0 q.1),
+      union_right w _ _ (claim_in b c _ (inl refl)),
+      refl,
+      refl,
+      q.3,
+    ),
+    refl,
+  )
+  form_refused VersionConflict q = absurd q
+  form_refused JobReused q = absurd q
+  form_refused Protected q = absurd q
+  form_refused StaleUpdate q = absurd q
+  form_refused NoLikeDay q = absurd q
+  form_refused TooLong q = absurd q
+  form_refused NoAnchor q = absurd q
+  form_refused UnknownDay q = absurd q
+  form_refused BadJob q = absurd q
+  form_refused RangeTooWide q = absurd q
+
+  -- two versions with one key have one reading where the claim suits
+  one_reading_at : (key : Key) (x y : ReadingValue) → VersionIs key x ∈ union w (claim_world b.stream b.day c)
+      → VersionIs key y ∈ union w (claim_world b.stream b.day c)
+      → ((k : ℕ) → key.interval ≡ k + 1 → Suits w b c.update c.readings.items k) → x ≡ y
+  one_reading_at key x y i j suits = elim (in_union w _ _ i) [
+    | inl a ↦ elim (in_union w _ _ j) [
+      | inl d ↦ is.agrees.one_reading key x y a d
+      | inr d ↦ old_and_claim x y a (in_claim b c _ d)
+    ]
+    | inr a ↦ elim (in_union w _ _ j) [
+      | inl d ↦ sym (old_and_claim y x d (in_claim b c _ a))
+      | inr d ↦ two_claimed (in_claim b c _ a) (in_claim b c _ d)
+    ]
+  ]
+    where
+      old_and_claim : (u v : ReadingValue) → VersionIs key u ∈ w → IsOfClaim b (c.length, c.unit) c.update c.readings.items (VersionIs key v) → u ≡ v
+      old_and_claim u v h (inl e) = cc
+      old_and_claim u v h (inr n) =
+          let s = same_key key _ v n.1 n.3 in
+          suits n.0 (ap (λ q. q.interval) s.0) n.1 u n.2 (subst (λ q. VersionIs q u ∈ w) s.0 h) ∙ sym s.1
+
+      two_claimed : IsOfClaim b (c.length, c.unit) c.update c.readings.items (VersionIs key x)
+          → IsOfClaim b (c.length, c.unit) c.update c.readings.items (VersionIs key y) → x ≡ y
+      two_claimed (inl e) q = cc
+      two_claimed (inr n) (inl e) = cc
+      two_claimed (inr n) (inr m) =
+          let s = same_key key _ x n.1 n.3 in
+          let t = same_key key _ y m.1 m.3 in
+          let at : n.0 + 1 ≡ m.0 + 1 = sym (ap (λ q. q.interval) s.0) ∙ ap (λ q. q.interval) t.0 in
+          let k : n.0 ≡ m.0 = omega arith in
+          s.1 ∙ same_some n.1 m.1 (sym n.2 ∙ ap (slice_get c.readings.items) k ∙ m.2) ∙ sym t.1
+
+  no_period : (key : PeriodKey) (content : PeriodContent) → PeriodIs key content ∈ union w (claim_world b.stream b.day c) → ⊥
+  no_period key content i = elim (in_union w _ _ i) [
+    | inl a ↦ is.periods key content a
+    | inr a ↦ elim (in_claim b c _ a) [ inl e ↦ cc | inr n ↦ let k = n.3 in cc ]
+  ]
+
+  pub accepted : SuitsForm form c.length c.unit → ((k : ℕ) → Suits w b c.update c.readings.items k)
+      → Agrees (union w (claim_world b.stream b.day c))
+  accepted same suits = record {
+    one_head = λ x y i j s t. one_head x y i j;
+    one_reading = λ key x y i j. one_reading_at key x y i j (λ k e. suits k);
+    one_content = λ key x y i j. absurd (no_period key x i);
+  }
+    where
+      claimed : (h : Head) → HeadIs h ∈ union w (claim_world b.stream b.day c) → h ≡ head_of b (c.length, c.unit)
+      claimed h i = elim (head_is h i) [ inl k ↦ k.2 ∙ ap (head_of b) (same k.0 k.1) | inr e ↦ e ]
+
+      one_head : (x y : Head) → HeadIs x ∈ union w (claim_world b.stream b.day c)
+          → HeadIs y ∈ union w (claim_world b.stream b.day c) → x ≡ y
+      one_head x y i j = claimed x i ∙ sym (claimed y j)
+
+  pub reading_refused : SuitsForm form c.length c.unit → (interval : ℕ)
+      → IsFirst (Contradicts w b c.update c.readings.items) (Suits w b c.update c.readings.items) interval
+      → Breaks (union w (claim_world b.stream b.day c)) VersionConflict interval
+  reading_refused same interval q =
+      let wrong = q.2 in (
+        no_lengths (λ known e. ap (λ x. x.0) (same known e)),
+        no_units (λ known e. ap (λ x. x.1) (same known e)),
+        inl (
+          key_of b (q.0 + 1) c.update,
+          wrong.1,
+          wrong.0,
+          union_left w _ _ wrong.3,
+          union_right w _ _ (claim_in b c _ (inr (q.0, wrong.0, wrong.2, refl))),
+          sym q.1,
+          wrong.4,
+        ),
+        (λ i below h. elim h [
+          | inl v ↦ v.6 (one_reading_at v.0 v.1 v.2 v.3 v.4 (λ k e. q.3 k (omega (arith, v.5, q.1))))
+          | inr p ↦ no_period p.0 p.1 p.3
+        ]),
+      )
+
+-- what was claimed before
+pub in_said : (b : BookValue) (form : Option (ℕ × MeasureUnit)) (es : List (ℕ × List ReadingValue)) (f : Fact)
+    → f ∈ all_claimed b form es
+    → (known : ℕ × MeasureUnit) × (form ≡ Some known) × (entry : ℕ × List ReadingValue) × Member entry es
+    × IsOfClaim b known entry.0 entry.1 f
+in_said b None es f i = absurd (in_list [] f i)
+in_said b (Some known) es f i =
+    let n = in_flat (claimed_facts b known) es f (in_list (flat_map (claimed_facts b known) es) f i) in
+    (known, refl, n.0, n.1, of_claim b known n.0.0 n.0.1 f n.2)
+
+pub said_in : (b : BookValue) (known : ℕ × MeasureUnit) (es : List (ℕ × List ReadingValue))
+    (entry : ℕ × List ReadingValue) → Member entry es → (f : Fact) → IsOfClaim b known entry.0 entry.1 f
+    → f ∈ all_claimed b (Some known) es
+said_in b known es entry m f is =
+    list_in (flat_map (claimed_facts b known) es) f
+    (flat_in (claimed_facts b known) es f entry m (claim_of b known entry.0 entry.1 f is))
+
+-- a book's facts
+in_head_facts : (b : BookValue) (head : Option (ℕ × MeasureUnit)) (f : Fact) → Member f (head_facts b.stream b.day head)
+    → (known : ℕ × MeasureUnit) × (head ≡ Some known) × (f ≡ HeadIs (head_of b known))
+in_head_facts b None f m = absurd m
+in_head_facts b (Some known) f (inl e) = (known, refl, e)
+in_head_facts b (Some known) f (inr z) = absurd z
+
+pub in_book : (b : BookValue) (f : Fact) → f ∈ book_world b
+    → ((known : ℕ × MeasureUnit) × (b.head ≡ Some known) × (f ≡ HeadIs (head_of b known)))
+    ⊎ ((row : ℕ × Version) × Member row b.rows × (f ≡ row_fact b.stream b.day row))
+in_book b f i = elim (member_append f (head_facts b.stream b.day b.head) (map (row_fact b.stream b.day) b.rows) (in_list (book_facts b) f i)) [
+  | inl m ↦ inl (in_head_facts b b.head f m)
+  | inr m ↦ inr (in_map (row_fact b.stream b.day) b.rows f m)
+]
+
+head_fact : (b : BookValue) (head : Option (ℕ × MeasureUnit)) (known : ℕ × MeasureUnit) → head ≡ Some known
+    → Member (HeadIs (head_of b known)) (head_facts b.stream b.day head)
+head_fact b None known e = cc
+head_fact b (Some other) known e = inl (ap (λ k. HeadIs (head_of b k)) (sym (same_some other known e)))
+
+pub head_in_book : (b : BookValue) (known : ℕ × MeasureUnit) → b.head ≡ Some known → HeadIs (head_of b known) ∈ book_world b
+head_in_book b known e =
+    list_in (book_facts b) _ (append_left _ (head_facts b.stream b.day b.head) (map (row_fact b.stream b.day) b.rows) (head_fact b b.head known e))
+
+module _ (b : BookValue) (form : Option (ℕ × MeasureUnit)) (claimed : List (ℕ × List ReadingValue)) (d : IsDayMerge b form claimed) where
+  -- what is said of the form that is known
+  pub said_here : (known : ℕ × MeasureUnit) → form ≡ Some known → (entry : ℕ × List ReadingValue) → Member entry claimed
+      → (f : Fact) → IsOfClaim b known entry.0 entry.1 f → f ∈ all_claimed b form claimed
+  said_here known e entry m f is =
+      subst (λ o. f ∈ all_claimed b o claimed) (sym e) (said_in b known claimed entry m f is)
+
+  pub base : IsBase b form (union (book_world b) (all_claimed b form claimed))
+  base = record {
+    agrees = d.agrees;
+    heads = heads;
+    headed = λ known e. elim (d.told known e) [
+      | inl h ↦ union_left _ _ _ (head_in_book b known h)
+      | inr n ↦ union_right _ _ _ (said_here known e n.0 n.1 _ (inl refl))
+    ];
+    periods = periods;
+  }
+    where
+      heads : (h : Head) → HeadIs h ∈ union (book_world b) (all_claimed b form claimed)
+          → (known : ℕ × MeasureUnit) × (form ≡ Some known) × (h ≡ head_of b known)
+      heads h i = elim (in_union _ _ _ i) [
+        | inl a ↦ elim (in_book b _ a) [
+          | inl k ↦ (k.0, d.known k.0 k.1, same_head h _ k.2)
+          | inr r ↦ let k = r.2 in cc
+        ]
+        | inr a ↦ let n = in_said b form claimed _ a in elim n.4 [
+          | inl e ↦ (n.0, n.1, same_head h _ e)
+          | inr v ↦ let k = v.3 in cc
+        ]
+      ]
+
+      periods : (key : PeriodKey) (content : PeriodContent)
+          → PeriodIs key content ∈ union (book_world b) (all_claimed b form claimed) → ⊥
+      periods key content i = elim (in_union _ _ _ i) [
+        | inl a ↦ elim (in_book b _ a) [ inl k ↦ let e = k.2 in cc | inr r ↦ let e = r.2 in cc ]
+        | inr a ↦ let n = in_said b form claimed _ a in elim n.4 [ inl e ↦ cc | inr v ↦ let k = v.3 in cc ]
+      ]
+
+  -- where something was claimed the form is known
+  pub known_form : (entry : ℕ × List ReadingValue) → Member entry claimed → (length : ℕ) (unit : MeasureUnit)
+      → SuitsForm form length unit → form ≡ Some (length, unit)
+  known_form entry m length unit suits = go form refl
+    where
+      go : (o : Option (ℕ × MeasureUnit)) → form ≡ o → form ≡ Some (length, unit)
+      go None e = absurd (subst (λ es. Member entry es) (d.none e) m)
+      go (Some known) e = e ∙ ap Some (suits known e)
+
+  module _ (c : Claim) (suits : SuitsForm form c.length c.unit) where
+    -- the update was claimed before
+    module _ (readings : List ReadingValue) (m : Member (c.update, readings) claimed) where
+      pub as_many : length readings ≡ count_of c.length
+      as_many = d.whole (c.length, c.unit) (known_form _ m c.length c.unit suits) _ m
+
+      said_version : (k : ℕ) (r : ReadingValue) → slice_get readings k ≡ Some r
+          → VersionIs (key_of b (k + 1) c.update) r ∈ union (book_world b) (all_claimed b form claimed)
+      said_version k r e =
+          union_right _ _ _ (said_here (c.length, c.unit) (known_form _ m c.length c.unit suits) _ m _ (inr (k, r, e, refl)))
+
+      pub first_of_claims : (interval : ℕ) → length readings ≡ length c.readings.items
+          → IsFirst (λ k. slice_get readings k ≢ slice_get c.readings.items k)
+          (λ k. slice_get readings k ≡ slice_get c.readings.items k) interval
+          → IsFirst (Contradicts (union (book_world b) (all_claimed b form claimed)) b c.update c.readings.items)
+          (Suits (union (book_world b) (all_claimed b form claimed)) b c.update c.readings.items) interval
+      first_of_claims interval many q = (q.0, q.1, wrong, right)
+        where
+          wrong : Contradicts (union (book_world b) (all_claimed b form claimed)) b c.update c.readings.items q.0
+          wrong = elim (slice_get_cases c.readings.items q.0).1 [
+            | inl x ↦ elim (slice_get_cases readings q.0).1 [
+              | inl y ↦ (x.0, y.0, x.2, said_version q.0 y.0 y.2, λ e. q.2 (y.2 ∙ ap Some e ∙ sym x.2))
+              | inr y ↦ absurd (omega (arith, y.0, x.1, many))
+            ]
+            | inr x ↦ elim (slice_get_cases readings q.0).1 [
+              | inl y ↦ absurd (omega (arith, y.1, x.0, many))
+              | inr y ↦ absurd (q.2 (y.1 ∙ sym x.1))
+            ]
+          ]
+
+          right : (j : ℕ) → j < q.0 → Suits (union (book_world b) (all_claimed b form claimed)) b c.update c.readings.items j
+          right j below mine other e i = d.agrees.one_reading _ other mine i (said_version j mine (q.3 j below ∙ e))
+
+      pub known_claim : ((k : ℕ) → slice_get readings k ≡ slice_get c.readings.items k)
+          → all_claimed b form claimed
+          ≡ union (all_claimed b form claimed) (claim_world b.stream b.day c)
+      known_claim same = sym (union_absorbs total exact _ _ (λ f i. elim (in_claim b c f i) [
+        | inl e ↦ said_here (c.length, c.unit) (known_form _ m c.length c.unit suits) _ m f (inl e)
+        | inr n ↦ said_here (c.length, c.unit) (known_form _ m c.length c.unit suits) _ m f (inr (n.0, n.1, same n.0 ∙ n.2, n.3))
+      ]))
+
+    -- the update wasn't claimed before
+    module _ (absent : (entry : ℕ × List ReadingValue) → Member entry claimed → entry.0 ≢ c.update) where
+      of_book : (interval : ℕ) (r : ReadingValue)
+          → VersionIs (key_of b interval c.update) r ∈ union (book_world b) (all_claimed b form claimed)
+          → VersionIs (key_of b interval c.update) r ∈ book_world b
+      of_book interval r i = elim (in_union _ _ _ i) [
+        | inl a ↦ a
+        | inr a ↦ let n = in_said b form claimed _ a in elim n.4 [
+          | inl e ↦ cc
+          | inr v ↦ absurd (absent n.2 n.3 (sym (ap (λ k. k.update) (same_key _ _ r v.1 v.3).0)))
+        ]
+      ]
+
+      pub suits_all : (k : ℕ) → Suits (book_world b) b c.update c.readings.items k
+          → Suits (union (book_world b) (all_claimed b form claimed)) b c.update c.readings.items k
+      suits_all k s mine other e i = s mine other e (of_book (k + 1) other i)
+
+      pub first_of_book : (interval : ℕ)
+          → IsFirst (Contradicts (book_world b) b c.update c.readings.items) (Suits (book_world b) b c.update c.readings.items) interval
+          → IsFirst (Contradicts (union (book_world b) (all_claimed b form claimed)) b c.update c.readings.items)
+          (Suits (union (book_world b) (all_claimed b form claimed)) b c.update c.readings.items) interval
+      first_of_book interval q =
+          let w = q.2 in
+          (q.0, q.1, (w.0, w.1, w.2, union_left _ _ _ w.3, w.4), λ j below. suits_all j (q.3 j below))
+
+-- a map's look-up by the order of the keys
+pub found_entry : {V : Type 0} (row : ℕ → Ordering) (key : ℕ) (order : (other : ℕ) → row other ≡ nat_cmp key other)
+    (es : List (ℕ × V)) (v : V) → Some v ≡ lookup (λ k. is_eq (row k)) es → Member (key, v) es
+found_entry row key order [] v e = cc
+found_entry row key order (x ∷ es) v e = go (is_eq (row x.0)) refl (found_entry row key order es v) e
+  where
+    go : (t : Bool) → is_eq (row x.0) ≡ t → (Some v ≡ lookup (λ k. is_eq (row k)) es → Member (key, v) es) → Some v ≡ cond t (Some x.1) (lookup (λ k. is_eq (row k)) es) → Member (key, v) (x ∷ es)
+    go true t rest f =
+        let k : key ≡ x.0 = nat_tied key x.0 (sym (ap is_eq (order x.0)) ∙ t) in
+        inl (λ i. (k i, same_some v x.1 f i))
+    go false t rest f = inr (rest f)
+
+pub absent_entry : {V : Type 0} (row : ℕ → Ordering) (key : ℕ) (order : (other : ℕ) → row other ≡ nat_cmp key other)
+    (es : List (ℕ × V)) → None ≡ lookup (λ k. is_eq (row k)) es
+    → (entry : ℕ × V) → Member entry es → entry.0 ≢ key
+absent_entry row key order [] e entry m = absurd m
+absent_entry row key order (x ∷ es) e entry m =
+    go (is_eq (row x.0)) refl (λ f. absent_entry row key order es f entry) e m
+  where
+    go : (t : Bool) → is_eq (row x.0) ≡ t
+        → (None ≡ lookup (λ k. is_eq (row k)) es → Member entry es → entry.0 ≢ key) → None ≡ cond t (Some x.1) (lookup (λ k. is_eq (row k)) es)
+        → Member entry (x ∷ es) → entry.0 ≢ key
+    go true t rest f n = cc
+    go false t rest f (inl k) = λ same.
+        let tie : is_eq (row x.0) ≡ true = ap is_eq (order x.0) ∙ ap (λ z. is_eq (nat_cmp key z)) (sym (ap (λ y. y.0) k) ∙ same) ∙ nat_tie key in
+        cc
+    go false t rest f (inr n) = rest f n
+
+-- a key that isn't there goes in between
+module _ {V : Type 0} (cmp : ℕ → ℕ → Ordering) (key : ℕ) (order : (other : ℕ) → cmp key other ≡ nat_cmp key other) (v : V) where
+  pub not_equal : (other : ℕ) → other ≢ key → cmp key other ≢ Equal
+  not_equal other apart e = apart (sym (nat_tied key other (ap is_eq (sym (order other) ∙ e))))
+
+  pub in_inserted : (es : List (ℕ × V)) → ((e : ℕ × V) → Member e es → e.0 ≢ key)
+      → (x : ℕ × V) → Member x (insert_entry cmp es key v) → (x ≡ (key, v)) ⊎ Member x es
+  in_inserted [] none x (inl e) = inl e
+  in_inserted [] none x (inr z) = absurd z
+  in_inserted (e ∷ es) none x m =
+      go (cmp key e.0) (not_equal e.0 (none e (inl refl))) (in_inserted es (λ y k. none y (inr k)) x) m
+    where
+      go : (o : Ordering) → o ≢ Equal → (Member x (insert_entry cmp es key v) → (x ≡ (key, v)) ⊎ Member x es)
+          → Member x (match_ordering o ((key, v) ∷ e ∷ es) ((e.0, v) ∷ es) (e ∷ insert_entry cmp es key v))
+          → (x ≡ (key, v)) ⊎ Member x (e ∷ es)
+      go Less h rest (inl a) = inl a
+      go Less h rest (inr n) = inr n
+      go Equal h rest n = absurd (h refl)
+      go Greater h rest (inl a) = inr (inl a)
+      go Greater h rest (inr n) = elim (rest n) [ inl a ↦ inl a | inr k ↦ inr (inr k) ]
+
+  pub inserted_new : (es : List (ℕ × V)) → ((e : ℕ × V) → Member e es → e.0 ≢ key)
+      → Member (key, v) (insert_entry cmp es key v)
+  inserted_new [] none = inl refl
+  inserted_new (e ∷ es) none = go (cmp key e.0) (not_equal e.0 (none e (inl refl))) (inserted_new es (λ y k. none y (inr k)))
+    where
+      go : (o : Ordering) → o ≢ Equal → Member (key, v) (insert_entry cmp es key v)
+          → Member (key, v) (match_ordering o ((key, v) ∷ e ∷ es) ((e.0, v) ∷ es) (e ∷ insert_entry cmp es key v))
+      go Less h rest = inl refl
+      go Equal h rest = absurd (h refl)
+      go Greater h rest = inr rest
+
+  pub inserted_old : (es : List (ℕ × V)) → ((e : ℕ × V) → Member e es → e.0 ≢ key)
+      → (x : ℕ × V) → Member x es → Member x (insert_entry cmp es key v)
+  inserted_old [] none x m = absurd m
+  inserted_old (e ∷ es) none x m =
+      go (cmp key e.0) (not_equal e.0 (none e (inl refl))) (inserted_old es (λ y k. none y (inr k)) x) m
+    where
+      go : (o : Ordering) → o ≢ Equal → (Member x es → Member x (insert_entry cmp es key v)) → Member x (e ∷ es)
+          → Member x (match_ordering o ((key, v) ∷ e ∷ es) ((e.0, v) ∷ es) (e ∷ insert_entry cmp es key v))
+      go Less h rest n = inr n
+      go Equal h rest n = absurd (h refl)
+      go Greater h rest (inl a) = inl a
+      go Greater h rest (inr n) = inr (rest n)
+
+  pub inserted_apart : (es : List (ℕ × V)) → ((e : ℕ × V) → Member e es → e.0 ≢ key)
+      → Apart (map (λ entry. entry.0) es) → Apart (map (λ entry. entry.0) (insert_entry cmp es key v))
+  inserted_apart [] none a = ((λ m. m), tt)
+  inserted_apart (e ∷ es) none a =
+      go (cmp key e.0) (not_equal e.0 (none e (inl refl))) (inserted_apart es (λ y k. none y (inr k)) a.1)
+      (in_inserted es (λ y k. none y (inr k)))
+    where
+      go : (o : Ordering) → o ≢ Equal → Apart (map (λ entry. entry.0) (insert_entry cmp es key v))
+          → ((x : ℕ × V) → Member x (insert_entry cmp es key v) → (x ≡ (key, v)) ⊎ Member x es)
+          → Apart (map (λ entry. entry.0) (match_ordering o ((key, v) ∷ e ∷ es) ((e.0, v) ∷ es) (e ∷ insert_entry cmp es key v)))
+      go Less h rest put = (
+        (λ m. let n = in_map (λ (entry : ℕ × V). entry.0) (e ∷ es) key m in none n.0 n.1 (sym n.2)),
+        a,
+      )
+      go Equal h rest put = absurd (h refl)
+      go Greater h rest put = (
+        (λ m. let n = in_map (λ (entry : ℕ × V). entry.0) (insert_entry cmp es key v) e.0 m in
+            elim (put n.0 n.1) [
+              | inl s ↦ none e (inl refl) (n.2 ∙ ap (λ y. y.0) s)
+              | inr k ↦ a.0 (subst (λ y. Member y (map (λ entry. entry.0) es)) (sym n.2) (map_in (λ (entry : ℕ × V). entry.0) es n.0 k))
+            ]),
+        rest,
+      )
+
+-- a claim that comes in
+pub record ComesIn (claimed later : List (ℕ × List ReadingValue)) (update : ℕ) (readings : List ReadingValue) : Type 0 where
+  pub from : (x : ℕ × List ReadingValue) → Member x later → (x ≡ (update, readings)) ⊎ Member x claimed
+  pub new : Member (update, readings) later
+  pub old : (x : ℕ × List ReadingValue) → Member x claimed → Member x later
+  pub once : Apart (map (λ entry. entry.0) claimed) → Apart (map (λ entry. entry.0) later)
+
+same_updates : (b : BookValue) (es : List (ℕ × Option (Vec ReadingValue Global)))
+    → map (λ entry. entry.0) (claimed_entries b es) ≡ map (λ entry. entry.0) es
+same_updates b [] = refl
+same_updates b (e ∷ es) = ap (λ l. e.0 ∷ l) (same_updates b es)
+
+-- what is claimed under an update, by the map
+pub claimed_entry_in : (b : BookValue) (es : List (ℕ × Option (Vec ReadingValue Global))) (update : ℕ) (kept : Option (Vec ReadingValue Global))
+    → Member (update, kept) es → Member (update, claimed_readings b update kept) (claimed_entries b es)
+claimed_entry_in b es update kept m = map_in (claimed_entry b) es (update, kept) m
+
+pub none_kept : (b : BookValue) (es : List (ℕ × Option (Vec ReadingValue Global))) (update : ℕ) (kept : Option (Vec ReadingValue Global))
+    → AreInBook b es → Member (update, kept) es → IsNone kept → IsInBook b update
+none_kept b es update None all m e = all update m
+none_kept b es update (Some readings) all m e = cc
+
+pub absent_claimed : (b : BookValue) (es : List (ℕ × Option (Vec ReadingValue Global))) (update : ℕ)
+    → ((entry : ℕ × Option (Vec ReadingValue Global)) → Member entry es → entry.0 ≢ update)
+    → (entry : ℕ × List ReadingValue) → Member entry (claimed_entries b es) → entry.0 ≢ update
+absent_claimed b es update absent entry m e =
+    let n = in_map (claimed_entry b) es entry m in
+    absent n.0 n.1 (sym (ap (λ x. x.0) n.2) ∙ e)
+
+module _ (b : BookValue) (es later : List (ℕ × Option (Vec ReadingValue Global))) (update : ℕ) (kept : Option (Vec ReadingValue Global))
+    (readings : List ReadingValue) (same : claimed_readings b update kept ≡ readings)
+    (absent : (entry : ℕ × Option (Vec ReadingValue Global)) → Member entry es → entry.0 ≢ update)
+    (cmp : ℕ → ℕ → Ordering) (order : (other : ℕ) → cmp update other ≡ nat_cmp update other)
+    (put : later ≡ insert_entry cmp es update kept) where
+  pub comes_in : ComesIn (claimed_entries b es) (claimed_entries b later) update readings
+  comes_in = record {
+    from = λ x m.
+        let n = in_map (claimed_entry b) later x m in
+        elim (in_inserted cmp update order kept es absent n.0 (subst (λ l. Member n.0 l) put n.1)) [
+          | inl e ↦ inl (n.2 ∙ ap (claimed_entry b) e ∙ ap (λ l. (update, l)) same)
+          | inr k ↦ inr (subst (λ y. Member y (claimed_entries b es)) (sym n.2) (map_in (claimed_entry b) es n.0 k))
+        ];
+    new = subst (λ l. Member (update, l) (claimed_entries b later)) same
+        (claimed_entry_in b later update kept (subst (λ l. Member (update, kept) l) (sym put) (inserted_new cmp update order kept es absent)));
+    old = λ x m.
+        let n = in_map (claimed_entry b) es x m in
+        subst (λ y. Member y (claimed_entries b later)) (sym n.2) (map_in (claimed_entry b) later n.0
+        (subst (λ l. Member n.0 l) (sym put) (inserted_old cmp update order kept es absent n.0 n.1)));
+    once = λ a.
+        subst Apart (ap (map (λ entry. entry.0)) (sym put) ∙ sym (same_updates b later))
+        (inserted_apart cmp update order kept es absent (subst Apart (same_updates b es) a));
+  }
+
+  -- where nothing is kept of it the book has it all
+  pub still_in_book : (IsNone kept → IsInBook b update) → AreInBook b es → AreInBook b later
+  still_in_book one all u m = elim (in_inserted cmp update order kept es absent _ (subst (λ l. Member (u, None) l) put m)) [
+    | inl e ↦ subst (IsInBook b) (sym (ap (λ x. x.0) e)) (one (ap (λ x. is_some x.1) (sym e)))
+    | inr k ↦ all u k
+  ]
+
+-- a claim that suits a merge is of the length of its book
+pub whole_of : (b : BookValue) (form : Option (ℕ × MeasureUnit)) (claimed : List (ℕ × List ReadingValue)) → IsDayMerge b form claimed → (c : Claim)
+    → SuitsForm form c.length c.unit → length c.readings.items ≡ count_of c.length
+    → (known : ℕ × MeasureUnit) → b.head ≡ Some known → length c.readings.items ≡ count_of known.0
+whole_of b form claimed d c suits whole known e = whole ∙ ap (λ k. count_of k.0) (sym (suits known (d.known known e)))
+
+-- the update wasn't claimed before, and comes in
+module _ (b : BookValue) (form : Option (ℕ × MeasureUnit)) (claimed later : List (ℕ × List ReadingValue)) (d : IsDayMerge b form claimed)
+    (c : Claim) (suits : SuitsForm form c.length c.unit)
+    (absent : (entry : ℕ × List ReadingValue) → Member entry claimed → entry.0 ≢ c.update)
+    (comes : ComesIn claimed later c.update c.readings.items) where
+  pub said_more : all_claimed b (Some (c.length, c.unit)) later
+      ≡ union (all_claimed b form claimed) (claim_world b.stream b.day c)
+  said_more = same_by _ _
+      (λ f i. let n = in_said b (Some (c.length, c.unit)) later f i in
+      let is : IsOfClaim b (c.length, c.unit) n.2.0 n.2.1 f =
+      subst (λ k. IsOfClaim b k n.2.0 n.2.1 f) (sym (same_some (c.length, c.unit) n.0 n.1)) n.4 in
+      elim (comes.from n.2 n.3) [
+        | inl e ↦ union_right _ _ f (claim_in b c f (subst (λ x. IsOfClaim b (c.length, c.unit) x.0 x.1 f) e is))
+        | inr m ↦ union_left _ _ f (said_here b form claimed d (c.length, c.unit) (known_form b form claimed d n.2 m c.length c.unit suits) n.2 m f is)
+      ])
+      (λ f i. elim (in_union _ _ f i) [
+        | inl a ↦ let n = in_said b form claimed f a in
+            said_in b (c.length, c.unit) later n.2 (comes.old n.2 n.3) f
+            (subst (λ k. IsOfClaim b k n.2.0 n.2.1 f) (suits n.0 n.1) n.4)
+        | inr a ↦ said_in b (c.length, c.unit) later (c.update, c.readings.items) comes.new f (in_claim b c f a)
+      ])
+
+  module _ (free : (k : ℕ) → Suits (book_world b) b c.update c.readings.items k) where
+    pub agrees_more : Agrees (union (book_world b) (all_claimed b (Some (c.length, c.unit)) later))
+    agrees_more =
+        subst Agrees (union_assoc total exact (book_world b) _ _ ∙ ap (union (book_world b)) (sym said_more))
+        (accepted b form _ c (base b form claimed d) suits (λ k. suits_all b form claimed d c suits absent k (free k)))
+
+    pub merge_more : length c.readings.items ≡ count_of c.length → IsDayMerge b (Some (c.length, c.unit)) later
+    merge_more many = record {
+      agrees = agrees_more;
+      whole = λ known e entry m. elim (comes.from entry m) [
+        | inl s ↦ ap (λ x. length x.1) s ∙ many ∙ ap (λ k. count_of k.0) (same_some _ known e)
+        | inr n ↦ d.whole known (known_form b form claimed d entry n c.length c.unit suits ∙ e) entry n
+      ];
+      once = comes.once d.once;
+      none = λ e. cc;
+      known = λ head e. ap Some (sym (suits head (d.known head e)));
+      told = λ known e. inr ((c.update, c.readings.items), comes.new);
+    }
+
+-- a want of memory
+pub merge_same : (b : BookValue) (form : Option (ℕ × MeasureUnit)) (claimed later : List (ℕ × List ReadingValue))
+    → later ≡ claimed → IsDayMerge b form claimed → IsDayMerge b form later
+merge_same b form claimed later e d = record {
+  agrees = subst (λ es. Agrees (union (book_world b) (all_claimed b form es))) (sym e) d.agrees;
+  whole = λ known k entry m. d.whole known k entry (subst (λ es. Member entry es) e m);
+  once = subst (λ es. Apart (map (λ entry. entry.0) es)) (sym e) d.once;
+  none = λ k. e ∙ d.none k;
+  known = d.known;
+  told = λ known k. elim (d.told known k) [ inl h ↦ inl h | inr n ↦ inr (n.0, subst (λ es. Member n.0 es) (sym e) n.1) ];
+}
+
+-- what `take` says, at each of its ends: v is the value before
+module _ (b : BookValue) (form : Option (ℕ × MeasureUnit)) (claimed : List (ℕ × List ReadingValue)) (v : DayMergeValue)
+    (is : merge_value b form claimed ≡ v) (d : IsDayMerge b form claimed) (c : Claim) where
+  refuse : (code : RefusalCode) (interval : ℕ)
+      → Breaks (union (union (book_world b) (all_claimed b form claimed)) (claim_world b.stream b.day c)) code interval
+      → Breaks (union (book_world v.book) (union v.said (claim_world v.book.stream v.book.day c))) code interval
+  refuse code interval q =
+      subst (λ x. Breaks (union (book_world x.book) (union x.said (claim_world x.book.stream x.book.day c))) code interval) is
+      (subst (λ w. Breaks w code interval) (union_assoc total exact (book_world b) _ _) q)
+
+  pub form_end : (code : RefusalCode) → BreaksForm form c.length c.unit code
+      → Breaks (union (book_world v.book) (union v.said (claim_world v.book.stream v.book.day c))) code 0
+  form_end code q = refuse code 0 (form_refused b form _ c (base b form claimed d) code q)
+
+  module _ (suits : SuitsForm form c.length c.unit) where
+    pub claim_end : (readings : List ReadingValue) → Member (c.update, readings) claimed
+        → length readings ≡ length c.readings.items → (interval : ℕ)
+        → IsFirst (λ k. slice_get readings k ≢ slice_get c.readings.items k)
+        (λ k. slice_get readings k ≡ slice_get c.readings.items k) interval
+        → Breaks (union (book_world v.book) (union v.said (claim_world v.book.stream v.book.day c))) VersionConflict interval
+    claim_end readings m many interval q =
+        refuse VersionConflict interval
+        (reading_refused b form _ c (base b form claimed d) suits interval (first_of_claims b form claimed d c suits readings m interval many q))
+
+    pub known_end : (readings : List ReadingValue) → Member (c.update, readings) claimed
+        → ((k : ℕ) → slice_get readings k ≡ slice_get c.readings.items k)
+        → (v.said ≡ union v.said (claim_world v.book.stream v.book.day c)) × Agrees (union (book_world v.book) v.said)
+    known_end readings m same =
+        subst (λ x. (x.said ≡ union x.said (claim_world x.book.stream x.book.day c)) × Agrees (union (book_world x.book) x.said)) is
+        (known_claim b form claimed d c suits readings m same, d.agrees)
+
+    module _ (absent : (entry : ℕ × List ReadingValue) → Member entry claimed → entry.0 ≢ c.update) where
+      pub book_end : (interval : ℕ)
+          → IsFirst (Contradicts (book_world b) b c.update c.readings.items) (Suits (book_world b) b c.update c.readings.items) interval
+          → Breaks (union (book_world v.book) (union v.said (claim_world v.book.stream v.book.day c))) VersionConflict interval
+      book_end interval q =
+          refuse VersionConflict interval
+          (reading_refused b form _ c (base b form claimed d) suits interval (first_of_book b form claimed d c suits absent interval q))
+
+      pub lacking_end : ((k : ℕ) → Suits (book_world b) b c.update c.readings.items k)
+          → Agrees (union (book_world v.book) (union v.said (claim_world v.book.stream v.book.day c)))
+      lacking_end free =
+          subst (λ x. Agrees (union (book_world x.book) (union x.said (claim_world x.book.stream x.book.day c)))) is
+          (subst Agrees (union_assoc total exact (book_world b) _ _)
+          (accepted b form _ c (base b form claimed d) suits (λ k. suits_all b form claimed d c suits absent k (free k))))
+
+      pub unsaid_end : (interval : ℕ) (r : ReadingValue) → VersionIs (key_of v.book interval c.update) r ∈ v.said → ⊥
+      unsaid_end interval r =
+          subst (λ x. VersionIs (key_of x.book interval c.update) r ∈ x.said → ⊥) is (λ i.
+          let n = in_said b form claimed _ i in elim n.4 [
+            | inl e ↦ cc
+            | inr q ↦ absent n.2 n.3 (sym (ap (λ k. k.update) (same_key _ _ r q.1 q.3).0))
+          ])
+
+      pub taken_end : (later : List (ℕ × List ReadingValue)) → ComesIn claimed later c.update c.readings.items
+          → ((k : ℕ) → Suits (book_world b) b c.update c.readings.items k)
+          → (b ≡ v.book)
+          × (all_claimed b (Some (c.length, c.unit)) later
+          ≡ union v.said (claim_world v.book.stream v.book.day c))
+          × Agrees (union (book_world b) (all_claimed b (Some (c.length, c.unit)) later))
+      taken_end later comes free = (
+        ap (λ x. x.book) is,
+        subst (λ x. all_claimed b (Some (c.length, c.unit)) later ≡ union x.said (claim_world x.book.stream x.book.day c)) is
+            (said_more b form claimed later d c suits absent comes),
+        agrees_more b form claimed later d c suits absent comes free,
+      )
+
+-- a merge of which nothing was claimed
+none_said : (b : BookValue) (form : Option (ℕ × MeasureUnit)) → all_claimed b form [] ≡ set.empty
+none_said b None = refl
+none_said b (Some known) = refl
+
+pub new_said : (b : BookValue) (form : Option (ℕ × MeasureUnit)) (es : List (ℕ × List ReadingValue)) → es ≡ []
+    → all_claimed b form es ≡ set.empty
+new_said b form es e = ap (λ l. all_claimed b form l) e ∙ none_said b form
+
+pub none_in_book : (b : BookValue) (es : List (ℕ × Option (Vec ReadingValue Global))) → es ≡ [] → AreInBook b es
+none_in_book b es e update m = absurd (subst (λ l. Member (update, None) l) e m)
+
+pub new_merge : (b : BookValue) (form : Option (ℕ × MeasureUnit)) (claimed : List (ℕ × List ReadingValue))
+    → form ≡ b.head → claimed ≡ [] → IsLawful (book_world b) → IsDayMerge b form claimed
+new_merge b form claimed f e h = record {
+  agrees = subst Agrees (sym (ap (union (book_world b)) (new_said b form claimed e) ∙ union_empty total exact (book_world b))) h.agrees;
+  whole = λ known k entry m. absurd (subst (λ es. Member entry es) e m);
+  once = subst (λ es. Apart (map (λ entry. entry.0) es)) (sym e) tt;
+  none = λ k. e;
+  known = λ head k. f ∙ k;
+  told = λ known k. inl (sym f ∙ k);
+}

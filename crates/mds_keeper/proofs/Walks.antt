@@ -1,0 +1,337 @@
+-- A walk down the rows of a book, side by side with the readings of a claim.
+use Rattle.std.proofs.Common.{◌≡◌, ◌≢◌, ℕ, zero, suc, ◌+◌, ◌<◌, ◌≤◌, List, [], ◌∷◌, ◌++◌, ◌-◌, length, take, take_all, drop, get_or, Option, Some, refl, sym, ap, ◌∙◌, subst, inl, inr, arith, drop-cons, length-append}
+use Rattle.std.specs.Prelude.{Bool, true, false, cond}
+use Rattle.std.specs.BTreeMap.{insert_entry}
+use Rattle.std.specs.List.{AllPairs, slice_get}
+use Rattle.std.specs.Ordering.{nat_cmp, match_ordering}
+use Rattle.std.specs.declared.alloc.Global.{Global}
+use Rattle.std.specs.declared.cmp.Ordering.{Ordering}
+use Rattle.std.specs.declared.cmp.Ordering.TheVariants.{Less, Equal, Greater}
+use Rattle.std.specs.declared.vec.Vec.{Vec}
+use Rattle.std.proofs.lemmas.Bool.{cases_lt}
+use Rattle.std.proofs.lemmas.Option.{slice_get_read}
+use Rattle.mds_marks.specs.Reading.{ReadingValue}
+use Rattle.mds_world.specs.declared.facts.Key.{Key}
+use Rattle.mds_world.specs.Facts.Fact.{VersionIs}
+use Rattle.mds_world.specs.Lists.{Member}
+use Rattle.mds_world.specs.Sets.{◌∈◌}
+use Rattle.mds_world.specs.World.{Agrees}
+use Rattle.mds_keeper.specs.Books.{BookValue, book_world}
+use Rattle.mds_keeper.specs.BookRows.{IsBefore}
+use Rattle.mds_keeper.specs.Claims.{Contradicts, IsFirst, Suits, fresh_all, fresh_versions, held_all, held_count, is_held, key_of}
+use Rattle.mds_keeper.specs.DayMergeSteps.{AreCounts, IsFrom, claimed_entries, claimed_readings, row_of}
+use Rattle.mds_keeper.specs.declared.day_book.Version.{Version}
+use Rattle.mds_keeper.proofs.BookFacts.{row_in_book, row_of_book}
+use Rattle.mds_keeper.proofs.BookPlaces.{place_of}
+use Rattle.mds_keeper.proofs.Rows.{same_some}
+use Rattle.mds_keeper.proofs.Taken.{not_equal}
+
+-- ---- rows from an interval on
+
+tail_up : (row : ℕ × Version) (rest : List (ℕ × Version)) → AllPairs IsBefore (row ∷ rest) → AllPairs IsBefore rest
+tail_up row rest up i j d h k = up (suc i) (suc j) d (omega arith) (omega arith)
+
+head_up : (row : ℕ × Version) (rest : List (ℕ × Version)) → AllPairs IsBefore (row ∷ rest) → (later : ℕ × Version)
+    → Member later rest → row.0 ≤ later.0
+head_up row rest up later m =
+    let p = place_of later rest m in
+    let e = ap (λ (r : ℕ × Version). r.0) (p.2 row) in
+    elim (up 0 (suc p.0) row (omega arith) (omega (arith, p.1))) [ inl a ↦ omega arith | inr b ↦ let f = b.0 in omega arith ]
+
+-- the first of a list that isn't empty, and the rest
+pub first_and_rest : {X : Type 0} (xs : List X) (x : X) → 1 ≤ length xs → x ≡ get_or xs 0 x → xs ≡ x ∷ take (length xs - 1) (drop 1 xs)
+first_and_rest [] x h e = absurd (omega arith)
+first_and_rest (y ∷ ys) x h e =
+    let n : suc (length ys) - 1 ≡ length ys = omega arith in
+    λ i. sym e i ∷ (sym (take_all (length ys) ys (omega arith)) ∙ ap (λ k. take k ys) (sym n)) i
+
+pub none_left : {X : Type 0} (xs : List X) → length xs < 1 → xs ≡ []
+none_left [] h = refl
+none_left (x ∷ xs) h = absurd (omega arith)
+
+-- what is left while rows are passed over
+pub record Passes (rows : List (ℕ × Version)) (interval : ℕ) (left : List (ℕ × Version)) : Type 0 where
+  pub ascending : AllPairs IsBefore left
+  pub whole : (row : ℕ × Version) → Member row rows → interval ≤ row.0 → Member row left
+  pub only : (row : ℕ × Version) → Member row left → Member row rows
+
+pub passes_start : (rows : List (ℕ × Version)) (interval : ℕ) → AllPairs IsBefore rows → Passes rows interval rows
+passes_start rows interval up = record { ascending = up; whole = λ row m h. m; only = λ row m. m }
+
+pub passes_on : (rows : List (ℕ × Version)) (interval : ℕ) (left : List (ℕ × Version)) (row : ℕ × Version) (rest : List (ℕ × Version))
+    → left ≡ row ∷ rest → row.0 < interval → Passes rows interval left → Passes rows interval rest
+passes_on rows interval left row rest e low p = record {
+  ascending = tail_up row rest (subst (AllPairs IsBefore) e p.ascending);
+  whole = λ other m h. elim (subst (Member other) e (p.whole other m h)) [
+    | inl same ↦ let n : other.0 ≡ row.0 = ap (λ (r : ℕ × Version). r.0) same in absurd (omega (arith, n, h, low))
+    | inr there ↦ there
+  ];
+  only = λ other m. p.only other (subst (Member other) (sym e) (inr m));
+}
+
+pub passes_stop : (rows : List (ℕ × Version)) (interval : ℕ) (left : List (ℕ × Version)) (row : ℕ × Version) (rest : List (ℕ × Version))
+    → left ≡ row ∷ rest → interval ≤ row.0 → Passes rows interval left → IsFrom rows interval left
+passes_stop rows interval left row rest e high p = record {
+  ascending = p.ascending;
+  from = λ other m. elim (subst (Member other) e m) [
+    | inl same ↦ subst (λ (r : ℕ × Version). interval ≤ r.0) (sym same) high
+    | inr there ↦
+        let h = head_up row rest (subst (AllPairs IsBefore) e p.ascending) other there in
+        omega arith
+  ];
+  whole = p.whole;
+  only = p.only;
+}
+
+pub passes_end : (rows : List (ℕ × Version)) (interval : ℕ) (left : List (ℕ × Version))
+    → left ≡ [] → Passes rows interval left → IsFrom rows interval left
+passes_end rows interval left e p = record {
+  ascending = p.ascending;
+  from = λ other m. absurd (subst (Member other) e m);
+  whole = p.whole;
+  only = p.only;
+}
+
+-- a later interval's rows are among those left
+pub from_later : (rows : List (ℕ × Version)) (interval : ℕ) (old left : List (ℕ × Version)) → Passes rows interval old
+    → IsFrom old interval left → IsFrom rows interval left
+from_later rows interval old left p f = record {
+  ascending = f.ascending;
+  from = f.from;
+  whole = λ row m h. f.whole row (p.whole row m h) h;
+  only = λ row m. p.only row (f.only row m);
+}
+
+pub passes_next : (rows : List (ℕ × Version)) (interval : ℕ) (left : List (ℕ × Version)) → IsFrom rows interval left
+    → Passes rows (interval + 1) left
+passes_next rows interval left f = record {
+  ascending = f.ascending;
+  whole = λ row m h. f.whole row m (omega arith);
+  only = f.only;
+}
+
+-- ---- the reading of an interval under an update
+
+pub record Seeks (rows : List (ℕ × Version)) (interval update : ℕ) (left : List (ℕ × Version)) : Type 0 where
+  pub ascending : AllPairs IsBefore left
+  pub from : (row : ℕ × Version) → Member row left → interval ≤ row.0
+  pub only : (row : ℕ × Version) → Member row left → Member row rows
+  pub whole : (reading : ReadingValue) → Member (row_of interval update reading) rows → Member (row_of interval update reading) left
+
+pub seeks_start : (rows : List (ℕ × Version)) (interval update : ℕ) → IsFrom rows interval rows → Seeks rows interval update rows
+seeks_start rows interval update f = record { ascending = f.ascending; from = f.from; only = λ row m. m; whole = λ reading m. m }
+
+module _ (rows : List (ℕ × Version)) (interval update : ℕ) (left : List (ℕ × Version)) (row : ℕ × Version) (rest : List (ℕ × Version))
+    (e : left ≡ row ∷ rest) (s : Seeks rows interval update left) where
+  first_there : Member row left
+  first_there = subst (Member row) (sym e) (inl refl)
+
+  pub seeks_past : row.0 ≢ interval → (reading : ReadingValue) → Member (row_of interval update reading) rows → ⊥
+  seeks_past other reading m =
+      let f = s.from row first_there in
+      elim (subst (Member (row_of interval update reading)) e (s.whole reading m)) [
+        | inl same ↦ other (ap (λ (r : ℕ × Version). r.0) (sym same))
+        | inr there ↦
+            let h : row.0 ≤ interval = head_up row rest (subst (AllPairs IsBefore) e s.ascending) _ there in
+            other (omega arith)
+      ]
+
+  pub seeks_found : row.0 ≡ interval → row.1.update ≡ update → Member (row_of interval update row.1.reading) rows
+  seeks_found at under =
+      let is : row ≡ row_of interval update row.1.reading = λ j. (at j, record { update = under j; reading = row.1.reading }) in
+      subst (λ r. Member r rows) is (s.only row first_there)
+
+  pub seeks_on : row.1.update ≢ update → Seeks rows interval update rest
+  seeks_on other = record {
+    ascending = tail_up row rest (subst (AllPairs IsBefore) e s.ascending);
+    from = λ r m. s.from r (subst (Member r) (sym e) (inr m));
+    only = λ r m. s.only r (subst (Member r) (sym e) (inr m));
+    whole = λ reading m. elim (subst (Member (row_of interval update reading)) e (s.whole reading m)) [
+      | inl same ↦ absurd (other (ap (λ (r : ℕ × Version). r.1.update) (sym same)))
+      | inr there ↦ there
+    ];
+  }
+
+pub seeks_end : (rows : List (ℕ × Version)) (interval update : ℕ) (left : List (ℕ × Version)) → left ≡ []
+    → Seeks rows interval update left → (reading : ReadingValue) → Member (row_of interval update reading) rows → ⊥
+seeks_end rows interval update left e s reading m = subst (Member (row_of interval update reading)) e (s.whole reading m)
+
+-- ---- what a book says of it
+
+module _ (b : BookValue) (rows : List (ℕ × Version)) (interval update : ℕ) (f : IsFrom b.rows interval rows) where
+  off : (t : Bool) → (t ≡ true → ⊥) → t ≡ false
+  off true h = absurd (h refl)
+  off false h = refl
+
+  none_there : ((reading : ReadingValue) → Member (row_of interval update reading) rows → ⊥) → (other : ReadingValue)
+      → VersionIs (key_of b interval update) other ∈ book_world b → ⊥
+  none_there none other i = none other (f.whole _ (row_of_book b interval update other i) (omega arith))
+
+  pub count_none : (reading : ReadingValue) → ((r : ReadingValue) → Member (row_of interval update r) rows → ⊥)
+      → (is_held b update interval reading ≡ false)
+      × ((other : ReadingValue) → VersionIs (key_of b interval update) other ∈ book_world b → other ≡ reading)
+  count_none reading none = (
+    off (is_held b update interval reading) (λ i. none_there none reading i),
+    (λ other i. absurd (none_there none other i)),
+  )
+
+  kept_there : (kept : ReadingValue) → Member (row_of interval update kept) rows → VersionIs (key_of b interval update) kept ∈ book_world b
+  kept_there kept m = row_in_book b (row_of interval update kept) (f.only _ m)
+
+  pub count_one : (reading kept : ReadingValue) → Agrees (book_world b) → Member (row_of interval update kept) rows → kept ≡ reading
+      → (is_held b update interval reading ≡ true)
+      × ((other : ReadingValue) → VersionIs (key_of b interval update) other ∈ book_world b → other ≡ reading)
+  count_one reading kept agrees m e = (
+    subst (λ r. is_held b update interval r ≡ true) e (kept_there kept m),
+    (λ other i. agrees.one_reading _ other kept i (kept_there kept m) ∙ e),
+  )
+
+  pub count_other : (reading kept : ReadingValue) → Member (row_of interval update kept) rows → kept ≢ reading
+      → (other : ReadingValue) × (VersionIs (key_of b interval update) other ∈ book_world b) × (other ≢ reading)
+  count_other reading kept m apart = (kept, kept_there kept m, apart)
+
+-- ---- all readings of a claim
+
+pub record IsWalked (b : BookValue) (update : ℕ) (readings : List ReadingValue) (left : List (ℕ × Version)) (held i : ℕ) : Type 0 where
+  pub passes : Passes b.rows (i + 1) left
+  pub suits : (k : ℕ) → k < i → Suits (book_world b) b update readings k
+  pub counted : held + held_count b update (i + 1) (drop i readings) ≡ held_count b update 1 readings
+  pub few : held ≤ i
+
+pub walk_start : (b : BookValue) (update : ℕ) (readings : List ReadingValue) (left : List (ℕ × Version)) → left ≡ b.rows
+    → AllPairs IsBefore left → IsWalked b update readings left 0 0
+walk_start b update readings left e up = record {
+  passes = subst (λ l. Passes b.rows 1 l) (sym e) (passes_start b.rows 1 (subst (AllPairs IsBefore) e up));
+  suits = λ k h. absurd (omega arith);
+  counted = omega arith;
+  few = omega arith;
+}
+
+module _ (b : BookValue) (update : ℕ) (readings : List ReadingValue) (old left : List (ℕ × Version)) (held i : ℕ) (r : ReadingValue)
+    (w : IsWalked b update readings old held i) (within : i < length readings) (at : r ≡ get_or readings i r) (f : IsFrom old (i + 1) left) where
+  pub walk_from : IsFrom b.rows (i + 1) left
+  walk_from = from_later b.rows (i + 1) old left w.passes f
+
+  here : slice_get readings i ≡ Some r
+  here = slice_get_read readings (length readings) i r refl within at
+
+  pub walk_on : (count : ℕ) → count ≡ cond (is_held b update (i + 1) r) 1 0
+      → ((other : ReadingValue) → VersionIs (key_of b (i + 1) update) other ∈ book_world b → other ≡ r)
+      → IsWalked b update readings left (held + count) (i + 1)
+  walk_on count is suits = record {
+    passes = passes_next b.rows (i + 1) left walk_from;
+    suits = λ k h. elim (cases_lt k i) [
+      | inl below ↦ w.suits k below
+      | inr above ↦
+          let e : i ≡ k = omega arith in
+          subst (λ n. Suits (book_world b) b update readings n) e
+          (λ mine other g j. suits other j ∙ same_some r mine (sym here ∙ g))
+    ];
+    counted =
+        let d : drop i readings ≡ r ∷ drop (suc i) readings = drop-cons readings i r within ∙ ap (λ x. x ∷ drop (suc i) readings) (sym at) in
+        let c : held + (cond (is_held b update (i + 1) r) 1 0 + held_count b update (i + 1 + 1) (drop (suc i) readings)) ≡ held_count b update 1 readings =
+        ap (λ l. held + held_count b update (i + 1) l) (sym d) ∙ w.counted in
+        let z : i + 1 ≡ suc i = omega arith in
+        ap (λ n. held + count + held_count b update (i + 1 + 1) (drop n readings)) z
+        ∙ ap (λ n. held + n + held_count b update (i + 1 + 1) (drop (suc i) readings)) is
+        ∙ omega (arith, c);
+    few = let c = few_one (is_held b update (i + 1) r) in let p = w.few in omega arith;
+  }
+    where
+      few_one : (t : Bool) → cond t 1 0 ≤ 1
+      few_one true = omega arith
+      few_one false = omega arith
+
+  pub walk_stop : ((other : ReadingValue) × (VersionIs (key_of b (i + 1) update) other ∈ book_world b) × (other ≢ r))
+      → IsFirst (Contradicts (book_world b) b update readings) (Suits (book_world b) b update readings) (i + 1)
+  walk_stop q = (i, refl, (r, q.0, here, q.1, q.2), w.suits)
+
+pub walk_end : (b : BookValue) (update : ℕ) (readings : List ReadingValue) (left : List (ℕ × Version)) (held i : ℕ)
+    → IsWalked b update readings left held i → length readings ≤ i → held ≡ held_count b update 1 readings
+walk_end b update readings left held i w h =
+    let c : held + held_count b update (i + 1) [] ≡ held_count b update 1 readings =
+    ap (λ l. held + held_count b update (i + 1) l) (sym (none_behind readings i h)) ∙ w.counted in
+    omega arith
+  where
+    none_behind : {X : Type 0} (xs : List X) (n : ℕ) → length xs ≤ n → drop n xs ≡ []
+    none_behind [] zero h = refl
+    none_behind [] (suc n) h = refl
+    none_behind (x ∷ xs) zero h = absurd (omega arith)
+    none_behind (x ∷ xs) (suc n) h = none_behind xs n (omega arith)
+
+-- ---- the counts of all that was claimed
+
+pub one_or_other : (b : BookValue) (update interval : ℕ) (rs : List ReadingValue)
+    → held_count b update interval rs + length (fresh_versions b update interval rs) ≡ length rs
+one_or_other b update interval [] = refl
+one_or_other b update interval (r ∷ rs) = go (is_held b update interval r) (one_or_other b update (interval + 1) rs)
+  where
+    go : (t : Bool) → held_count b update (interval + 1) rs + length (fresh_versions b update (interval + 1) rs) ≡ length rs
+        → cond t 1 0 + held_count b update (interval + 1) rs
+        + length (cond t (fresh_versions b update (interval + 1) rs) ((key_of b interval update, r) ∷ fresh_versions b update (interval + 1) rs))
+        ≡ suc (length rs)
+    go true h = omega arith
+    go false h = omega arith
+
+module _ (b : BookValue) (cmp : ℕ → ℕ → Ordering) (key : ℕ) (order : (other : ℕ) → cmp key other ≡ nat_cmp key other) (v : Option (Vec ReadingValue Global)) where
+  held_inserted : (es : List (ℕ × Option (Vec ReadingValue Global))) → ((e : ℕ × Option (Vec ReadingValue Global)) → Member e es → e.0 ≢ key)
+      → held_all b (claimed_entries b (insert_entry cmp es key v)) ≡ held_all b (claimed_entries b es) + held_count b key 1 (claimed_readings b key v)
+  held_inserted [] none = omega arith
+  held_inserted (e ∷ es) none = go (cmp key e.0) (not_equal cmp key order v e.0 (none e (inl refl))) (held_inserted es (λ y k. none y (inr k)))
+    where
+      go : (o : Ordering) → o ≢ Equal → held_all b (claimed_entries b (insert_entry cmp es key v)) ≡ held_all b (claimed_entries b es) + held_count b key 1 (claimed_readings b key v)
+          → held_all b (claimed_entries b (match_ordering o ((key, v) ∷ e ∷ es) ((e.0, v) ∷ es) (e ∷ insert_entry cmp es key v)))
+          ≡ held_count b e.0 1 (claimed_readings b e.0 e.1) + held_all b (claimed_entries b es) + held_count b key 1 (claimed_readings b key v)
+      go Less h rest = omega arith
+      go Equal h rest = absurd (h refl)
+      go Greater h rest = omega arith
+
+  fresh_inserted : (es : List (ℕ × Option (Vec ReadingValue Global))) → ((e : ℕ × Option (Vec ReadingValue Global)) → Member e es → e.0 ≢ key)
+      → length (fresh_all b (claimed_entries b (insert_entry cmp es key v))) ≡ length (fresh_all b (claimed_entries b es)) + length (fresh_versions b key 1 (claimed_readings b key v))
+  fresh_inserted [] none = length-append (fresh_versions b key 1 (claimed_readings b key v)) [] ∙ omega arith
+  fresh_inserted (e ∷ es) none = go (cmp key e.0) (not_equal cmp key order v e.0 (none e (inl refl))) (fresh_inserted es (λ y k. none y (inr k)))
+    where
+      here : List (Key × ReadingValue)
+      here = fresh_versions b e.0 1 (claimed_readings b e.0 e.1)
+
+      new : List (Key × ReadingValue)
+      new = fresh_versions b key 1 (claimed_readings b key v)
+
+      all : List (Key × ReadingValue)
+      all = fresh_all b (claimed_entries b (insert_entry cmp es key v))
+
+      go : (o : Ordering) → o ≢ Equal → length all ≡ length (fresh_all b (claimed_entries b es)) + length new
+          → length (fresh_all b (claimed_entries b (match_ordering o ((key, v) ∷ e ∷ es) ((e.0, v) ∷ es) (e ∷ insert_entry cmp es key v))))
+          ≡ length (here ++ fresh_all b (claimed_entries b es)) + length new
+      go Less h rest = length-append new (here ++ fresh_all b (claimed_entries b es)) ∙ omega arith
+      go Equal h rest = absurd (h refl)
+      go Greater h rest =
+          let l = length-append here all in
+          let m = length-append here (fresh_all b (claimed_entries b es)) in
+          omega arith
+
+  pub counts_more : (es later : List (ℕ × Option (Vec ReadingValue Global)))
+      → ((e : ℕ × Option (Vec ReadingValue Global)) → Member e es → e.0 ≢ key)
+      → later ≡ insert_entry cmp es key v → (rs : List ReadingValue) → claimed_readings b key v ≡ rs
+      → (held fresh one other all_held all_fresh : ℕ) → AreCounts b (claimed_entries b es) held fresh
+      → one ≡ held_count b key 1 rs → one + other ≡ length rs → all_held ≡ held + one → all_fresh ≡ fresh + other
+      → AreCounts b (claimed_entries b later) all_held all_fresh
+  counts_more es later none put rs same held fresh one other all_held all_fresh c is split h f =
+      let both = one_or_other b key 1 (claimed_readings b key v) in
+      let p = c.held_are in
+      let q = c.fresh_are in
+      let one_is : one ≡ held_count b key 1 (claimed_readings b key v) = is ∙ ap (held_count b key 1) (sym same) in
+      let all : one + other ≡ length (claimed_readings b key v) = split ∙ ap length (sym same) in
+      record {
+        held_are = (let z : all_held ≡ held_all b (claimed_entries b es) + held_count b key 1 (claimed_readings b key v) = omega arith in z)
+            ∙ sym (held_inserted es none) ∙ ap (λ l. held_all b (claimed_entries b l)) (sym put);
+        fresh_are = (let z : all_fresh ≡ length (fresh_all b (claimed_entries b es)) + length (fresh_versions b key 1 (claimed_readings b key v)) = omega arith in z)
+            ∙ sym (fresh_inserted es none) ∙ ap (λ l. length (fresh_all b (claimed_entries b l))) (sym put);
+      }
+
+pub counts_same : (b : BookValue) (es later : List (ℕ × List ReadingValue)) (held fresh : ℕ) → later ≡ es → AreCounts b es held fresh
+    → AreCounts b later held fresh
+counts_same b es later held fresh e c = subst (λ l. AreCounts b l held fresh) (sym e) c
+
+pub counts_none : (b : BookValue) (es : List (ℕ × List ReadingValue)) → es ≡ [] → AreCounts b es 0 0
+counts_none b es e = subst (λ l. AreCounts b l 0 0) (sym e) (record { held_are = refl; fresh_are = refl })

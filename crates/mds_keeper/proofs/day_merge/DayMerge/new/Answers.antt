@@ -1,0 +1,13 @@
+use Rattle.std.proofs.Common.{ap}
+use Rattle.mds_keeper.specs.DayMergeSteps.{claimed_entries}
+use Rattle.mds_keeper.proofs.Taken.{new_merge, none_in_book}
+use Rattle.mds_keeper.proofs.Walks.{counts_none}
+use Rattle.mds_keeper.proofs.day_merge.DayMerge.new.Goals as goal
+
+pub invariant_of-result : goal.invariant_of-result
+invariant_of-result c =
+    let none = ap (claimed_entries c.args.book) c.new.ensures.empty in (
+      new_merge _ _ _ c.head-form.ensures none c.is_lawful.ensures,
+      none_in_book _ _ c.new.ensures.empty,
+      counts_none _ _ none,
+    )

@@ -1,0 +1,54 @@
+-- What additions add, as facts.
+use Rattle.std.specs.Prelude.{ℕ, List, ◌++◌, map}
+use Rattle.std.specs.List.{flat_map}
+use Rattle.std.specs.FinSet as set
+use Rattle.mds_marks.specs.Reading.{ReadingValue}
+use Rattle.mds_names.specs.declared.stream.Stream.{Stream}
+use Rattle.mds_jobs.specs.Jobs.{content_of}
+use Rattle.mds_jobs.specs.declared.job.Job.{Job}
+use Rattle.mds_world.specs.declared.facts.Key.{Key}
+use Rattle.mds_world.specs.Facts.{Fact}
+use Rattle.mds_statements.specs.declared.periods.Period.{Period}
+use Rattle.mds_world.specs.Facts.Fact.{HeadIs, VersionIs, DetailIs, EventIs, PeriodIs, HolidayIs, JobIs}
+use Rattle.mds_world.specs.Lists.{Apart, Member}
+use Rattle.mds_world.specs.Sets.{◌∈◌}
+use Rattle.mds_world.specs.World.{World}
+use Rattle.mds_keeper.specs.declared.additions.Additions.{Additions}
+use Rattle.mds_keeper.specs.declared.additions.DayVersions.{DayVersions}
+use Rattle.mds_keeper.specs.declared.day_book.Version.{Version}
+
+-- where a version of a day of a stream stands, and its reading
+abbrev pub version_at : Stream → ℕ → ℕ × Version → Key × ReadingValue
+version_at stream day row =
+    (record { stream = stream; day = day; interval = row.0; update = row.1.update }, row.1.reading)
+
+abbrev pub day_versions : DayVersions → List (Key × ReadingValue)
+day_versions day = map (version_at day.stream day.day) day.rows.items
+
+-- the versions of days, one day after the other
+abbrev pub versions_of : List DayVersions → List (Key × ReadingValue)
+versions_of days = flat_map day_versions days
+
+abbrev pub version_fact : Key × ReadingValue → Fact
+version_fact version = VersionIs version.0 version.1
+
+abbrev pub period_fact : Period → Fact
+period_fact period = PeriodIs period.key period.content
+
+abbrev pub job_fact : Job × ℕ → Fact
+job_fact job = JobIs job.0.id (content_of job.0) job.1
+
+-- the facts of each list, one list after the other
+abbrev pub content_facts : Additions → List Fact
+content_facts additions =
+    map HeadIs additions.heads.items ++ map version_fact (versions_of additions.days.items)
+    ++ map DetailIs additions.details.items ++ map EventIs additions.events.items
+    ++ map period_fact additions.periods.items ++ map HolidayIs additions.holidays.items ++ map job_fact additions.jobs.items
+
+abbrev pub content : Additions → World
+content additions = set.from_list (content_facts additions)
+
+-- No fact comes twice, and none is there yet.
+pub record AreNew (w : World) (additions : Additions) : Type 0 where
+  pub apart : Apart (content_facts additions)
+  pub absent : (f : Fact) → Member f (content_facts additions) → f ∈ w → ⊥

@@ -1,0 +1,58 @@
+-- A day's book with what lines claim of the day.
+use Rattle.std.specs.Prelude.{◌≡◌, ◌<◌, List, ◌++◌, map, length}
+use Rattle.std.specs.List.{AllPairs}
+use Rattle.std.specs.FinSet as set
+use Rattle.mds_marks.specs.Reading.{ReadingValue}
+use Rattle.mds_world.specs.declared.facts.Head.{Head}
+use Rattle.mds_world.specs.declared.facts.Key.{Key}
+use Rattle.mds_world.specs.Counts.{countable}
+use Rattle.mds_world.specs.Facts.Fact.{HeadIs}
+use Rattle.mds_world.specs.Lists.{Apart}
+use Rattle.mds_world.specs.World.{Agrees, World, union}
+use Rattle.mds_keeper.specs.Books.{BookValue, book_world}
+use Rattle.mds_keeper.specs.Content.{AreNew, content, version_fact, versions_of}
+use Rattle.mds_keeper.specs.declared.additions.Additions.{Additions}
+use Rattle.mds_keeper.specs.declared.claim.Claim.{Claim}
+use Rattle.mds_keeper.specs.declared.day_merge.MergeCounts.{MergeCounts}
+use Rattle.mds_keeper.specs.declared.day_merge.Stop.{Stop}
+use Rattle.mds_keeper.specs.declared.day_merge.Stop.TheVariants.{Refused, Memory}
+use Rattle.mds_keeper.specs.declared.refusal.Refusal.{Refusal}
+
+-- the book of a day, and what lines claim of that day
+pub record DayMergeValue : Type 0 where
+  pub book : BookValue
+  pub said : World
+
+-- where it is a refusal
+abbrev pub IfRefused : Stop → (Refusal → Type 0) → Type 0
+IfRefused (Refused refusal) P = P refusal
+IfRefused Memory P = Unit {0}
+
+-- claims in the order of their lines, each on a line of its own
+abbrev pub AreAscending : List Claim → Type 0
+AreAscending claims = AllPairs (λ a b. a.line < b.line) claims
+
+-- What is added of what claims say: all agrees, the union is the same with the additions, and these are new.
+pub record IsPlan (w said : World) (additions : Additions) : Type 0 where
+  pub agrees : Agrees (union w said)
+  pub whole : union w (content additions) ≡ union w said
+  pub new : AreNew w additions
+  pub counted : length (versions_of additions.days.items) ≡ set.len (set.difference (countable said) (countable w))
+
+-- What a merge puts behind additions: heads and versions, each once, that are just what is claimed and isn't in the
+-- book; how many versions these are, and how many of those claimed are in it.
+pub record Settles (merge : DayMergeValue) (old new : Additions) (counts : MergeCounts) : Type 0 where
+  pub heads : List Head
+  pub versions : List (Key × ReadingValue)
+  pub more_heads : new.heads.items ≡ old.heads.items ++ heads
+  pub more_versions : versions_of new.days.items ≡ versions_of old.days.items ++ versions
+  pub same_details : new.details ≡ old.details
+  pub same_events : new.events ≡ old.events
+  pub same_periods : new.periods ≡ old.periods
+  pub same_holidays : new.holidays ≡ old.holidays
+  pub same_jobs : new.jobs ≡ old.jobs
+  pub apart : Apart (map HeadIs heads ++ map version_fact versions)
+  pub just : set.from_list (map HeadIs heads ++ map version_fact versions)
+      ≡ set.difference merge.said (book_world merge.book)
+  pub added : counts.added ≡ length versions
+  pub known : counts.known ≡ set.len (set.intersection (countable merge.said) (countable (book_world merge.book)))

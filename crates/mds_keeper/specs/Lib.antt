@@ -1,0 +1,13 @@
+pub mod BookOrder
+pub mod BookPlaces
+pub mod BookRows
+pub mod Books
+pub mod Claims
+pub mod Content
+pub mod DayMergeSteps
+pub mod DayMerges
+pub mod Kept
+pub mod KeptRows
+pub mod Merge
+pub mod Queries
+pub mod Refusals

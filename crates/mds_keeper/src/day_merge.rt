@@ -1,0 +1,540 @@
+//! A day of the store with what the lines so far claim of it.
+
+ghost use Rattle.std.specs.Prelude.{◌≡◌, ◌≢◌, ◌≤◌, ℕ, ◌++◌, cond, false, length, map, Err, IsTrue, IfOk, IfErr, IfSome, IfNone, IsNone, OnOk, Some};
+ghost use Rattle.std.specs.List.{AllPairs, slice_get};
+ghost use Rattle.std.specs.FinSet as set;
+ghost use Rattle.mds_calendar.specs.Length.{count_of};
+ghost use Rattle.mds_quantity.specs.declared.unit.Unit.{Unit as MeasureUnit};
+ghost use Rattle.mds_marks.specs.Reading.{ReadingValue};
+ghost use Rattle.mds_world.specs.Facts.Fact.{VersionIs};
+ghost use Rattle.mds_world.specs.Lists.{Member};
+ghost use Rattle.mds_world.specs.Sets.{◌∈◌};
+ghost use Rattle.mds_world.specs.World.{Agrees, union};
+ghost use Rattle.mds_keeper.specs.Books.{book_world};
+ghost use Rattle.mds_keeper.specs.BookRows.{IsBefore};
+ghost use Rattle.mds_keeper.specs.Content.{version_at, versions_of};
+ghost use Rattle.mds_keeper.specs.declared.day_merge.Stop.TheVariants.{Memory, Refused};
+ghost use Rattle.mds_keeper.specs.declared.refusal.RefusalCode.TheVariants.{VersionConflict};
+ghost use Rattle.mds_keeper.specs.DayMerges.{DayMergeValue, AreAscending, IfRefused, IsPlan, Settles};
+ghost use Rattle.mds_keeper.specs.Claims.{Contradicts, IsFirst, Suits, BreaksForm, SuitsForm, AreShort, fresh_all, fresh_heads, fresh_versions, held_all, held_count, is_held, key_of};
+ghost use Rattle.mds_keeper.specs.DayMergeSteps.{AreCounts, AreInBook, IsFrom, IsInBook, claimed_entries, claimed_readings, readings_under, row_of};
+ghost use Rattle.mds_keeper.specs.Merge.{Breaks, IsRefusal, claim_world, claims_upto, claims_world};
+
+use crate::additions::{Additions, DayVersions};
+use crate::claim::Claim;
+use crate::day_book::{DayBook, Version};
+use crate::refusal::{Refusal, RefusalCode};
+use mds_marks::Reading;
+use mds_quantity::Unit;
+use mds_terms::{Length, Moment};
+use mds_world::Head;
+use std::alloc::{AllocError, AllocFailed, Global};
+use std::collections::BTreeMap;
+use std::marker::Model;
+
+/// Why a claim isn't taken.
+#[derive(Clone, Copy, Debug)]
+pub enum Stop {
+    /// It breaks a rule.
+    Refused(Refusal),
+    /// There was no memory.
+    Memory,
+}
+
+impl From<AllocError> for Stop {
+    ghost from_gives = { λ _ stop. stop ≡ Memory };
+
+    fn from(_: AllocError) -> Stop {
+        Stop::Memory
+    }
+}
+
+impl<T: Drop> From<AllocFailed<T>> for Stop {
+    ghost from_gives = { λ _ stop. stop ≡ Memory };
+
+    fn from(_: AllocFailed<T>) -> Stop {
+        Stop::Memory
+    }
+}
+
+/// How many of the versions that were claimed of a day its book didn't have, which are added, and how
+/// many it had.
+#[derive(Clone, Copy)]
+pub struct MergeCounts {
+    pub added: u64,
+    pub known: u64,
+}
+
+/// A day's book, and what lines claim of the day beside it.
+#[derive(Drop)]
+pub struct DayMerge {
+    book: DayBook,
+    /// The length and unit of the book, or of the first claim.
+    form: Option<(Length, Unit)>,
+    /// The readings of each update that was claimed, one for each interval. None are kept where the
+    /// book has all of them.
+    claimed: BTreeMap<Moment, Option<Vec<Reading>>>,
+    /// How many of the readings claimed the book has.
+    held: u64,
+    /// How many of them it doesn't have.
+    fresh: u64,
+}
+
+impl Model for DayMerge {
+    ghost use Rattle.mds_keeper.specs.DayMerges.{DayMergeValue};
+    ghost use Rattle.mds_keeper.specs.DayMergeSteps.{AreCounts, AreInBook, IsDayMerge, claimed_entries, coded_merge, merge_value};
+
+    ghost Value = { DayMergeValue };
+
+    ghost coded = { coded_merge };
+
+    ghost view = { λ d. merge_value d.book d.form (claimed_entries d.book d.claimed.entries) };
+
+    ghost invariant = { λ d. IsDayMerge d.book d.form (claimed_entries d.book d.claimed.entries)
+        × AreInBook d.book d.claimed.entries
+        × AreCounts d.book (claimed_entries d.book d.claimed.entries) d.held d.fresh };
+}
+
+/// The rule that a length and a unit break where a day has others (M1, M2): on the length before the
+/// unit.
+pub fn head_conflict(
+    form: Option<(Length, Unit)>,
+    length: Length,
+    unit: Unit,
+) -> Option<RefusalCode>
+    ensures some { IfSome result (BreaksForm form length unit) }
+    ensures none { IfNone result (SuitsForm form length unit) }
+{
+    let (known_length, known_unit) = form?;
+    if known_length != length {
+        return Some(RefusalCode::LengthConflict);
+    }
+    if known_unit != unit {
+        return Some(RefusalCode::UnitConflict);
+    }
+    None
+}
+
+/// The refusal of a line that has another reading of an interval than is known under its update (M3).
+fn conflict(line: u64, interval: u16) -> Stop
+    ensures { result ≡ Refused (record { code = VersionConflict; line = line; field = 0; interval = interval }) }
+{
+    Stop::Refused(Refusal::at_place(RefusalCode::VersionConflict, line, interval))
+}
+
+/// The reading that a book has of an interval under an update.
+fn reading_in(book: &DayBook, interval: u16, update: Moment) -> Option<&Reading>
+    ensures some { IfSome result
+        (λ reading. VersionIs (key_of book.now interval update) reading.now ∈ book_world book.now) }
+    ensures none { IfNone result ((reading : ReadingValue)
+        → VersionIs (key_of book.now interval update) reading ∈ book_world book.now → ⊥) }
+{
+    for row in book.versions(interval) {
+        if row.1.update.seconds() == update.seconds() {
+            return Some(&row.1.reading);
+        }
+    }
+    None
+}
+
+/// Whether a book has this reading of an interval under an update.
+fn has_reading(book: &DayBook, interval: u16, update: Moment, reading: &Reading) -> bool
+    ensures { result ≡ is_held book.now update interval reading.now }
+{
+    // For the proof: what a book says is a lawful World.
+    book.is_lawful();
+    match reading_in(book, interval, update) {
+        Some(held) => held.is_same(reading),
+        None => false,
+    }
+}
+
+/// The first interval of which two claims under one update have other readings.
+fn first_difference(claimed: &[Reading], readings: &[Reading]) -> Option<u16>
+    requires as_many { length claimed.now ≡ length readings.now }
+    requires few { length readings.now ≤ 1440 }
+    ensures some { IfSome result (IsFirst (λ k. slice_get claimed.now k ≢ slice_get readings.now k)
+        (λ k. slice_get claimed.now k ≡ slice_get readings.now k)) }
+    ensures none { IfNone result ((k : ℕ) → slice_get claimed.now k ≡ slice_get readings.now k) }
+{
+    for i in 0..readings.len() {
+        if !claimed[i].is_same(&readings[i]) {
+            return Some((i + 1) as u16);
+        }
+    }
+    None
+}
+
+/// The rows without those at their start that are of intervals before this one.
+fn rows_from(rows: &[(u16, Version)], interval: u16) -> &[(u16, Version)]
+    requires { AllPairs IsBefore rows.now }
+    ensures { IsFrom rows.now interval result.now }
+{
+    let mut left = rows;
+    while let [row, rest @ ..] = left {
+        if interval <= row.0 {
+            return left;
+        }
+        left = rest;
+    }
+    left
+}
+
+/// The reading under an update that rows from an interval on have of this interval.
+fn reading_at(rows: &[(u16, Version)], interval: u16, update: Moment) -> Option<&Reading>
+    requires { IsFrom rows.now interval rows.now }
+    ensures some { IfSome result (λ reading. Member (row_of interval update reading.now) rows.now) }
+    ensures none { IfNone result ((reading : ReadingValue) → Member (row_of interval update reading) rows.now → ⊥) }
+{
+    let mut left = rows;
+    while let [row, rest @ ..] = left {
+        if row.0 != interval {
+            return None;
+        }
+        if row.1.update == update {
+            return Some(&row.1.reading);
+        }
+        left = rest;
+    }
+    None
+}
+
+/// 1 where a book has this reading of an interval under an update, and 0 where it has none. `None`
+/// where it has another. It looks at the book's rows from the interval on.
+fn count_at(
+    book: &DayBook,
+    rows: &[(u16, Version)],
+    interval: u16,
+    update: Moment,
+    reading: &Reading,
+) -> Option<u64>
+    requires { IsFrom book.now.rows interval rows.now }
+    ensures some { IfSome result (λ count. (count ≡ cond (is_held book.now update interval reading.now) 1 0)
+        × ((other : ReadingValue) → VersionIs (key_of book.now interval update) other ∈ book_world book.now
+        → other ≡ reading.now)) }
+    ensures none { IfNone result ((other : ReadingValue)
+        × (VersionIs (key_of book.now interval update) other ∈ book_world book.now) × (other ≢ reading.now)) }
+{
+    // For the proof: what a book says is a lawful World.
+    book.is_lawful();
+    let Some(kept) = reading_at(rows, interval, update) else {
+        return Some(0);
+    };
+    if kept.is_same(reading) { Some(1) } else { None }
+}
+
+/// How many of the readings a book has under the update, or the first interval of which it has
+/// another. It goes down the rows of the book and the readings side by side.
+fn count_held(book: &DayBook, update: Moment, readings: &[Reading]) -> Result<u64, u16>
+    requires { length readings.now ≤ 1440 }
+    ensures held { IfOk result (λ held. held ≡ held_count book.now update 1 readings.now) }
+    ensures few { IfOk result (λ held. held ≤ length readings.now) }
+    ensures suits { OnOk result ((k : ℕ) → Suits (book_world book.now) book.now update readings.now k) }
+    ensures conflict { IfErr result (IsFirst (Contradicts (book_world book.now) book.now update readings.now)
+        (Suits (book_world book.now) book.now update readings.now)) }
+{
+    let mut left = book.ascending_rows();
+    let mut held: u64 = 0;
+    for i in 0..readings.len() {
+        let interval = (i + 1) as u16;
+        left = rows_from(left, interval);
+        let Some(count) = count_at(book, left, interval, update, &readings[i]) else {
+            return Err(interval);
+        };
+        held += count;
+    }
+    Ok(held)
+}
+
+/// The first interval of which a claim has another reading than one under the same update, of which
+/// the book has all readings.
+fn difference_in(book: &DayBook, update: Moment, readings: &[Reading]) -> Option<u16>
+    requires as_many { length (readings_under update book.now.rows) ≡ length readings.now }
+    requires few { length readings.now ≤ 1440 }
+    requires kept { IsInBook book.now update }
+    ensures some { IfSome result (IsFirst (λ k. slice_get (readings_under update book.now.rows) k ≢ slice_get readings.now k)
+        (λ k. slice_get (readings_under update book.now.rows) k ≡ slice_get readings.now k)) }
+    ensures none { IfNone result ((k : ℕ)
+        → slice_get (readings_under update book.now.rows) k ≡ slice_get readings.now k) }
+{
+    // For the proof: what a book says is a lawful World.
+    book.is_lawful();
+    match count_held(book, update, readings) {
+        Ok(_) => None,
+        Err(interval) => Some(interval),
+    }
+}
+
+/// The first interval of which a claim has another reading than one under the same update, by what
+/// is kept of that.
+fn difference(
+    book: &DayBook,
+    update: Moment,
+    claimed: &Option<Vec<Reading>>,
+    readings: &[Reading],
+) -> Option<u16>
+    requires as_many { length (claimed_readings book.now update claimed.now) ≡ length readings.now }
+    requires few { length readings.now ≤ 1440 }
+    requires kept { IsNone claimed.now → IsInBook book.now update }
+    ensures some { IfSome result
+        (IsFirst (λ k. slice_get (claimed_readings book.now update claimed.now) k ≢ slice_get readings.now k)
+        (λ k. slice_get (claimed_readings book.now update claimed.now) k ≡ slice_get readings.now k)) }
+    ensures none { IfNone result ((k : ℕ)
+        → slice_get (claimed_readings book.now update claimed.now) k ≡ slice_get readings.now k) }
+{
+    match claimed {
+        Some(claimed) => first_difference(claimed, readings),
+        None => difference_in(book, update, readings),
+    }
+}
+
+/// What is kept of a claim's readings, of which a book has so many: none where it has all.
+fn kept_of(
+    book: &DayBook,
+    update: Moment,
+    held: u64,
+    readings: Vec<Reading>,
+) -> Option<Vec<Reading>>
+    requires held { held ≡ held_count book.now update 1 readings.items }
+    requires whole { (known : ℕ × MeasureUnit) → book.now.head ≡ Some known
+        → length readings.items ≡ count_of known.0 }
+    ensures same { claimed_readings book.now update result ≡ readings.items }
+    ensures kept { IsNone result → IsInBook book.now update }
+{
+    // For the proof: what a book says is a lawful World, and its rows ascend.
+    book.is_lawful();
+    book.ascending_rows();
+    let has_all = held == readings.len() as u64;
+    if has_all {
+        return None;
+    }
+    Some(readings)
+}
+
+/// Puts the head that was claimed behind the heads to be added, where a book has none.
+fn settle_head(
+    book: &DayBook,
+    form: Option<(Length, Unit)>,
+    heads: &mut Vec<Head>,
+) -> Result<(), AllocError>
+    ensures { OnOk result (heads.new.items
+        ≡ heads.old.items ++ fresh_heads book.now.stream book.now.day book.now.head form) }
+{
+    if let (None, Some((length, unit))) = (book.head(), form) {
+        heads.push(Head {
+            stream: book.stream(),
+            day: book.day(),
+            length,
+            unit,
+        })?;
+    }
+    Ok(())
+}
+
+/// Whether a book has this reading of an interval under an update. It isn't looked up where all that
+/// was claimed is new.
+fn is_kept(book: &DayBook, are_new: bool, interval: u16, update: Moment, reading: &Reading) -> bool
+    requires { IsTrue are_new → is_held book.now update interval reading.now ≡ false }
+    ensures { result ≡ is_held book.now update interval reading.now }
+{
+    if are_new {
+        return false;
+    }
+    has_reading(book, interval, update, reading)
+}
+
+/// Moves the readings of an update that a book doesn't have behind the rows of its day.
+fn settle_update(
+    book: &DayBook,
+    are_new: bool,
+    update: Moment,
+    readings: Vec<Reading>,
+    rows: &mut Vec<(u16, Version)>,
+) -> Result<(), AllocError>
+    requires few { length readings.items ≤ 1440 }
+    requires new { IsTrue are_new → held_count book.now update 1 readings.items ≡ 0 }
+    ensures { OnOk result (map (version_at book.now.stream book.now.day) rows.new.items
+        ≡ map (version_at book.now.stream book.now.day) rows.old.items ++ fresh_versions book.now update 1 readings.items) }
+{
+    let mut interval: u16 = 0;
+    for reading in readings {
+        interval += 1;
+        if is_kept(book, are_new, interval, update, &reading) {
+            continue;
+        }
+        rows.push((interval, Version { update, reading }))?;
+    }
+    Ok(())
+}
+
+/// The same for all updates that were claimed.
+fn settle_claimed(
+    book: &DayBook,
+    are_new: bool,
+    claimed: BTreeMap<Moment, Option<Vec<Reading>>>,
+    rows: &mut Vec<(u16, Version)>,
+) -> Result<(), AllocError>
+    requires short { AreShort (claimed_entries book.now claimed.entries) }
+    requires kept { AreInBook book.now claimed.entries }
+    requires new { IsTrue are_new → held_all book.now (claimed_entries book.now claimed.entries) ≡ 0 }
+    ensures { OnOk result (map (version_at book.now.stream book.now.day) rows.new.items
+        ≡ map (version_at book.now.stream book.now.day) rows.old.items
+        ++ fresh_all book.now (claimed_entries book.now claimed.entries)) }
+{
+    for (update, kept) in claimed {
+        // Where none are kept, the book has them.
+        let Some(readings) = kept else {
+            continue;
+        };
+        settle_update(book, are_new, update, readings, rows)?;
+    }
+    Ok(())
+}
+
+/// Puts the readings claimed that a book doesn't have behind the days to be added. So many are in the
+/// book and so many aren't: nothing is looked at where all are.
+fn settle_fresh(
+    alloc: Global,
+    book: &DayBook,
+    claimed: BTreeMap<Moment, Option<Vec<Reading>>>,
+    held: u64,
+    fresh: u64,
+    days: &mut Vec<DayVersions>,
+) -> Result<(), AllocError>
+    requires short { AreShort (claimed_entries book.now claimed.entries) }
+    requires kept { AreInBook book.now claimed.entries }
+    requires counts { AreCounts book.now (claimed_entries book.now claimed.entries) held fresh }
+    ensures { OnOk result (versions_of days.new.items
+        ≡ versions_of days.old.items ++ fresh_all book.now (claimed_entries book.now claimed.entries)) }
+{
+    if fresh == 0 {
+        return Ok(());
+    }
+    let mut rows = Vec::with_capacity(alloc, fresh as usize)?;
+    settle_claimed(book, held == 0, claimed, &mut rows)?;
+    days.push(DayVersions {
+        stream: book.stream(),
+        day: book.day(),
+        rows,
+    })?;
+    Ok(())
+}
+
+impl DayMerge {
+    /// A day of the store, of which nothing was claimed yet.
+    pub fn new(alloc: Global, book: DayBook) -> DayMerge
+        ensures { result ≡ record { book = book; said = set.empty } }
+    {
+        // For the proof: what a book says is a lawful World.
+        book.is_lawful();
+        let form = book.head();
+        DayMerge {
+            book,
+            form,
+            claimed: BTreeMap::new(alloc),
+            held: 0,
+            fresh: 0,
+        }
+    }
+
+    /// Takes what a line claims of the day beside what the lines before it did, or says which rule
+    /// that breaks first.
+    pub fn take(&mut self, claim: Claim) -> Result<(), Stop>
+        ensures ok { OnOk result ((self.new.book ≡ self.old.book)
+            × (self.new.said ≡ union self.old.said (claim_world self.old.book.stream self.old.book.day claim))
+            × Agrees (union (book_world self.new.book) self.new.said)) }
+        ensures refused { IfErr result (λ stop. IfRefused stop (λ refusal.
+            (refusal.line ≡ claim.line) × (refusal.field ≡ 0)
+            × Breaks (union (book_world self.old.book) (union self.old.said
+            (claim_world self.old.book.stream self.old.book.day claim))) refusal.code refusal.interval)) }
+        ensures kept { IfErr result (λ stop. self.new ≡ self.old) }
+
+        // Memory is wanting only for a claim that breaks no rule, and of whose update nothing was said.
+        ensures agrees { result ≡ Err Stop.Memory → Agrees (union (book_world self.old.book) (union self.old.said
+            (claim_world self.old.book.stream self.old.book.day claim))) }
+        ensures unsaid { result ≡ Err Stop.Memory → (interval : ℕ) (reading : ReadingValue)
+            → VersionIs (key_of self.old.book interval claim.update) reading ∈ self.old.said → ⊥ }
+    {
+        let Claim {
+            line,
+            length,
+            unit,
+            update,
+            readings,
+        } = claim;
+        if let Some(code) = head_conflict(self.form, length, unit) {
+            return Err(Stop::Refused(Refusal::at_line(code, line)));
+        }
+        // For the proof: the order of updates is a total one, by which the map finds this one.
+        update.seconds();
+        if let Some(claimed) = self.claimed.get(&update) {
+            if let Some(interval) = difference(&self.book, update, claimed, &readings) {
+                return Err(conflict(line, interval));
+            }
+            return Ok(());
+        }
+        let held = match count_held(&self.book, update, &readings) {
+            Ok(held) => held,
+            Err(interval) => return Err(conflict(line, interval)),
+        };
+        let fresh = readings.len() as u64 - held;
+        // There are fewer readings than 2^64 in a file.
+        let Some(all_held) = self.held.checked_add(held) else {
+            return Err(Stop::Memory);
+        };
+        let Some(all_fresh) = self.fresh.checked_add(fresh) else {
+            return Err(Stop::Memory);
+        };
+        let kept = kept_of(&self.book, update, held, readings);
+        self.claimed.insert(update, kept)?;
+        self.form = Some((length, unit));
+        self.held = all_held;
+        self.fresh = all_fresh;
+        Ok(())
+    }
+
+    /// Puts what is claimed and isn't in the book behind what is to be added.
+    pub fn settle(self, alloc: Global, additions: &mut Additions) -> Result<MergeCounts, AllocError>
+        ensures { IfOk result (Settles self additions.old additions.new) }
+    {
+        let DayMerge {
+            book,
+            form,
+            claimed,
+            held,
+            fresh,
+        } = self;
+        settle_head(&book, form, &mut additions.heads)?;
+        settle_fresh(alloc, &book, claimed, held, fresh, &mut additions.days)?;
+        Ok(MergeCounts {
+            added: fresh,
+            known: held,
+        })
+    }
+}
+
+impl DayBook {
+    /// What claims of this day add to it, each once, or the first rule that one of them breaks. The claims come in the
+    /// order of their lines, as a file has them. The refused line is then the first that is reached.
+    pub fn plan(&self, alloc: Global, claims: &[Claim]) -> Result<Additions, Stop>
+        requires lines { AreAscending claims.now }
+        ensures ok { IfOk result
+            (λ additions. IsPlan (book_world self.now) (claims_world self.now.stream self.now.day claims.now) additions) }
+        ensures refused { IfErr result (λ stop. IfRefused stop
+            (IsRefusal (book_world self.now) (claims_upto self.now.stream self.now.day claims.now))) }
+    {
+        // For the proof: what a book says is a lawful World.
+        self.is_lawful();
+        let book = self.try_clone(alloc)?;
+        let mut merge = DayMerge::new(alloc, book);
+        for claim in claims {
+            let copy = claim.try_clone(alloc)?;
+            if let Err(stop) = merge.take(copy) {
+                return Err(stop);
+            }
+        }
+        let mut additions = Additions::new(alloc);
+        merge.settle(alloc, &mut additions)?;
+        Ok(additions)
+    }
+}

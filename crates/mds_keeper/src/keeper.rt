@@ -1,0 +1,105 @@
+//! Who keeps a World.
+
+ghost use Rattle.std.specs.Prelude.{◌≡◌, ◌↔◌, IsTrue, IfOk};
+ghost use Rattle.mds_world.specs.Current.{IsCurrentDetails};
+ghost use Rattle.mds_world.specs.Facts.Fact.{DetailIs, EventIs};
+ghost use Rattle.mds_world.specs.Sets.{◌∈◌};
+ghost use Rattle.mds_world.specs.World.{World, IsLawful, union};
+ghost use Rattle.mds_keeper.specs.Books.{IsDay};
+ghost use Rattle.mds_keeper.specs.Content.{AreNew, content};
+ghost use Rattle.mds_keeper.specs.Kept.{Adds, Asks, Kept};
+ghost use Rattle.mds_keeper.specs.Queries.{AreEventsOf, AreDaysOf, AreHolidays, AreKnownStreams, ArePeriodsOf, IsContentOf, IsJobOf};
+
+use crate::additions::Additions;
+use crate::day_book::DayBook;
+use mds_jobs::{Job, JobId};
+use mds_statements::{Period, PeriodContent, PeriodKey};
+use mds_terms::{Day, Details, Event, Stream};
+use mds_world::Detail;
+use std::alloc::{AllocError, AllocFailed};
+
+/// The store can't answer now.
+#[derive(Clone, Copy, Debug, PartialEq, Eq)]
+pub struct Unavailable;
+
+impl From<AllocError> for Unavailable {
+    fn from(_: AllocError) -> Unavailable {
+        Unavailable
+    }
+}
+
+impl<T: Drop> From<AllocFailed<T>> for Unavailable {
+    fn from(_: AllocFailed<T>) -> Unavailable {
+        Unavailable
+    }
+}
+
+/// Keeps a World, however it does. Any call may be unavailable, and then nothing is changed.
+///
+/// A keeper is honest while what lies outside of it is: a disk gives back what was written to it, and nobody else writes
+/// there. It answers only where it is sound: honest, and not shut by a fault. What the clauses say of the World they say
+/// where the keeper is sound.
+pub trait Keeper {
+    /// What is kept, whether it is honest and sound, and what a crash may leave.
+    ghost kept: { Self → Kept };
+
+    /// All that is kept of a day: its head and its versions.
+    fn day(&mut self, stream: Stream, day: Day) -> Result<DayBook, Unavailable>
+        ensures of_day { IfOk result (λ book. (book.stream ≡ stream) × (book.day ≡ day)) }
+        ensures book { Asks (kept self.old) (kept self.new) result IsDay };
+
+    /// The known days of a stream from a first to a last one, ascending.
+    fn days(&mut self, stream: Stream, first: Day, last: Day) -> Result<Vec<DayBook>, Unavailable>
+        ensures { Asks (kept self.old) (kept self.new) result (λ w books. AreDaysOf w stream first last books.items) };
+
+    /// The known streams, in the order of their bytes, each once.
+    fn streams(&mut self) -> Result<Vec<Stream>, Unavailable>
+        ensures { Asks (kept self.old) (kept self.new) result (λ w streams. AreKnownStreams w streams.items) };
+
+    /// The current details of a stream.
+    fn details(&mut self, stream: Stream) -> Result<Details, Unavailable>
+        ensures { Asks (kept self.old) (kept self.new) result (λ w. IsCurrentDetails w stream) };
+
+    /// Whether these details are kept, current or not.
+    fn has_details(&mut self, detail: &Detail) -> Result<bool, Unavailable>
+        ensures { Asks (kept self.old) (kept self.new) result (λ w has. IsTrue has ↔ (DetailIs detail.now ∈ w)) };
+
+    /// The events of a day, each once.
+    fn events(&mut self, stream: Stream, day: Day) -> Result<Vec<Event>, Unavailable>
+        ensures { Asks (kept self.old) (kept self.new) result (λ w events. AreEventsOf w stream day events.items) };
+
+    /// Whether the event is kept.
+    fn has_event(&mut self, event: &Event) -> Result<bool, Unavailable>
+        ensures { Asks (kept self.old) (kept self.new) result (λ w has. IsTrue has ↔ (EventIs event.now ∈ w)) };
+
+    /// The accumulations of a stream, by register, previous read, current read and update.
+    fn period(&mut self, stream: Stream) -> Result<Vec<Period>, Unavailable>
+        ensures { Asks (kept self.old) (kept self.new) result (λ w periods. ArePeriodsOf w stream periods.items) };
+
+    /// What is kept of the accumulation of a key. `None` where there is none.
+    fn content(&mut self, key: &PeriodKey) -> Result<Option<PeriodContent>, Unavailable>
+        ensures { Asks (kept self.old) (kept self.new) result (λ w. IsContentOf w key.now) };
+
+    /// The listed holidays, ascending, each once.
+    fn holidays(&mut self) -> Result<Vec<Day>, Unavailable>
+        ensures { Asks (kept self.old) (kept self.new) result (λ w days. AreHolidays w days.items) };
+
+    /// The substitution job of an id, with the count of the readings that it made. `None` where there is none.
+    fn job(&mut self, id: JobId) -> Result<Option<(Job, u64)>, Unavailable>
+        ensures { Asks (kept self.old) (kept self.new) result (λ w. IsJobOf w id) };
+
+    /// Adds what isn't there yet: all of it, or nothing where it is unavailable. A crash after that may leave it all the
+    /// same, whole.
+    fn commit(&mut self, additions: Additions) -> Result<(), Unavailable>
+        requires new { (kept self.old).sound → AreNew (kept self.old).world additions }
+        requires lawful { (kept self.old).sound → IsLawful (kept self.old).world
+            → IsLawful (union (kept self.old).world (content additions)) }
+        ensures { Adds (kept self.old) (kept self.new) result (content additions) };
+
+    /// What is sound is honest.
+    ghost sound_honest: { (keeper : Self) → (kept keeper).sound → (kept keeper).honest };
+
+    /// While it is sound, a crash leaves what is kept.
+    ghost settled: { (keeper : Self) → (kept keeper).sound → (left : World) → (kept keeper).may_leave left
+        → left ≡ (kept keeper).world };
+}

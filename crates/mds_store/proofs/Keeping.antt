@@ -1,0 +1,108 @@
+-- What a question and a commit do to a connection, as a keeper's calls.
+use Rattle.std.specs.Prelude.{◌≡◌, Ok, Err, IfOk, IsTrue, OnErr, OnOk, Result}
+use Rattle.std.specs.Result.{is_ok}
+use Rattle.std.proofs.Common.{◌∙◌, ap, arith, inl, inr, subst, sym}
+use Rattle.std.proofs.lemmas.Result.{on_err_weaker, on_ok_weaker}
+use Rattle.sqlite.specs.Effect.{Database}
+use Rattle.sqlite.specs.State.{HasCleanDisk, KeepsCommit, State, Survives}
+use Rattle.mds_world.specs.World.{World}
+use Rattle.mds_keeper.specs.Content.{content}
+use Rattle.mds_keeper.specs.Kept.{Adds, Asks, Stays}
+use Rattle.mds_keeper.specs.declared.additions.Additions.{Additions}
+use Rattle.mds_keeper.proofs.Asked.{stays_on}
+use Rattle.mds_tables.specs.Queries.{Answers}
+use Rattle.mds_tables.specs.RowFacts.{world_in}
+use Rattle.mds_tables.specs.Stores.{Commits, Holds, IsStore, LeavesAdded, world_of}
+use Rattle.mds_store.specs.KeptRows.{kept_in}
+
+module _ {A E : Type 0} {old new : State} {r : Result A E} (Tells : World → A → Type 0) (holds : Holds old)
+    (answered : Answers Holds old new r (λ trees. Tells (world_in trees))) where
+  -- it keeps what it kept
+  stays : Stays (kept_in old) (kept_in new)
+  stays = record {
+    outside = λ clean. omega (arith, (answered.survives holds).clean, clean);
+    before = λ sound. (
+      omega (arith, (answered.survives holds).clean, sound.0),
+      (answered.kept sound.0 holds).was_open sound.1,
+    );
+    same = λ sound. ap (λ (db : Database). world_in db.trees) ((answered.kept sound.0 holds).committed sound.1);
+    crash = λ clean left may. elim ((answered.survives holds).crash clean may.0 may.1) [
+      | inl was ↦ (may.0, was, may.2)
+      | inr none ↦ absurd none
+    ];
+  }
+
+  -- and answers what is so of it
+  pub asked : Asks (kept_in old) (kept_in new) r Tells
+  asked = record {
+    stays = stays;
+    opens = λ clean. on_ok_weaker r (λ are. (clean, are.is_open)) (answered.open clean holds);
+    tells = λ sound. answered.found sound.0 holds;
+  }
+
+  -- what was not changed holds as it did
+  holds_on : Holds new
+  holds_on clean is_open =
+      let kept = answered.kept clean holds in
+      let before : HasCleanDisk old = omega (arith, (answered.survives holds).clean, clean) in
+      subst IsStore (sym (kept.committed is_open)) (holds before (kept.was_open is_open))
+
+on_ok : {A E P : Type 0} (r : Result A E) → P → OnOk r P
+on_ok (Ok x) p = p
+on_ok (Err e) p = tt
+
+-- what is made of the answers of two questions
+pub asked_both : {A B C E F G : Type 0} {old mid new : State} (Tells : World → A → Type 0) (Says : World → B → Type 0)
+    {Shows : World → C → Type 0} (x : A) (y : B) (r : Result C G) → Holds old
+    → Answers {E = E} Holds old mid (Ok x) (λ trees. Tells (world_in trees))
+    → Answers {E = F} Holds mid new (Ok y) (λ trees. Says (world_in trees))
+    → ((w : World) → Tells w x → Says w y → IfOk r (Shows w)) → Asks (kept_in old) (kept_in new) r Shows
+asked_both {old = old} Tells Says x y r holds first second made =
+    let one = asked Tells holds first in
+    let other = asked Says (holds_on Tells holds first) second in
+    record {
+      stays = stays_on one.stays other.stays;
+      opens = λ clean. on_ok r (other.opens clean);
+      tells = λ sound.
+          let before = other.stays.before sound in
+          made (world_of old) (one.tells before) (subst (λ w. Says w y) (one.stays.same before) (other.tells sound));
+    }
+
+-- where one result is of a kind with another, it is known of both
+as_ok : {A B E F : Type 0} (P : Type 0) (r : Result A E) (s : Result B F) → is_ok s ≡ is_ok r → OnOk r P → OnOk s P
+as_ok P (Ok x) (Ok y) like p = p
+as_ok P (Ok x) (Err f) like p = tt
+as_ok P (Err e) (Ok y) like p = absurd cc
+as_ok P (Err e) (Err f) like p = tt
+
+as_err : {A B E F : Type 0} (P : Type 0) (r : Result A E) (s : Result B F) → is_ok s ≡ is_ok r → OnErr r P → OnErr s P
+as_err P r (Ok y) like p = tt
+as_err P (Ok x) (Err f) like p = absurd cc
+as_err P (Err e) (Err f) like p = p
+
+module _ {A E : Type 0} {old new : State} {additions : Additions} (r : Result A E)
+    (holds : Holds old) (ok : HasCleanDisk new → Holds old → OnOk r (Commits old new additions))
+    (err : HasCleanDisk new → OnErr r (KeepsCommit old new))
+    (survives : Holds old → Survives old new (LeavesAdded old additions)) where
+  was_clean : HasCleanDisk new → HasCleanDisk old
+  was_clean clean = omega (arith, (survives holds).clean, clean)
+
+  was_open : (s : Result A E) → OnOk s (Commits old new additions) → OnErr s (KeepsCommit old new)
+      → IsTrue new.is_open → IsTrue old.is_open
+  was_open (Ok x) made kept is_open = made.was_open
+  was_open (Err e) made kept is_open = kept.was_open is_open
+
+  -- a commit adds, and so does what answers of the same kind
+  pub added : {B F : Type 0} (s : Result B F) → is_ok s ≡ is_ok r → Adds (kept_in old) (kept_in new) s (content additions)
+  added s like = record {
+    outside = was_clean;
+    before = λ sound. (was_clean sound.0, was_open r (ok sound.0 holds) (err sound.0) sound.1);
+    opens = λ clean. as_ok _ r s like (on_ok_weaker r (λ made. (clean, made.is_open)) (ok clean holds));
+    ok = λ sound. as_ok _ r s like (on_ok_weaker r (λ made. made.world) (ok sound.0 holds));
+    err = λ sound. as_err _ r s like (on_err_weaker r
+        (λ kept. ap (λ (db : Database). world_in db.trees) (kept.committed sound.1)) (err sound.0));
+    crash = λ clean left may. elim ((survives holds).crash clean may.0 may.1) [
+      | inl was ↦ inl (may.0, was, may.2)
+      | inr left ↦ inr ((was_clean clean, left.was_open), sym may.2 ∙ left.world)
+    ];
+  }

@@ -1,0 +1,17 @@
+-- What a keeper over tables keeps, by the state of its database.
+use Rattle.std.specs.Prelude.{◌≡◌, IsTrue}
+use Rattle.sqlite.specs.State.{HasCleanDisk, State}
+use Rattle.sqlite_trees.specs.Tree.{Trees}
+use Rattle.mds_keeper.specs.Kept.{Kept}
+use Rattle.mds_tables.specs.RowFacts.{world_in}
+use Rattle.mds_tables.specs.Stores.{world_of}
+
+-- What the rows of the tables name, as they were last committed. It is honest where the disk gave back what was written to it, and
+-- sound where the connection is open too. It may leave any World that the tables name which the next open may find.
+abbrev pub kept_in : State → Kept
+kept_in s = record {
+  world = world_of s;
+  honest = HasCleanDisk s;
+  sound = HasCleanDisk s × IsTrue s.is_open;
+  may_leave = λ left. (trees : Trees) × s.may_leave trees × (world_in trees ≡ left);
+}
