@@ -1,17 +1,25 @@
 -- What words the commands of the program take, in clap's words.
-use Rattle.std.specs.Prelude.{◌≡◌, ◌++◌, ◌∷◌, List, [], Some, pos, true, false, codes}
+use Rattle.std.specs.Prelude.{◌≡◌, ◌++◌, ◌∷◌, List, [], Some, pos, true, false, codes, map}
 use Rattle.std.specs.Borrow.{Bor}
 use Rattle.clap.specs.Lexer.{usize_max}
 use Rattle.clap.specs.Walk.{texts}
 use Rattle.clap.specs.Simple.{new_shape}
 use Rattle.clap.specs.Words.{App, Rule, Shape, Text, new_rule}
 use Rattle.clap.specs.declared.builder.value_parser.ValueParser.TheVariants.{Names, Signed}
+use Rattle.mds_words.specs.declared.names.Name.{Name}
+use Rattle.mds_words.specs.declared.names.Name.TheVariants as name
+use Rattle.mds_words.specs.declared.names.Word.{Word}
+use Rattle.mds_words.specs.declared.names.Word.TheVariants as word
 
 -- ---- the arguments
 
--- an argument by its place that can't be left out; the help has a name for its value
+-- an argument by its place; the help has a name for its value
+abbrev pub named : Text → Rule
+named id = record (new_rule id) { value_names = 1 }
+
+-- such an argument that can't be left out
 abbrev pub placed : Text → Rule
-placed id = record (new_rule id) { value_names = 1; required = true }
+placed id = record (named id) { required = true }
 
 -- such an argument with one value or more
 abbrev pub several : Text → Rule
@@ -60,6 +68,39 @@ count = record (flagged (codes "count")) {
   parser = Some (Signed (pos 1) (pos 1000000));
   defaults = codes "1000000" ∷ [];
 }
+
+-- the id of a word's argument
+abbrev pub id_of : Word → Text
+id_of word.Store = codes "store"
+id_of word.Kind = codes "kind"
+id_of word.File = codes "file"
+id_of word.Files = codes "file"
+id_of word.Job = codes "file"
+id_of word.List = codes "file"
+id_of word.Nmi = codes "nmi"
+id_of word.Suffix = codes "suffix"
+id_of word.Suffixes = codes "suffixes"
+id_of word.Date = codes "date"
+id_of word.Interval = codes "interval"
+id_of word.From = codes "from"
+id_of word.To = codes "to"
+id_of word.Moment = codes "moment"
+id_of word.Sender = codes "sender"
+id_of word.Receiver = codes "receiver"
+id_of word.Port = codes "port"
+id_of word.Count = codes "count"
+id_of word.Code = codes "code"
+
+-- the argument of a word
+abbrev pub rule_of_word : Bor (List (Bor Text)) → Word → Rule
+rule_of_word kinds word.Store = store
+rule_of_word kinds word.Kind = kind kinds
+rule_of_word kinds word.Files = several (codes "file")
+rule_of_word kinds word.Suffixes = several (codes "suffixes")
+rule_of_word kinds word.Port = port
+rule_of_word kinds word.Count = count
+rule_of_word kinds word.Code = code
+rule_of_word kinds other = placed (id_of other)
 
 -- ---- the commands
 
@@ -132,6 +173,50 @@ store_commands = streams_command ∷ day_command ∷ versions_command ∷ period
 
 abbrev pub explain_command : Shape
 explain_command = command_of (codes "explain") (code ∷ [])
+
+-- ---- all commands
+
+-- all names, in the order of the help
+abbrev pub all_names : List Name
+all_names = name.Check ∷ name.Init ∷ name.Import ∷ name.Substitute ∷ name.Holidays ∷ name.Streams ∷ name.Day ∷ name.Versions
+    ∷ name.Periods ∷ name.Gaps ∷ name.Finals ∷ name.Export ∷ name.Serve ∷ name.Explain ∷ []
+
+abbrev pub name_text : Name → Text
+name_text name.Check = codes "check"
+name_text name.Init = codes "init"
+name_text name.Import = codes "import"
+name_text name.Substitute = codes "substitute"
+name_text name.Holidays = codes "holidays"
+name_text name.Streams = codes "streams"
+name_text name.Day = codes "day"
+name_text name.Versions = codes "versions"
+name_text name.Periods = codes "periods"
+name_text name.Gaps = codes "gaps"
+name_text name.Finals = codes "finals"
+name_text name.Export = codes "export"
+name_text name.Serve = codes "serve"
+name_text name.Explain = codes "explain"
+
+-- the words that a command takes
+abbrev pub words_of : Name → List Word
+words_of name.Check = word.Kind ∷ word.File ∷ []
+words_of name.Init = word.Store ∷ []
+words_of name.Import = word.Store ∷ word.Kind ∷ word.Files ∷ []
+words_of name.Substitute = word.Store ∷ word.Job ∷ []
+words_of name.Holidays = word.Store ∷ word.List ∷ []
+words_of name.Streams = word.Store ∷ []
+words_of name.Day = word.Store ∷ word.Nmi ∷ word.Suffix ∷ word.Date ∷ []
+words_of name.Versions = word.Store ∷ word.Nmi ∷ word.Suffix ∷ word.Date ∷ word.Interval ∷ []
+words_of name.Periods = word.Store ∷ word.Nmi ∷ word.Suffix ∷ []
+words_of name.Gaps = word.Store ∷ word.Nmi ∷ word.Suffix ∷ word.From ∷ word.To ∷ []
+words_of name.Finals = word.Store ∷ word.Nmi ∷ word.Suffix ∷ word.From ∷ word.To ∷ []
+words_of name.Export = word.Store ∷ word.Nmi ∷ word.From ∷ word.To ∷ word.Moment ∷ word.Sender ∷ word.Receiver ∷ word.Suffixes ∷ []
+words_of name.Serve = word.Store ∷ word.Port ∷ word.Count ∷ []
+words_of name.Explain = word.Code ∷ []
+
+-- the command of a name
+abbrev pub shape_of : Bor (List (Bor Text)) → Name → Shape
+shape_of kinds name = command_of (name_text name) (map (rule_of_word kinds) (words_of name))
 
 -- ---- the program
 

@@ -2,4 +2,3 @@ pub mod Asked
 pub mod Grammar
 pub mod Commands
 pub mod Refused
-pub mod Singles

@@ -4,11 +4,11 @@ ghost use Rattle.std.specs.Prelude.{◌≡◌, ◌∷◌, ◌^◌, List, [], Som
 ghost use Rattle.std.specs.List.{list_any};
 ghost use Rattle.std.specs.Borrow.{Bor};
 ghost use Rattle.clap.specs.Walk.{texts};
-ghost use Rattle.clap.specs.Words.{App, HasKind, Text, fault_of, found_of, kind_of, rows_of, takes};
+ghost use Rattle.clap.specs.Words.{App, HasKind, Row, Text, fault_of, found_of, kind_of, rows_of, takes};
+ghost use Rattle.mds_arguments.specs.Words.{AreFound};
 ghost use Rattle.mds_words.specs.Asked.{Asks, IsAskedBy, input_of, input_value, kind_of_name, number_of, value_of, values_of};
 ghost use Rattle.mds_words.specs.Commands.{has_command};
 ghost use Rattle.mds_words.specs.Refused.{IsRefusedAs, IsRefusedBy};
-ghost use Rattle.mds_words.specs.Singles.{AreSingle};
 ghost use Rattle.mds_words.specs.Grammar.{IsMdstore, mdstore_app, check_command, init_command, substitute_command, holidays_command, streams_command};
 ghost use Rattle.mds_words.specs.Grammar.{day_command, versions_command, periods_command, gaps_command, finals_command, serve_command};
 
@@ -16,6 +16,7 @@ use crate::commands::{grammar, kinds};
 use crate::words::{Input, Words, WordsFault};
 use clap::error::ErrorKind;
 use clap::{ArgMatches, Error};
+use mds_arguments::{FoundWords, QueryWords};
 use mds_records::FileKind;
 use std::alloc::{AllocError, Global};
 
@@ -70,33 +71,27 @@ fn asked<'a>(alloc: Global, name: &str, found: &ArgMatches<'a>) -> Result<Words<
         → has_command (mdstore_app kinds) name.now ≡ true
         → Asks (Some (name.now, rows_of (found_of found.now))) words) }
 {
-    let single = single_words(found);
+    let store = word(found, "store");
     match name {
         "import" => Ok(Words::Import {
-            store: single.store,
+            store,
             kind: kind(found),
             inputs: inputs(alloc, found)?,
         }),
         "export" => Ok(Words::Export {
-            store: single.store,
-            nmi: single.nmi,
-            from: single.from,
-            to: single.to,
-            moment: single.moment,
-            sender: single.sender,
-            receiver: single.receiver,
-            suffixes: all_words(alloc, found, "suffixes")?,
+            store,
+            arguments: query_words(found).export(suffixes(alloc, found)?),
         }),
         "explain" => Ok(Words::Explain {
             code: all_words(alloc, found, "code")?,
         }),
-        _ => Ok(asked_without_memory(name, found, single)),
+        _ => Ok(asked_without_memory(name, found, store)),
     }
 }
 
 /// The same of a command whose arguments take one word each.
-fn asked_without_memory<'a>(name: &str, found: &ArgMatches<'a>, single: Single<'a>) -> Words<'a>
-    requires { AreSingle (rows_of (found_of found.now)) single }
+fn asked_without_memory<'a>(name: &str, found: &ArgMatches<'a>, store: &'a str) -> Words<'a>
+    requires { store.now ≡ value_of (codes "store") (rows_of (found_of found.now)) }
     ensures { (kinds : Bor (List (Bor Text)))
         → list_any (λ shape. bytes_eq shape.name name.now) (check_command kinds ∷ init_command ∷ substitute_command
         ∷ holidays_command ∷ streams_command ∷ day_command ∷ versions_command ∷ periods_command ∷ gaps_command
@@ -106,107 +101,83 @@ fn asked_without_memory<'a>(name: &str, found: &ArgMatches<'a>, single: Single<'
     match name {
         "check" => Words::Check {
             kind: kind(found),
-            input: Input::new(single.file),
+            input: input(found),
         },
-        "init" => Words::Init {
-            store: single.store,
-        },
+        "init" => Words::Init { store },
         "substitute" => Words::Substitute {
-            store: single.store,
-            input: Input::new(single.file),
+            store,
+            input: input(found),
         },
         "holidays" => Words::Holidays {
-            store: single.store,
-            input: Input::new(single.file),
+            store,
+            input: input(found),
         },
-        "streams" => Words::Streams {
-            store: single.store,
-        },
-        _ => asked_of_stream(name, found, single),
-    }
-}
-
-/// The same of a command on a stream, or of the service.
-fn asked_of_stream<'a>(name: &str, found: &ArgMatches<'a>, single: Single<'a>) -> Words<'a>
-    requires { AreSingle (rows_of (found_of found.now)) single }
-    ensures { list_any (λ shape. bytes_eq shape.name name.now) (day_command ∷ versions_command ∷ periods_command
-        ∷ gaps_command ∷ finals_command ∷ serve_command ∷ []) ≡ true
-        → Asks (Some (name.now, rows_of (found_of found.now))) result }
-{
-    match name {
-        "day" => Words::Day {
-            store: single.store,
-            nmi: single.nmi,
-            suffix: single.suffix,
-            date: single.date,
-        },
-        "versions" => Words::Versions {
-            store: single.store,
-            nmi: single.nmi,
-            suffix: single.suffix,
-            date: single.date,
-            interval: single.interval,
-        },
-        "periods" => Words::Periods {
-            store: single.store,
-            nmi: single.nmi,
-            suffix: single.suffix,
-        },
-        "gaps" => Words::Gaps {
-            store: single.store,
-            nmi: single.nmi,
-            suffix: single.suffix,
-            from: single.from,
-            to: single.to,
-        },
-        "finals" => Words::Finals {
-            store: single.store,
-            nmi: single.nmi,
-            suffix: single.suffix,
-            from: single.from,
-            to: single.to,
-        },
-        _ => Words::Serve {
-            store: single.store,
+        "streams" => Words::Streams { store },
+        "serve" => Words::Serve {
+            store,
             port: port(found),
             count: count(found),
         },
+        _ => asked_of_stream(name, store, query_words(found)),
     }
 }
 
-/// The word of each argument that takes one. It is empty where the command has no such argument.
-#[derive(Clone, Copy)]
-struct Single<'a> {
-    store: &'a str,
-    file: &'a str,
-    nmi: &'a str,
-    suffix: &'a str,
-    date: &'a str,
-    interval: &'a str,
-    from: &'a str,
-    to: &'a str,
-    moment: &'a str,
-    sender: &'a str,
-    receiver: &'a str,
-}
-
-/// These words, of the arguments that were found.
-fn single_words<'a>(found: &ArgMatches<'a>) -> Single<'a>
-    ensures { AreSingle (rows_of (found_of found.now)) result }
+/// The same of a command on a stream.
+fn asked_of_stream<'a>(name: &str, store: &'a str, words: QueryWords<'a>) -> Words<'a>
+    ensures { (rows : List Row) → store.entry.now ≡ value_of (codes "store") rows → AreFound (λ id. value_of id rows) words.entry
+        → list_any (λ shape. bytes_eq shape.name name.now) (day_command ∷ versions_command ∷ periods_command
+        ∷ gaps_command ∷ finals_command ∷ []) ≡ true
+        → Asks (Some (name.now, rows)) result }
 {
-    Single {
-        store: word(found, "store"),
-        file: word(found, "file"),
-        nmi: word(found, "nmi"),
-        suffix: word(found, "suffix"),
-        date: word(found, "date"),
-        interval: word(found, "interval"),
-        from: word(found, "from"),
-        to: word(found, "to"),
-        moment: word(found, "moment"),
-        sender: word(found, "sender"),
-        receiver: word(found, "receiver"),
+    match name {
+        "day" => Words::Day {
+            store,
+            nmi: words.nmi,
+            suffix: words.suffix,
+            date: words.date,
+        },
+        "versions" => Words::Versions {
+            store,
+            nmi: words.nmi,
+            suffix: words.suffix,
+            date: words.date,
+            interval: words.interval,
+        },
+        "periods" => Words::Periods {
+            store,
+            nmi: words.nmi,
+            suffix: words.suffix,
+        },
+        "gaps" => Words::Gaps {
+            store,
+            range: words.range(),
+        },
+        _ => Words::Finals {
+            store,
+            range: words.range(),
+        },
     }
+}
+
+/// The arguments that were found behind a command.
+#[derive(Drop)]
+struct Found<'m, 'a> {
+    matches: &'m ArgMatches<'a>,
+}
+
+impl<'m, 'a> FoundWords<'a> for Found<'m, 'a> {
+    ghost word_of = { λ found id. value_of id (rows_of (found_of found.matches.now)) };
+
+    fn word(&self, id: &str) -> &'a str {
+        word(self.matches, id)
+    }
+}
+
+/// The words of a query's arguments.
+fn query_words<'a>(found: &ArgMatches<'a>) -> QueryWords<'a>
+    ensures { AreFound (λ id. value_of id (rows_of (found_of found.now))) result }
+{
+    QueryWords::of(&Found { matches: found })
 }
 
 /// The word of an argument, which is there, since it is required or has a default.
@@ -228,6 +199,26 @@ fn all_words<'a>(
         Some(words) => words.to_vec(alloc),
         None => Ok(Vec::new(alloc)),
     }
+}
+
+/// The streams that are exported.
+fn suffixes<'a>(alloc: Global, found: &ArgMatches<'a>) -> Result<Vec<&'a [u8]>, AllocError>
+    ensures { IfOk result (λ suffixes. texts suffixes.items
+        ≡ values_of (codes "suffixes") (rows_of (found_of found.now))) }
+{
+    let words = all_words(alloc, found, "suffixes")?;
+    let mut suffixes = Vec::new(alloc);
+    for word in &words {
+        suffixes.push(word.as_bytes())?;
+    }
+    Ok(suffixes)
+}
+
+/// The file of an argument that takes one.
+fn input<'a>(found: &ArgMatches<'a>) -> Input<'a>
+    ensures { input_value result ≡ input_of (value_of (codes "file") (rows_of (found_of found.now))) }
+{
+    Input::new(word(found, "file"))
 }
 
 /// The files of an argument that takes several.

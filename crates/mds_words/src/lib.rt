@@ -3,6 +3,7 @@
 
 mod commands;
 mod grammar;
+mod names;
 mod words;
 
 pub use words::{Input, Words, WordsFault, read_words};

@@ -5,6 +5,7 @@ ghost use Rattle.mds_words.specs.Asked.{IsAsked, input_of, input_value};
 ghost use Rattle.mds_words.specs.Refused.{IsRefused};
 
 use crate::grammar::read_by_grammar;
+use mds_arguments::{ExportArguments, RangeArguments};
 use mds_records::FileKind;
 use std::alloc::Global;
 
@@ -73,29 +74,17 @@ pub enum Words<'a> {
     /// The gaps of a stream in a range of days, from the store in the file of a name.
     Gaps {
         store: &'a str,
-        nmi: &'a str,
-        suffix: &'a str,
-        from: &'a str,
-        to: &'a str,
+        range: RangeArguments<'a>,
     },
     /// The finals of a stream in a range of days, from the store in the file of a name.
     Finals {
         store: &'a str,
-        nmi: &'a str,
-        suffix: &'a str,
-        from: &'a str,
-        to: &'a str,
+        range: RangeArguments<'a>,
     },
     /// An export of some streams of a meter in a range of days, from the store in the file of a name.
     Export {
         store: &'a str,
-        nmi: &'a str,
-        from: &'a str,
-        to: &'a str,
-        moment: &'a str,
-        sender: &'a str,
-        receiver: &'a str,
-        suffixes: Vec<&'a str>,
+        arguments: ExportArguments<'a>,
     },
     /// So many connections to a port are served, one after the other, from the store in the file of a name.
     Serve {

@@ -7,10 +7,7 @@ use crate::commands::serve;
 use crate::inputs::{ask_input, check_input, import_inputs};
 use crate::queries::{query, query_export};
 use crate::store_file::make_store;
-use mds_arguments::{
-    ExportArguments, RangeArguments, day_request, finals_request, gaps_request, periods_request,
-    versions_request,
-};
+use mds_arguments::{day_request, finals_request, gaps_request, periods_request, versions_request};
 use mds_desk::{EXPLANATIONS, Outcome, Status, section_of};
 use mds_messages::Request;
 use mds_requests::FileCommand;
@@ -93,60 +90,11 @@ fn outcome_of_words(rt: &HostRuntime, words: Words<'_>) -> Outcome {
             store,
             periods_request(nmi.as_bytes(), suffix.as_bytes()),
         ),
-        Words::Gaps {
-            store,
-            nmi,
-            suffix,
-            from,
-            to,
-        } => query(rt, store, gaps_request(&range(nmi, suffix, from, to))),
-        Words::Finals {
-            store,
-            nmi,
-            suffix,
-            from,
-            to,
-        } => query(rt, store, finals_request(&range(nmi, suffix, from, to))),
-        Words::Export {
-            store,
-            nmi,
-            from,
-            to,
-            moment,
-            sender,
-            receiver,
-            suffixes,
-        } => {
-            let suffixes: Result<Vec<&[u8]>, _> = suffixes
-                .iter()
-                .map(|suffix| suffix.as_bytes())
-                .collect(rt.alloc());
-            let Ok(suffixes) = suffixes else {
-                return Outcome::Unavailable;
-            };
-            let arguments = ExportArguments {
-                nmi: nmi.as_bytes(),
-                from: from.as_bytes(),
-                to: to.as_bytes(),
-                moment: moment.as_bytes(),
-                sender: sender.as_bytes(),
-                receiver: receiver.as_bytes(),
-                suffixes,
-            };
-            query_export(rt, store, &arguments)
-        }
+        Words::Gaps { store, range } => query(rt, store, gaps_request(&range)),
+        Words::Finals { store, range } => query(rt, store, finals_request(&range)),
+        Words::Export { store, arguments } => query_export(rt, store, &arguments),
         Words::Serve { store, port, count } => serve(rt, store, port, count),
         Words::Explain { code } => explain(rt, &code),
-    }
-}
-
-/// The arguments of a range.
-fn range<'a>(nmi: &'a str, suffix: &'a str, from: &'a str, to: &'a str) -> RangeArguments<'a> {
-    RangeArguments {
-        nmi: nmi.as_bytes(),
-        suffix: suffix.as_bytes(),
-        from: from.as_bytes(),
-        to: to.as_bytes(),
     }
 }
 

@@ -1,8 +1,10 @@
-use Rattle.std.proofs.Common.{rules, codes, true, [], IfOk}
+use Rattle.std.proofs.Common.{[], codes, map, rules, true}
 use Rattle.std.proofs.lemmas.Result.{IfOk-weaker}
-use Rattle.clap.specs.Words.{App}
 use Rattle.clap.specs.Simple.{new_shape}
+use Rattle.clap.specs.Words.{App}
 use Rattle.mds_words.specs.Commands.{IsApp}
+use Rattle.mds_words.specs.Grammar.{all_names, shape_of}
+use Rattle.mds_words.proofs.Building.{with_all_below}
 use Rattle.mds_words.proofs.commands.grammar.Goals as goal
 
 abbrev program : App
@@ -13,7 +15,7 @@ program = record {
 
 pub returns : goal.returns
 returns c =
-    let bare : IfOk c.bin_name-program.result (IsApp program) =
-    IfOk-weaker c.bin_name-program.result _ (IsApp program) (λ named is. search rules) c.bin_name-program.ensures in
-    let stores = c.with_store_commands-program.ensures _ (c.with_file_commands-program.ensures program bare) in
-    c.with_command.ensures _ _ stores c.explain.ensures
+    let bare : IsApp program c.in_ok-bin_name.field-0 = search rules in
+    IfOk-weaker c.subcommands.result _ _
+    (λ new adds. with_all_below program (map (shape_of c.args.kinds) all_names) c.in_ok-commands.commands.items c.in_ok-bin_name.field-0 new bare c.in_ok-commands.ensures adds)
+    c.subcommands.ensures

@@ -4,7 +4,7 @@ use Rattle.mds_words.proofs.Named.{differs, only_first}
 use Rattle.mds_words.proofs.grammar.asked_of_stream.Goals as goal
 
 pub returns-in_default : goal.returns-in_default
-returns-in_default c = λ named.
+returns-in_default c = λ rows store found named.
     let name = c.args.name.now in
     let no = c.in_default in
     let last = rw (
@@ -12,7 +12,6 @@ returns-in_default c = λ named.
       differs (codes "versions") name no.not-versions,
       differs (codes "periods") name no.not-periods,
       differs (codes "gaps") name no.not-gaps,
-      differs (codes "finals") name no.not-finals,
     ) at named in
-    let is : name ≡ codes "serve" = sym ((bytes_eq-Decides (codes "serve") name).0 (only_first _ _ refl last)) in
-    (is, search rules, search rules, search rules)
+    let is : name ≡ codes "finals" = sym ((bytes_eq-Decides (codes "finals") name).0 (only_first _ _ refl last)) in
+    (is, store, search rules, search rules, search rules, search rules)

@@ -1,0 +1,235 @@
+//! The commands of the program, and what words they take.
+
+ghost use Rattle.std.specs.Prelude.{◌≡◌};
+ghost use Rattle.mds_words.specs.Grammar.{id_of, name_text, words_of};
+
+/// A command, by its name.
+#[derive(Clone, Copy)]
+pub(crate) enum Name {
+    Check,
+    Init,
+    Import,
+    Substitute,
+    Holidays,
+    Streams,
+    Day,
+    Versions,
+    Periods,
+    Gaps,
+    Finals,
+    Export,
+    Serve,
+    Explain,
+}
+
+/// A word that a command takes, or, for `Files`, `Suffixes` and `Code`, several.
+#[derive(Clone, Copy)]
+pub(crate) enum Word {
+    Store,
+    Kind,
+    File,
+    Files,
+    Job,
+    List,
+    Nmi,
+    Suffix,
+    Suffixes,
+    Date,
+    Interval,
+    From,
+    To,
+    Moment,
+    Sender,
+    Receiver,
+    Port,
+    Count,
+    Code,
+}
+
+impl Name {
+    /// All of them, in the order of the help.
+    pub(crate) const ALL: [Name; 14] = [
+        Name::Check,
+        Name::Init,
+        Name::Import,
+        Name::Substitute,
+        Name::Holidays,
+        Name::Streams,
+        Name::Day,
+        Name::Versions,
+        Name::Periods,
+        Name::Gaps,
+        Name::Finals,
+        Name::Export,
+        Name::Serve,
+        Name::Explain,
+    ];
+
+    /// The name itself.
+    pub(crate) fn text(self) -> &'static str
+        ensures { result.now ≡ name_text self }
+    {
+        match self {
+            Name::Check => "check",
+            Name::Init => "init",
+            Name::Import => "import",
+            Name::Substitute => "substitute",
+            Name::Holidays => "holidays",
+            Name::Streams => "streams",
+            Name::Day => "day",
+            Name::Versions => "versions",
+            Name::Periods => "periods",
+            Name::Gaps => "gaps",
+            Name::Finals => "finals",
+            Name::Export => "export",
+            Name::Serve => "serve",
+            Name::Explain => "explain",
+        }
+    }
+
+    /// What the command does.
+    pub(crate) fn about(self) -> &'static str {
+        match self {
+            Name::Check => {
+                "Checks a file, and prints what each of its days or accumulations comes to"
+            }
+            Name::Init => "Makes a store in a new file",
+            Name::Import => "Adds what files state to a store",
+            Name::Substitute => {
+                "Fills in readings of a day by a substitution job, and keeps the job"
+            }
+            Name::Holidays => "Lists days as holidays",
+            Name::Streams => "Prints the known streams with what is known of their meters, as JSON",
+            Name::Day => "Prints the current readings of a day, as JSON",
+            Name::Versions => "Prints all versions of an interval of a day, as JSON",
+            Name::Periods => "Prints all accumulations of a stream, as JSON",
+            Name::Gaps => "Prints the gaps of a stream in a range of days, as a CSV text",
+            Name::Finals => {
+                "Prints the final substitutions of a stream in a range of days, as a CSV text"
+            }
+            Name::Export => {
+                "Prints the current readings of streams in a range of days, as a NEM12 file"
+            }
+            Name::Serve => {
+                "Answers requests over HTTP on 127.0.0.1, one connection after the other"
+            }
+            Name::Explain => "Tells what a printed code means, or what all of them mean",
+        }
+    }
+
+    /// What words it takes.
+    pub(crate) fn words(self) -> &'static [Word]
+        ensures { result.now ≡ words_of self }
+    {
+        match self {
+            Name::Check => &[Word::Kind, Word::File],
+            Name::Init | Name::Streams => &[Word::Store],
+            Name::Import => &[Word::Store, Word::Kind, Word::Files],
+            Name::Substitute => &[Word::Store, Word::Job],
+            Name::Holidays => &[Word::Store, Word::List],
+            Name::Day => &[Word::Store, Word::Nmi, Word::Suffix, Word::Date],
+            Name::Versions => &[
+                Word::Store,
+                Word::Nmi,
+                Word::Suffix,
+                Word::Date,
+                Word::Interval,
+            ],
+            Name::Periods => &[Word::Store, Word::Nmi, Word::Suffix],
+            Name::Gaps | Name::Finals => &[
+                Word::Store,
+                Word::Nmi,
+                Word::Suffix,
+                Word::From,
+                Word::To,
+            ],
+            Name::Export => &[
+                Word::Store,
+                Word::Nmi,
+                Word::From,
+                Word::To,
+                Word::Moment,
+                Word::Sender,
+                Word::Receiver,
+                Word::Suffixes,
+            ],
+            Name::Serve => &[Word::Store, Word::Port, Word::Count],
+            Name::Explain => &[Word::Code],
+        }
+    }
+}
+
+impl Word {
+    /// The id of its argument.
+    pub(crate) fn id(self) -> &'static str
+        ensures { result.now ≡ id_of self }
+    {
+        match self {
+            Word::Store => "store",
+            Word::Kind => "kind",
+            Word::File | Word::Files | Word::Job | Word::List => "file",
+            Word::Nmi => "nmi",
+            Word::Suffix => "suffix",
+            Word::Suffixes => "suffixes",
+            Word::Date => "date",
+            Word::Interval => "interval",
+            Word::From => "from",
+            Word::To => "to",
+            Word::Moment => "moment",
+            Word::Sender => "sender",
+            Word::Receiver => "receiver",
+            Word::Port => "port",
+            Word::Count => "count",
+            Word::Code => "code",
+        }
+    }
+
+    /// What it is called in the usage.
+    pub(crate) fn value_name(self) -> &'static str {
+        match self {
+            Word::Store => "PATH",
+            Word::Kind => "KIND",
+            Word::File | Word::Files | Word::Job | Word::List => "FILE",
+            Word::Nmi => "NMI",
+            Word::Suffix | Word::Suffixes => "SUFFIX",
+            Word::Date => "DATE",
+            Word::Interval => "INTERVAL",
+            Word::From => "FROM",
+            Word::To => "TO",
+            Word::Moment => "MOMENT",
+            Word::Sender => "SENDER",
+            Word::Receiver => "RECEIVER",
+            Word::Port => "P",
+            Word::Count => "N",
+            Word::Code => "CODE",
+        }
+    }
+
+    /// What it is.
+    pub(crate) fn help(self) -> &'static str {
+        match self {
+            Word::Store => "The file of the store",
+            Word::Kind => "The kind of file: interval data, or accumulations",
+            Word::File | Word::Files => {
+                "A file of the Meter Data File Format; - is standard input"
+            }
+            Word::Job => "A substitution job in JSON; - is standard input",
+            Word::List => {
+                "A CSV text: the head row date, and a row CCYYMMDD for each day; - is standard input"
+            }
+            Word::Nmi => "The meter, as ten capital letters and digits",
+            Word::Suffix => "The stream of the meter, as E1",
+            Word::Suffixes => "The streams of the meter, as E1 B1",
+            Word::Date => "The day, CCYYMMDD",
+            Word::Interval => "The number of the interval, from 1",
+            Word::From => "The first day, CCYYMMDD",
+            Word::To => "The last day, CCYYMMDD",
+            Word::Moment => "When the file is made, CCYYMMDDhhmm or CCYYMMDDhhmmss",
+            Word::Sender => "Who the file is from",
+            Word::Receiver => "Who the file is for",
+            Word::Port => "The port",
+            Word::Count => "After how many connections it ends",
+            Word::Code => "The code, as L8, or the line that is printed, as bad job",
+        }
+    }
+}
