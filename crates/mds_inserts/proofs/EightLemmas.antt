@@ -32,7 +32,6 @@ use Rattle.sqlite_schema.specs.declared.schema.Among.TheVariants.{All}
 use Rattle.sqlite_schema.specs.declared.schema.Keys.TheVariants.{Enforced}
 use Rattle.sqlite_tied.specs.Compute.{everything}
 use Rattle.sqlite_trees.specs.Tree.{Trees, put_row}
-use Rattle.sqlite_trees.specs.View.{doubt}
 use Rattle.sqlite_value.specs.Order.{Row}
 use Rattle.mds_marks.specs.Quality.{QualityValue, has_method, is_quality, quality_of, quality_text}
 use Rattle.mds_marks.specs.Mark.{is_mark}
@@ -50,11 +49,10 @@ use Rattle.mds_tables.proofs.InsertTexts.{eight_terms, insert_versions, insert_v
 use Rattle.mds_tables.specs.Causes.{StoreFails}
 use Rattle.mds_tables.specs.Cells.{day_and_versions, optional_cell, version_cells}
 use Rattle.mds_tables.specs.Stores.{Gains}
-use Rattle.mds_tables.specs.Tables.{schema_1, tables_1, version_table}
+use Rattle.mds_tables.specs.Tables.{schema_1, version_table}
 use Rattle.mds_inserts.specs.Parts.{rows_of, version_part}
-use Rattle.mds_inserts.specs.Refusals.{FailsToPut, TakesAll, is_store_error}
-use Rattle.mds_inserts.specs.Writing.{KeepsOthers, Puts, PutsThere, StaysAs}
-use Rattle.mds_inserts.proofs.PutLemmas.{fails_later}
+use Rattle.mds_inserts.specs.Refusals.{TakesAll, is_store_error}
+use Rattle.mds_inserts.specs.Writing.{Puts, PutsThere, StaysAs}
 use Rattle.mds_inserts.proofs.ManyRows.{AreKept, does_step, over, puts_many, stops_many, tells_store}
 use Rattle.mds_inserts.proofs.RowByRow.{AreSteps, edit_by, one_by_one, sources}
 use Rattle.mds_inserts.proofs.RowLemmas.{gains_more, gains_one}
@@ -256,7 +254,7 @@ module _ (s : Stream) (day : ℕ) (rows : List (ℕ × Version)) (eight : length
 
   module _ (old new : State) where
     puts_eight : (count : ℕ) → old.now.schema ≡ schema_1 → IsSound schema_1 old.now.trees
-        → ExecutesInside 0 insert_versions (given) old new (Ok count) → Puts version_part old new items
+        → ExecutesInside 0 insert_versions (given) old new (Ok count) → Puts schema_1 version_part old new items
     puts_eight count has sound ran =
         let w = runs_as insert_versions given old new schema_1 has _ insert_versions_is insert_versions_plain count ran.0 in
         let stated = statement_of insert_versions (understood schema_1 insert_versions) in
@@ -283,7 +281,7 @@ module _ (s : Stream) (day : ℕ) (rows : List (ℕ × Version)) (eight : length
         → ((q : QualityValue) → IsTrue (is_quality q.flag q.method) → quality_of (quality_text q) ≡ Some q) → AreLawful items
         → (r : Result ℕ Error) (late : Error) {X : Type 0} → (old.in_transaction ≡ false → (r ≡ Err late) × X)
         → (HasCleanDisk new → IsTrue old.in_transaction → ExecutesInside 0 insert_versions params old new r)
-        → OnOk r (PutsThere version_part old new items)
+        → OnOk r (PutsThere schema_1 version_part old new items)
     eight_there params same reads lawful (Err e) late ended runs = tt
     eight_there params same reads lawful (Ok count) late ended runs =
         let inside = still old.in_transaction (Ok count) late count ended refl in
@@ -315,41 +313,3 @@ module _ (s : Stream) (day : ℕ) (rows : List (ℕ × Version)) (eight : length
               let it = named None big in
               fits_all items lawful (old.now.trees 4) it.0 it.1 it.2) (omega arith) e failed
         ]
-
--- ---- what comes behind a statement that was refused
-
-module _ (a b c : State) (items : Items) (same : HasCleanDisk b → StaysAs a b) (later : doubt b.is_clean ≤ doubt c.is_clean)
-    (limit : b.step_limit ≡ a.step_limit) where
-  pub stays_there : PutsThere version_part b c items → PutsThere version_part a c items
-  stays_there p = record {
-    was_open = λ clean o. (same (omega arith)).was_open (p.was_open clean o);
-    is_open = λ clean o. p.is_open clean ((same (omega arith)).is_open o);
-    inside = λ clean i. p.inside clean ((same (omega arith)).inside ∙ i);
-    puts = λ clean o has sound.
-        let it = same (omega arith) in
-        let now = it.now_is o in
-        let put = p.puts clean (it.is_open o) (ap (λ (d : Database). d.schema) now ∙ has) (subst (λ (d : Database). IsSound schema_1 d.trees) (sym now) sound) in
-        record {
-          schema = put.schema;
-          rows = subst (λ (d : Database). Gains 4 (map cells items) d.trees c.now.trees) now put.rows;
-          others = subst (λ (d : Database). KeepsOthers 4 d.trees c.now.trees tables_1) now put.others;
-          committed = put.committed ∙ it.committed_is o;
-          sound = put.sound;
-          took = subst (λ (d : Database). TakesAll a.step_limit (rows_of version_part items) d c.now) now (rw limit at (put.took));
-        };
-    said = p.said;
-  }
-
-  pub stays_fails : (e : Error) → a.faults ≤ b.faults → HasCleanDisk c → IsTrue a.is_open → IsTrue a.in_transaction → a.now.schema ≡ schema_1
-      → IsSound schema_1 a.now.trees
-      → (IsTrue b.is_open → IsTrue b.in_transaction → b.now.schema ≡ schema_1 → IsSound schema_1 b.now.trees
-      → FailsToPut b c (rows_of version_part items) b.now e) → FailsToPut a c (rows_of version_part items) a.now e
-  stays_fails e up clean o inside has sound fails =
-      let it = same (omega arith) in
-      let now = it.now_is o in
-      fails_later a b c [] (rows_of version_part items) e up (it.is_open o) limit now
-      (fails (it.is_open o) (it.inside ∙ inside) (ap (λ (d : Database). d.schema) now ∙ has) (subst (λ (d : Database). IsSound schema_1 d.trees) (sym now) sound))
-
-  -- where it was a failure of the store
-  pub store_fails_to_put : (rows : List (ℕ × Row)) (e : Error) → StoreFails a b ⊥ e → FailsToPut a b rows a.now e
-  store_fails_to_put rows e h = inl (fails_until a b b ⊥ _ (λ x. absurd x) (omega arith) e h)

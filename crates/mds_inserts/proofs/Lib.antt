@@ -1,8 +1,8 @@
+pub mod ChangeLemmas
 pub mod CommitLemmas
 pub mod EightCells
 pub mod EightDays
 pub mod EightLemmas
-pub mod FailLemmas
 pub mod ManyRows
 pub mod PutLemmas
 pub mod RowByRow

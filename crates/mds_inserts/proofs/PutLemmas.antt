@@ -1,12 +1,14 @@
 -- Rows that are put into the tables in a transaction.
-use Rattle.std.proofs.Common.{◌≡◌, ◌≤◌, ◌<◌, ◌+◌, ◌++◌, ◌/◌, ◌==◌, inl, inr, ℕ, zero, suc, List, [], ◌∷◌, drop, length, map, take, get_or, slice_get, IsPermutation, IsTrue, Some, None, Ok, Err, Result, OnOk, Option, refl, sym, ap, subst, ◌∙◌, arith}
+use Rattle.std.proofs.Common.{◌≡◌, ◌≢◌, ◌≤◌, ◌<◌, ◌+◌, ◌++◌, ◌/◌, inl, inr, ℕ, zero, suc, List, [], ◌∷◌, drop, length, map, take, get_or, slice_get, IsPermutation, IsTrue, Some, None, Ok, Err, Result, OnOk, Option, refl, sym, ap, subst, ◌∙◌, arith}
+use Rattle.std.specs.List.{AllByRecursion}
 use Rattle.std.proofs.lemmas.Grind.{flat_map-append}
-use Rattle.std.proofs.lemmas.List.{append-nil, map-append, take-append-drop, take_more}
+use Rattle.std.proofs.lemmas.List.{append-nil, length-map, map-append, take-append-drop, take_more}
 use Rattle.std.proofs.lemmas.List.Sorted.{IsPermutation-refl}
 use Rattle.sqlite.specs.Command.TheVariants.{Insert}
 use Rattle.sqlite.specs.Does.{Does}
 use Rattle.sqlite.specs.Effect.{Database, value_rows}
 use Rattle.sqlite.specs.Listing.{understood}
+use Rattle.sqlite.specs.Schema.{Schema}
 use Rattle.sqlite.specs.Source.TheVariants.{Values}
 use Rattle.sqlite.specs.State.{ExecutesInside, HasCleanDisk, State, mode_of}
 use Rattle.sqlite.specs.Table.{Table}
@@ -15,10 +17,9 @@ use Rattle.sqlite.specs.declared.types.Value.TheVariants.{Int, Null}
 use Rattle.sqlite.specs.Kind.TheVariants.{Integer}
 use Rattle.sqlite.proofs.Callers.{IsPlain, command_of, runs_as, statement_of}
 use Rattle.sqlite_catalog.specs.Listing.{IsSound}
-use Rattle.sqlite_rules.specs.Action.{works}
+use Rattle.sqlite_rules.proofs.ActionLemmas.{no_works}
 use Rattle.sqlite_rules.specs.Edit.{next_rowid}
 use Rattle.sqlite_rules.specs.Cast.{cast, cast_all}
-use Rattle.sqlite_schema.specs.declared.schema.Action.TheVariants.{NoAction}
 use Rattle.sqlite_schema.specs.declared.schema.Keys.TheVariants.{Enforced}
 use Rattle.sqlite_sql.specs.Term.{Term}
 use Rattle.sqlite_trees.specs.Tree.{Trees}
@@ -29,6 +30,7 @@ use Rattle.mds_marks.specs.Quality.{QualityValue, is_quality, quality_of, qualit
 use Rattle.mds_marks.specs.Reading.{ReadingValue, is_lawful}
 use Rattle.mds_terms.specs.Event.{EventValue}
 use Rattle.mds_world.specs.Facts.{Fact}
+use Rattle.mds_world.specs.World.{union}
 use Rattle.mds_world.specs.Facts.Fact.{DetailIs, EventIs, HeadIs, HolidayIs}
 use Rattle.mds_world.specs.declared.facts.Detail.{Detail}
 use Rattle.mds_world.specs.declared.facts.Head.{Head}
@@ -39,27 +41,24 @@ use Rattle.mds_keeper.specs.Content as content
 use Rattle.mds_keeper.specs.Content.{day_versions, version_at, versions_of}
 use Rattle.mds_keeper.specs.declared.additions.DayVersions.{DayVersions}
 use Rattle.mds_keeper.specs.declared.additions.Additions.{Additions}
-use Rattle.mds_tables.proofs.InsertLemmas.{Adds as OneMore, adds, cast_int, either, simple}
-use Rattle.mds_tables.proofs.InsertTexts.{detail_terms, event_terms, head_terms, holiday_terms, insert_detail, insert_detail_is, insert_detail_plain, insert_event, insert_event_is, insert_event_plain, insert_head, insert_head_is, insert_head_plain, insert_holiday, insert_holiday_is, insert_holiday_plain, insert_job, insert_job_is, insert_job_plain, insert_period, insert_period_is, insert_period_plain, job_terms, period_terms, insert_version, insert_version_is, insert_version_plain, version_terms}
+use Rattle.mds_tables.proofs.InsertLemmas.{Adds as OneMore, adds, cast_int, simple}
+use Rattle.mds_tables.proofs.OpenTexts.{detail_terms, event_terms, head_terms, holiday_terms, insert_detail, insert_detail_is, insert_detail_plain, insert_event, insert_event_is, insert_event_plain, insert_head, insert_head_is, insert_head_plain, insert_holiday, insert_holiday_is, insert_holiday_plain, insert_job, insert_job_is, insert_job_plain, insert_period, insert_period_is, insert_period_plain, job_terms, period_terms, insert_version, insert_version_is, insert_version_plain, version_terms}
 use Rattle.mds_tables.specs.Cells.{detail_cells, event_cells, head_cells, holiday_cells, optional_cell, version_cells}
 use Rattle.mds_tables.specs.RowFacts.{detail_fact, event_fact, head_fact, holiday_fact, job_fact, period_fact, version_fact}
-use Rattle.mds_tables.specs.Stores.{Adds, AreRowsOf, Gains}
-use Rattle.mds_tables.specs.Tables.{detail_table, event_table, head_table, holiday_table, job_table, period_table, schema_1, tables_1, version_table}
+use Rattle.mds_tables.specs.Layouts.{Layout, rows_layout}
+use Rattle.mds_tables.specs.Stores.{AddsOf, AreRowsOf, Gained, Gains, HasRows}
+use Rattle.mds_tables.specs.Tables.{More, detail_table, event_table, head_table, holiday_table, job_table, no_more, period_table, schema_1, schema_with, trees_taken, version_table}
 use Rattle.mds_inserts.specs.MadeRows.{IsRowOfJob, IsRowOfPeriod}
 use Rattle.mds_inserts.specs.declared.jobs.JobRow.{JobRow}
 use Rattle.mds_inserts.specs.declared.periods.PeriodRow.{PeriodRow}
 use Rattle.mds_inserts.specs.Parts.{Part, detail_part, event_part, head_part, holiday_part, job_part, period_part, rows_of, version_part}
 use Rattle.mds_inserts.specs.Refusals.{FailsToPut, RefusesOne, TakesAll, insert_of}
-use Rattle.mds_inserts.specs.Writing.{KeepsOthers, Puts, PutsAll, PutsThere}
+use Rattle.mds_inserts.specs.Writing.{IsMore, IsSteady, Keeps, KeepsBut, KeepsOthers, Puts, PutsAllOf, PutsRest, PutsRestThere, PutsThere, PutsVersions, PutsVersionsThere, StaysAs, rest_trees}
 use Rattle.mds_tables.proofs.CauseLemmas.{IsWhole, fails_since, fails_until, stopped_as}
 use Rattle.sqlite.specs.declared.error.Error.{Error}
 use Rattle.sqlite_tied.specs.Compute.{everything}
 use Rattle.mds_tables.proofs.FactLemmas.{detail_back, event_back, head_back, version_back}
-use Rattle.mds_inserts.proofs.RowLemmas.{gains_kept, gains_more, gains_one, job_rows_are, kept_gains, period_rows_are, say_more, world_after}
-
--- no foreign key of these tables acts
-idle : (tree : ℕ) (news : List Row) → works schema_1 Enforced 0 tree [] news ≡ []
-idle tree news = rw (either (length news == 0) NoAction)
+use Rattle.mds_inserts.proofs.RowLemmas.{gains_kept, gains_more, gains_one, job_rows_are, kept_gains, more as says_more, of, period_rows_are, say_more, version_bare, world_after}
 
 cast_optional : (o : Option ℕ) → cast Integer (optional_cell o) ≡ optional_cell o
 cast_optional None = cast_int _
@@ -67,11 +66,11 @@ cast_optional (Some n) = cast_int _
 
 -- ---- a row that is put, or refused
 
--- a text that puts one row into a table
-module _ (table : Table) (at : ℕ) (text : List ℕ) (terms : List Term) (width : ℕ)
-    (placed : slice_get schema_1.tables at ≡ Some (simple table))
-    (is : command_of (understood schema_1 text) ≡ Insert at (Values terms width))
-    (plain : IsPlain (understood schema_1 text))
+-- a text that puts one row into a table, whatever tables stand behind those that every schema has
+module _ (more : More) (table : Table) (at : ℕ) (text : List ℕ) (terms : List Term) (width : ℕ)
+    (placed : slice_get (schema_with more).tables at ≡ Some (simple table))
+    (is : command_of (understood (schema_with more) text) ≡ Insert at (Values terms width))
+    (plain : IsPlain (understood (schema_with more) text))
     {A : Type 0} (cells : A → Row) (fact : A → Fact) (read : Row → Fact) where
   abbrev part : Part A
   part = record { place = at; tree = table.tree; cells = cells; fact = fact; read = read }
@@ -79,19 +78,19 @@ module _ (table : Table) (at : ℕ) (text : List ℕ) (terms : List Term) (width
   module _ (old new : State) (item : A) (shape : insert_of at (cells item) ≡ Insert at (Values terms width)) where
     puts_row : (count : ℕ) → value_rows (cells item ++ []) width (length terms / width) terms ≡ (Null ∷ cells item) ∷ []
         → cast_all table.columns (cells item) ≡ cells item
-        → old.now.schema ≡ schema_1 → ExecutesInside 0 text (cells item) old new (Ok count) → Puts part old new (item ∷ [])
+        → old.now.schema ≡ schema_with more → ExecutesInside 0 text (cells item) old new (Ok count) → Puts (schema_with more) part old new (item ∷ [])
     puts_row count one kept has ran =
         let db = old.now.trees in
         let values = cells item in
-        let w = runs_as text values old new schema_1 has _ is plain count ran.0 in
-        let stated = statement_of text (understood schema_1 text) in
+        let w = runs_as text values old new (schema_with more) has _ is plain count ran.0 in
+        let stated = statement_of text (understood (schema_with more) text) in
         let does =
         subst (λ s. Does old.step_limit (mode_of old) values (record old.now { schema = s }) stated None
         (Insert at (Values terms width)) (Ok (w.tally, new.now))) has w.changed in
         let it =
-        adds old.step_limit Enforced schema_1 table values db values terms width one kept (idle table.tree)
+        adds old.step_limit Enforced (schema_with more) table values db values terms width one kept (no_works (schema_with more) Enforced 0 table.tree)
         (mode_of old) stated at w.tally new.now refl placed does in
-        let put : OneMore schema_1 db new.now.trees table values = it.1 in
+        let put : OneMore (schema_with more) db new.now.trees table values = it.1 in
         record {
           schema = it.0;
           rows =
@@ -111,7 +110,7 @@ module _ (table : Table) (at : ℕ) (text : List ℕ) (terms : List Term) (width
     puts_there : (count : ℕ) → value_rows (cells item ++ []) width (length terms / width) terms ≡ (Null ∷ cells item) ∷ []
         → cast_all table.columns (cells item) ≡ cells item
         → ((id : Value) → read (id ∷ cells item) ≡ fact item)
-        → (HasCleanDisk new → ExecutesInside 0 text (cells item) old new (Ok count)) → PutsThere part old new (item ∷ [])
+        → (HasCleanDisk new → ExecutesInside 0 text (cells item) old new (Ok count)) → PutsThere (schema_with more) part old new (item ∷ [])
     puts_there count one kept says runs = record {
       was_open = λ clean _. (runs clean).1.was_open;
       is_open = λ clean _. (runs clean).1.is_open;
@@ -120,152 +119,152 @@ module _ (table : Table) (at : ℕ) (text : List ℕ) (terms : List Term) (width
       said = (says, tt);
     }
 
-    fails_to_put : (e : Error) → IsWhole text (length (cells item)) (understood schema_1 text) → old.now.schema ≡ schema_1
+    fails_to_put : (e : Error) → IsWhole text (length (cells item)) (understood (schema_with more) text) → old.now.schema ≡ schema_with more
         → ExecutesInside 0 text (cells item) old new (Err e) → FailsToPut old new (rows_of part (item ∷ [])) old.now e
     fails_to_put e whole has ran =
         let because = λ (stop : Option Error)
         (refused : Does old.step_limit (mode_of old) (cells item) old.now [] None (Insert at (Values terms width)) (Err stop)).
         subst (λ k. Does old.step_limit (mode_of old) (cells item) old.now [] None k (Err stop)) (sym shape) refused in
-        elim (stopped_as text (cells item) old new schema_1 has (Insert at (Values terms width)) is plain whole tt e ran) [
+        elim (stopped_as text (cells item) old new (schema_with more) has (Insert at (Values terms width)) is plain whole tt e ran) [
           | inl refused ↦ inr (inl (because (Some e) refused))
           | inr failed ↦ inl (fails_until old new new _ (RefusesOne old.step_limit (rows_of part (item ∷ [])) old.now None)
               (λ big. inl (because None big)) (omega arith) e failed)
         ]
 
-pub puts_head : (old new : State) (h : Head) (count : ℕ) → unit_of (unit_text h.unit) ≡ Some h.unit
+pub puts_head : (more : More) (old new : State) (h : Head) (count : ℕ) → unit_of (unit_text h.unit) ≡ Some h.unit
     → (HasCleanDisk new → ExecutesInside 0 insert_head (head_cells h) old new (Ok count))
-    → PutsThere head_part old new (h ∷ [])
-puts_head old new h count reads runs =
-    puts_there head_table 1 insert_head head_terms 6 refl insert_head_is insert_head_plain head_cells HeadIs head_fact
+    → PutsThere (schema_with more) head_part old new (h ∷ [])
+puts_head more old new h count reads runs =
+    puts_there more head_table 1 insert_head head_terms 6 refl (insert_head_is more) (insert_head_plain more) head_cells HeadIs head_fact
     old new h refl count refl (rw (cast_int, cast_int)) (λ id. head_back id h reads) runs
 
-pub puts_version : (old new : State) (k : Key) (r : ReadingValue) (count : ℕ)
+pub puts_version : (more : More) (old new : State) (k : Key) (r : ReadingValue) (count : ℕ)
     → ((q : QualityValue) → IsTrue (is_quality q.flag q.method) → quality_of (quality_text q) ≡ Some q)
     → IsTrue (is_lawful r)
     → (HasCleanDisk new → ExecutesInside 0 insert_version (version_cells k r) old new (Ok count))
-    → PutsThere version_part old new ((k, r) ∷ [])
-puts_version old new k r count reads known runs =
-    puts_there version_table 2 insert_version version_terms 10 refl insert_version_is insert_version_plain
+    → PutsThere (schema_with more) version_part old new ((k, r) ∷ [])
+puts_version more old new k r count reads known runs =
+    puts_there more version_table 2 insert_version version_terms 10 refl (insert_version_is more) (insert_version_plain more)
     (λ (version : Key × ReadingValue). version_cells version.0 version.1) content.version_fact version_fact
     old new (k, r) refl count refl (rw (cast_int, cast_int, cast_int, cast_optional, cast_int))
     (λ id. version_back id k r reads known) runs
 
-pub puts_detail : (old new : State) (d : Detail) (count : ℕ)
+pub puts_detail : (more : More) (old new : State) (d : Detail) (count : ℕ)
     → (HasCleanDisk new → ExecutesInside 0 insert_detail (detail_cells d) old new (Ok count))
-    → PutsThere detail_part old new (d ∷ [])
-puts_detail old new d count runs =
-    puts_there detail_table 3 insert_detail detail_terms 9 refl insert_detail_is insert_detail_plain detail_cells DetailIs
+    → PutsThere (schema_with more) detail_part old new (d ∷ [])
+puts_detail more old new d count runs =
+    puts_there more detail_table 3 insert_detail detail_terms 9 refl (insert_detail_is more) (insert_detail_plain more) detail_cells DetailIs
     detail_fact old new d refl count refl (rw (cast_int, cast_optional)) (λ id. detail_back id d) runs
 
-pub puts_event : (old new : State) (e : EventValue) (count : ℕ)
+pub puts_event : (more : More) (old new : State) (e : EventValue) (count : ℕ)
     → (HasCleanDisk new → ExecutesInside 0 insert_event (event_cells e) old new (Ok count))
-    → PutsThere event_part old new (e ∷ [])
-puts_event old new e count runs =
-    puts_there event_table 4 insert_event event_terms 8 refl insert_event_is insert_event_plain event_cells EventIs
+    → PutsThere (schema_with more) event_part old new (e ∷ [])
+puts_event more old new e count runs =
+    puts_there more event_table 4 insert_event event_terms 8 refl (insert_event_is more) (insert_event_plain more) event_cells EventIs
     event_fact old new e refl count refl (rw (cast_int, cast_optional)) (λ id. event_back id e) runs
 
 abbrev period_row_cells : PeriodRow → Row
 period_row_cells = period_part.cells
 
-pub puts_period : (old new : State) (row : PeriodRow) (count : ℕ)
+pub puts_period : (more : More) (old new : State) (row : PeriodRow) (count : ℕ)
     → (HasCleanDisk new → ExecutesInside 0 insert_period (period_row_cells row) old new (Ok count))
-    → PutsThere period_part old new (row ∷ [])
-puts_period old new row count runs =
-    puts_there period_table 5 insert_period period_terms 8 refl insert_period_is insert_period_plain period_row_cells
+    → PutsThere (schema_with more) period_part old new (row ∷ [])
+puts_period more old new row count runs =
+    puts_there more period_table 5 insert_period period_terms 8 refl (insert_period_is more) (insert_period_plain more) period_row_cells
     (period_part.fact) period_fact old new row refl count refl (rw (cast_int, cast_int, cast_int)) (λ id. refl) runs
 
-pub puts_holiday : (old new : State) (day : ℕ) (count : ℕ)
+pub puts_holiday : (more : More) (old new : State) (day : ℕ) (count : ℕ)
     → (HasCleanDisk new → ExecutesInside 0 insert_holiday (holiday_cells day) old new (Ok count))
-    → PutsThere holiday_part old new (day ∷ [])
-puts_holiday old new day count runs =
-    puts_there holiday_table 6 insert_holiday holiday_terms 2 refl insert_holiday_is insert_holiday_plain holiday_cells
+    → PutsThere (schema_with more) holiday_part old new (day ∷ [])
+puts_holiday more old new day count runs =
+    puts_there more holiday_table 6 insert_holiday holiday_terms 2 refl (insert_holiday_is more) (insert_holiday_plain more) holiday_cells
     HolidayIs holiday_fact old new day refl count refl (rw cast_int) (λ id. refl) runs
 
 abbrev job_row_cells : JobRow → Row
 job_row_cells = job_part.cells
 
-pub puts_job : (old new : State) (row : JobRow) (count : ℕ)
+pub puts_job : (more : More) (old new : State) (row : JobRow) (count : ℕ)
     → (HasCleanDisk new → ExecutesInside 0 insert_job (job_row_cells row) old new (Ok count))
-    → PutsThere job_part old new (row ∷ [])
-puts_job old new row count runs =
-    puts_there job_table 7 insert_job job_terms 4 refl insert_job_is insert_job_plain job_row_cells (job_part.fact) job_fact
+    → PutsThere (schema_with more) job_part old new (row ∷ [])
+puts_job more old new row count runs =
+    puts_there more job_table 7 insert_job job_terms 4 refl (insert_job_is more) (insert_job_plain more) job_row_cells (job_part.fact) job_fact
     old new row refl count refl (rw cast_int) (λ id. refl) runs
 
-head_whole : IsWhole insert_head 5 (understood schema_1 insert_head)
+head_whole : (more : More) → IsWhole insert_head 5 (understood (schema_with more) insert_head)
 unfolding understood everything
-head_whole = (omega arith, refl, refl)
+head_whole more = (omega arith, refl, refl)
 
-version_whole : IsWhole insert_version 9 (understood schema_1 insert_version)
+version_whole : (more : More) → IsWhole insert_version 9 (understood (schema_with more) insert_version)
 unfolding understood everything
-version_whole = (omega arith, refl, refl)
+version_whole more = (omega arith, refl, refl)
 
-detail_whole : IsWhole insert_detail 8 (understood schema_1 insert_detail)
+detail_whole : (more : More) → IsWhole insert_detail 8 (understood (schema_with more) insert_detail)
 unfolding understood everything
-detail_whole = (omega arith, refl, refl)
+detail_whole more = (omega arith, refl, refl)
 
-event_whole : IsWhole insert_event 7 (understood schema_1 insert_event)
+event_whole : (more : More) → IsWhole insert_event 7 (understood (schema_with more) insert_event)
 unfolding understood everything
-event_whole = (omega arith, refl, refl)
+event_whole more = (omega arith, refl, refl)
 
-period_whole : IsWhole insert_period 7 (understood schema_1 insert_period)
+period_whole : (more : More) → IsWhole insert_period 7 (understood (schema_with more) insert_period)
 unfolding understood everything
-period_whole = (omega arith, refl, refl)
+period_whole more = (omega arith, refl, refl)
 
-holiday_whole : IsWhole insert_holiday 1 (understood schema_1 insert_holiday)
+holiday_whole : (more : More) → IsWhole insert_holiday 1 (understood (schema_with more) insert_holiday)
 unfolding understood everything
-holiday_whole = (omega arith, refl, refl)
+holiday_whole more = (omega arith, refl, refl)
 
-job_whole : IsWhole insert_job 3 (understood schema_1 insert_job)
+job_whole : (more : More) → IsWhole insert_job 3 (understood (schema_with more) insert_job)
 unfolding understood everything
-job_whole = (omega arith, refl, refl)
+job_whole more = (omega arith, refl, refl)
 
-pub fails_head : (old new : State) (h : Head) (e : Error) → old.now.schema ≡ schema_1
+pub fails_head : (more : More) (old new : State) (h : Head) (e : Error) → old.now.schema ≡ schema_with more
     → ExecutesInside 0 insert_head (head_cells h) old new (Err e) → FailsToPut old new (rows_of head_part (h ∷ [])) old.now e
-fails_head old new h e has ran =
-    fails_to_put head_table 1 insert_head head_terms 6 refl insert_head_is insert_head_plain head_cells HeadIs head_fact
-    old new h refl e head_whole has ran
+fails_head more old new h e has ran =
+    fails_to_put more head_table 1 insert_head head_terms 6 refl (insert_head_is more) (insert_head_plain more) head_cells HeadIs head_fact
+    old new h refl e (head_whole more) has ran
 
-pub fails_version : (old new : State) (k : Key) (r : ReadingValue) (e : Error) → old.now.schema ≡ schema_1
+pub fails_version : (more : More) (old new : State) (k : Key) (r : ReadingValue) (e : Error) → old.now.schema ≡ schema_with more
     → ExecutesInside 0 insert_version (version_cells k r) old new (Err e)
     → FailsToPut old new (rows_of version_part ((k, r) ∷ [])) old.now e
-fails_version old new k r e has ran =
-    fails_to_put version_table 2 insert_version version_terms 10 refl insert_version_is insert_version_plain
+fails_version more old new k r e has ran =
+    fails_to_put more version_table 2 insert_version version_terms 10 refl (insert_version_is more) (insert_version_plain more)
     (λ (version : Key × ReadingValue). version_cells version.0 version.1) content.version_fact version_fact
-    old new (k, r) refl e version_whole has ran
+    old new (k, r) refl e (version_whole more) has ran
 
-pub fails_detail : (old new : State) (d : Detail) (e : Error) → old.now.schema ≡ schema_1
+pub fails_detail : (more : More) (old new : State) (d : Detail) (e : Error) → old.now.schema ≡ schema_with more
     → ExecutesInside 0 insert_detail (detail_cells d) old new (Err e) → FailsToPut old new (rows_of detail_part (d ∷ [])) old.now e
-fails_detail old new d e has ran =
-    fails_to_put detail_table 3 insert_detail detail_terms 9 refl insert_detail_is insert_detail_plain detail_cells DetailIs
-    detail_fact old new d refl e detail_whole has ran
+fails_detail more old new d e has ran =
+    fails_to_put more detail_table 3 insert_detail detail_terms 9 refl (insert_detail_is more) (insert_detail_plain more) detail_cells DetailIs
+    detail_fact old new d refl e (detail_whole more) has ran
 
-pub fails_event : (old new : State) (event : EventValue) (e : Error) → old.now.schema ≡ schema_1
+pub fails_event : (more : More) (old new : State) (event : EventValue) (e : Error) → old.now.schema ≡ schema_with more
     → ExecutesInside 0 insert_event (event_cells event) old new (Err e)
     → FailsToPut old new (rows_of event_part (event ∷ [])) old.now e
-fails_event old new event e has ran =
-    fails_to_put event_table 4 insert_event event_terms 8 refl insert_event_is insert_event_plain event_cells EventIs
-    event_fact old new event refl e event_whole has ran
+fails_event more old new event e has ran =
+    fails_to_put more event_table 4 insert_event event_terms 8 refl (insert_event_is more) (insert_event_plain more) event_cells EventIs
+    event_fact old new event refl e (event_whole more) has ran
 
-pub fails_period : (old new : State) (row : PeriodRow) (e : Error) → old.now.schema ≡ schema_1
+pub fails_period : (more : More) (old new : State) (row : PeriodRow) (e : Error) → old.now.schema ≡ schema_with more
     → ExecutesInside 0 insert_period (period_row_cells row) old new (Err e)
     → FailsToPut old new (rows_of period_part (row ∷ [])) old.now e
-fails_period old new row e has ran =
-    fails_to_put period_table 5 insert_period period_terms 8 refl insert_period_is insert_period_plain period_row_cells
-    (period_part.fact) period_fact old new row refl e period_whole has ran
+fails_period more old new row e has ran =
+    fails_to_put more period_table 5 insert_period period_terms 8 refl (insert_period_is more) (insert_period_plain more) period_row_cells
+    (period_part.fact) period_fact old new row refl e (period_whole more) has ran
 
-pub fails_holiday : (old new : State) (day : ℕ) (e : Error) → old.now.schema ≡ schema_1
+pub fails_holiday : (more : More) (old new : State) (day : ℕ) (e : Error) → old.now.schema ≡ schema_with more
     → ExecutesInside 0 insert_holiday (holiday_cells day) old new (Err e)
     → FailsToPut old new (rows_of holiday_part (day ∷ [])) old.now e
-fails_holiday old new day e has ran =
-    fails_to_put holiday_table 6 insert_holiday holiday_terms 2 refl insert_holiday_is insert_holiday_plain holiday_cells
-    HolidayIs holiday_fact old new day refl e holiday_whole has ran
+fails_holiday more old new day e has ran =
+    fails_to_put more holiday_table 6 insert_holiday holiday_terms 2 refl (insert_holiday_is more) (insert_holiday_plain more) holiday_cells
+    HolidayIs holiday_fact old new day refl e (holiday_whole more) has ran
 
-pub fails_job : (old new : State) (row : JobRow) (e : Error) → old.now.schema ≡ schema_1
+pub fails_job : (more : More) (old new : State) (row : JobRow) (e : Error) → old.now.schema ≡ schema_with more
     → ExecutesInside 0 insert_job (job_row_cells row) old new (Err e)
     → FailsToPut old new (rows_of job_part (row ∷ [])) old.now e
-fails_job old new row e has ran =
-    fails_to_put job_table 7 insert_job job_terms 4 refl insert_job_is insert_job_plain job_row_cells (job_part.fact) job_fact
-    old new row refl e job_whole has ran
+fails_job more old new row e has ran =
+    fails_to_put more job_table 7 insert_job job_terms 4 refl (insert_job_is more) (insert_job_plain more) job_row_cells (job_part.fact) job_fact
+    old new row refl e (job_whole more) has ran
 
 -- ---- rows that are put one after another
 
@@ -311,8 +310,8 @@ fails_later a b c xs ys e up is_open limit took (inl failed) =
 fails_later a b c xs ys e up is_open limit took (inr refused) =
     inr (refuses_later a.step_limit xs ys a.now b.now (Some e) took (rw limit at refused))
 
-module _ {A : Type 0} (part : Part A) where
-  pub none_there : (s : State) → PutsThere part s s []
+module _ (under : Schema) {A : Type 0} (part : Part A) where
+  pub none_there : (s : State) → PutsThere under part s s []
   none_there s = record {
     was_open = λ _ o. o;
     is_open = λ _ o. o;
@@ -321,7 +320,7 @@ module _ {A : Type 0} (part : Part A) where
       schema = has;
       rows = subst (λ rows. IsPermutation rows (map (drop 1) (s.now.trees part.tree)))
           (sym (append-nil (map (drop 1) (s.now.trees part.tree)))) (IsPermutation-refl _);
-      others = same_others part.tree s.now.trees tables_1;
+      others = same_others part.tree s.now.trees under.tables;
       committed = refl;
       sound = sound;
       took = refl;
@@ -329,13 +328,13 @@ module _ {A : Type 0} (part : Part A) where
     said = tt;
   }
 
-  puts_then : (a b c : State) (xs ys : List A) → b.step_limit ≡ a.step_limit → Puts part a b xs → Puts part b c ys
-      → Puts part a c (xs ++ ys)
+  puts_then : (a b c : State) (xs ys : List A) → b.step_limit ≡ a.step_limit → Puts under part a b xs → Puts under part b c ys
+      → Puts under part a c (xs ++ ys)
   puts_then a b c xs ys limit p q = record {
     schema = q.schema;
     rows = subst (λ rows. Gains part.tree rows a.now.trees c.now.trees) (sym (map-append part.cells xs ys))
         (gains_more part.tree (map part.cells xs) (map part.cells ys) a.now.trees b.now.trees c.now.trees p.rows q.rows);
-    others = kept_others part.tree a.now.trees b.now.trees c.now.trees tables_1 p.others q.others;
+    others = kept_others part.tree a.now.trees b.now.trees c.now.trees under.tables p.others q.others;
     committed = q.committed ∙ p.committed;
     sound = q.sound;
     took = subst (λ rows. TakesAll a.step_limit rows a.now c.now) (sym (map-append {B = ℕ × Row} (λ item. (part.place, part.cells item)) xs ys))
@@ -343,7 +342,7 @@ module _ {A : Type 0} (part : Part A) where
   }
 
   pub there_then : (a b c : State) (xs ys : List A) → doubt b.is_clean ≤ doubt c.is_clean → b.step_limit ≡ a.step_limit
-      → PutsThere part a b xs → PutsThere part b c ys → PutsThere part a c (xs ++ ys)
+      → PutsThere under part a b xs → PutsThere under part b c ys → PutsThere under part a c (xs ++ ys)
   there_then a b c xs ys later limit p q = record {
     was_open = λ clean o. p.was_open (omega arith) (q.was_open clean o);
     is_open = λ clean o. q.is_open clean (p.is_open (omega arith) o);
@@ -354,209 +353,276 @@ module _ {A : Type 0} (part : Part A) where
     said = say_more part xs ys p.said q.said;
   }
 
-  -- the step of a loop over a slice
-  pub next_there : (a b c : State) (xs : List A) (at : ℕ) (x : A) → at < length xs → x ≡ get_or xs at x
-      → doubt b.is_clean ≤ doubt c.is_clean → b.step_limit ≡ a.step_limit → PutsThere part a b (take at xs)
-      → PutsThere part b c (x ∷ []) → PutsThere part a c (take (at + 1) xs)
-  next_there a b c xs at x low is later limit p q =
-      subst (PutsThere part a c) (ap (λ y. take at xs ++ y ∷ []) is ∙ sym (take_more xs at x low))
-      (there_then a b c (take at xs) (x ∷ []) later limit p q)
+-- a statement that was refused stands before them
+pub stays_there : (under : Schema) {A : Type 0} (part : Part A) (a b c : State) (items : List A) → (HasCleanDisk b → StaysAs a b)
+    → doubt b.is_clean ≤ doubt c.is_clean → b.step_limit ≡ a.step_limit → PutsThere under part b c items → PutsThere under part a c items
+stays_there under part a b c items same later limit p = record {
+  was_open = λ clean o. (same (omega arith)).was_open (p.was_open clean o);
+  is_open = λ clean o. p.is_open clean ((same (omega arith)).is_open o);
+  inside = λ clean i. p.inside clean ((same (omega arith)).inside ∙ i);
+  puts = λ clean o has sound.
+      let it = same (omega arith) in
+      let now = it.now_is o in
+      let put = p.puts clean (it.is_open o) (ap (λ (d : Database). d.schema) now ∙ has) (subst (λ (d : Database). IsSound under d.trees) (sym now) sound) in
+      record {
+        schema = put.schema;
+        rows = subst (λ (d : Database). Gains part.tree (map part.cells items) d.trees c.now.trees) now put.rows;
+        others = subst (λ (d : Database). KeepsOthers part.tree d.trees c.now.trees under.tables) now put.others;
+        committed = put.committed ∙ it.committed_is o;
+        sound = put.sound;
+        took = subst (λ (d : Database). TakesAll a.step_limit (rows_of part items) d c.now) now (rw limit at (put.took));
+      };
+  said = p.said;
+}
 
-  -- some of them fail to be put, behind others that were
-  pub between_fails : (a b c : State) (front these rest xs : List A) → (front ++ these) ++ rest ≡ xs
-      → doubt b.is_clean ≤ doubt c.is_clean → b.step_limit ≡ a.step_limit → a.faults ≤ b.faults
-      → PutsThere part a b front → HasCleanDisk c → IsTrue a.is_open → IsTrue a.in_transaction
-      → a.now.schema ≡ schema_1 → IsSound schema_1 a.now.trees → (e : Error)
-      → (IsTrue b.is_open → IsTrue b.in_transaction → b.now.schema ≡ schema_1 → IsSound schema_1 b.now.trees
-      → FailsToPut b c (rows_of part these) b.now e)
-      → FailsToPut a c (rows_of part xs) a.now e
-  between_fails a b c front these rest xs whole later limit up p clean o inside has sound e fails =
-      let row : A → ℕ × Row = λ item. (part.place, part.cells item) in
-      let parts : (rows_of part front ++ rows_of part these) ++ rows_of part rest ≡ rows_of part xs =
-      ap (λ l. l ++ rows_of part rest) (sym (map-append row front these)) ∙ sym (map-append row (front ++ these) rest)
-      ∙ ap (rows_of part) whole in
-      let before = p.puts (omega arith) o has sound in
-      let now = p.is_open (omega arith) o in
-      subst (λ rows. FailsToPut a c rows a.now e) parts
-      (fails_more a c (rows_of part front ++ rows_of part these) (rows_of part rest) a.now e
-      (fails_later a b c (rows_of part front) (rows_of part these) e up now limit before.took
-      (fails now (p.inside (omega arith) inside) before.schema before.sound)))
-
-  -- the row of one of them fails to be put
-  pub next_fails : (a b c : State) (xs : List A) (at : ℕ) (x : A) → at < length xs → x ≡ get_or xs at x
-      → doubt b.is_clean ≤ doubt c.is_clean → b.step_limit ≡ a.step_limit → a.faults ≤ b.faults
-      → PutsThere part a b (take at xs) → HasCleanDisk c → IsTrue a.is_open → IsTrue a.in_transaction
-      → a.now.schema ≡ schema_1 → IsSound schema_1 a.now.trees → (e : Error)
-      → (IsTrue b.in_transaction → b.now.schema ≡ schema_1 → FailsToPut b c (rows_of part (x ∷ [])) b.now e)
-      → FailsToPut a c (rows_of part xs) a.now e
-  next_fails a b c xs at x low is later limit up p clean o inside has sound e fails =
-      between_fails a b c (take at xs) (x ∷ []) (drop (at + 1) xs) xs
-      (ap (λ l. l ++ drop (at + 1) xs) (ap (λ y. take at xs ++ y ∷ []) is ∙ sym (take_more xs at x low)) ∙ take-append-drop (at + 1) xs)
-      later limit up p clean o inside has sound e (λ _ i h _. fails i h)
+-- the things up to a place, and the one there
+pub one_more : {A : Type 0} (xs : List A) (at : ℕ) (x : A) → at < length xs → x ≡ get_or xs at x → take at xs ++ x ∷ [] ≡ take (at + 1) xs
+one_more xs at x low is = ap (λ y. take at xs ++ y ∷ []) is ∙ sym (take_more xs at x low)
 
 -- the versions of days up to one, and those of this one
-days_more : (days : List DayVersions) (at : ℕ) (day : DayVersions) → at < length days → day ≡ get_or days at day
+pub days_more : (days : List DayVersions) (at : ℕ) (day : DayVersions) → at < length days → day ≡ get_or days at day
     → versions_of (take at days) ++ day_versions day ≡ versions_of (take (at + 1) days)
 days_more days at day low is =
     sym (ap versions_of (take_more days at day low ∙ ap (λ y. take at days ++ y ∷ []) (sym is))
     ∙ flat_map-append day_versions (take at days) (day ∷ [])
     ∙ ap (λ l. versions_of (take at days) ++ l) (append-nil (day_versions day)))
 
--- the step of a loop over days
-pub next_day_there : (a b c : State) (days : List DayVersions) (at : ℕ) (day : DayVersions) → at < length days → day ≡ get_or days at day
-    → doubt b.is_clean ≤ doubt c.is_clean → b.step_limit ≡ a.step_limit
-    → PutsThere version_part a b (versions_of (take at days)) → PutsThere version_part b c (day_versions day)
-    → PutsThere version_part a c (versions_of (take (at + 1) days))
-next_day_there a b c days at day low is later limit p q =
-    subst (PutsThere version_part a c) (days_more days at day low is)
-    (there_then version_part a b c (versions_of (take at days)) (day_versions day) later limit p q)
-
--- a row of one of them fails to be put
-pub next_day_fails : (a b c : State) (days : List DayVersions) (at : ℕ) (day : DayVersions) → at < length days → day ≡ get_or days at day
-    → doubt b.is_clean ≤ doubt c.is_clean → b.step_limit ≡ a.step_limit → a.faults ≤ b.faults
-    → PutsThere version_part a b (versions_of (take at days)) → HasCleanDisk c → IsTrue a.is_open → IsTrue a.in_transaction
-    → a.now.schema ≡ schema_1 → IsSound schema_1 a.now.trees → (e : Error)
-    → (IsTrue b.is_open → IsTrue b.in_transaction → b.now.schema ≡ schema_1 → IsSound schema_1 b.now.trees
-    → FailsToPut b c (rows_of version_part (day_versions day)) b.now e)
-    → FailsToPut a c (rows_of version_part (versions_of days)) a.now e
-next_day_fails a b c days at day low is later limit up p clean o inside has sound e fails =
-    between_fails version_part a b c (versions_of (take at days)) (day_versions day) (versions_of (drop (at + 1) days)) (versions_of days)
-    (ap (λ l. l ++ versions_of (drop (at + 1) days)) (days_more days at day low is)
-    ∙ sym (flat_map-append day_versions (take (at + 1) days) (drop (at + 1) days)) ∙ ap versions_of (take-append-drop (at + 1) days))
-    later limit up p clean o inside has sound e fails
+-- those, and the versions of the days behind
+pub days_whole : (days : List DayVersions) (at : ℕ) → versions_of (take at days) ++ versions_of (drop at days) ≡ versions_of days
+days_whole days at = sym (flat_map-append day_versions (take at days) (drop at days)) ∙ ap versions_of (take-append-drop at days)
 
 -- where a row of a day stands among its versions
-pub version_here : (stream : Stream) (day : ℕ) (rows : List (ℕ × Version)) (at : ℕ) (row : ℕ × Version) → row ≡ get_or rows at row
+version_here : (stream : Stream) (day : ℕ) (rows : List (ℕ × Version)) (at : ℕ) (row : ℕ × Version) → row ≡ get_or rows at row
     → version_at stream day row ≡ get_or (map (version_at stream day) rows) at (version_at stream day row)
 version_here stream day [] at row is = refl
 version_here stream day (r ∷ rows) zero row is = ap (version_at stream day) is
 version_here stream day (r ∷ rows) (suc at) row is = version_here stream day rows at row is
 
+-- the versions up to a place, and the one there
+pub versions_more : (stream : Stream) (day : ℕ) (rows : List (ℕ × Version)) (at : ℕ) (row : ℕ × Version) → at < length rows → row ≡ get_or rows at row
+    → take at (map (version_at stream day) rows) ++ version_at stream day row ∷ [] ≡ take (at + 1) (map (version_at stream day) rows)
+versions_more stream day rows at row low is =
+    one_more (map (version_at stream day) rows) at (version_at stream day row) (omega (arith, low, length-map rows (version_at stream day)))
+    (version_here stream day rows at row is)
+
 pub if_ok : {X E : Type 0} (r : Result X E) (A B : Type 0) → (A → B) → OnOk r A → OnOk r B
 if_ok (Ok x) A B f h = f h
 if_ok (Err e) A B f h = tt
 
-gains_periods : (a b c d e f g h : State) (added : Additions) (periods : List PeriodRow) (jobs : List JobRow)
-    → Puts head_part a b added.heads.items → Puts version_part b c (versions_of added.days.items)
-    → Puts detail_part c d added.details.items → Puts event_part d e added.events.items
-    → Puts period_part e f periods → Puts holiday_part f g added.holidays.items → Puts job_part g h jobs
-    → Gains 10 (map period_part.cells periods) a.now.trees h.now.trees
-gains_periods a b c d e f g h added periods jobs p q r s t u v =
-    gains_kept 10 _ a.now.trees f.now.trees h.now.trees
-    (kept_gains 10 _ a.now.trees e.now.trees f.now.trees
-    (s.others.1.1.1.1.1.0 (λ e. omega arith) ∙ r.others.1.1.1.1.1.0 (λ e. omega arith)
-    ∙ q.others.1.1.1.1.1.0 (λ e. omega arith) ∙ p.others.1.1.1.1.1.0 (λ e. omega arith)) t.rows)
-    (v.others.1.1.1.1.1.0 (λ e. omega arith) ∙ u.others.1.1.1.1.1.0 (λ e. omega arith))
+-- ---- the parts of what is added
 
-gains_jobs : (a b c d e f g h : State) (added : Additions) (periods : List PeriodRow) (jobs : List JobRow)
-    → Puts head_part a b added.heads.items → Puts version_part b c (versions_of added.days.items)
-    → Puts detail_part c d added.details.items → Puts event_part d e added.events.items
-    → Puts period_part e f periods → Puts holiday_part f g added.holidays.items → Puts job_part g h jobs
-    → Gains 14 (map job_part.cells jobs) a.now.trees h.now.trees
-gains_jobs a b c d e f g h added periods jobs p q r s t u v =
-    kept_gains 14 _ a.now.trees g.now.trees h.now.trees
-    (u.others.1.1.1.1.1.1.1.0 (λ e. omega arith) ∙ t.others.1.1.1.1.1.1.1.0 (λ e. omega arith)
-    ∙ s.others.1.1.1.1.1.1.1.0 (λ e. omega arith) ∙ r.others.1.1.1.1.1.1.1.0 (λ e. omega arith)
-    ∙ q.others.1.1.1.1.1.1.1.0 (λ e. omega arith) ∙ p.others.1.1.1.1.1.1.1.0 (λ e. omega arith)) v.rows
+-- trees that come behind all others
+behind_keeps : (tree : ℕ) → tree < trees_taken → (old new : Trees) (tables : List Table) → AllByRecursion (λ (t : Table). trees_taken ≤ t.tree) tables
+    → KeepsOthers tree old new tables → Keeps old new tables
+behind_keeps tree low old new [] behind same = tt
+behind_keeps tree low old new (t ∷ ts) behind same =
+    (same.0 (λ e. omega (arith, behind.0, low, e)), behind_keeps tree low old new ts behind.1 same.1)
 
--- Each table has the rows of its part, and no other.
-adds_all : (a b c d e f g h : State) (added : Additions) (periods : List PeriodRow) (jobs : List JobRow)
-    → AreRowsOf IsRowOfPeriod added.periods.items periods → AreRowsOf IsRowOfJob added.jobs.items jobs
-    → Puts head_part a b added.heads.items → Puts version_part b c (versions_of added.days.items)
-    → Puts detail_part c d added.details.items → Puts event_part d e added.events.items
-    → Puts period_part e f periods → Puts holiday_part f g added.holidays.items → Puts job_part g h jobs
-    → Adds a.now.trees h.now.trees added
-adds_all a b c d e f g h added periods jobs of_periods of_jobs p q r s t u v =
-    let first = a.now.trees in
-    let last = h.now.trees in
-    record {
-      schema =
-          v.others.0 (λ e. omega arith) ∙ u.others.0 (λ e. omega arith) ∙ t.others.0 (λ e. omega arith)
-          ∙ s.others.0 (λ e. omega arith) ∙ r.others.0 (λ e. omega arith) ∙ q.others.0 (λ e. omega arith)
-          ∙ p.others.0 (λ e. omega arith);
-      heads = gains_kept 2 _ first b.now.trees last p.rows
-          (v.others.1.0 (λ e. omega arith) ∙ u.others.1.0 (λ e. omega arith) ∙ t.others.1.0 (λ e. omega arith)
-          ∙ s.others.1.0 (λ e. omega arith) ∙ r.others.1.0 (λ e. omega arith) ∙ q.others.1.0 (λ e. omega arith));
-      versions = gains_kept 4 _ first c.now.trees last
-          (kept_gains 4 _ first b.now.trees c.now.trees (p.others.1.1.0 (λ e. omega arith)) q.rows)
-          (v.others.1.1.0 (λ e. omega arith) ∙ u.others.1.1.0 (λ e. omega arith) ∙ t.others.1.1.0 (λ e. omega arith)
-          ∙ s.others.1.1.0 (λ e. omega arith) ∙ r.others.1.1.0 (λ e. omega arith));
-      details = gains_kept 6 _ first d.now.trees last
-          (kept_gains 6 _ first c.now.trees d.now.trees
-          (q.others.1.1.1.0 (λ e. omega arith) ∙ p.others.1.1.1.0 (λ e. omega arith)) r.rows)
-          (v.others.1.1.1.0 (λ e. omega arith) ∙ u.others.1.1.1.0 (λ e. omega arith)
-          ∙ t.others.1.1.1.0 (λ e. omega arith) ∙ s.others.1.1.1.0 (λ e. omega arith));
-      events = gains_kept 8 _ first e.now.trees last
-          (kept_gains 8 _ first d.now.trees e.now.trees
-          (r.others.1.1.1.1.0 (λ e. omega arith) ∙ q.others.1.1.1.1.0 (λ e. omega arith)
-          ∙ p.others.1.1.1.1.0 (λ e. omega arith)) s.rows)
-          (v.others.1.1.1.1.0 (λ e. omega arith) ∙ u.others.1.1.1.1.0 (λ e. omega arith)
-          ∙ t.others.1.1.1.1.0 (λ e. omega arith));
-      periods = (
-        map period_part.cells periods,
-        period_rows_are added.periods.items periods of_periods,
-        gains_periods a b c d e f g h added periods jobs p q r s t u v,
-      );
-      holidays = gains_kept 12 _ first g.now.trees last
-          (kept_gains 12 _ first f.now.trees g.now.trees
-          (t.others.1.1.1.1.1.1.0 (λ e. omega arith) ∙ s.others.1.1.1.1.1.1.0 (λ e. omega arith)
-          ∙ r.others.1.1.1.1.1.1.0 (λ e. omega arith) ∙ q.others.1.1.1.1.1.1.0 (λ e. omega arith)
-          ∙ p.others.1.1.1.1.1.1.0 (λ e. omega arith)) u.rows)
-          (v.others.1.1.1.1.1.1.0 (λ e. omega arith));
-      jobs = (
-        map job_part.cells jobs,
-        job_rows_are added.jobs.items jobs of_jobs,
-        gains_jobs a b c d e f g h added periods jobs p q r s t u v,
-      );
-    }
+behind_rest : (tree : ℕ) → trees_taken ≤ tree → AllByRecursion (λ at. tree ≢ at) rest_trees
+behind_rest tree high = (
+  λ e. omega (arith, high, e),
+  (λ e. omega (arith, high, e), (λ e. omega (arith, high, e), (λ e. omega (arith, high, e), (λ e. omega (arith, high, e), tt)))),
+)
 
--- the seven parts of what is added, one after another
-pub all_there : {X E : Type 0} (a b c d e f g h : State) (added : Additions) (periods : List PeriodRow) (jobs : List JobRow) (result : Result X E)
-    → AreRowsOf IsRowOfPeriod added.periods.items periods → AreRowsOf IsRowOfJob added.jobs.items jobs
-    → doubt b.is_clean ≤ doubt c.is_clean → doubt c.is_clean ≤ doubt d.is_clean → doubt d.is_clean ≤ doubt e.is_clean
-    → doubt e.is_clean ≤ doubt f.is_clean → doubt f.is_clean ≤ doubt g.is_clean → doubt g.is_clean ≤ doubt h.is_clean
-    → PutsThere head_part a b added.heads.items → PutsThere version_part b c (versions_of added.days.items)
-    → PutsThere detail_part c d added.details.items → PutsThere event_part d e added.events.items
-    → PutsThere period_part e f periods → PutsThere holiday_part f g added.holidays.items
-    → OnOk result (PutsThere job_part g h jobs) → OnOk result (PutsAll a h added)
-all_there a b c d e f g h added periods jobs result of_periods of_jobs bc cd de ef fg gh p q r s t u v = if_ok result _ _ (λ v.
-    let parts : HasCleanDisk h → IsTrue a.is_open → a.now.schema ≡ schema_1 → IsSound schema_1 a.now.trees
-    → Puts head_part a b added.heads.items × Puts version_part b c (versions_of added.days.items)
-    × Puts detail_part c d added.details.items × Puts event_part d e added.events.items
-    × Puts period_part e f periods × Puts holiday_part f g added.holidays.items × Puts job_part g h jobs =
-    λ clean o has sound.
-    let one = p.puts (omega arith) o has sound in
-    let o2 = p.is_open (omega arith) o in
-    let two = q.puts (omega arith) o2 one.schema one.sound in
-    let o3 = q.is_open (omega arith) o2 in
-    let three = r.puts (omega arith) o3 two.schema two.sound in
-    let o4 = r.is_open (omega arith) o3 in
-    let four = s.puts (omega arith) o4 three.schema three.sound in
-    let o5 = s.is_open (omega arith) o4 in
-    let five = t.puts (omega arith) o5 four.schema four.sound in
-    let o6 = t.is_open (omega arith) o5 in
-    let six = u.puts (omega arith) o6 five.schema five.sound in
-    let seven = v.puts clean (u.is_open (omega arith) o6) six.schema six.sound in
-    (one, two, three, four, five, six, seven) in
-    record {
-      was_open = λ clean o.
-          p.was_open (omega arith) (q.was_open (omega arith) (r.was_open (omega arith) (s.was_open (omega arith)
-          (t.was_open (omega arith) (u.was_open (omega arith) (v.was_open clean o))))));
-      is_open = λ clean o.
-          v.is_open clean (u.is_open (omega arith) (t.is_open (omega arith) (s.is_open (omega arith)
-          (r.is_open (omega arith) (q.is_open (omega arith) (p.is_open (omega arith) o))))));
-      inside = λ clean o.
-          v.inside clean (u.inside (omega arith) (t.inside (omega arith) (s.inside (omega arith)
-          (r.inside (omega arith) (q.inside (omega arith) (p.inside (omega arith) o))))));
-      schema = λ clean o has sound. (parts clean o has sound).6.schema;
-      added = λ clean o has sound.
-          let all = parts clean o has sound in
-          let rows = adds_all a b c d e f g h added periods jobs of_periods of_jobs all.0 all.1 all.2 all.3 all.4 all.5 all.6 in
-          record {
-            rows = rows;
-            world = world_after a.now.trees h.now.trees added periods jobs of_periods of_jobs p.said q.said r.said s.said t.said u.said v.said rows
-                (gains_periods a b c d e f g h added periods jobs all.0 all.1 all.2 all.3 all.4 all.5 all.6)
-                (gains_jobs a b c d e f g h added periods jobs all.0 all.1 all.2 all.3 all.4 all.5 all.6);
-            sound = all.6.sound;
-          };
-    }) v
+before_rest : (tree : ℕ) → tree < 6 → AllByRecursion (λ at. tree ≢ at) rest_trees
+before_rest tree low = (
+  λ e. omega (arith, low, e),
+  (λ e. omega (arith, low, e), (λ e. omega (arith, low, e), (λ e. omega (arith, low, e), (λ e. omega (arith, low, e), tt)))),
+)
+
+rest_keeps : (old new : Trees) (tables : List Table) → AllByRecursion (λ (t : Table). trees_taken ≤ t.tree) tables
+    → KeepsBut rest_trees old new tables → Keeps old new tables
+rest_keeps old new [] behind same = tt
+rest_keeps old new (t ∷ ts) behind same = (same.0 (behind_rest t.tree behind.0), rest_keeps old new ts behind.1 same.1)
+
+kept_but_rest : (a b c d f h : Trees) (tables : List Table) → KeepsOthers 6 a b tables → KeepsOthers 8 b c tables → KeepsOthers 10 c d tables
+    → KeepsOthers 12 d f tables → KeepsOthers 14 f h tables → KeepsBut rest_trees a h tables
+kept_but_rest a b c d f h [] p q r s u = tt
+kept_but_rest a b c d f h (t ∷ ts) p q r s u = (
+  λ none. u.0 none.1.1.1.1.0 ∙ s.0 none.1.1.1.0 ∙ r.0 none.1.1.0 ∙ q.0 none.1.0 ∙ p.0 none.0,
+  kept_but_rest a b c d f h ts p.1 q.1 r.1 s.1 u.1,
+)
+
+-- what is put behind heads and versions, one part after another
+module _ (more : More) (a b c d f h : State) (added : Additions) (periods : List PeriodRow) (jobs : List JobRow) where
+  abbrev rest_under : Schema
+  rest_under = schema_with more
+
+  rest_put : Puts rest_under detail_part a b added.details.items → Puts rest_under event_part b c added.events.items
+      → Puts rest_under period_part c d periods → Puts rest_under holiday_part d f added.holidays.items → Puts rest_under job_part f h jobs
+      → PutsRest rest_under a h added periods jobs
+  rest_put p q r s u =
+      let one = a.now.trees in
+      let two = b.now.trees in
+      let three = c.now.trees in
+      let four = d.now.trees in
+      let five = f.now.trees in
+      let last = h.now.trees in
+      record {
+        schema = u.schema;
+        details = gains_kept 6 _ one two last p.rows
+            (u.others.1.1.1.0 (λ e. omega arith) ∙ s.others.1.1.1.0 (λ e. omega arith)
+            ∙ r.others.1.1.1.0 (λ e. omega arith) ∙ q.others.1.1.1.0 (λ e. omega arith));
+        events = gains_kept 8 _ one three last (kept_gains 8 _ one two three (p.others.1.1.1.1.0 (λ e. omega arith)) q.rows)
+            (u.others.1.1.1.1.0 (λ e. omega arith) ∙ s.others.1.1.1.1.0 (λ e. omega arith) ∙ r.others.1.1.1.1.0 (λ e. omega arith));
+        accumulated = gains_kept 10 _ one four last
+            (kept_gains 10 _ one three four (q.others.1.1.1.1.1.0 (λ e. omega arith) ∙ p.others.1.1.1.1.1.0 (λ e. omega arith)) r.rows)
+            (u.others.1.1.1.1.1.0 (λ e. omega arith) ∙ s.others.1.1.1.1.1.0 (λ e. omega arith));
+        holidays = gains_kept 12 _ one five last
+            (kept_gains 12 _ one four five
+            (r.others.1.1.1.1.1.1.0 (λ e. omega arith) ∙ q.others.1.1.1.1.1.1.0 (λ e. omega arith) ∙ p.others.1.1.1.1.1.1.0 (λ e. omega arith)) s.rows)
+            (u.others.1.1.1.1.1.1.0 (λ e. omega arith));
+        planned = kept_gains 14 _ one five last
+            (s.others.1.1.1.1.1.1.1.0 (λ e. omega arith) ∙ r.others.1.1.1.1.1.1.1.0 (λ e. omega arith)
+            ∙ q.others.1.1.1.1.1.1.1.0 (λ e. omega arith) ∙ p.others.1.1.1.1.1.1.1.0 (λ e. omega arith)) u.rows;
+        others = kept_but_rest one two three four five last rest_under.tables p.others q.others r.others s.others u.others;
+        sound = u.sound;
+      }
+
+  pub rest_there : doubt b.is_clean ≤ doubt c.is_clean → doubt c.is_clean ≤ doubt d.is_clean → doubt d.is_clean ≤ doubt f.is_clean
+      → doubt f.is_clean ≤ doubt h.is_clean → PutsThere rest_under detail_part a b added.details.items
+      → PutsThere rest_under event_part b c added.events.items → PutsThere rest_under period_part c d periods
+      → PutsThere rest_under holiday_part d f added.holidays.items → PutsThere rest_under job_part f h jobs
+      → PutsRestThere rest_under a h added periods jobs
+  rest_there bc cd df fh p q r s u = record {
+    was_open = λ clean o.
+        p.was_open (omega arith) (q.was_open (omega arith) (r.was_open (omega arith) (s.was_open (omega arith) (u.was_open clean o))));
+    is_open = λ clean o.
+        u.is_open clean (s.is_open (omega arith) (r.is_open (omega arith) (q.is_open (omega arith) (p.is_open (omega arith) o))));
+    inside = λ clean o.
+        u.inside clean (s.inside (omega arith) (r.inside (omega arith) (q.inside (omega arith) (p.inside (omega arith) o))));
+    puts = λ clean o has sound.
+        let one = p.puts (omega arith) o has sound in
+        let o2 = p.is_open (omega arith) o in
+        let two = q.puts (omega arith) o2 one.schema one.sound in
+        let o3 = q.is_open (omega arith) o2 in
+        let three = r.puts (omega arith) o3 two.schema two.sound in
+        let o4 = r.is_open (omega arith) o3 in
+        let four = s.puts (omega arith) o4 three.schema three.sound in
+        let five = u.puts clean (s.is_open (omega arith) o4) four.schema four.sound in
+        rest_put one two three four five;
+    said_details = p.said;
+    said_events = q.said;
+    said_periods = r.said;
+    said_holidays = s.said;
+    said_jobs = u.said;
+  }
+
+-- the rows of versions, where each has one
+pub steady_rows : IsSteady no_more HasRows
+steady_rows a b c d versions first same rows last kept = gains_kept 4 _ a c d (kept_gains 4 _ a b c first rows) last
+
+pub versions_there : (a b : State) (versions : List (Key × ReadingValue)) → PutsThere schema_1 version_part a b versions
+    → PutsVersionsThere rows_layout HasRows a b versions
+versions_there a b versions p = record {
+  was_open = p.was_open;
+  is_open = p.is_open;
+  inside = p.inside;
+  puts = λ clean o has sound.
+      let put = p.puts clean o has sound in
+      record {
+        schema = put.schema;
+        rows = put.rows;
+        names = says_more version_part version_bare versions p.said a.now.trees b.now.trees put.rows;
+        others = (
+          put.others.0 (λ e. omega arith),
+          (
+            put.others.1.0 (λ e. omega arith),
+            (
+              put.others.1.1.1.0 (λ e. omega arith),
+              (
+                put.others.1.1.1.1.0 (λ e. omega arith),
+                (
+                  put.others.1.1.1.1.1.0 (λ e. omega arith),
+                  (put.others.1.1.1.1.1.1.0 (λ e. omega arith), (put.others.1.1.1.1.1.1.1.0 (λ e. omega arith), tt)),
+                ),
+              ),
+            ),
+          ),
+        );
+        sound = put.sound;
+      };
+}
+
+-- heads, versions and the rest, in any layout
+module _ (layout : Layout) (HasVersions : Gained) (steady : IsSteady layout.more HasVersions) (a b c h : State) (added : Additions)
+    (periods : List PeriodRow) (jobs : List JobRow) (of_periods : AreRowsOf IsRowOfPeriod added.periods.items periods)
+    (of_jobs : AreRowsOf IsRowOfJob added.jobs.items jobs) where
+  abbrev all_under : Schema
+  all_under = schema_with layout.more
+
+  module _ (p : Puts all_under head_part a b added.heads.items) (q : PutsVersions layout HasVersions b c (versions_of added.days.items))
+      (r : PutsRest all_under c h added periods jobs) where
+    heads_kept : Keeps a.now.trees b.now.trees layout.more.tables
+    heads_kept = behind_keeps 2 (omega arith) a.now.trees b.now.trees layout.more.tables layout.behind p.others.1.1.1.1.1.1.1.1
+
+    rest_kept : Keeps c.now.trees h.now.trees layout.more.tables
+    rest_kept = rest_keeps c.now.trees h.now.trees layout.more.tables layout.behind r.others.1.1.1.1.1.1.1.1
+
+    heads_keep_versions : b.now.trees 4 ≡ a.now.trees 4
+    heads_keep_versions = p.others.1.1.0 (λ e. omega arith)
+
+    rest_keeps_versions : h.now.trees 4 ≡ c.now.trees 4
+    rest_keeps_versions = r.others.1.1.0 (before_rest 4 (omega arith))
+
+    gains_periods : Gains 10 (map period_part.cells periods) a.now.trees h.now.trees
+    gains_periods =
+        kept_gains 10 _ a.now.trees c.now.trees h.now.trees (q.others.1.1.1.1.0 ∙ p.others.1.1.1.1.1.0 (λ e. omega arith)) r.accumulated
+
+    gains_jobs : Gains 14 (map job_part.cells jobs) a.now.trees h.now.trees
+    gains_jobs =
+        kept_gains 14 _ a.now.trees c.now.trees h.now.trees (q.others.1.1.1.1.1.1.0 ∙ p.others.1.1.1.1.1.1.1.0 (λ e. omega arith)) r.planned
+
+    -- Each table has the rows of its part, and no other.
+    adds_all : AddsOf HasVersions a.now.trees h.now.trees added
+    adds_all =
+        let one = a.now.trees in
+        let two = b.now.trees in
+        let three = c.now.trees in
+        let last = h.now.trees in
+        record {
+          schema = r.others.0 (before_rest 0 (omega arith)) ∙ q.others.0 ∙ p.others.0 (λ e. omega arith);
+          heads = gains_kept 2 _ one two last p.rows (r.others.1.0 (before_rest 2 (omega arith)) ∙ q.others.1.0);
+          versions = steady one two three last (versions_of added.days.items) heads_keep_versions heads_kept q.rows rest_keeps_versions rest_kept;
+          details = kept_gains 6 _ one three last (q.others.1.1.0 ∙ p.others.1.1.1.0 (λ e. omega arith)) r.details;
+          events = kept_gains 8 _ one three last (q.others.1.1.1.0 ∙ p.others.1.1.1.1.0 (λ e. omega arith)) r.events;
+          periods = (map period_part.cells periods, period_rows_are added.periods.items periods of_periods, gains_periods);
+          holidays = kept_gains 12 _ one three last (q.others.1.1.1.1.1.0 ∙ p.others.1.1.1.1.1.1.0 (λ e. omega arith)) r.holidays;
+          jobs = (map job_part.cells jobs, job_rows_are added.jobs.items jobs of_jobs, gains_jobs);
+        }
+
+    -- the versions of the layout are more by those that are added
+    names_more : IsMore (layout.versions h.now.trees) (layout.versions a.now.trees) (map content.version_fact (versions_of added.days.items))
+    names_more =
+        let facts = map content.version_fact (versions_of added.days.items) in
+        ap of (layout.steady c.now.trees h.now.trees rest_keeps_versions rest_kept)
+        ∙ q.names ∙ ap (λ v. union (of v) (of facts)) (layout.steady a.now.trees b.now.trees heads_keep_versions heads_kept)
+
+  pub all_there : doubt b.is_clean ≤ doubt c.is_clean → doubt c.is_clean ≤ doubt h.is_clean
+      → PutsThere all_under head_part a b added.heads.items → PutsVersionsThere layout HasVersions b c (versions_of added.days.items)
+      → PutsRestThere all_under c h added periods jobs → PutsAllOf layout HasVersions a h added
+  all_there bc ch p q r =
+      let parts : HasCleanDisk h → IsTrue a.is_open → a.now.schema ≡ all_under → IsSound all_under a.now.trees
+      → Puts all_under head_part a b added.heads.items × PutsVersions layout HasVersions b c (versions_of added.days.items)
+      × PutsRest all_under c h added periods jobs =
+      λ clean o has sound.
+      let one = p.puts (omega arith) o has sound in
+      let o2 = p.is_open (omega arith) o in
+      let two = q.puts (omega arith) o2 one.schema one.sound in
+      (one, two, r.puts clean (q.is_open (omega arith) o2) two.schema two.sound) in
+      record {
+        was_open = λ clean o. p.was_open (omega arith) (q.was_open (omega arith) (r.was_open clean o));
+        is_open = λ clean o. r.is_open clean (q.is_open (omega arith) (p.is_open (omega arith) o));
+        inside = λ clean o. r.inside clean (q.inside (omega arith) (p.inside (omega arith) o));
+        schema = λ clean o has sound. (parts clean o has sound).2.schema;
+        added = λ clean o has sound.
+            let all = parts clean o has sound in
+            let rows = adds_all all.0 all.1 all.2 in
+            record {
+              rows = rows;
+              world = world_after layout HasVersions a.now.trees h.now.trees added periods jobs of_periods of_jobs p.said
+                  (names_more all.0 all.1 all.2) r.said_details r.said_events r.said_periods r.said_holidays r.said_jobs rows
+                  (gains_periods all.0 all.1 all.2) (gains_jobs all.0 all.1 all.2);
+              sound = all.2.sound;
+            };
+      }

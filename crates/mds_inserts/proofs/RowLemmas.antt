@@ -4,7 +4,6 @@ use Rattle.std.proofs.Common.{◌≡◌, ℕ, false, List, [], ◌∷◌, ◌++�
 use Rattle.std.proofs.lemmas.List.{map-append, append_assoc, take_more}
 use Rattle.std.proofs.lemmas.List.Sorted.{IsPermutation-append_left, IsPermutation-cons, IsPermutation-map, IsPermutation-middle, IsPermutation-refl, IsPermutation-sym, IsPermutation-to_front, IsPermutation-trans, list_any-IsPermutation}
 use Rattle.std.specs.FinSet.{contains-from_list, from_list, same_set}
-use Rattle.std.specs.List.{AllByRecursion}
 use Rattle.std.specs.Ordering.{eq_by_cmp, is_eq, match_ordering}
 use Rattle.std.specs.declared.cmp.Ordering.TheVariants.{Less, Equal, Greater}
 use Rattle.sqlite.specs.declared.types.Value.{Value}
@@ -20,15 +19,17 @@ use Rattle.mds_world.specs.Facts.{Fact}
 use Rattle.mds_world.specs.Facts.Fact.{JobIs, PeriodIs}
 use Rattle.mds_world.proofs.Sets.{list_append, union_assoc, union_comm}
 use Rattle.mds_world.specs.World.{World, union}
-use Rattle.mds_keeper.specs.Content.{content, versions_of, job_fact as content_fact, period_fact as content_period_fact}
+use Rattle.mds_keeper.specs.Content.{content, versions_of, job_fact as content_fact, period_fact as content_period_fact, version_fact as content_version_fact}
 use Rattle.mds_keeper.specs.declared.additions.Additions.{Additions}
-use Rattle.mds_tables.specs.RowFacts.{detail_fact, event_fact, head_fact, holiday_fact, job_fact, natural, period_fact, version_fact, world_in}
-use Rattle.mds_tables.specs.Stores.{Adds, AreRowsOf, Gains, IsJobRow, IsPeriodRow}
+use Rattle.mds_tables.specs.RowFacts.{detail_fact, event_fact, head_fact, holiday_fact, job_fact, natural, period_fact, version_fact}
+use Rattle.mds_tables.specs.Layouts.{Layout, world_with}
+use Rattle.mds_tables.specs.Stores.{AddsOf, AreRowsOf, Gained, Gains, IsJobRow, IsPeriodRow}
 use Rattle.mds_tables.specs.Cells.{job_cells, period_cells}
 use Rattle.mds_inserts.specs.MadeRows.{IsRowOfJob, IsRowOfPeriod}
 use Rattle.mds_inserts.specs.declared.jobs.JobRow.{JobRow}
 use Rattle.mds_inserts.specs.declared.periods.PeriodRow.{PeriodRow}
-use Rattle.mds_inserts.specs.Parts.{Part, detail_part, event_part, head_part, holiday_part, job_part, period_part, version_part}
+use Rattle.mds_inserts.specs.Parts.{Part, Says, detail_part, event_part, head_part, holiday_part, job_part, period_part}
+pub use Rattle.mds_inserts.specs.Writing.{IsMore}
 
 -- a row under a fresh rowid is put between the others
 put_shuffles : (new : Row) (rows : List Row) → is_taken rows new ≡ false → IsPermutation (new ∷ rows) (put_row new rows)
@@ -76,10 +77,6 @@ shuffled_of xs ys p =
     same_set total exact _ _ (λ q. contains-from_list total xs q ∙ list_any-IsPermutation (eq_by_cmp fact_cmp q) xs ys p
     ∙ sym (contains-from_list total ys q))
 
--- these facts are more than those, by these
-abbrev pub IsMore : List Fact → List Fact → List Fact → Type 0
-IsMore more xs facts = of more ≡ union (of xs) (of facts)
-
 -- more in both of two parts
 more_both : (xs ys us vs fs gs : List Fact) → IsMore us xs fs → IsMore vs ys gs → IsMore (us ++ vs) (xs ++ ys) (fs ++ gs)
 more_both xs ys us vs fs gs p q =
@@ -94,7 +91,7 @@ more_both xs ys us vs fs gs p q =
     ∙ (λ i. union (sym (append_of xs ys) i) (sym (append_of fs gs) i))
 
 -- the rowid is nothing that a fact says
-abbrev Unnamed : (Row → Fact) → Type 0
+abbrev pub Unnamed : (Row → Fact) → Type 0
 Unnamed read = (row : Row) → read row ≡ read (Null ∷ drop 1 row)
 
 bare : (read : Row → Fact) → Unnamed read → (rows : List Row)
@@ -103,21 +100,17 @@ bare read same [] = refl
 bare read same (r ∷ rs) = λ i. same r i ∷ bare read same rs i
 
 module _ {A : Type 0} (part : Part A) where
-  -- the row of each, under any rowid, says its fact
-  abbrev pub Say : List A → Type 0
-  Say = AllByRecursion (λ item. (id : Value) → part.read (id ∷ part.cells item) ≡ part.fact item)
-
-  say : (items : List A) → Say items
+  say : (items : List A) → Says part items
       → map (λ cells. part.read (Null ∷ cells)) (map part.cells items) ≡ map part.fact items
   say [] said = refl
   say (x ∷ xs) said = λ i. said.0 Null i ∷ say xs said.1 i
 
-  pub say_more : (xs ys : List A) → Say xs → Say ys → Say (xs ++ ys)
+  pub say_more : (xs ys : List A) → Says part xs → Says part ys → Says part (xs ++ ys)
   say_more [] ys p q = q
   say_more (x ∷ xs) ys p q = (p.0, say_more xs ys p.1 q)
 
   -- a table says more by the facts of the rows that it gained
-  more : Unnamed part.read → (items : List A) → Say items → (old new : Trees)
+  pub more : Unnamed part.read → (items : List A) → Says part items → (old new : Trees)
       → Gains part.tree (map part.cells items) old new
       → IsMore (map part.read (new part.tree)) (map part.read (old part.tree)) (map part.fact items)
   more same items said old new gains =
@@ -133,7 +126,7 @@ head_bare : Unnamed head_fact
 head_bare [] = refl
 head_bare (x ∷ xs) = refl
 
-version_bare : Unnamed version_fact
+pub version_bare : Unnamed version_fact
 version_bare [] = refl
 version_bare (x ∷ xs) = refl
 
@@ -214,23 +207,23 @@ job_facts_are : (jobs : List (Job × ℕ)) (rows : List JobRow) → AreRowsOf Is
 job_facts_are = same_facts IsRowOfJob job_part.fact content_fact
     (λ job row is i. JobIs (is.id i) (is.says i) (natural (is.count i)))
 
--- the World that the tables name is the union
-pub world_after : (old new : Trees) (added : Additions) (periods : List PeriodRow) (jobs : List JobRow)
+-- the World that the tables of a layout name is the union
+pub world_after : (layout : Layout) (HasVersions : Gained) (old new : Trees) (added : Additions) (periods : List PeriodRow) (jobs : List JobRow)
     → AreRowsOf IsRowOfPeriod added.periods.items periods → AreRowsOf IsRowOfJob added.jobs.items jobs
-    → Say head_part added.heads.items → Say version_part (versions_of added.days.items) → Say detail_part added.details.items
-    → Say event_part added.events.items → Say period_part periods → Say holiday_part added.holidays.items
-    → Say job_part jobs
-    → Adds old new added → Gains 10 (map period_part.cells periods) old new → Gains 14 (map job_part.cells jobs) old new
-    → world_in new ≡ union (world_in old) (content added)
-world_after old new added periods jobs of_periods of_jobs heads versions details events accumulated holidays rows adds more_periods more_jobs =
+    → Says head_part added.heads.items → IsMore (layout.versions new) (layout.versions old) (map content_version_fact (versions_of added.days.items))
+    → Says detail_part added.details.items → Says event_part added.events.items → Says period_part periods
+    → Says holiday_part added.holidays.items → Says job_part jobs
+    → AddsOf HasVersions old new added → Gains 10 (map period_part.cells periods) old new → Gains 14 (map job_part.cells jobs) old new
+    → world_with layout new ≡ union (world_with layout old) (content added)
+world_after layout HasVersions old new added periods jobs of_periods of_jobs heads versions details events accumulated holidays rows adds more_periods more_jobs =
     more_both _ (map job_fact (old 14)) _ (map job_fact (new 14)) _ _
     (more_both _ (map holiday_fact (old 12)) _ (map holiday_fact (new 12)) _ _
     (more_both _ (map period_fact (old 10)) _ (map period_fact (new 10)) _ _
     (more_both _ (map event_fact (old 8)) _ (map event_fact (new 8)) _ _
     (more_both _ (map detail_fact (old 6)) _ (map detail_fact (new 6)) _ _
-    (more_both (map head_fact (old 2)) (map version_fact (old 4)) (map head_fact (new 2)) (map version_fact (new 4)) _ _
+    (more_both (map head_fact (old 2)) (layout.versions old) (map head_fact (new 2)) (layout.versions new) _ _
     (more head_part head_bare added.heads.items heads old new adds.heads)
-    (more version_part version_bare (versions_of added.days.items) versions old new adds.versions))
+    versions)
     (more detail_part detail_bare added.details.items details old new adds.details))
     (more event_part event_bare added.events.items events old new adds.events))
     (subst (λ fs. IsMore (map period_fact (new 10)) (map period_fact (old 10)) fs)

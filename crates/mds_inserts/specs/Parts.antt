@@ -1,5 +1,7 @@
 -- How what is added becomes rows (profile).
-use Rattle.std.specs.Prelude.{ℕ, List, ◌++◌, map, string_bytes}
+use Rattle.std.specs.Prelude.{◌≡◌, ℕ, List, ◌∷◌, ◌++◌, map, string_bytes}
+use Rattle.std.specs.List.{AllByRecursion}
+use Rattle.sqlite.specs.declared.types.Value.{Value}
 use Rattle.sqlite_value.specs.Order.{Row}
 use Rattle.mds_marks.specs.Reading.{ReadingValue}
 use Rattle.mds_terms.specs.Event.{EventValue}
@@ -65,16 +67,24 @@ job_part = record {
   read = job_fact;
 }
 
+-- the row of each, under any rowid, says its fact
+abbrev pub Says : {A : Type 0} → Part A → List A → Type 0
+Says part = AllByRecursion (λ item. (id : Value) → part.read (id ∷ part.cells item) ≡ part.fact item)
+
 -- their rows, each with the place of its table
 abbrev pub rows_of : {A : Type 0} → Part A → List A → List (ℕ × Row)
 rows_of part items = map (λ item. (part.place, part.cells item)) items
 
--- all rows of additions, of which the rows of accumulations and of jobs are given, in the order in which they are put
+-- The rows behind those of heads and versions, in the order in which they are put. Those of accumulations and of jobs are given.
+abbrev pub rest_in : Additions → List PeriodRow → List JobRow → List (ℕ × Row)
+rest_in additions periods jobs =
+    rows_of detail_part additions.details.items
+    ++ (rows_of event_part additions.events.items
+    ++ (rows_of period_part periods
+    ++ (rows_of holiday_part additions.holidays.items ++ rows_of job_part jobs)))
+
+-- all rows of additions, where each version has a row
 abbrev pub rows_in : Additions → List PeriodRow → List JobRow → List (ℕ × Row)
 rows_in additions periods jobs =
     rows_of head_part additions.heads.items
-    ++ (rows_of version_part (content.versions_of additions.days.items)
-    ++ (rows_of detail_part additions.details.items
-    ++ (rows_of event_part additions.events.items
-    ++ (rows_of period_part periods
-    ++ (rows_of holiday_part additions.holidays.items ++ rows_of job_part jobs)))))
+    ++ (rows_of version_part (content.versions_of additions.days.items) ++ rest_in additions periods jobs)

@@ -1,42 +1,139 @@
 -- What the parts of a transaction, and all of it, do to the tables.
-use Rattle.std.specs.Prelude.{◌≡◌, ◌≢◌, ℕ, List, ◌∷◌, map, IsTrue}
+use Rattle.std.specs.Prelude.{◌≡◌, ◌≢◌, ℕ, List, [], ◌∷◌, map, IfErr, IsTrue, OnOk, Result}
+use Rattle.std.specs.FinSet as set
 use Rattle.std.specs.List.{AllByRecursion}
-use Rattle.sqlite.specs.State.{HasCleanDisk, State}
+use Rattle.sqlite.specs.Schema.{Schema}
+use Rattle.sqlite.specs.State.{HasCleanDisk, KeepsCommit, State, Survives}
 use Rattle.sqlite.specs.Table.{Table}
-use Rattle.sqlite.specs.declared.types.Value.{Value}
+use Rattle.sqlite.specs.declared.error.Error.{Error}
 use Rattle.sqlite_catalog.specs.Listing.{IsSound}
 use Rattle.sqlite_trees.specs.Tree.{Trees}
+use Rattle.sqlite_value.specs.Order.{Row}
+use Rattle.mds_marks.specs.Reading.{ReadingValue}
+use Rattle.mds_world.specs.FactOrder.{fact_cmp}
+use Rattle.mds_world.specs.Facts.{Fact}
 use Rattle.mds_world.specs.World.{union}
+use Rattle.mds_world.specs.declared.facts.Key.{Key}
 use Rattle.mds_keeper.specs.Content as content
 use Rattle.mds_keeper.specs.declared.additions.Additions.{Additions}
-use Rattle.mds_tables.specs.RowFacts.{world_in}
-use Rattle.mds_tables.specs.Stores.{Adds, Gains}
-use Rattle.mds_tables.specs.Tables.{schema_1, tables_1}
-use Rattle.mds_inserts.specs.Parts.{Part, rows_of}
-use Rattle.mds_inserts.specs.Refusals.{TakesAll}
+use Rattle.mds_tables.specs.Layouts.{Layout, rows_layout, world_with}
+use Rattle.mds_tables.specs.Stores.{AddsOf, Gained, Gains, HasRows}
+use Rattle.mds_tables.specs.Tables.{More, detail_table, event_table, head_table, holiday_table, job_table, period_table, schema_table, schema_with, version_tree}
+use Rattle.mds_inserts.specs.declared.jobs.JobRow.{JobRow}
+use Rattle.mds_inserts.specs.declared.periods.PeriodRow.{PeriodRow}
+use Rattle.mds_inserts.specs.Parts.{Part, Says, detail_part, event_part, holiday_part, job_part, period_part, rows_of}
+use Rattle.mds_inserts.specs.Refusals.{FailsToPut, TakesAll}
 
 -- every table but that of a tree is as it was
 abbrev pub KeepsOthers : ℕ → Trees → Trees → List Table → Type 0
 KeepsOthers tree old new = AllByRecursion (λ table. table.tree ≢ tree → new table.tree ≡ old table.tree)
 
-module _ {A : Type 0} (part : Part A) (old new : State) (items : List A) where
-  -- These things have their rows in their table, beside those that were there, as the transaction sees it. Every other
-  -- table is as it was, and nothing is committed.
+-- every table but those of these trees is as it was
+abbrev pub KeepsBut : List ℕ → Trees → Trees → List Table → Type 0
+KeepsBut trees old new = AllByRecursion (λ (table : Table). AllByRecursion (λ tree. table.tree ≢ tree) trees → new table.tree ≡ old table.tree)
+
+-- all of these tables are as they were
+abbrev pub Keeps : Trees → Trees → List Table → Type 0
+Keeps old new = AllByRecursion (λ (table : Table). new table.tree ≡ old table.tree)
+
+module _ (under : Schema) {A : Type 0} (part : Part A) (old new : State) (items : List A) where
+  -- Under a schema these things have their rows in their table, beside those that were there, as the transaction sees it.
+  -- Every other table is as it was, and nothing is committed.
   pub record Puts : Type 0 where
-    pub schema : new.now.schema ≡ schema_1
+    pub schema : new.now.schema ≡ under
     pub rows : Gains part.tree (map part.cells items) old.now.trees new.now.trees
-    pub others : KeepsOthers part.tree old.now.trees new.now.trees tables_1
+    pub others : KeepsOthers part.tree old.now.trees new.now.trees under.tables
     pub committed : new.committed ≡ old.committed
-    pub sound : IsSound schema_1 new.now.trees
+    pub sound : IsSound under new.now.trees
     pub took : TakesAll old.step_limit (rows_of part items) old.now new.now
 
-  -- The same, where the connection is open and the tables are these. The row of each, under any rowid, says its fact.
+  -- The same, where the connection is open and the schema is this. The row of each, under any rowid, says its fact.
   pub record PutsThere : Type 0 where
     pub was_open : HasCleanDisk new → IsTrue new.is_open → IsTrue old.is_open
     pub is_open : HasCleanDisk new → IsTrue old.is_open → IsTrue new.is_open
     pub inside : HasCleanDisk new → IsTrue old.in_transaction → IsTrue new.in_transaction
-    pub puts : HasCleanDisk new → IsTrue old.is_open → old.now.schema ≡ schema_1 → IsSound schema_1 old.now.trees → Puts
-    pub said : AllByRecursion (λ item. (id : Value) → part.read (id ∷ part.cells item) ≡ part.fact item) items
+    pub puts : HasCleanDisk new → IsTrue old.is_open → old.now.schema ≡ under → IsSound under old.now.trees → Puts
+    pub said : Says part items
+
+-- the trees of what is put behind heads and versions
+abbrev pub rest_trees : List ℕ
+rest_trees = detail_part.tree ∷ event_part.tree ∷ period_part.tree ∷ holiday_part.tree ∷ job_part.tree ∷ []
+
+module _ (under : Schema) (old new : State) (additions : Additions) (periods : List PeriodRow) (jobs : List JobRow) where
+  -- the same of all that is put behind heads and versions, where the rows of accumulations and of jobs are given
+  pub record PutsRest : Type 0 where
+    pub schema : new.now.schema ≡ under
+    pub details : Gains detail_part.tree (map detail_part.cells additions.details.items) old.now.trees new.now.trees
+    pub events : Gains event_part.tree (map event_part.cells additions.events.items) old.now.trees new.now.trees
+    pub accumulated : Gains period_part.tree (map period_part.cells periods) old.now.trees new.now.trees
+    pub holidays : Gains holiday_part.tree (map holiday_part.cells additions.holidays.items) old.now.trees new.now.trees
+    pub planned : Gains job_part.tree (map job_part.cells jobs) old.now.trees new.now.trees
+    pub others : KeepsBut rest_trees old.now.trees new.now.trees under.tables
+    pub sound : IsSound under new.now.trees
+
+  pub record PutsRestThere : Type 0 where
+    pub was_open : HasCleanDisk new → IsTrue new.is_open → IsTrue old.is_open
+    pub is_open : HasCleanDisk new → IsTrue old.is_open → IsTrue new.is_open
+    pub inside : HasCleanDisk new → IsTrue old.in_transaction → IsTrue new.in_transaction
+    pub puts : HasCleanDisk new → IsTrue old.is_open → old.now.schema ≡ under → IsSound under old.now.trees → PutsRest
+    pub said_details : Says detail_part additions.details.items
+    pub said_events : Says event_part additions.events.items
+    pub said_periods : Says period_part periods
+    pub said_holidays : Says holiday_part additions.holidays.items
+    pub said_jobs : Says job_part jobs
+
+-- these facts are more than those, by these
+abbrev pub IsMore : List Fact → List Fact → List Fact → Type 0
+IsMore more some facts = set.from_list {R = fact_cmp} more ≡ union (set.from_list some) (set.from_list facts)
+
+-- the tables that every schema has, but that of versions
+abbrev pub unversioned : List Table
+unversioned = schema_table ∷ head_table ∷ detail_table ∷ event_table ∷ period_table ∷ holiday_table ∷ job_table ∷ []
+
+module _ (layout : Layout) (HasVersions : Gained) (old new : State) (versions : List (Key × ReadingValue)) where
+  -- the same of versions, in any layout: they are in its tables, and these say them beside those that they said
+  pub record PutsVersions : Type 0 where
+    pub schema : new.now.schema ≡ schema_with layout.more
+    pub rows : HasVersions old.now.trees new.now.trees versions
+    pub names : IsMore (layout.versions new.now.trees) (layout.versions old.now.trees) (map content.version_fact versions)
+    pub others : Keeps old.now.trees new.now.trees unversioned
+    pub sound : IsSound (schema_with layout.more) new.now.trees
+
+  pub record PutsVersionsThere : Type 0 where
+    pub was_open : HasCleanDisk new → IsTrue new.is_open → IsTrue old.is_open
+    pub is_open : HasCleanDisk new → IsTrue old.is_open → IsTrue new.is_open
+    pub inside : HasCleanDisk new → IsTrue old.in_transaction → IsTrue new.in_transaction
+    pub puts : HasCleanDisk new → IsTrue old.is_open → old.now.schema ≡ schema_with layout.more
+        → IsSound (schema_with layout.more) old.now.trees → PutsVersions
+
+-- What is told of the rows of versions reads mds_version and the tables behind those that every schema has, and no others.
+abbrev pub IsSteady : More → Gained → Type 0
+IsSteady more HasVersions =
+    (a b c d : Trees) (versions : List (Key × ReadingValue)) → b version_tree ≡ a version_tree → Keeps a b more.tables
+    → HasVersions b c versions → d version_tree ≡ c version_tree → Keeps c d more.tables → HasVersions a d versions
+
+-- the connection is open, and the tables are as the schema says
+pub record IsFit (under : Schema) (state : State) : Type 0 where
+  pub is_open : IsTrue state.is_open
+  pub sound : IsSound under state.now.trees
+
+-- What a call in a transaction does that puts these rows: it commits nothing, and this is done where it is Ok. Else the store
+-- failed, or the tables refuse one of the rows. That is told under a schema, where something is given.
+pub record Changes {X : Type 0} (under : Schema) (Given Done : Type 0) (rows : List (ℕ × Row)) (old new : State) (result : Result X Error) : Type 0 where
+  pub ok : OnOk result Done
+  pub cause : HasCleanDisk new → IsTrue old.in_transaction → old.now.schema ≡ under → Given → IfErr result (FailsToPut old new rows old.now)
+  pub kept : HasCleanDisk new → KeepsCommit old new
+  pub survives : Survives old new (λ _. ⊥)
+
+-- a call that puts the row of a thing
+abbrev pub PutsOne : {A X : Type 0} → Schema → Part A → State → State → Result X Error → A → Type 0
+PutsOne under part old new result item =
+    Changes under (Unit {0}) (PutsThere under part old new (item ∷ [])) (rows_of part (item ∷ [])) old new result
+
+-- one that puts the rows of several, one after another
+abbrev pub PutsEach : {A X : Type 0} → Schema → Part A → State → State → Result X Error → List A → Type 0
+PutsEach under part old new result items =
+    Changes under (IsFit under old) (PutsThere under part old new items) (rows_of part items) old new result
 
 -- nothing is put, and the transaction goes on
 pub record StaysAs (old new : State) : Type 0 where
@@ -46,32 +143,44 @@ pub record StaysAs (old new : State) : Type 0 where
   pub now_is : IsTrue old.is_open → new.now ≡ old.now
   pub committed_is : IsTrue old.is_open → new.committed ≡ old.committed
 
--- All of the additions are in the tables, beside what was there.
-pub record HasAdded (additions : Additions) (old new : Trees) : Type 0 where
-  pub rows : Adds old new additions
-  pub world : world_in new ≡ union (world_in old) (content.content additions)
-  pub sound : IsSound schema_1 new
+module _ (layout : Layout) (HasVersions : Gained) where
+  -- All of the additions are in the tables, beside what was there.
+  pub record HasAddedOf (additions : Additions) (old new : Trees) : Type 0 where
+    pub rows : AddsOf HasVersions old new additions
+    pub world : world_with layout new ≡ union (world_with layout old) (content.content additions)
+    pub sound : IsSound (schema_with layout.more) new
 
--- the parts, one after another, as the transaction sees them, where the connection is open and the tables are these
-pub record PutsAll (old new : State) (additions : Additions) : Type 0 where
-  pub was_open : HasCleanDisk new → IsTrue new.is_open → IsTrue old.is_open
-  pub is_open : HasCleanDisk new → IsTrue old.is_open → IsTrue new.is_open
-  pub inside : HasCleanDisk new → IsTrue old.in_transaction → IsTrue new.in_transaction
-  pub schema : HasCleanDisk new → IsTrue old.is_open → old.now.schema ≡ schema_1 → IsSound schema_1 old.now.trees
-      → new.now.schema ≡ schema_1
-  pub added : HasCleanDisk new → IsTrue old.is_open → old.now.schema ≡ schema_1 → IsSound schema_1 old.now.trees
-      → HasAdded additions old.now.trees new.now.trees
+  -- the parts, one after another, as the transaction sees them, where the connection is open and the tables are these
+  pub record PutsAllOf (old new : State) (additions : Additions) : Type 0 where
+    pub was_open : HasCleanDisk new → IsTrue new.is_open → IsTrue old.is_open
+    pub is_open : HasCleanDisk new → IsTrue old.is_open → IsTrue new.is_open
+    pub inside : HasCleanDisk new → IsTrue old.in_transaction → IsTrue new.in_transaction
+    pub schema : HasCleanDisk new → IsTrue old.is_open → old.now.schema ≡ schema_with layout.more
+        → IsSound (schema_with layout.more) old.now.trees → new.now.schema ≡ schema_with layout.more
+    pub added : HasCleanDisk new → IsTrue old.is_open → old.now.schema ≡ schema_with layout.more
+        → IsSound (schema_with layout.more) old.now.trees → HasAddedOf additions old.now.trees new.now.trees
 
--- The additions are committed beside what the transaction saw at its beginning.
-pub record Writes (old new : State) (additions : Additions) : Type 0 where
-  pub is_open : IsTrue old.is_open → IsTrue new.is_open
-  pub schema : IsTrue old.is_open → old.now.schema ≡ schema_1 → IsSound schema_1 old.now.trees
-      → new.committed.schema ≡ schema_1
-  pub added : IsTrue old.is_open → old.now.schema ≡ schema_1 → IsSound schema_1 old.now.trees
-      → HasAdded additions old.now.trees new.committed.trees
+  -- The additions are committed beside what the transaction saw at its beginning.
+  pub record WritesOf (old new : State) (additions : Additions) : Type 0 where
+    pub is_open : IsTrue old.is_open → IsTrue new.is_open
+    pub schema : IsTrue old.is_open → old.now.schema ≡ schema_with layout.more → IsSound (schema_with layout.more) old.now.trees
+        → new.committed.schema ≡ schema_with layout.more
+    pub added : IsTrue old.is_open → old.now.schema ≡ schema_with layout.more → IsSound (schema_with layout.more) old.now.trees
+        → HasAddedOf additions old.now.trees new.committed.trees
 
--- what a crash may leave of the transaction
+  -- what a crash may leave of the transaction
+  abbrev pub LeavesWrittenOf : State → Additions → Trees → Type 0
+  LeavesWrittenOf old additions left =
+      IsTrue old.is_open → old.now.schema ≡ schema_with layout.more → IsSound (schema_with layout.more) old.now.trees
+      → HasAddedOf additions old.now.trees left
+
+-- ---- the same of the layout of schema 1
+
+abbrev pub PutsAll : State → State → Additions → Type 0
+PutsAll = PutsAllOf rows_layout HasRows
+
+abbrev pub Writes : State → State → Additions → Type 0
+Writes = WritesOf rows_layout HasRows
+
 abbrev pub LeavesWritten : State → Additions → Trees → Type 0
-LeavesWritten old additions left =
-    IsTrue old.is_open → old.now.schema ≡ schema_1 → IsSound schema_1 old.now.trees
-    → HasAdded additions old.now.trees left
+LeavesWritten = LeavesWrittenOf rows_layout HasRows

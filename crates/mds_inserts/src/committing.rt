@@ -4,19 +4,38 @@ ghost use Rattle.std.specs.Prelude.{◌≡◌, false, IfErr, IsTrue, OnErr, OnOk
 ghost use Rattle.sqlite.specs.Held.{state};
 ghost use Rattle.sqlite.specs.State.{HasCleanDisk, KeepsCommit, Survives};
 ghost use Rattle.sqlite_catalog.specs.Listing.{IsSound};
-ghost use Rattle.mds_tables.specs.Tables.{schema_1};
+ghost use Rattle.mds_tables.specs.Tables.{More, schema_1, schema_with};
 ghost use Rattle.mds_inserts.specs.MadeRows.{IsRowOfJob, IsRowOfPeriod};
-ghost use Rattle.mds_inserts.specs.Parts.{rows_in};
+ghost use Rattle.mds_inserts.specs.Parts.{rest_in, rows_in};
 ghost use Rattle.mds_inserts.specs.Refusals.{FailsToPut};
 ghost use Rattle.mds_tables.specs.Stores.{AreRowsOf, Commits, Holds, LeavesAdded};
-ghost use Rattle.mds_inserts.specs.Writing.{LeavesWritten, PutsAll, Writes};
+ghost use Rattle.mds_inserts.specs.Writing.{Changes, IsFit, LeavesWritten, PutsAll, PutsRestThere, Writes};
 
 use crate::jobs::JobRow;
 use crate::periods::PeriodRow;
 use crate::putting::{put_days, put_each};
-use mds_tables::ready;
 use mds_keeper::Additions;
+use mds_tables::ready;
 use sqlite::{Alter, Connection, Error, Transaction};
+
+/// Puts the rows behind those of heads and versions, whatever tables stand behind those that every schema has.
+fn put_rest<S: Alter>(
+    tx: &mut Transaction<'_, S>,
+    additions: &Additions,
+    periods: &[PeriodRow],
+    jobs: &[JobRow],
+) -> Result<(), Error>
+    ensures same_reference { tx.new.conn.ghost_name ≡ tx.old.conn.ghost_name }
+    ensures puts { (more : More) → Changes (schema_with more) (IsFit (schema_with more) (state S.Store tx.old.conn.now))
+        (PutsRestThere (schema_with more) (state S.Store tx.old.conn.now) (state S.Store tx.new.conn.now) additions.now periods.now jobs.now)
+        (rest_in additions.now periods.now jobs.now) (state S.Store tx.old.conn.now) (state S.Store tx.new.conn.now) result }
+{
+    put_each(tx, &additions.details)?;
+    put_each(tx, &additions.events)?;
+    put_each(tx, periods)?;
+    put_each(tx, &additions.holidays)?;
+    put_each(tx, jobs)
+}
 
 /// Puts all rows. Those of a table come before those that refer to them.
 fn put_all<S: Alter>(
@@ -28,21 +47,12 @@ fn put_all<S: Alter>(
     requires periods { AreRowsOf IsRowOfPeriod additions.now.periods.items periods.now }
     requires jobs { AreRowsOf IsRowOfJob additions.now.jobs.items jobs.now }
     ensures same_reference { tx.new.conn.ghost_name ≡ tx.old.conn.ghost_name }
-    ensures ok { OnOk result (PutsAll (state S.Store tx.old.conn.now) (state S.Store tx.new.conn.now) additions.now) }
-    ensures cause { HasCleanDisk (state S.Store tx.new.conn.now) → IsTrue (state S.Store tx.old.conn.now).is_open
-        → IsTrue (state S.Store tx.old.conn.now).in_transaction
-        → (state S.Store tx.old.conn.now).now.schema ≡ schema_1 → IsSound schema_1 (state S.Store tx.old.conn.now).now.trees
-        → IfErr result (FailsToPut (state S.Store tx.old.conn.now) (state S.Store tx.new.conn.now) (rows_in additions.now periods.now jobs.now) (state S.Store tx.old.conn.now).now) }
-    ensures kept { HasCleanDisk (state S.Store tx.new.conn.now) → KeepsCommit (state S.Store tx.old.conn.now) (state S.Store tx.new.conn.now) }
-    ensures survives { Survives (state S.Store tx.old.conn.now) (state S.Store tx.new.conn.now) (λ _. ⊥) }
+    ensures puts { Changes schema_1 (IsFit schema_1 (state S.Store tx.old.conn.now)) (PutsAll (state S.Store tx.old.conn.now) (state S.Store tx.new.conn.now) additions.now)
+        (rows_in additions.now periods.now jobs.now) (state S.Store tx.old.conn.now) (state S.Store tx.new.conn.now) result }
 {
     put_each(tx, &additions.heads)?;
     put_days(tx, &additions.days)?;
-    put_each(tx, &additions.details)?;
-    put_each(tx, &additions.events)?;
-    put_each(tx, periods)?;
-    put_each(tx, &additions.holidays)?;
-    put_each(tx, jobs)
+    put_rest(tx, additions, periods, jobs)
 }
 
 /// Puts all rows in a transaction of its own.

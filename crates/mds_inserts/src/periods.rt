@@ -5,8 +5,8 @@ ghost use Rattle.mds_statements.specs.Bodies.{IsPeriodBody};
 ghost use Rattle.mds_tables.specs.Stores.{AreRowsOf};
 ghost use Rattle.mds_inserts.specs.MadeRows.{IsRowOfPeriod};
 
-use mds_statements::{Period, PeriodKey};
 use mds_keeper::Unavailable;
+use mds_statements::{Period, PeriodKey};
 use std::alloc::Global;
 
 /// What the row of an accumulation holds: its key, and its body.

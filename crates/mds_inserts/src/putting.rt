@@ -1,23 +1,23 @@
 //! Rows that are put into one table, in a transaction.
 
-ghost use Rattle.std.specs.Prelude.{◌≡◌, ◌≤◌, [], ◌∷◌, false, length, map, take, IfErr, IsTrue, OnOk};
+ghost use Rattle.std.specs.Prelude.{◌≡◌, ◌≤◌, false, length, map, take, IfErr, IsTrue, OnOk};
 ghost use Rattle.std.specs.List.{flat_map};
 ghost use Rattle.sqlite.specs.Held.{state};
 ghost use Rattle.sqlite.specs.Values.{bound};
 ghost use Rattle.sqlite.specs.State.{HasCleanDisk, KeepsCommit, Survives};
-ghost use Rattle.sqlite_catalog.specs.Listing.{IsSound};
 ghost use Rattle.mds_marks.specs.Quality.{quality_text};
 ghost use Rattle.mds_marks.specs.Reading.{is_lawful};
 ghost use Rattle.mds_tables.specs.Causes.{StoreFails};
 ghost use Rattle.mds_tables.specs.Cells.{day_and_versions, reading_cells, slot_cells};
-ghost use Rattle.mds_tables.specs.Tables.{schema_1};
+ghost use Rattle.mds_tables.specs.Tables.{More, schema_1, schema_with};
 ghost use Rattle.mds_keeper.specs.Content.{day_versions, version_at, versions_of};
-ghost use Rattle.mds_inserts.specs.Parts.{Part, detail_part, event_part, head_part, holiday_part, job_part, period_part, rows_of, version_part};
-ghost use Rattle.mds_inserts.specs.Refusals.{FailsToPut, is_store_error};
-ghost use Rattle.mds_inserts.specs.Writing.{PutsThere, StaysAs};
+ghost use Rattle.mds_inserts.specs.Parts.{Part, detail_part, event_part, head_part, holiday_part, job_part, period_part, version_part};
+ghost use Rattle.mds_inserts.specs.Refusals.{is_store_error};
+ghost use Rattle.mds_inserts.specs.Writing.{PutsEach, PutsOne, PutsThere, StaysAs};
 
 use crate::jobs::JobRow;
 use crate::periods::PeriodRow;
+use mds_keeper::{DayVersions, Version};
 use mds_marks::{Reading, qualities_read_back};
 use mds_quantity::units_read_back;
 use mds_tables::{
@@ -25,12 +25,11 @@ use mds_tables::{
     period_cells, reading_cells, slot_cells, version_cells,
 };
 use mds_terms::{Day, Event, Stream};
-use mds_keeper::{DayVersions, Version};
 use mds_world::{Detail, Head, Key};
 use sqlite::types::ValueRef;
 use sqlite::{Alter, Error, ErrorCode, Transaction};
 
-/// What becomes one row of a table.
+/// What becomes one row of a table, whatever tables stand behind those that every schema has.
 pub(crate) trait Put {
     /// Its table, its cells, and what its row says.
     ghost part: { Part Self };
@@ -38,12 +37,7 @@ pub(crate) trait Put {
     /// Puts its row.
     fn put<S: Alter>(&self, tx: &mut Transaction<'_, S>) -> Result<(), Error>
         ensures same_reference { tx.new.conn.ghost_name ≡ tx.old.conn.ghost_name }
-        ensures ok { OnOk result (PutsThere part (state S.Store tx.old.conn.now) (state S.Store tx.new.conn.now) (self.now ∷ [])) }
-        ensures cause { HasCleanDisk (state S.Store tx.new.conn.now) → IsTrue (state S.Store tx.old.conn.now).in_transaction
-            → (state S.Store tx.old.conn.now).now.schema ≡ schema_1
-            → IfErr result (FailsToPut (state S.Store tx.old.conn.now) (state S.Store tx.new.conn.now) (rows_of part (self.now ∷ [])) (state S.Store tx.old.conn.now).now) }
-        ensures kept { HasCleanDisk (state S.Store tx.new.conn.now) → KeepsCommit (state S.Store tx.old.conn.now) (state S.Store tx.new.conn.now) }
-        ensures survives { Survives (state S.Store tx.old.conn.now) (state S.Store tx.new.conn.now) (λ _. ⊥) };
+        ensures puts { (more : More) → PutsOne (schema_with more) part (state S.Store tx.old.conn.now) (state S.Store tx.new.conn.now) result self.now };
 }
 
 /// Puts the row of each.
@@ -52,13 +46,7 @@ pub(crate) fn put_each<T: Put, S: Alter>(
     items: &[T],
 ) -> Result<(), Error>
     ensures same_reference { tx.new.conn.ghost_name ≡ tx.old.conn.ghost_name }
-    ensures ok { OnOk result (PutsThere T.part (state S.Store tx.old.conn.now) (state S.Store tx.new.conn.now) items.now) }
-    ensures cause { HasCleanDisk (state S.Store tx.new.conn.now) → IsTrue (state S.Store tx.old.conn.now).is_open
-        → IsTrue (state S.Store tx.old.conn.now).in_transaction
-        → (state S.Store tx.old.conn.now).now.schema ≡ schema_1 → IsSound schema_1 (state S.Store tx.old.conn.now).now.trees
-        → IfErr result (FailsToPut (state S.Store tx.old.conn.now) (state S.Store tx.new.conn.now) (rows_of T.part items.now) (state S.Store tx.old.conn.now).now) }
-    ensures kept { HasCleanDisk (state S.Store tx.new.conn.now) → KeepsCommit (state S.Store tx.old.conn.now) (state S.Store tx.new.conn.now) }
-    ensures survives { Survives (state S.Store tx.old.conn.now) (state S.Store tx.new.conn.now) (λ _. ⊥) }
+    ensures puts { (more : More) → PutsEach (schema_with more) T.part (state S.Store tx.old.conn.now) (state S.Store tx.new.conn.now) result items.now }
 {
     for item in items {
         item.put(tx)?;
@@ -87,12 +75,7 @@ fn put_version<S: Alter>(
     reading: &Reading,
 ) -> Result<(), Error>
     ensures same_reference { tx.new.conn.ghost_name ≡ tx.old.conn.ghost_name }
-    ensures ok { OnOk result (PutsThere version_part (state S.Store tx.old.conn.now) (state S.Store tx.new.conn.now) ((key.now, reading.now) ∷ [])) }
-    ensures cause { HasCleanDisk (state S.Store tx.new.conn.now) → IsTrue (state S.Store tx.old.conn.now).in_transaction
-        → (state S.Store tx.old.conn.now).now.schema ≡ schema_1
-        → IfErr result (FailsToPut (state S.Store tx.old.conn.now) (state S.Store tx.new.conn.now) (rows_of version_part ((key.now, reading.now) ∷ [])) (state S.Store tx.old.conn.now).now) }
-    ensures kept { HasCleanDisk (state S.Store tx.new.conn.now) → KeepsCommit (state S.Store tx.old.conn.now) (state S.Store tx.new.conn.now) }
-    ensures survives { Survives (state S.Store tx.old.conn.now) (state S.Store tx.new.conn.now) (λ _. ⊥) }
+    ensures puts { PutsOne schema_1 version_part (state S.Store tx.old.conn.now) (state S.Store tx.new.conn.now) result (key.now, reading.now) }
 {
     qualities_read_back();
     let (letters, count) = reading.mark().quality.letters();
@@ -214,7 +197,7 @@ fn insert_eight<S: Alter>(
     rows: &[(u16, Version); TOGETHER],
 ) -> Result<usize, Error>
     ensures same_reference { tx.new.conn.ghost_name ≡ tx.old.conn.ghost_name }
-    ensures ok { OnOk result (PutsThere version_part (state S.Store tx.old.conn.now) (state S.Store tx.new.conn.now) (map (version_at stream.now day) rows.now)) }
+    ensures ok { OnOk result (PutsThere schema_1 version_part (state S.Store tx.old.conn.now) (state S.Store tx.new.conn.now) (map (version_at stream.now day) rows.now)) }
     ensures failed { HasCleanDisk (state S.Store tx.new.conn.now) → IsTrue (state S.Store tx.old.conn.now).in_transaction
         → (state S.Store tx.old.conn.now).now.schema ≡ schema_1
         → IfErr result (λ e. IsTrue (is_store_error e) → StoreFails (state S.Store tx.old.conn.now) (state S.Store tx.new.conn.now) ⊥ e) }
@@ -260,13 +243,7 @@ fn put_eight<S: Alter>(
     rows: &[(u16, Version); TOGETHER],
 ) -> Result<(), Error>
     ensures same_reference { tx.new.conn.ghost_name ≡ tx.old.conn.ghost_name }
-    ensures ok { OnOk result (PutsThere version_part (state S.Store tx.old.conn.now) (state S.Store tx.new.conn.now) (map (version_at stream.now day) rows.now)) }
-    ensures cause { HasCleanDisk (state S.Store tx.new.conn.now) → IsTrue (state S.Store tx.old.conn.now).is_open
-        → IsTrue (state S.Store tx.old.conn.now).in_transaction
-        → (state S.Store tx.old.conn.now).now.schema ≡ schema_1 → IsSound schema_1 (state S.Store tx.old.conn.now).now.trees
-        → IfErr result (FailsToPut (state S.Store tx.old.conn.now) (state S.Store tx.new.conn.now) (rows_of version_part (map (version_at stream.now day) rows.now)) (state S.Store tx.old.conn.now).now) }
-    ensures kept { HasCleanDisk (state S.Store tx.new.conn.now) → KeepsCommit (state S.Store tx.old.conn.now) (state S.Store tx.new.conn.now) }
-    ensures survives { Survives (state S.Store tx.old.conn.now) (state S.Store tx.new.conn.now) (λ _. ⊥) }
+    ensures puts { PutsEach schema_1 version_part (state S.Store tx.old.conn.now) (state S.Store tx.new.conn.now) result (map (version_at stream.now day) rows.now) }
 {
     match insert_eight(tx, stream, day, rows) {
         Ok(_) => Ok(()),
@@ -287,13 +264,7 @@ fn put_rows<S: Alter>(
     rows: &[(u16, Version)],
 ) -> Result<(), Error>
     ensures same_reference { tx.new.conn.ghost_name ≡ tx.old.conn.ghost_name }
-    ensures ok { OnOk result (PutsThere version_part (state S.Store tx.old.conn.now) (state S.Store tx.new.conn.now) (map (version_at stream.now day) rows.now)) }
-    ensures cause { HasCleanDisk (state S.Store tx.new.conn.now) → IsTrue (state S.Store tx.old.conn.now).is_open
-        → IsTrue (state S.Store tx.old.conn.now).in_transaction
-        → (state S.Store tx.old.conn.now).now.schema ≡ schema_1 → IsSound schema_1 (state S.Store tx.old.conn.now).now.trees
-        → IfErr result (FailsToPut (state S.Store tx.old.conn.now) (state S.Store tx.new.conn.now) (rows_of version_part (map (version_at stream.now day) rows.now)) (state S.Store tx.old.conn.now).now) }
-    ensures kept { HasCleanDisk (state S.Store tx.new.conn.now) → KeepsCommit (state S.Store tx.old.conn.now) (state S.Store tx.new.conn.now) }
-    ensures survives { Survives (state S.Store tx.old.conn.now) (state S.Store tx.new.conn.now) (λ _. ⊥) }
+    ensures puts { PutsEach schema_1 version_part (state S.Store tx.old.conn.now) (state S.Store tx.new.conn.now) result (map (version_at stream.now day) rows.now) }
 {
     for row in rows {
         let key = Key {
@@ -310,13 +281,7 @@ fn put_rows<S: Alter>(
 /// Puts the rows of a day's versions, eight at a time, and those that are left one by one.
 fn put_day<S: Alter>(tx: &mut Transaction<'_, S>, added: &DayVersions) -> Result<(), Error>
     ensures same_reference { tx.new.conn.ghost_name ≡ tx.old.conn.ghost_name }
-    ensures ok { OnOk result (PutsThere version_part (state S.Store tx.old.conn.now) (state S.Store tx.new.conn.now) (day_versions added.now)) }
-    ensures cause { HasCleanDisk (state S.Store tx.new.conn.now) → IsTrue (state S.Store tx.old.conn.now).is_open
-        → IsTrue (state S.Store tx.old.conn.now).in_transaction
-        → (state S.Store tx.old.conn.now).now.schema ≡ schema_1 → IsSound schema_1 (state S.Store tx.old.conn.now).now.trees
-        → IfErr result (FailsToPut (state S.Store tx.old.conn.now) (state S.Store tx.new.conn.now) (rows_of version_part (day_versions added.now)) (state S.Store tx.old.conn.now).now) }
-    ensures kept { HasCleanDisk (state S.Store tx.new.conn.now) → KeepsCommit (state S.Store tx.old.conn.now) (state S.Store tx.new.conn.now) }
-    ensures survives { Survives (state S.Store tx.old.conn.now) (state S.Store tx.new.conn.now) (λ _. ⊥) }
+    ensures puts { PutsEach schema_1 version_part (state S.Store tx.old.conn.now) (state S.Store tx.new.conn.now) result (day_versions added.now) }
 {
     let (eights, rest) = added.rows.as_chunks::<TOGETHER>();
     for rows in eights {
@@ -331,13 +296,7 @@ pub(crate) fn put_days<S: Alter>(
     days: &[DayVersions],
 ) -> Result<(), Error>
     ensures same_reference { tx.new.conn.ghost_name ≡ tx.old.conn.ghost_name }
-    ensures ok { OnOk result (PutsThere version_part (state S.Store tx.old.conn.now) (state S.Store tx.new.conn.now) (versions_of days.now)) }
-    ensures cause { HasCleanDisk (state S.Store tx.new.conn.now) → IsTrue (state S.Store tx.old.conn.now).is_open
-        → IsTrue (state S.Store tx.old.conn.now).in_transaction
-        → (state S.Store tx.old.conn.now).now.schema ≡ schema_1 → IsSound schema_1 (state S.Store tx.old.conn.now).now.trees
-        → IfErr result (FailsToPut (state S.Store tx.old.conn.now) (state S.Store tx.new.conn.now) (rows_of version_part (versions_of days.now)) (state S.Store tx.old.conn.now).now) }
-    ensures kept { HasCleanDisk (state S.Store tx.new.conn.now) → KeepsCommit (state S.Store tx.old.conn.now) (state S.Store tx.new.conn.now) }
-    ensures survives { Survives (state S.Store tx.old.conn.now) (state S.Store tx.new.conn.now) (λ _. ⊥) }
+    ensures puts { PutsEach schema_1 version_part (state S.Store tx.old.conn.now) (state S.Store tx.new.conn.now) result (versions_of days.now) }
 {
     for added in days {
         put_day(tx, added)?;

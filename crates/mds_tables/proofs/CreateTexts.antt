@@ -1,5 +1,5 @@
 -- What the texts that make the tables mean.
-use Rattle.std.proofs.Common.{◌≡◌, ◌<◌, ◌+◌, ◌*◌, ◌^◌, ◌++◌, ℕ, List, [], ◌∷◌, codes, false, true, length, take, refl, None, Ok, IsUtf8, arith}
+use Rattle.std.proofs.Common.{◌≡◌, ◌<◌, ◌+◌, ◌*◌, ◌^◌, ◌++◌, ℕ, List, [], ◌∷◌, codes, false, true, length, refl, None, Ok, IsUtf8, arith}
 use Rattle.std.specs.List.{AllByRecursion}
 use Rattle.sqlite.specs.Change.{automatics, created, is_reserved, is_used, next_tree}
 use Rattle.sqlite.specs.Command.TheVariants.{CreateTable}
@@ -18,7 +18,7 @@ use Rattle.sqlite_trees.specs.Sound.{begins, fits_kind, is_free_name, same_name}
 use Rattle.sqlite_value.specs.Order.{value_cmp}
 use Rattle.mds_tables.specs.Making.{schema_of}
 use Rattle.mds_tables.specs.Texts.{create_schema, create_head, create_version, create_detail, create_event, create_period, create_holiday, create_job}
-use Rattle.mds_tables.specs.Tables.{schema_table, head_table, version_table, detail_table, event_table, period_table, holiday_table, job_table, tables_1}
+use Rattle.mds_tables.specs.Tables.{schema_table, head_table, version_table, detail_table, event_table, period_table, holiday_table, job_table}
 
 -- no rule of the library is against a table with this text under this schema
 pub record IsMakeable (schema : Schema) (text : List ℕ) (table : Table) : Type 0 where
@@ -40,16 +40,16 @@ abbrev pub read_whole : List ℕ → Compiled
 read_whole text =
     record { command = CreateTable; returning = None; names = []; formats = []; start = 0; end = length text; tail = length text }
 
--- the text makes the n-th table, where the tables before it are made
-pub record IsText (n : ℕ) (text : List ℕ) (table : Table) : Type 0 where
-  pub is_read : understood (schema_of n) text ≡ Ok (read_whole text)
-  pub makeable : IsMakeable (schema_of n) text (record table { tree = 0 })
-  pub makes : created (schema_of n) (record table { tree = 0 }) ≡ schema_of (n + 1)
-  pub uncounted : lacks_sequence (schema_of (n + 1)) ≡ false
-  pub placed : next_tree (schema_of n) ≡ table.tree
-  pub last : take n tables_1 ++ table ∷ [] ≡ take (n + 1) tables_1
+-- the text makes this table, and of a schema one with it behind its tables
+pub record IsText (before after : Schema) (text : List ℕ) (table : Table) : Type 0 where
+  pub is_read : understood before text ≡ Ok (read_whole text)
+  pub makeable : IsMakeable before text (record table { tree = 0 })
+  pub makes : created before (record table { tree = 0 }) ≡ after
+  pub uncounted : lacks_sequence after ≡ false
+  pub placed : next_tree before ≡ table.tree
+  pub last : before.tables ++ table ∷ [] ≡ after.tables
 
-pub schema_text : IsText 0 create_schema schema_table
+pub schema_text : IsText (schema_of 0) (schema_of 1) create_schema schema_table
 unfolding understood everything fits_kind is_free_name begins same_name value_cmp lib.Utf8.encode lib.Ieee.is_nan lib.Ieee.lt
 schema_text = record {
   is_read = refl;
@@ -73,7 +73,7 @@ schema_text = record {
   last = refl;
 }
 
-pub head_text : IsText 1 create_head head_table
+pub head_text : IsText (schema_of 1) (schema_of 2) create_head head_table
 unfolding understood everything fits_kind is_free_name begins same_name value_cmp lib.Utf8.encode lib.Ieee.is_nan lib.Ieee.lt
 head_text = record {
   is_read = refl;
@@ -97,7 +97,7 @@ head_text = record {
   last = refl;
 }
 
-pub version_text : IsText 2 create_version version_table
+pub version_text : IsText (schema_of 2) (schema_of 3) create_version version_table
 unfolding understood everything fits_kind is_free_name begins same_name value_cmp lib.Utf8.encode lib.Ieee.is_nan lib.Ieee.lt
 version_text = record {
   is_read = refl;
@@ -121,7 +121,7 @@ version_text = record {
   last = refl;
 }
 
-pub detail_text : IsText 3 create_detail detail_table
+pub detail_text : IsText (schema_of 3) (schema_of 4) create_detail detail_table
 unfolding understood everything fits_kind is_free_name begins same_name value_cmp lib.Utf8.encode lib.Ieee.is_nan lib.Ieee.lt
 detail_text = record {
   is_read = refl;
@@ -145,7 +145,7 @@ detail_text = record {
   last = refl;
 }
 
-pub event_text : IsText 4 create_event event_table
+pub event_text : IsText (schema_of 4) (schema_of 5) create_event event_table
 unfolding understood everything fits_kind is_free_name begins same_name value_cmp lib.Utf8.encode lib.Ieee.is_nan lib.Ieee.lt
 event_text = record {
   is_read = refl;
@@ -169,7 +169,7 @@ event_text = record {
   last = refl;
 }
 
-pub period_text : IsText 5 create_period period_table
+pub period_text : IsText (schema_of 5) (schema_of 6) create_period period_table
 unfolding understood everything fits_kind is_free_name begins same_name value_cmp lib.Utf8.encode lib.Ieee.is_nan lib.Ieee.lt
 period_text = record {
   is_read = refl;
@@ -193,7 +193,7 @@ period_text = record {
   last = refl;
 }
 
-pub holiday_text : IsText 6 create_holiday holiday_table
+pub holiday_text : IsText (schema_of 6) (schema_of 7) create_holiday holiday_table
 unfolding understood everything fits_kind is_free_name begins same_name value_cmp lib.Utf8.encode lib.Ieee.is_nan lib.Ieee.lt
 holiday_text = record {
   is_read = refl;
@@ -217,7 +217,7 @@ holiday_text = record {
   last = refl;
 }
 
-pub job_text : IsText 7 create_job job_table
+pub job_text : IsText (schema_of 7) (schema_of 8) create_job job_table
 unfolding understood everything fits_kind is_free_name begins same_name value_cmp lib.Utf8.encode lib.Ieee.is_nan lib.Ieee.lt
 job_text = record {
   is_read = refl;

@@ -1,5 +1,5 @@
 -- What one row of VALUES makes of a table.
-use Rattle.std.proofs.Common.{◌≡◌, ◌≢◌, ◌⊎◌, inl, inr, ℕ, ℤ, ◌/◌, List, [], ◌∷◌, ◌++◌, length, slice_get, Bool, true, false, cond, not, ◌&&◌, Some, None, Option, Ok, Err, Result, refl, ap, subst, ◌∙◌}
+use Rattle.std.proofs.Common.{◌≡◌, ◌≢◌, ◌⊎◌, inl, inr, ℕ, ℤ, ◌/◌, List, [], ◌∷◌, ◌++◌, length, slice_get, Bool, true, false, not, ◌&&◌, Some, None, Option, Ok, Err, Result, refl, ap, subst, ◌∙◌}
 use Rattle.std.specs.List.{AllByRecursion}
 use Rattle.sqlite.specs.declared.types.Value.TheVariants.{Null, Int}
 use Rattle.sqlite_value.specs.Order.{Row}
@@ -22,10 +22,7 @@ use Rattle.sqlite.specs.Rows.{Written, Task, Inserts}
 use Rattle.sqlite.specs.Does.{Tally, Does}
 use Rattle.sqlite.specs.declared.run.Mode.{Mode}
 use Rattle.sqlite.proofs.Callers.{one_step}
-
-pub either : {X : Type 0} (b : Bool) (x : X) → cond b x x ≡ x
-either true x = refl
-either false x = refl
+pub use Rattle.mds_tables.specs.Layouts.{either}
 
 pub cast_null : cast Integer Null ≡ Null
 unfolding unary

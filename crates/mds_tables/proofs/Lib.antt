@@ -7,6 +7,8 @@ pub mod FactLemmas
 pub mod InsertLemmas
 pub mod InsertTexts
 pub mod KnownLemmas
+pub mod LayoutLemmas
 pub mod MadeLemmas
+pub mod OpenTexts
 pub mod SayLemmas
 pub mod SayRefusals

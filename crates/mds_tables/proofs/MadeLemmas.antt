@@ -8,15 +8,17 @@ use Rattle.std.proofs.lemmas.Bool.{both_ways}
 use Rattle.sqlite.proofs.StateLemmas.{survives_then}
 use Rattle.sqlite_catalog.specs.Listing.{IsSound}
 use Rattle.mds_tables.specs.Causes.{HasFailed}
-use Rattle.mds_tables.specs.Making.{HasMade, KeepsNothing, LeavesMade, MakesThere, SaysVersion}
+use Rattle.mds_tables.specs.Making.{HasMadeOf, KeepsNothingOf, LeavesMadeOf, MakesThere, SaysVersionOf}
+use Rattle.mds_tables.specs.Layouts.{Layout}
 use Rattle.mds_tables.specs.Stores.{IsReady}
-use Rattle.mds_tables.specs.Tables.{no_schema, schema_1}
+use Rattle.mds_tables.specs.Tables.{no_schema, schema_with}
 use Rattle.mds_tables.proofs.CallLemmas.{survives_more}
 use Rattle.mds_tables.proofs.CauseLemmas.{failed_since, store_fails}
 
 -- the same of its trees, under the schema that it has
-keeps_trees : (db : Database) → KeepsNothing db → KeepsNothing (record { schema = schema_1; trees = db.trees })
-keeps_trees db keeps =
+keeps_trees : (layout : Layout) (db : Database) → KeepsNothingOf layout db
+    → KeepsNothingOf layout (record { schema = schema_with layout.more; trees = db.trees })
+keeps_trees layout db keeps =
     record { store = record { schema = refl; version = keeps.store.version }; bare = keeps.bare; world = keeps.world }
 
 -- the beginning of a transaction leaves nothing
@@ -30,10 +32,10 @@ begun s = record {
   crash = λ _ db may. inl may;
 }
 
-module _ (start begins last said new : State) (is : begins ≡ record start { in_transaction = true })
+module _ (layout : Layout) (start begins last said new : State) (is : begins ≡ record start { in_transaction = true })
     (one : Survives begins last (λ _. ⊥)) (two : Survives last said (λ _. ⊥))
     (three : Survives said new (λ db. db ≡ said.now.trees))
-    (makes : MakesThere 0 8 begins last) (says : SaysVersion last said) where
+    (makes : MakesThere no_schema (schema_with layout.more) begins last) (says : SaysVersionOf layout last said) where
   module _ (clean : HasCleanDisk new) (is_open : IsTrue start.is_open) (none : start.now.schema ≡ no_schema) where
     early : HasCleanDisk said
     early = omega (arith, three.clean)
@@ -50,13 +52,13 @@ module _ (start begins last said new : State) (is : begins ≡ record start { in
     last_open : IsTrue last.is_open
     last_open = makes.is_open earlier open_then
 
-    all_made : last.now.schema ≡ schema_1
+    all_made : last.now.schema ≡ schema_with layout.more
     all_made = makes.schema earlier open_then none_then
 
-    keeps : KeepsNothing said.now
+    keeps : KeepsNothingOf layout said.now
     keeps = says.said early last_open all_made (makes.empty earlier open_then none_then tt)
 
-    sound : IsSound schema_1 said.now.trees
+    sound : IsSound (schema_with layout.more) said.now.trees
     sound = says.sound early last_open all_made
 
     said_open : IsTrue said.is_open
@@ -79,14 +81,14 @@ module _ (start begins last said new : State) (is : begins ≡ record start { in
   commit_fails (Err e) h clean is_open none = failed clean is_open none e (h clean)
 
   -- what a crash may leave of the transaction
-  pub has_made : Survives start new (HasMade start)
+  pub has_made : Survives start new (HasMadeOf layout start)
   has_made =
-      survives_then start said new (λ _. ⊥) (λ db. db ≡ said.now.trees) (HasMade start) (λ _ db none. absurd none)
+      survives_then start said new (λ _. ⊥) (λ db. db ≡ said.now.trees) (HasMadeOf layout start) (λ _ db none. absurd none)
       (λ clean db same. record {
         made = λ is_open none.
-            subst (λ trees. KeepsNothing (record { schema = schema_1; trees = trees })) (sym same)
-            (keeps_trees said.now (keeps clean is_open none));
-        sound = λ is_open none. subst (IsSound schema_1) (sym same) (sound clean is_open none);
+            subst (λ trees. KeepsNothingOf layout (record { schema = schema_with layout.more; trees = trees })) (sym same)
+            (keeps_trees layout said.now (keeps clean is_open none));
+        sound = λ is_open none. subst (IsSound (schema_with layout.more)) (sym same) (sound clean is_open none);
       })
       (survives_more start last said (survives_more start begins last (subst (λ s. Survives start s (λ _. ⊥)) (sym is) (begun start)) one) two)
       three
@@ -96,10 +98,10 @@ seen : (old mid : State) → IsReady old mid → old.committed.schema ≡ no_sch
 seen old mid ready none = ap (λ (db : Database). db.schema) (ready.same.0.now_is ∙ ready.settled) ∙ none
 
 -- the same, told of what was committed, once the connection is known to be open
-pub leaves_made : (old mid new : State) → (HasCleanDisk mid → IsReady old mid) → Survives old mid (λ _. ⊥)
-    → Survives mid new (HasMade mid) → Survives old new (LeavesMade old)
-leaves_made old mid new ready one two =
-    survives_then old mid new (λ _. ⊥) (HasMade mid) (LeavesMade old) (λ _ db none. absurd none) (λ clean db has.
+pub leaves_made : (layout : Layout) (old mid new : State) → (HasCleanDisk mid → IsReady old mid) → Survives old mid (λ _. ⊥)
+    → Survives mid new (HasMadeOf layout mid) → Survives old new (LeavesMadeOf layout old)
+leaves_made layout old mid new ready one two =
+    survives_then old mid new (λ _. ⊥) (HasMadeOf layout mid) (LeavesMadeOf layout old) (λ _ db none. absurd none) (λ clean db has.
     let it = ready (omega (arith, two.clean)) in
     record {
       was_open = it.same.0.was_open;

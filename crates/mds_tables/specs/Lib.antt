@@ -1,5 +1,6 @@
 pub mod Tables
 pub mod RowFacts
+pub mod Layouts
 pub mod Shapes
 pub mod Causes
 pub mod Cells

@@ -115,11 +115,18 @@ holiday_fact row = HolidayIs (natural_at row 1)
 abbrev pub job_fact : Row → Fact
 job_fact row = JobIs (text_at row 1) (job_in (parts_of (text_at row 2))) (natural_at row 3)
 
--- the facts of the rows of each table, one table after the other
-abbrev pub facts_in : Trees → List Fact
-facts_in trees =
-    map head_fact (trees head_tree) ++ map version_fact (trees version_tree) ++ map detail_fact (trees detail_tree) ++ map event_fact (trees event_tree)
+-- the facts of the rows of each table, one table after the other, where the versions are said in this way
+abbrev pub facts_with : (Trees → List Fact) → Trees → List Fact
+facts_with versions trees =
+    map head_fact (trees head_tree) ++ versions trees ++ map detail_fact (trees detail_tree) ++ map event_fact (trees event_tree)
     ++ map period_fact (trees period_tree) ++ map holiday_fact (trees holiday_tree) ++ map job_fact (trees job_tree)
+
+-- those of rows that say a version each
+abbrev pub versions_in : Trees → List Fact
+versions_in trees = map version_fact (trees version_tree)
+
+abbrev pub facts_in : Trees → List Fact
+facts_in = facts_with versions_in
 
 -- The World that the rows of the tables name.
 abbrev pub world_in : Trees → World

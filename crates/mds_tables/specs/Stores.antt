@@ -6,8 +6,10 @@ use Rattle.sqlite.specs.State.{HasCleanDisk, IsRolledBack, IsUnchanged, State}
 use Rattle.sqlite_catalog.specs.Listing.{IsSound}
 use Rattle.sqlite_trees.specs.Tree.{Trees}
 use Rattle.sqlite_value.specs.Order.{Row, column}
+use Rattle.mds_marks.specs.Reading.{ReadingValue}
 use Rattle.mds_world.specs.Lists.{Member}
 use Rattle.mds_world.specs.World.{World, union}
+use Rattle.mds_world.specs.declared.facts.Key.{Key}
 use Rattle.mds_keeper.specs.Content.{content, versions_of}
 use Rattle.mds_keeper.specs.declared.additions.Additions.{Additions}
 use Rattle.mds_jobs.specs.Bodies.{IsJobBody}
@@ -16,29 +18,30 @@ use Rattle.mds_jobs.specs.declared.job.Job.{Job}
 use Rattle.mds_statements.specs.Bodies.{IsPeriodBody}
 use Rattle.mds_statements.specs.declared.periods.Period.{Period}
 use Rattle.mds_tables.specs.Cells.{detail_cells, event_cells, head_cells, holiday_cells, job_cells, period_cells, version_cells}
-use Rattle.mds_tables.specs.RowFacts.{int_at, world_in}
-use Rattle.mds_tables.specs.Tables.{detail_tree, event_tree, head_tree, holiday_tree, job_tree, period_tree, schema_1, schema_tree, schema_version, version_tree}
+use Rattle.mds_tables.specs.Layouts.{Layout, rows_layout, world_with}
+use Rattle.mds_tables.specs.RowFacts.{int_at}
+use Rattle.mds_tables.specs.Tables.{detail_tree, event_tree, head_tree, holiday_tree, job_tree, period_tree, schema_tree, schema_version, schema_with, version_tree}
 
 -- what mds_schema says
 abbrev pub versions_said : Trees → List ℤ
 versions_said trees = map (λ row. int_at row schema_version) (trees schema_tree)
 
--- A database is a store where it has just these tables, and mds_schema says 1.
-pub record IsStore (db : Database) : Type 0 where
-  pub schema : db.schema ≡ schema_1
-  pub version : versions_said db.trees ≡ pos 1 ∷ []
+-- A database is a store of a layout where it has just its tables, and mds_schema says its number.
+pub record IsStoreOf (layout : Layout) (db : Database) : Type 0 where
+  pub schema : db.schema ≡ schema_with layout.more
+  pub version : versions_said db.trees ≡ pos layout.number ∷ []
 
 -- while the disk is honest and the connection open, what is committed is a store
-abbrev pub Holds : State → Type 0
-Holds s = HasCleanDisk s → IsTrue s.is_open → IsStore s.committed
+abbrev pub HoldsOf : Layout → State → Type 0
+HoldsOf layout s = HasCleanDisk s → IsTrue s.is_open → IsStoreOf layout s.committed
 
 -- the same of the tables alone, whatever mds_schema says
-abbrev pub HoldsTables : State → Type 0
-HoldsTables s = HasCleanDisk s → IsTrue s.is_open → s.committed.schema ≡ schema_1
+abbrev pub HoldsTablesOf : Layout → State → Type 0
+HoldsTablesOf layout s = HasCleanDisk s → IsTrue s.is_open → s.committed.schema ≡ schema_with layout.more
 
 -- the World that is kept
-abbrev pub world_of : State → World
-world_of s = world_in s.committed.trees
+abbrev pub world_kept : Layout → State → World
+world_kept layout s = world_with layout s.committed.trees
 
 -- the connection is open, in no transaction, over a sound database, and it is as it was
 pub record IsReady (old new : State) : Type 0 where
@@ -75,11 +78,15 @@ AreRowsOf IsRow (thing ∷ things) (row ∷ rows) = IsRow thing row × AreRowsOf
 AreRowsOf IsRow [] (row ∷ rows) = ⊥
 AreRowsOf IsRow (thing ∷ things) [] = ⊥
 
+-- What became of the rows of versions once these versions are added, which each layout says by itself.
+abbrev pub Gained : Type 1
+Gained = Trees → Trees → List (Key × ReadingValue) → Type 0
+
 -- Each table has the rows of its facts among the additions, column by column, beside those that were there, and no other.
-pub record Adds (old new : Trees) (additions : Additions) : Type 0 where
+pub record AddsOf (HasVersions : Gained) (old new : Trees) (additions : Additions) : Type 0 where
   pub schema : new schema_tree ≡ old schema_tree
   pub heads : Gains head_tree (map head_cells additions.heads.items) old new
-  pub versions : Gains version_tree (map (λ version. version_cells version.0 version.1) (versions_of additions.days.items)) old new
+  pub versions : HasVersions old new (versions_of additions.days.items)
   pub details : Gains detail_tree (map detail_cells additions.details.items) old new
   pub events : Gains event_tree (map event_cells additions.events.items) old new
   pub periods : (rows : List Row) × AreRowsOf IsPeriodRow additions.periods.items rows × Gains period_tree rows old new
@@ -87,20 +94,20 @@ pub record Adds (old new : Trees) (additions : Additions) : Type 0 where
   pub jobs : (rows : List Row) × AreRowsOf IsJobRow additions.jobs.items rows × Gains job_tree rows old new
 
 -- The additions are committed to what was kept.
-pub record Commits (old new : State) (additions : Additions) : Type 0 where
+pub record CommitsOf (layout : Layout) (HasVersions : Gained) (old new : State) (additions : Additions) : Type 0 where
   pub was_open : IsTrue old.is_open
   pub is_open : IsTrue new.is_open
-  pub store : IsStore new.committed
-  pub rows : Adds old.committed.trees new.committed.trees additions
-  pub world : world_of new ≡ union (world_of old) (content additions)
+  pub store : IsStoreOf layout new.committed
+  pub rows : AddsOf HasVersions old.committed.trees new.committed.trees additions
+  pub world : world_kept layout new ≡ union (world_kept layout old) (content additions)
 
 -- What a crash may leave of a commit that wasn't told: a store that keeps all of the additions beside what was kept.
-pub record LeavesAdded (old : State) (additions : Additions) (left : Trees) : Type 0 where
+pub record LeavesAddedOf (layout : Layout) (HasVersions : Gained) (old : State) (additions : Additions) (left : Trees) : Type 0 where
   pub was_open : IsTrue old.is_open
-  pub store : IsStore (record { schema = schema_1; trees = left })
-  pub sound : IsSound schema_1 left
-  pub rows : Adds old.committed.trees left additions
-  pub world : world_in left ≡ union (world_of old) (content additions)
+  pub store : IsStoreOf layout (record { schema = schema_with layout.more; trees = left })
+  pub sound : IsSound (schema_with layout.more) left
+  pub rows : AddsOf HasVersions old.committed.trees left additions
+  pub world : world_with layout left ≡ union (world_kept layout old) (content additions)
 
 -- the first columns of a row of a tree, behind its rowid, are these
 abbrev pub Begins : Row → Row → Type 0
@@ -113,10 +120,40 @@ Selects tree key places trees rows =
     ↔ ((row : Row) × Member row (trees tree) × Begins key row × (shown ≡ map (column row) places))
 
 -- the query was answered, and the database is as it was
-pub record Finds (old new : State) (Shows : Trees → Type 0) : Type 0 where
-  pub same : old.now.schema ≡ schema_1 → IsUnchanged old new
-  pub shows : old.now.schema ≡ schema_1 → IsDatabase old.now → Shows old.now.trees
+pub record FindsOf (layout : Layout) (old new : State) (Shows : Trees → Type 0) : Type 0 where
+  pub same : old.now.schema ≡ schema_with layout.more → IsUnchanged old new
+  pub shows : old.now.schema ≡ schema_with layout.more → IsDatabase old.now → Shows old.now.trees
 
 -- All rows of a tree, each as its columns at these places.
 abbrev pub SelectsAll : ℕ → List ℕ → Trees → List Row → Type 0
 SelectsAll tree places trees rows = IsPermutation (map (λ row. map (column row) places) (trees tree)) rows
+
+-- ---- the same of the layout of schema 1
+
+abbrev pub IsStore : Database → Type 0
+IsStore = IsStoreOf rows_layout
+
+abbrev pub Holds : State → Type 0
+Holds = HoldsOf rows_layout
+
+abbrev pub HoldsTables : State → Type 0
+HoldsTables = HoldsTablesOf rows_layout
+
+abbrev pub world_of : State → World
+world_of = world_kept rows_layout
+
+-- each version has a row
+abbrev pub HasRows : Gained
+HasRows old new versions = Gains version_tree (map (λ version. version_cells version.0 version.1) versions) old new
+
+abbrev pub Adds : Trees → Trees → Additions → Type 0
+Adds = AddsOf HasRows
+
+abbrev pub Commits : State → State → Additions → Type 0
+Commits = CommitsOf rows_layout HasRows
+
+abbrev pub LeavesAdded : State → Additions → Trees → Type 0
+LeavesAdded = LeavesAddedOf rows_layout HasRows
+
+abbrev pub Finds : State → State → (Trees → Type 0) → Type 0
+Finds = FindsOf rows_layout

@@ -1,5 +1,5 @@
--- The tables of schema 1 (profile), as the library lists them. A table and the index of its key have trees of their own, numbered
--- in the order in which they are made. The order stands here alone.
+-- The tables of a store (profile), as the library lists them: those that every schema has, and then more. A table and the index of
+-- its key have trees of their own, numbered in the order in which they are made. The order stands here alone.
 use Rattle.std.specs.Prelude.{ℕ, ◌+◌, true, false, List, [], ◌∷◌, None, codes}
 use Rattle.sqlite.specs.Collation.TheVariants.{Binary}
 use Rattle.sqlite.specs.Kind.TheVariants.{Integer, Text}
@@ -36,6 +36,10 @@ holiday_tree = 12
 
 abbrev pub job_tree : ℕ
 job_tree = 14
+
+-- how many trees the tables that every schema has, and the indexes of their keys, take
+abbrev pub trees_taken : ℕ
+trees_taken = 16
 
 -- a column of a type, NOT NULL and of a STRICT table
 abbrev pub needed : List ℕ → Kind → Column
@@ -199,13 +203,18 @@ job_table =
     (text (codes "id") ∷ text (codes "body") ∷ number (codes "total") ∷ [])
     (1 ∷ [])
 
-abbrev pub tables_1 : List Table
-tables_1 =
-    schema_table ∷ head_table ∷ version_table ∷ detail_table ∷ event_table ∷ period_table ∷ holiday_table ∷ job_table
-    ∷ []
+-- what stands behind the tables that every schema has
+pub record More : Type 0 where
+  pub tables : List Table
+  pub indexes : List Index
 
-abbrev pub indexes_1 : List Index
-indexes_1 =
+abbrev pub tables_with : More → List Table
+tables_with more =
+    schema_table ∷ head_table ∷ version_table ∷ detail_table ∷ event_table ∷ period_table ∷ holiday_table ∷ job_table
+    ∷ more.tables
+
+abbrev pub indexes_with : More → List Index
+indexes_with more =
     key_index (codes "sqlite_autoindex_mds_schema_1") schema_tree (1 ∷ [])
     ∷ key_index (codes "sqlite_autoindex_mds_head_1") head_tree day_key
     ∷ key_index (codes "sqlite_autoindex_mds_version_1") version_tree version_key
@@ -214,10 +223,23 @@ indexes_1 =
     ∷ key_index (codes "sqlite_autoindex_mds_period_1") period_tree period_key
     ∷ key_index (codes "sqlite_autoindex_mds_holiday_1") holiday_tree (1 ∷ [])
     ∷ key_index (codes "sqlite_autoindex_mds_job_1") job_tree (1 ∷ [])
-    ∷ []
+    ∷ more.indexes
+
+abbrev pub schema_with : More → Schema
+schema_with more = record { tables = tables_with more; indexes = indexes_with more; views = [] }
 
 abbrev pub no_schema : Schema
 no_schema = record { tables = []; indexes = []; views = [] }
 
+-- schema 1 has nothing behind them
+abbrev pub no_more : More
+no_more = record { tables = []; indexes = [] }
+
+abbrev pub tables_1 : List Table
+tables_1 = tables_with no_more
+
+abbrev pub indexes_1 : List Index
+indexes_1 = indexes_with no_more
+
 abbrev pub schema_1 : Schema
-schema_1 = record { tables = tables_1; indexes = indexes_1; views = [] }
+schema_1 = schema_with no_more

@@ -1,12 +1,13 @@
 //! Makes the tables.
 
-ghost use Rattle.std.specs.Prelude.{◌≡◌, ◌+◌, ◌<◌, false, IfErr, IsTrue, OnErr, OnOk};
+ghost use Rattle.std.specs.Prelude.{◌≡◌, ◌+◌, ◌<◌, false, pos, IfErr, IsTrue, OnErr, OnOk};
 ghost use Rattle.sqlite.specs.Held.{state};
 ghost use Rattle.sqlite.specs.State.{HasCleanDisk, KeepsCommit, Survives};
 ghost use Rattle.mds_tables.specs.Causes.{HasFailed};
-ghost use Rattle.mds_tables.specs.Making.{AreEmpty, CommitsMade, HasMade, IsMade, LeavesMade, MakesThere, SaysVersion, schema_of};
+ghost use Rattle.mds_tables.specs.Layouts.{Layout, rows_layout};
+ghost use Rattle.mds_tables.specs.Making.{AreEmpty, CommitsMadeOf, HasMadeOf, IsMade, LeavesMade, MakesThere, SaysVersionOf, schema_of};
 ghost use Rattle.mds_tables.specs.Texts.{create};
-ghost use Rattle.mds_tables.specs.Tables.{no_schema, schema_1, tables_1};
+ghost use Rattle.mds_tables.specs.Tables.{no_schema, schema_1, schema_with, tables_with};
 
 use crate::readiness::ready;
 use sqlite::types::ValueRef;
@@ -38,7 +39,7 @@ fn statement(n: usize) -> &'static str
 fn make_table<S: Alter>(tx: &mut Transaction<'_, S>, n: usize) -> Result<(), Error>
     requires { n < 8 }
     ensures same_reference { tx.new.conn.ghost_name ≡ tx.old.conn.ghost_name }
-    ensures ok { OnOk result (MakesThere n (n + 1) (state S.Store tx.old.conn.now) (state S.Store tx.new.conn.now)) }
+    ensures ok { OnOk result (MakesThere (schema_of n) (schema_of (n + 1)) (state S.Store tx.old.conn.now) (state S.Store tx.new.conn.now)) }
     ensures cause { HasCleanDisk (state S.Store tx.new.conn.now) → IsTrue (state S.Store tx.old.conn.now).in_transaction
         → (state S.Store tx.old.conn.now).now.schema ≡ schema_of n
         → IfErr result (HasFailed (state S.Store tx.old.conn.now) (state S.Store tx.new.conn.now)) }
@@ -52,7 +53,7 @@ fn make_table<S: Alter>(tx: &mut Transaction<'_, S>, n: usize) -> Result<(), Err
 /// Makes all of the tables, without a row.
 fn make_empty<S: Alter>(tx: &mut Transaction<'_, S>) -> Result<(), Error>
     ensures same_reference { tx.new.conn.ghost_name ≡ tx.old.conn.ghost_name }
-    ensures ok { OnOk result (MakesThere 0 8 (state S.Store tx.old.conn.now) (state S.Store tx.new.conn.now)) }
+    ensures ok { OnOk result (MakesThere no_schema schema_1 (state S.Store tx.old.conn.now) (state S.Store tx.new.conn.now)) }
     ensures cause { HasCleanDisk (state S.Store tx.new.conn.now) → IsTrue (state S.Store tx.old.conn.now).is_open
         → IsTrue (state S.Store tx.old.conn.now).in_transaction → (state S.Store tx.old.conn.now).now.schema ≡ no_schema
         → IfErr result (HasFailed (state S.Store tx.old.conn.now) (state S.Store tx.new.conn.now)) }
@@ -65,20 +66,22 @@ fn make_empty<S: Alter>(tx: &mut Transaction<'_, S>) -> Result<(), Error>
     Ok(())
 }
 
-/// Puts the row that says which schema it is.
-fn say_version<S: Alter>(tx: &mut Transaction<'_, S>) -> Result<(), Error>
+/// Puts the row that says the number of the schema, whatever tables stand behind those that every schema has.
+fn say_version<S: Alter>(tx: &mut Transaction<'_, S>, number: i64) -> Result<(), Error>
     ensures same_reference { tx.new.conn.ghost_name ≡ tx.old.conn.ghost_name }
-    ensures ok { OnOk result (SaysVersion (state S.Store tx.old.conn.now) (state S.Store tx.new.conn.now)) }
+    ensures ok { OnOk result ((layout : Layout) → number ≡ pos layout.number
+        → SaysVersionOf layout (state S.Store tx.old.conn.now) (state S.Store tx.new.conn.now)) }
     ensures cause { HasCleanDisk (state S.Store tx.new.conn.now) → IsTrue (state S.Store tx.old.conn.now).is_open
-        → IsTrue (state S.Store tx.old.conn.now).in_transaction → (state S.Store tx.old.conn.now).now.schema ≡ schema_1
-        → AreEmpty tables_1 (state S.Store tx.old.conn.now).now
+        → IsTrue (state S.Store tx.old.conn.now).in_transaction → (layout : Layout) → number ≡ pos layout.number
+        → (state S.Store tx.old.conn.now).now.schema ≡ schema_with layout.more
+        → AreEmpty (tables_with layout.more) (state S.Store tx.old.conn.now).now
         → IfErr result (HasFailed (state S.Store tx.old.conn.now) (state S.Store tx.new.conn.now)) }
     ensures kept { HasCleanDisk (state S.Store tx.new.conn.now) → KeepsCommit (state S.Store tx.old.conn.now) (state S.Store tx.new.conn.now) }
     ensures survives { Survives (state S.Store tx.old.conn.now) (state S.Store tx.new.conn.now) (λ _. ⊥) }
 {
     tx.execute(
         "INSERT INTO mds_schema (version) VALUES (?1)",
-        &[ValueRef::Int(1)],
+        &[ValueRef::Int(number)],
     )?;
     Ok(())
 }
@@ -86,17 +89,17 @@ fn say_version<S: Alter>(tx: &mut Transaction<'_, S>) -> Result<(), Error>
 /// Makes the tables and that row in a transaction of its own.
 fn make_all<S: Alter>(conn: &mut Connection<S>) -> Result<(), Error>
     requires { conn.old.in_transaction ≡ false }
-    ensures ok { HasCleanDisk (state S.Store conn.new) → OnOk result (CommitsMade (state S.Store conn.old) (state S.Store conn.new)) }
+    ensures ok { HasCleanDisk (state S.Store conn.new) → OnOk result (CommitsMadeOf rows_layout (state S.Store conn.old) (state S.Store conn.new)) }
     ensures err { HasCleanDisk (state S.Store conn.new) → OnErr result (KeepsCommit (state S.Store conn.old) (state S.Store conn.new)) }
     ensures cause { HasCleanDisk (state S.Store conn.new) → IsTrue (state S.Store conn.old).is_open
         → (state S.Store conn.old).now.schema ≡ no_schema
         → IfErr result (HasFailed (state S.Store conn.old) (state S.Store conn.new)) }
     ensures mode { conn.new.in_transaction ≡ false }
-    ensures survives { Survives (state S.Store conn.old) (state S.Store conn.new) (HasMade (state S.Store conn.old)) }
+    ensures survives { Survives (state S.Store conn.old) (state S.Store conn.new) (HasMadeOf rows_layout (state S.Store conn.old)) }
 {
     let mut tx = conn.transaction();
     make_empty(&mut tx)?;
-    say_version(&mut tx)?;
+    say_version(&mut tx, 1)?;
     tx.commit()
 }
 

@@ -1,60 +1,39 @@
-use Rattle.std.proofs.Common.{arith, rules, ◌∙◌}
+use Rattle.std.proofs.Common.{◌+◌, ◌++◌, Ok, arith, drop, map, refl, rules, ◌∙◌}
 use Rattle.std.proofs.lemmas.Result.{err_from_is_err_and}
 use Rattle.sqlite.specs.Held.{state}
-use Rattle.sqlite.proofs.InsideLemmas.{keeps_then}
-use Rattle.mds_tables.proofs.CallLemmas.{survives_more}
-use Rattle.mds_inserts.proofs.EightDays.{chunks_are, if_err_under, next_eight_fails, next_eight_there, rest_fails, rest_there}
-use Rattle.mds_inserts.proofs.PutLemmas.{if_ok}
+use Rattle.mds_keeper.specs.Content.{version_at}
+use Rattle.mds_inserts.proofs.ChangeLemmas.{more_put, more_stopped, none_put}
+use Rattle.mds_inserts.proofs.EightDays.{chunks_are, eight_more, eight_whole, flat, rest_whole}
 use Rattle.mds_inserts.proofs.putting.put_day.Goals as goal
 
+pub loop-rows-init : goal.loop-rows-init
+loop-rows-init g c = record { same = refl; puts = none_put (state g.S.Store c.args.tx.now.conn.now) }
+
 pub loop-rows-preserved : goal.loop-rows-preserved
-loop-rows-preserved g c =
-    let old = state g.S.Store c.args.tx.now.conn.now in
-    let mid = state g.S.Store c.loop-rows.tx.conn.now in
-    let new = state g.S.Store c.put_eight.new.tx.conn.now in
-    record {
-      same = search rules;
-      survives = survives_more old mid new c.loop-rows.invariant.survives c.put_eight.ensures.survives;
-      kept = λ clean. keeps_then old mid new
-          (c.loop-rows.invariant.kept (omega (arith, c.put_eight.ensures.survives.clean)))
-          (c.put_eight.ensures.kept clean);
-      puts =
-          next_eight_there c.args.added.now.stream c.args.added.now.day c.as_chunks.result.0.now c.loop-rows.rows-index c.rows-item.result
-          (omega arith) c.rows-item.is old mid new c.put_eight.ensures.survives.clean
-          c.loop-rows.invariant.survives.limit c.loop-rows.invariant.puts c.in_ok-put_eight.ensures.ok;
-    }
+loop-rows-preserved g c = record {
+  same = search rules;
+  puts = more_put c.loop-rows.invariant.puts {r = Ok tt}
+      (eight_more c.args.added.now.stream c.args.added.now.day c.as_chunks.result.0.now c.loop-rows.rows-index c.rows-item.result (omega arith)
+      c.rows-item.is) c.in_ok-put_eight.ensures.puts;
+}
 
-pub returns-in_err-put_eight-clause-cause : goal.returns-in_err-put_eight-clause-cause
-returns-in_err-put_eight-clause-cause g c clean is_open inside has sound =
+pub returns-in_err-put_eight-clause-puts : goal.returns-in_err-put_eight-clause-puts
+returns-in_err-put_eight-clause-puts g c =
     let p = err_from_is_err_and c.from_residual.result c.from_residual.ensures.1 in
-    let before = c.loop-rows.invariant in
+    let added = c.args.added.now in
+    let eights = c.as_chunks.result.0.now in
+    let at = c.loop-rows.rows-index in
     rw (p.1, p.2)
-    (next_eight_fails c.args.added.now.stream c.args.added.now.day c.as_chunks.result.0.now c.loop-rows.rows-index c.rows-item.result
-    (omega arith) c.rows-item.is c.as_chunks.result.1.now c.args.added.now.rows.items
-    (chunks_are c.deref.result.now _ _ _ c.as_chunks.ensures.front c.as_chunks.ensures.back ∙ c.deref.ensures.value)
-    (state g.S.Store c.args.tx.now.conn.now) (state g.S.Store c.loop-rows.tx.conn.now)
-    (state g.S.Store c.put_eight.new.tx.conn.now)
-    c.put_eight.ensures.survives.clean before.survives.limit before.survives.counts before.puts clean is_open
-    inside has sound _ (c.in_err-put_eight.ensures.cause clean))
+    (more_stopped c.loop-rows.invariant.puts (map (version_at added.stream added.day) (flat (drop (at + 1) eights) ++ c.as_chunks.result.1.now))
+    (eight_more added.stream added.day eights at c.rows-item.result (omega arith) c.rows-item.is)
+    (eight_whole added.stream added.day eights (at + 1) c.as_chunks.result.1.now added.rows.items
+    (chunks_are c.deref.result.now _ _ _ c.as_chunks.ensures.front c.as_chunks.ensures.back ∙ c.deref.ensures.value))
+    c.in_err-put_eight.ensures.puts)
 
-pub returns-clause-ok : goal.returns-clause-ok
-returns-clause-ok g c =
-    let before = c.loop-rows.invariant in
-    if_ok c.put_rows.result _ _
-    (rest_there c.args.added.now.stream c.args.added.now.day c.as_chunks.result.0.now c.loop-rows.rows-index c.as_chunks.result.1.now
+pub returns-clause-puts : goal.returns-clause-puts
+returns-clause-puts g c =
+    more_put c.loop-rows.invariant.puts
+    (rest_whole c.args.added.now.stream c.args.added.now.day c.as_chunks.result.0.now c.loop-rows.rows-index c.as_chunks.result.1.now
     c.args.added.now.rows.items (omega arith)
-    (chunks_are c.deref.result.now _ _ _ c.as_chunks.ensures.front c.as_chunks.ensures.back ∙ c.deref.ensures.value)
-    (state g.S.Store c.args.tx.now.conn.now) (state g.S.Store c.loop-rows.tx.conn.now) (state g.S.Store c.put_rows.new.tx.conn.now)
-    c.put_rows.ensures.survives.clean before.survives.limit before.puts)
-    c.put_rows.ensures.ok
-
-pub returns-clause-cause : goal.returns-clause-cause
-returns-clause-cause g c clean is_open inside has sound =
-    let before = c.loop-rows.invariant in
-    if_err_under c.put_rows.result _ _ _ _ _ _
-    (rest_fails c.args.added.now.stream c.args.added.now.day c.as_chunks.result.0.now c.loop-rows.rows-index c.as_chunks.result.1.now
-    c.args.added.now.rows.items (omega arith)
-    (chunks_are c.deref.result.now _ _ _ c.as_chunks.ensures.front c.as_chunks.ensures.back ∙ c.deref.ensures.value)
-    (state g.S.Store c.args.tx.now.conn.now) (state g.S.Store c.loop-rows.tx.conn.now) (state g.S.Store c.put_rows.new.tx.conn.now)
-    c.put_rows.ensures.survives.clean before.survives.limit before.puts before.survives.counts clean is_open inside has sound)
-    (c.put_rows.ensures.cause clean)
+    (chunks_are c.deref.result.now _ _ _ c.as_chunks.ensures.front c.as_chunks.ensures.back ∙ c.deref.ensures.value))
+    c.put_rows.ensures.puts

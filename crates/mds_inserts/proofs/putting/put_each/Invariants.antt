@@ -1,16 +1,13 @@
-use Rattle.std.proofs.Common.{◌≡◌, take}
+use Rattle.std.proofs.Common.{◌≡◌, Ok, take}
 use Rattle.sqlite.specs.Held.{state}
-use Rattle.sqlite.specs.State.{HasCleanDisk, KeepsCommit, Survives}
-use Rattle.mds_inserts.specs.Writing.{PutsThere}
+use Rattle.mds_tables.specs.Tables.{More, schema_with}
+use Rattle.mds_inserts.specs.Writing.{PutsEach}
 use Rattle.mds_inserts.proofs.putting.put_each.Given as goal
 
 abbrev pub invariant-loop-item : goal.invariant-loop-item
 invariant-loop-item g l =
-    let old = state g.S.Store l.fn.tx.conn.now in
-    let now = state g.S.Store l.tx.conn.now in
     record {
       same : l.tx.conn.ghost_name ≡ l.initial.tx.conn.ghost_name;
-      survives : Survives old now (λ _. ⊥);
-      kept : HasCleanDisk now → KeepsCommit old now;
-      puts : PutsThere g.T.Put.part old now (take l.item-index l.items);
+      puts : (more : More) → PutsEach {X = Unit {0}} (schema_with more) g.T.Put.part (state g.S.Store l.fn.tx.conn.now)
+          (state g.S.Store l.tx.conn.now) (Ok tt) (take l.item-index l.items);
     }

@@ -1,7 +1,8 @@
 use Rattle.std.proofs.Common.{◌≡◌}
 use Rattle.sqlite.specs.Held.{state}
 use Rattle.sqlite.specs.State.{HasCleanDisk, KeepsCommit, Survives}
-use Rattle.mds_tables.specs.Making.{MakesThere}
+use Rattle.mds_tables.specs.Making.{MakesThere, schema_of}
+use Rattle.mds_tables.specs.Tables.{no_schema}
 use Rattle.mds_tables.proofs.making.make_empty.Given as goal
 
 abbrev pub invariant-loop-n : goal.invariant-loop-n
@@ -12,5 +13,5 @@ invariant-loop-n g l =
       same : l.tx.conn.ghost_name ≡ l.initial.tx.conn.ghost_name;
       survives : Survives old now (λ _. ⊥);
       kept : HasCleanDisk now → KeepsCommit old now;
-      made : MakesThere 0 l.n old now;
+      made : MakesThere no_schema (schema_of l.n) old now;
     }

@@ -1,30 +1,21 @@
 use Rattle.std.proofs.Common.{ap}
 use Rattle.std.proofs.lemmas.Result.{err_from_is_err_and}
 use Rattle.sqlite.specs.Held.{state}
-use Rattle.mds_tables.proofs.CallLemmas.{keeps, still}
+use Rattle.mds_tables.proofs.CallLemmas.{still}
+use Rattle.mds_inserts.proofs.ChangeLemmas.{row_fails, row_put}
 use Rattle.mds_inserts.proofs.PutLemmas.{fails_detail, puts_detail}
 use Rattle.mds_inserts.proofs.putting.DetailPut.put.Goals as goal
 
-pub returns-in_err-execute-clause-cause : goal.returns-in_err-execute-clause-cause
-returns-in_err-execute-clause-cause g c clean inside has =
+pub returns-in_err-execute-clause-puts : goal.returns-in_err-execute-clause-puts
+returns-in_err-execute-clause-puts g c more =
     let p = err_from_is_err_and c.from_residual.result c.from_residual.ensures.1 in
     rw (p.1, p.2)
-    (fails_detail (state g.S.Store c.args.tx.now.conn.now) (state g.S.Store c.execute.new.self.conn.now) c.args.self.now _ has
-    (rw (c.detail_cells.ensures) at (c.in_err-execute.ensures.runs clean inside)))
+    (row_fails _ _ c.execute.result (λ over. ap (state g.S.Store) (c.execute.ensures.ended over).1) c.execute.ensures.runs c.execute.ensures.survives
+    (λ clean inside has. fails_detail more _ _ c.args.self.now _ has
+    (rw (c.detail_cells.ensures) at (c.in_err-execute.ensures.runs clean inside))))
 
-pub returns-clause-ok : goal.returns-clause-ok
-returns-clause-ok g c =
-    puts_detail (state g.S.Store c.args.tx.now.conn.now) (state g.S.Store c.execute.new.self.conn.now) c.args.self.now
-    c.in_ok-execute.field-0
-    (λ clean. rw (c.detail_cells.ensures) at (c.in_ok-execute.ensures.runs clean
-    (still _ _ _ _ c.execute.ensures.ended c.in_ok-execute.was)))
-
-pub returns-in_err-execute-clause-kept : goal.returns-in_err-execute-clause-kept
-returns-in_err-execute-clause-kept g c clean =
-    keeps (state g.S.Store c.args.tx.now.conn.now) (state g.S.Store c.execute.new.self.conn.now) _ _ c.execute.result
-    (λ over. ap (state g.S.Store) (c.execute.ensures.ended over).1) (c.execute.ensures.runs clean)
-
-pub returns-clause-kept : goal.returns-clause-kept
-returns-clause-kept g c clean =
-    keeps (state g.S.Store c.args.tx.now.conn.now) (state g.S.Store c.execute.new.self.conn.now) _ _ c.execute.result
-    (λ over. ap (state g.S.Store) (c.execute.ensures.ended over).1) (c.execute.ensures.runs clean)
+pub returns-clause-puts : goal.returns-clause-puts
+returns-clause-puts g c more =
+    row_put _ _ c.execute.result (λ over. ap (state g.S.Store) (c.execute.ensures.ended over).1) c.execute.ensures.runs c.execute.ensures.survives
+    (puts_detail more _ _ c.args.self.now c.in_ok-execute.field-0
+    (λ clean. rw (c.detail_cells.ensures) at (c.in_ok-execute.ensures.runs clean (still _ _ _ _ c.execute.ensures.ended c.in_ok-execute.was))))
