@@ -1,0 +1,10 @@
+pub mod AskLemmas
+pub mod BodyLemmas
+pub mod DayLemmas
+pub mod LaidLemmas
+pub mod LayoutLemmas
+pub mod PackTexts
+pub mod PutLemmas
+pub mod SpreadLemmas
+pub mod SwapLemmas
+pub mod UpdateLemmas

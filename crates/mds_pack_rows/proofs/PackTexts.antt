@@ -1,0 +1,104 @@
+-- What the texts of the statements mean.
+use Rattle.std.proofs.Common.{◌≡◌, List, ℕ, [], ◌∷◌, codes, refl, false}
+use Rattle.sqlite.specs.Command.TheVariants.{Insert, Select, Update}
+use Rattle.sqlite.specs.Listing.{reads_listing, understood}
+use Rattle.sqlite.specs.Query.{Query}
+use Rattle.sqlite.specs.Source.TheVariants.{Values}
+use Rattle.sqlite.specs.Term.{Term, col, lit}
+use Rattle.sqlite.specs.declared.types.Value.TheVariants.{Null}
+use Rattle.sqlite.proofs.Callers.{IsPlain, command_of}
+use Rattle.sqlite_tied.specs.Compute.{everything}
+use Rattle.mds_tables.specs.Tables.{head_tree}
+use Rattle.mds_selects.proofs.SelectTexts.{columns_at, equals, from_one}
+use Rattle.mds_pack_rows.specs.PackTables.{body_columns, length_columns, pack_tree, schema_2, update_columns}
+
+-- the place of mds_pack among the tables
+abbrev pub pack_place : ℕ
+pack_place = 8
+
+-- ---- a row that is put
+
+abbrev pub insert_pack : List ℕ
+insert_pack = codes "INSERT INTO mds_pack (nmi, suffix, day, moment, body) VALUES (?1, ?2, ?3, ?4, ?5)"
+
+abbrev pub pack_terms : List Term
+pack_terms = lit Null ∷ col 0 0 ∷ col 0 1 ∷ col 0 2 ∷ col 0 3 ∷ col 0 4 ∷ []
+
+pub insert_pack_is : command_of (understood schema_2 insert_pack) ≡ Insert pack_place (Values pack_terms 6)
+unfolding understood everything
+insert_pack_is = refl
+
+pub insert_pack_plain : IsPlain (understood schema_2 insert_pack)
+unfolding understood everything
+insert_pack_plain = (refl, refl)
+
+-- ---- the row of a day and an update
+
+abbrev pub select_body : List ℕ
+select_body = codes "SELECT rowid, body FROM mds_pack WHERE nmi = ?1 AND suffix = ?2 AND day = ?3 AND moment = ?4"
+
+abbrev pub body_query : Query
+body_query = from_one pack_tree (equals 1 0 ∷ equals 2 1 ∷ equals 3 2 ∷ equals 4 3 ∷ []) (columns_at body_columns) []
+
+pub select_body_is : command_of (understood schema_2 select_body)
+    ≡ Select (record { lets = []; body = body_query }) (codes "rowid" ∷ codes "body" ∷ [])
+unfolding understood everything
+select_body_is = refl
+
+pub select_body_plain : IsPlain (understood schema_2 select_body) × (reads_listing schema_2 select_body ≡ false)
+unfolding understood everything
+select_body_plain = ((refl, refl), refl)
+
+-- ---- the length of a day's intervals
+
+abbrev pub select_length : List ℕ
+select_length = codes "SELECT length FROM mds_head WHERE nmi = ?1 AND suffix = ?2 AND day = ?3"
+
+abbrev pub length_query : Query
+length_query = from_one head_tree (equals 1 0 ∷ equals 2 1 ∷ equals 3 2 ∷ []) (columns_at length_columns) []
+
+pub select_length_is : command_of (understood schema_2 select_length)
+    ≡ Select (record { lets = []; body = length_query }) (codes "length" ∷ [])
+unfolding understood everything
+select_length_is = refl
+
+pub select_length_plain : IsPlain (understood schema_2 select_length) × (reads_listing schema_2 select_length ≡ false)
+unfolding understood everything
+select_length_plain = ((refl, refl), refl)
+
+-- ---- a body that is replaced
+
+abbrev pub update_body : List ℕ
+update_body = codes "UPDATE mds_pack SET body = ?2 WHERE rowid = ?1"
+
+-- the rowid of the row that is changed, and then the row as it becomes
+abbrev pub changed_terms : List Term
+changed_terms = col 1 0 ∷ col 1 0 ∷ col 1 1 ∷ col 1 2 ∷ col 1 3 ∷ col 1 4 ∷ col 0 1 ∷ []
+
+abbrev pub update_query : Query
+update_query = from_one pack_tree (equals 0 0 ∷ []) changed_terms []
+
+pub update_body_is : command_of (understood schema_2 update_body) ≡ Update pack_place (record { lets = []; body = update_query })
+unfolding understood everything
+update_body_is = refl
+
+pub update_body_plain : IsPlain (understood schema_2 update_body)
+unfolding understood everything
+update_body_plain = (refl, refl)
+
+-- ---- the rows of a day
+
+abbrev pub select_day : List ℕ
+select_day = codes "SELECT moment, body FROM mds_pack WHERE nmi = ?1 AND suffix = ?2 AND day = ?3"
+
+abbrev pub day_query : Query
+day_query = from_one pack_tree (equals 1 0 ∷ equals 2 1 ∷ equals 3 2 ∷ []) (columns_at update_columns) []
+
+pub select_day_is : command_of (understood schema_2 select_day)
+    ≡ Select (record { lets = []; body = day_query }) (codes "moment" ∷ codes "body" ∷ [])
+unfolding understood everything
+select_day_is = refl
+
+pub select_day_plain : IsPlain (understood schema_2 select_day) × (reads_listing schema_2 select_day ≡ false)
+unfolding understood everything
+select_day_plain = ((refl, refl), refl)

@@ -1,0 +1,378 @@
+-- Rows of mds_pack that are put and replaced in a transaction.
+use Rattle.std.proofs.Common.{◌≡◌, ◌≤◌, ◌<◌, ◌+◌, inl, ℕ, ℤ, List, [], ◌∷◌, ◌++◌, drop, length, map, slice_index_or, take, Some, None, Ok, Err, OnOk, Result, Option, append_assoc, refl, sym, ap, subst, ◌∙◌, arith, unwrap_or}
+use Rattle.std.specs.List.Sorted.{IsPermutation}
+use Rattle.sqlite.specs.Command.TheVariants.{Insert, Update}
+use Rattle.sqlite.specs.Does.{Does}
+use Rattle.sqlite.specs.Effect.{Database, IsDatabase}
+use Rattle.sqlite.specs.Listing.{understood}
+use Rattle.sqlite.specs.Source.TheVariants.{Values}
+use Rattle.sqlite.specs.State.{ExecutesInside, HasCleanDisk, IsUnchanged, KeepsCommit, State, mode_of}
+use Rattle.sqlite.proofs.InsideLemmas.{keeps_then}
+use Rattle.sqlite.specs.Table.{Table}
+use Rattle.sqlite_trees.specs.View.{doubt}
+use Rattle.sqlite.specs.declared.types.Value.TheVariants.{Blob, Int, Null, Text}
+use Rattle.sqlite.proofs.Callers.{runs_as, statement_of}
+use Rattle.sqlite_catalog.specs.Listing.{IsSound}
+use Rattle.sqlite_rules.specs.Cast.{cast_all, cast_row}
+use Rattle.sqlite_rules.specs.Edit.{id_in, next_rowid}
+use Rattle.sqlite_schema.specs.declared.program.Program.{Program}
+use Rattle.sqlite_schema.specs.declared.schema.Keys.TheVariants.{Enforced}
+use Rattle.sqlite_sql.specs.Term.{eval_all}
+use Rattle.sqlite_trees.specs.Tree.{Trees}
+use Rattle.sqlite_value.specs.Order.{Row, bytes, column}
+use Rattle.mds_names.specs.declared.stream.Stream.{Stream}
+use Rattle.mds_world.specs.Lists.{Member}
+use Rattle.mds_marks.specs.Reading.{ReadingValue}
+use Rattle.mds_world.specs.Facts.{Fact}
+use Rattle.mds_world.specs.FactOrder.{exact, total}
+use Rattle.mds_world.specs.World.{union}
+use Rattle.mds_world.proofs.Sets.{list_append, union_assoc, union_empty}
+use Rattle.std.proofs.lemmas.Grind.{flat_map-append}
+use Rattle.std.proofs.lemmas.List.{append-nil, map-append, take_more}
+use Rattle.mds_keeper.specs.Books.{row_fact}
+use Rattle.mds_keeper.specs.Content.{day_versions, version_at, version_fact, versions_of}
+use Rattle.mds_keeper.specs.declared.additions.DayVersions.{DayVersions}
+use Rattle.mds_keeper.specs.declared.day_book.Version.{Version}
+use Rattle.mds_tables.specs.Cells.{number_cell}
+use Rattle.mds_tables.specs.RowFacts.{natural, natural_at, text_at}
+use Rattle.mds_tables.specs.Stores.{Begins, Gains, Selects}
+use Rattle.mds_tables.proofs.InsertLemmas.{Adds as OneMore, adds, cast_int, simple}
+use Rattle.mds_inserts.specs.Writing.{KeepsOthers}
+use Rattle.mds_inserts.proofs.RowLemmas.{IsMore, gains_one, of}
+use Rattle.mds_selects.proofs.SelectLemmas.{picks}
+use Rattle.mds_selects.proofs.SelectTexts.{equals}
+use Rattle.mds_selects.proofs.TypedRows.{begins_at}
+use Rattle.mds_pack_rows.specs.Laying.{laid}
+use Rattle.mds_pack_rows.specs.PackCells.{key_cells, pack_cells}
+use Rattle.mds_pack_rows.specs.PackFacts.{body_facts, pack_facts, pack_versions, readings_facts, readings_in}
+use Rattle.mds_pack_rows.specs.PackTables.{body_columns, pack_table, pack_tree, schema_2, tables_2}
+use Rattle.mds_pack_rows.specs.PacksLayout.{idle_packs}
+use Rattle.mds_pack_rows.specs.Putting.{ChangesPacks, GoesOn, IsThere, NamesMore, PutsBeside, PutsBody, PutsFacts}
+use Rattle.mds_pack_rows.specs.Swaps.{Swaps}
+use Rattle.mds_pack_rows.proofs.PackTexts.{changed_terms, insert_pack, insert_pack_is, insert_pack_plain, pack_place, pack_terms, update_body, update_body_is, update_body_plain, update_query}
+use Rattle.mds_pack_rows.proofs.SwapLemmas.{gained, pack_bare, swapped as swapped_rows}
+use Rattle.mds_pack_rows.proofs.LaidLemmas.{laid_more}
+use Rattle.mds_pack_rows.proofs.UpdateLemmas.{Changes, swaps, updates}
+
+-- the cells are of their types
+fits : (s : Stream) (day update : ℕ) (body : List ℕ) → cast_all pack_table.columns (pack_cells s day update body) ≡ pack_cells s day update body
+fits s day update body = rw (cast_int, cast_int)
+
+-- ---- that the transaction goes on
+
+ran_on : (sql : List ℕ) (params : Row) (count : ℕ) (old new : State) → (HasCleanDisk new → ExecutesInside 0 sql params old new (Ok count)) → GoesOn old new
+ran_on sql params count old new runs = record {
+  was_open = λ clean _. (runs clean).1.was_open;
+  is_open = λ clean _. (runs clean).1.is_open;
+  inside = λ clean _. (runs clean).1.mode;
+}
+
+on_same : (s : State) → GoesOn s s
+on_same s = record { was_open = λ _ o. o; is_open = λ _ o. o; inside = λ _ o. o }
+
+on_then : (a b c : State) → doubt b.is_clean ≤ doubt c.is_clean → GoesOn a b → GoesOn b c → GoesOn a c
+on_then a b c later p q =
+    let early : HasCleanDisk c → HasCleanDisk b = λ clean. omega (arith, clean, later) in
+    record {
+      was_open = λ clean o. p.was_open (early clean) (q.was_open clean o);
+      is_open = λ clean o. q.is_open clean (p.is_open (early clean) o);
+      inside = λ clean o. q.inside clean (p.inside (early clean) o);
+    }
+
+-- ---- a row that is put
+
+module _ (s : Stream) (day update : ℕ) (body : List ℕ) (count : ℕ) (old new : State) where
+  abbrev cells : Row
+  cells = pack_cells s day update body
+
+  abbrev Puts : Type 0
+  Puts = ChangesPacks old new × Gains pack_tree (cells ∷ []) old.now.trees new.now.trees
+
+  puts : old.now.schema ≡ schema_2 → ExecutesInside 0 insert_pack cells old new (Ok count) → Puts
+  puts has ran =
+      let db = old.now.trees in
+      let w = runs_as insert_pack cells old new schema_2 has _ insert_pack_is insert_pack_plain count ran.0 in
+      let stated = statement_of insert_pack (understood schema_2 insert_pack) in
+      let does = subst (λ s. Does old.step_limit (mode_of old) cells (record old.now { schema = s }) stated None
+      (Insert pack_place (Values pack_terms 6)) (Ok (w.tally, new.now))) has w.changed in
+      let it = adds old.step_limit Enforced schema_2 pack_table cells db cells pack_terms 6 refl (fits s day update body) (idle_packs pack_tree [])
+      (mode_of old) stated pack_place w.tally new.now refl refl does in
+      let put : OneMore schema_2 db new.now.trees pack_table cells = it.1 in (
+        record {
+          is_open = ran.1.is_open;
+          schema = it.0;
+          others = put.others;
+          committed = ran.1.committed_is;
+          sound = subst (λ s. IsSound s new.now.trees) it.0 w.sound;
+        },
+        subst (λ rows. IsPermutation (map (drop 1) (db pack_tree) ++ cells ∷ []) (map (drop 1) rows)) (sym put.rows)
+            (gains_one (Int (next_rowid (db pack_tree))) cells (db pack_tree) put.fresh),
+      )
+
+  pub puts_there : (HasCleanDisk new → ExecutesInside 0 insert_pack cells old new (Ok count)) → PutsFacts old new (body_facts s day update body)
+  puts_there runs = (
+    ran_on insert_pack cells count old new runs,
+    λ there.
+        let it = puts there.schema (runs there.clean) in
+        (it.0, gained pack_facts pack_bare pack_tree cells old.now.trees new.now.trees it.1),
+  )
+
+-- ---- a body that is replaced
+
+module _ (id : ℤ) (body : List ℕ) (old new : State) where
+  abbrev params : Row
+  params = Int id ∷ Blob body ∷ []
+
+  abbrev program : Program
+  program = record { lets = []; body = update_query }
+
+  abbrev Changed : Type 0
+  Changed = ChangesPacks old new × Changes old.step_limit Enforced schema_2 pack_table params old.now.trees program (idle_packs pack_tree) new.now.trees 1
+
+  changed : old.now.schema ≡ schema_2 → ExecutesInside 0 update_body params old new (Ok 1) → Changed
+  changed has ran =
+      let w = runs_as update_body params old new schema_2 has _ update_body_is update_body_plain 1 ran.0 in
+      let stated = statement_of update_body (understood schema_2 update_body) in
+      let does = subst (λ s. Does old.step_limit (mode_of old) params (record old.now { schema = s }) stated None
+      (Update pack_place program) (Ok (w.tally, new.now))) has w.changed in
+      let it = updates old.step_limit Enforced schema_2 pack_table params old.now.trees program (idle_packs pack_tree)
+      (mode_of old) stated pack_place w.tally new.now refl refl does in (
+        record {
+          is_open = ran.1.is_open;
+          schema = it.0;
+          others = it.1.applies.tables;
+          committed = ran.1.committed_is;
+          sound = subst (λ s. IsSound s new.now.trees) it.0 w.sound;
+        },
+        subst (λ n. Changes old.step_limit Enforced schema_2 pack_table params old.now.trees program (idle_packs pack_tree) new.now.trees n)
+            (sym w.counted) it.1,
+      )
+
+  swapped : (s : Stream) (day update : ℕ) (row : Row) → Changed → Member row (old.now.trees pack_tree) → column row 0 ≡ Int id
+      → Begins (key_cells s day update) row → Swaps pack_tree (drop 1 row) (pack_cells s day update body) old.now.trees new.now.trees
+  swapped s day update row it there has begins =
+      let c = it.1 in
+      let key = key_cells s day update in
+      let nmi : column row 1 ≡ Text s.nmi = begins_at key row begins 0 (omega arith) in
+      let suffix : column row 2 ≡ Text s.suffix = begins_at key row begins 1 (omega arith) in
+      let on : column row 3 ≡ number_cell day = begins_at key row begins 2 (omega arith) in
+      let at : column row 4 ≡ number_cell update = begins_at key row begins 3 (omega arith) in
+      let kept : cast_row (simple pack_table) (drop 1 (eval_all changed_terms (params ∷ row ∷ []))) ≡ Int id ∷ pack_cells s day update body =
+      (λ i. cast_row (simple pack_table) (has i ∷ nmi i ∷ suffix i ∷ on i ∷ at i ∷ Blob body ∷ []))
+      ∙ (λ i. cast_int id i ∷ fits s day update body i) in
+      swaps Enforced schema_2 pack_table id (Blob body ∷ []) old.now.trees new.now.trees changed_terms (pack_cells s day update body)
+      c.rows row there has (sym c.counted)
+      (picks pack_tree (equals 0 0 ∷ []) changed_terms [] old.now.trees params c.rows refl c.shown.answer)
+      (ap id_in has) kept c.applies
+
+  pub replaces_there : (HasCleanDisk new → ExecutesInside 0 update_body params old new (Ok 1)) → PutsBody old new id body
+  replaces_there runs = (
+    ran_on update_body params 1 old new runs,
+    λ there.
+        let it = changed there.schema (runs there.clean) in
+        (it.0, λ s day update row m has begins. swapped s day update row it m has begins),
+  )
+
+-- ---- bodies and what they say
+
+-- what a body says that is read
+pub says_day : (s : Stream) (day update : ℕ) (body : List ℕ) (readings : List (Option ReadingValue)) → readings_in body ≡ Some readings
+    → body_facts s day update body ≡ readings_facts s day update readings
+says_day s day update body readings is = ap (λ o. readings_facts s day update (unwrap_or o [])) is
+
+-- what a row says that begins with the key and has a body
+row_says : (s : Stream) (day update : ℕ) (row : Row) (body : List ℕ) → Begins (key_cells s day update) row → column row 5 ≡ Blob body
+    → pack_facts row ≡ body_facts s day update body
+row_says s day update row body begins has =
+    let key = key_cells s day update in
+    let nmi : text_at row 1 ≡ s.nmi = ap bytes (begins_at key row begins 0 (omega arith)) in
+    let suffix : text_at row 2 ≡ s.suffix = ap bytes (begins_at key row begins 1 (omega arith)) in
+    let on : natural_at row 3 ≡ day = ap (λ v. natural (id_in v)) (begins_at key row begins 2 (omega arith)) in
+    let at : natural_at row 4 ≡ update = ap (λ v. natural (id_in v)) (begins_at key row begins 3 (omega arith)) in
+    let it : text_at row 5 ≡ body = ap bytes has in
+    (λ i. body_facts (record { nmi = nmi i; suffix = suffix i }) (on i) (at i) (it i))
+
+-- a row whose body was replaced by one that says more readings
+pub lays_there : (old new : State) (id : ℤ) (shown : Row) (old_body new_body : List ℕ) (olds news all : List (Option ReadingValue))
+    → column shown 0 ≡ Int id → column shown 1 ≡ Blob old_body → readings_in old_body ≡ Some olds → readings_in new_body ≡ Some all
+    → laid olds news ≡ Some all → PutsBody old new id new_body → PutsBeside old new shown news
+lays_there old new id shown old_body new_body olds news all has_id has_body was is made replaces = (
+  replaces.0,
+  λ there. let it = replaces.1 there in (
+    it.0,
+    λ s day update row m shown_is begins.
+        let at_id : column row 0 ≡ Int id = sym (ap (λ r. column r 0) shown_is) ∙ has_id in
+        let at_body : column row 5 ≡ Blob old_body = sym (ap (λ r. column r 1) shown_is) ∙ has_body in
+        let says : IsMore (pack_facts (Null ∷ pack_cells s day update new_body)) (pack_facts (Null ∷ drop 1 row)) (readings_facts s day update news) =
+        ap of (says_day s day update new_body all is) ∙ laid_more s day update 1 olds news all made
+        ∙ ap (λ facts. union (of facts) (of (readings_facts s day update news)))
+        (sym (row_says s day update row old_body begins at_body ∙ says_day s day update old_body olds was) ∙ pack_bare row) in
+        swapped_rows pack_facts pack_bare pack_tree (drop 1 row) (pack_cells s day update new_body) (readings_facts s day update news) old.now.trees new.now.trees
+        (it.1 s day update row m at_id begins) says,
+  ),
+)
+
+-- ---- a query, and then a write
+
+module _ (a b c : State) (later : doubt b.is_clean ≤ doubt c.is_clean) (same : HasCleanDisk b → a.now.schema ≡ schema_2 → IsUnchanged a b) where
+  same_there : IsThere a c → IsUnchanged a b
+  same_there there = same (omega (arith, there.clean, later)) there.schema
+
+  there_now : IsThere a c → IsThere b c
+  there_now there =
+      let it = same_there there in
+      let now : b.now ≡ a.now = it.0.now_is in
+      record {
+        clean = there.clean;
+        is_open = it.0.is_open;
+        schema = ap (λ (d : Database). d.schema) now ∙ there.schema;
+        sound = subst (λ (d : Database). IsSound schema_2 d.trees) (sym now) there.sound;
+      }
+
+  changes_since : IsThere a c → ChangesPacks b c → ChangesPacks a c
+  changes_since there it =
+      let was = same_there there in
+      let now : b.now ≡ a.now = was.0.now_is in
+      record {
+        is_open = it.is_open;
+        schema = it.schema;
+        others = subst (λ (d : Database). KeepsOthers pack_tree d.trees c.now.trees tables_2) now it.others;
+        committed = it.committed ∙ was.0.committed_is;
+        sound = it.sound;
+      }
+
+  -- after a query that changed nothing a row is put
+  pub puts_since : GoesOn a b → (facts : List Fact) → PutsFacts b c facts → PutsFacts a c facts
+  puts_since first facts puts = (
+    on_then a b c later first puts.0,
+    λ there.
+        let it = puts.1 (there_now there) in
+        let now : b.now ≡ a.now = (same_there there).0.now_is in
+        (changes_since there it.0, subst (λ (d : Database). NamesMore d.trees c.now.trees facts) now it.1),
+  )
+
+  -- and the commit is kept
+  pub kept_since : KeepsCommit a b → (IsThere b c → KeepsCommit b c) → IsThere a c → KeepsCommit a c
+  kept_since first next there = keeps_then a b c first (next (there_now there))
+
+  -- or the body of the one that it showed is replaced
+  pub lays_since : GoesOn a b → (s : Stream) (day update : ℕ) (shown : Row) (readings : List (Option ReadingValue))
+      → (HasCleanDisk b → a.now.schema ≡ schema_2 → IsDatabase a.now → Selects pack_tree (key_cells s day update) body_columns a.now.trees (shown ∷ []))
+      → PutsBeside b c shown readings → PutsFacts a c (readings_facts s day update readings)
+  lays_since first s day update shown readings shows lays = (
+    on_then a b c later first lays.0,
+    λ there.
+        let it = lays.1 (there_now there) in
+        let now : b.now ≡ a.now = (same_there there).0.now_is in
+        let whole : IsDatabase a.now = subst (λ schema. IsSound schema a.now.trees) (sym there.schema) there.sound in
+        let row = (shows (omega (arith, there.clean, later)) there.schema whole shown).0 (inl refl) in
+        let more = it.1 s day update row.0 (subst (λ (d : Database). Member row.0 (d.trees pack_tree)) (sym now) row.1) row.3 row.2 in
+        (changes_since there it.0, subst (λ (d : Database). NamesMore d.trees c.now.trees (readings_facts s day update readings)) now more),
+  )
+
+pub if_ok : {X E : Type 0} (r : Result X E) (A B : Type 0) → (A → B) → OnOk r A → OnOk r B
+if_ok (Ok x) A B f h = f h
+if_ok (Err e) A B f h = tt
+
+-- a slice of one element
+pub one_row : (rows : List Row) (row : Row) → length rows ≡ 1 → row ≡ slice_index_or rows 0 row → rows ≡ row ∷ []
+one_row [] row one is = absurd (omega (arith, one))
+one_row (r ∷ []) row one is = ap (λ x. x ∷ []) (sym is)
+one_row (r ∷ s ∷ more) row one is = absurd (omega (arith, one))
+
+-- ---- one after another
+
+others_then : (a b c : Trees) (tables : List Table) → KeepsOthers pack_tree a b tables → KeepsOthers pack_tree b c tables
+    → KeepsOthers pack_tree a c tables
+others_then a b c [] p q = tt
+others_then a b c (t ∷ ts) p q = (λ other. q.0 other ∙ p.0 other, others_then a b c ts p.1 q.1)
+
+same_others : (a : Trees) (tables : List Table) → KeepsOthers pack_tree a a tables
+same_others a [] = tt
+same_others a (t ∷ ts) = (λ _. refl, same_others a ts)
+
+-- nothing is put
+pub puts_none : (s : State) → PutsFacts s s []
+puts_none s = (
+  on_same s,
+  λ there. (
+    record {
+      is_open = there.is_open;
+      schema = there.schema;
+      others = same_others s.now.trees tables_2;
+      committed = refl;
+      sound = there.sound;
+    },
+    sym (union_empty total exact (of (pack_versions s.now.trees))),
+  ),
+)
+
+module _ (a b c : State) (later : doubt b.is_clean ≤ doubt c.is_clean) where
+  pub there_before : IsThere a c → IsThere a b
+  there_before there = record {
+    clean = omega (arith, there.clean, later);
+    is_open = there.is_open;
+    schema = there.schema;
+    sound = there.sound;
+  }
+
+  pub there_after : IsThere a c → ChangesPacks a b → IsThere b c
+  there_after there it = record { clean = there.clean; is_open = it.is_open; schema = it.schema; sound = it.sound }
+
+  pub puts_then : (xs ys : List Fact) → PutsFacts a b xs → PutsFacts b c ys → PutsFacts a c (xs ++ ys)
+  puts_then xs ys p q = (
+    on_then a b c later p.0 q.0,
+    λ there.
+        let one = p.1 (there_before there) in
+        let two = q.1 (there_after there one.0) in
+        let first = of (pack_versions a.now.trees) in (
+          record {
+            is_open = two.0.is_open;
+            schema = two.0.schema;
+            others = others_then a.now.trees b.now.trees c.now.trees tables_2 one.0.others two.0.others;
+            committed = two.0.committed ∙ one.0.committed;
+            sound = two.0.sound;
+          },
+          two.1 ∙ ap (λ w. union w (of ys)) one.1 ∙ union_assoc total exact first (of xs) (of ys) ∙ ap (union first) (sym (list_append total exact xs ys)),
+        ),
+  )
+
+  -- what keeps the commit in two steps
+  pub kept_then : (xs : List Fact) → PutsFacts a b xs → (IsThere a b → KeepsCommit a b) → (IsThere b c → KeepsCommit b c)
+      → IsThere a c → KeepsCommit a c
+  kept_then xs p keeps more there =
+      let before = there_before there in
+      keeps_then a b c (keeps before) (more (there_after there (p.1 before).0))
+
+  -- the versions at the front were put, and those of a run are
+  pub puts_next : (s : Stream) (day : ℕ) (front run : List (ℕ × Version)) → PutsFacts a b (map (row_fact s day) front)
+      → PutsFacts b c (map (row_fact s day) run) → PutsFacts a c (map (row_fact s day) (front ++ run))
+  puts_next s day front run p q =
+      subst (PutsFacts a c) (sym (map-append (row_fact s day) front run)) (puts_then (map (row_fact s day) front) (map (row_fact s day) run) p q)
+
+-- the same facts in other words
+pub puts_as : (a b : State) (xs ys : List Fact) → of xs ≡ of ys → PutsFacts a b xs → PutsFacts a b ys
+puts_as a b xs ys same puts =
+    (puts.0, λ there. let it = puts.1 there in (it.0, it.1 ∙ ap (union (of (pack_versions a.now.trees))) same))
+
+-- versions of a day, as rows of its book
+pub as_rows : (s : Stream) (day : ℕ) (rows : List (ℕ × Version)) → map (row_fact s day) rows ≡ map version_fact (map (version_at s day) rows)
+as_rows s day [] = refl
+as_rows s day (r ∷ rs) = ap (λ xs. row_fact s day r ∷ xs) (as_rows s day rs)
+
+-- the versions of the first days were put, and those of the next are
+pub puts_day : (a b c : State) → doubt b.is_clean ≤ doubt c.is_clean → (days : List DayVersions) (k : ℕ) (day : DayVersions) → k < length days
+    → day ≡ slice_index_or days k day → PutsFacts a b (map version_fact (versions_of (take k days))) → PutsFacts b c (map version_fact (day_versions day))
+    → PutsFacts a c (map version_fact (versions_of (take (k + 1) days)))
+puts_day a b c later days k day low is p q =
+    let front : take (k + 1) days ≡ take k days ++ day ∷ [] =
+    take_more days k day low ∙ ap (λ x. take k days ++ x ∷ []) (sym is) in
+    let all : versions_of (take (k + 1) days) ≡ versions_of (take k days) ++ day_versions day =
+    ap versions_of front ∙ flat_map-append day_versions (take k days) (day ∷ [])
+    ∙ ap (λ xs. versions_of (take k days) ++ xs) (append-nil (day_versions day)) in
+    subst (PutsFacts a c) (sym (ap (map version_fact) all ∙ map-append version_fact (versions_of (take k days)) (day_versions day)))
+    (puts_then a b c later (map version_fact (versions_of (take k days))) (map version_fact (day_versions day)) p q)
+
+-- what stands in front of what is left grows by a run
+pub next_front : (front left run rest rows : List (ℕ × Version)) → front ++ left ≡ rows → run ++ rest ≡ left → (front ++ run) ++ rest ≡ rows
+next_front front left run rest rows whole parts = append_assoc front run rest ∙ ap (λ xs. front ++ xs) parts ∙ whole

@@ -1,0 +1,20 @@
+use Rattle.std.proofs.Common.{IsTrue, length, rules, arith}
+use Rattle.mds_pack_rows.proofs.SpreadLemmas.{next_said, start_said}
+use Rattle.mds_pack_rows.proofs.grouping.spread.Goals as goal
+
+pub loop-row-init : goal.loop-row-init
+loop-row-init c =
+    let it = c.in_ok-readings.ensures in
+    record {
+      few = it.0;
+      says = start_said c.args.update (length c.in_ok-readings.readings.items) c.in_ok-readings.readings.items it.1;
+    }
+
+pub loop-row-preserved : goal.loop-row-preserved
+loop-row-preserved c =
+    let set : IsTrue c.in_ok-set_reading.field-0 = search rules in
+    record {
+      few = omega (arith, c.in_ok-set_reading.ensures.len, c.loop-row.invariant.few);
+      says = next_said c.args.update c.loop-row.readings.items c.set_reading.new.readings.items c.args.rows.now c.loop-row.row-index c.row-item.result
+          c.loop-row-test.true c.row-item.is (c.in_ok-set_reading.ensures.more set) c.loop-row.invariant.says;
+    }

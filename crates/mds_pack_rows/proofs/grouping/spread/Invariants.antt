@@ -1,0 +1,9 @@
+use Rattle.std.proofs.Common.{◌<◌, ◌^◌, length, take}
+use Rattle.mds_pack_rows.specs.Putting.{SayRows}
+use Rattle.mds_pack_rows.proofs.grouping.spread.Given as goal
+
+abbrev pub invariant-loop-row : goal.invariant-loop-row
+invariant-loop-row l = record {
+  few : length l.readings.items < 2 ^ 16;
+  says : SayRows l.update l.readings.items (take l.row-index l.rows);
+}

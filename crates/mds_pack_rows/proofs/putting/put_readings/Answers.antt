@@ -1,0 +1,39 @@
+use Rattle.std.proofs.Common.{◌≡◌, arith, subst, sym, ◌∙◌, [], ◌∷◌}
+use Rattle.sqlite.specs.Held.{state}
+use Rattle.sqlite.proofs.InsideLemmas.{keeps_then}
+use Rattle.mds_tables.specs.Stores.{Selects}
+use Rattle.mds_pack_rows.specs.PackCells as row
+use Rattle.mds_pack_rows.specs.PackTables.{body_columns, pack_tree}
+use Rattle.mds_pack_rows.proofs.PutLemmas.{if_ok, lays_since, one_row, puts_since}
+use Rattle.mds_pack_rows.proofs.putting.put_readings.Goals as goal
+
+pub returns-in-len1-clause-ok : goal.returns-in-len1-clause-ok
+returns-in-len1-clause-ok g c =
+    let old = state g.S.Store c.args.tx.now.conn.now in
+    let mid = state g.S.Store c.body_rows.new.tx.conn.now in
+    let new = state g.S.Store c.lay_over.new.tx.conn.now in
+    let shown = c.row-item.result in
+    let found = c.in_ok-rows.ensures.ok in
+    let alone : c.in_ok-rows.rows.items ≡ shown ∷ [] = sym c.as_slice.ensures.value ∙ one_row _ shown (omega arith) c.row-item.is in
+    if_ok c.lay_over.result _ _
+    (lays_since old mid new c.lay_over.ensures.survives.clean (λ clean. (found clean).same) c.in_ok-rows.ensures.goes_on c.args.stream.now c.args.day c.args.update shown c.args.readings.now
+    (λ clean has whole. subst (λ rows. Selects pack_tree (row.key_cells c.args.stream.now c.args.day c.args.update) body_columns old.now.trees rows) alone
+    ((found clean).shows has whole)))
+    c.lay_over.ensures.ok
+
+pub returns-in-empty-clause-ok : goal.returns-in-empty-clause-ok
+returns-in-empty-clause-ok g c =
+    if_ok c.add_row.result _ _
+    (puts_since (state g.S.Store c.args.tx.now.conn.now) (state g.S.Store c.body_rows.new.tx.conn.now) (state g.S.Store c.add_row.new.tx.conn.now)
+    c.add_row.ensures.survives.clean (λ clean. (c.in_ok-rows.ensures.ok clean).same) c.in_ok-rows.ensures.goes_on _)
+    c.add_row.ensures.ok
+
+pub returns-in-empty-clause-kept : goal.returns-in-empty-clause-kept
+returns-in-empty-clause-kept g c there =
+    keeps_then (state g.S.Store c.args.tx.now.conn.now) (state g.S.Store c.body_rows.new.tx.conn.now) (state g.S.Store c.add_row.new.tx.conn.now)
+    (c.body_rows.ensures.kept (omega (arith, there.clean, c.add_row.ensures.survives.clean)) there.schema) (c.add_row.ensures.kept there.clean)
+
+pub returns-in-len1-clause-kept : goal.returns-in-len1-clause-kept
+returns-in-len1-clause-kept g c there =
+    keeps_then (state g.S.Store c.args.tx.now.conn.now) (state g.S.Store c.body_rows.new.tx.conn.now) (state g.S.Store c.lay_over.new.tx.conn.now)
+    (c.body_rows.ensures.kept (omega (arith, there.clean, c.lay_over.ensures.survives.clean)) there.schema) (c.lay_over.ensures.kept there.clean)

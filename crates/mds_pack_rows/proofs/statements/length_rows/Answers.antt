@@ -1,0 +1,32 @@
+use Rattle.std.proofs.Common.{refl}
+use Rattle.sqlite.specs.Held.{state}
+use Rattle.mds_tables.specs.Cells as row
+use Rattle.mds_tables.specs.Tables.{head_table}
+use Rattle.mds_selects.proofs.QueryLemmas.{head_for}
+use Rattle.mds_pack_rows.specs.PackTables.{length_columns}
+use Rattle.mds_pack_rows.proofs.AskLemmas.{fails_kept, finds_packs, head_typed, shown_kept, shown_on}
+use Rattle.mds_pack_rows.proofs.PackTexts.{select_length, select_length_is, select_length_plain}
+use Rattle.mds_pack_rows.proofs.statements.length_rows.Goals as goal
+
+pub returns-in-Ok-clause-ok : goal.returns-in-Ok-clause-ok
+returns-in-Ok-clause-ok g c clean =
+    rw c.in-Ok.is at
+    (finds_packs select_length select_length_plain head_table head_typed (λ db. refl) (row.day_cells c.args.stream.now c.args.day)
+    (head_for c.args.stream.now c.args.day) length_columns _ select_length_is
+    (state g.S.Store c.args.tx.now.conn.now) (state g.S.Store c.query_all.new.self.conn.now) (λ v. v.items) c.query_all.result
+    (rw c.day_cells.ensures at (c.query_all.ensures.ok clean)))
+
+pub returns-in-Ok-clause-kept : goal.returns-in-Ok-clause-kept
+returns-in-Ok-clause-kept g c clean has =
+    shown_kept select_length select_length_plain.0 (state g.S.Store c.args.tx.now.conn.now) (state g.S.Store c.query_all.new.self.conn.now) _ has
+    c.in-Ok.rows.items (rw c.in-Ok.is at (c.query_all.ensures.ok clean))
+
+pub returns-in-Err-clause-kept : goal.returns-in-Err-clause-kept
+returns-in-Err-clause-kept g c clean has =
+    fails_kept select_length select_length_plain.0 (state g.S.Store c.args.tx.now.conn.now) (state g.S.Store c.query_all.new.self.conn.now) _ has
+    c.in-Err.field-0 (rw c.in-Err.is at (c.query_all.ensures.err clean))
+
+pub returns-in-Ok-clause-goes_on : goal.returns-in-Ok-clause-goes_on
+returns-in-Ok-clause-goes_on g c =
+    shown_on select_length _ (state g.S.Store c.args.tx.now.conn.now) (state g.S.Store c.query_all.new.self.conn.now) c.in-Ok.rows.items
+    (λ clean. rw c.in-Ok.is at (c.query_all.ensures.ok clean))

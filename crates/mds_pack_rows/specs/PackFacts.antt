@@ -1,0 +1,47 @@
+-- What the rows of mds_pack say, as facts (profile). Each row names the versions of its body, whoever wrote it. A body that
+-- can't be read says none, so any tables name a World.
+use Rattle.std.specs.Prelude.{ℕ, ◌+◌, List, [], ◌∷◌, drop, Option, Some, None, unwrap_or}
+use Rattle.std.specs.Int.{w16}
+use Rattle.std.specs.List.{flat_map}
+use Rattle.sqlite_trees.specs.Tree.{Trees}
+use Rattle.sqlite_value.specs.Order.{Row}
+use Rattle.mds_names.specs.declared.stream.Stream.{Stream}
+use Rattle.mds_marks.specs.Reading.{ReadingValue}
+use Rattle.mds_packs.specs.Unpacked.{◌>>=◌, number_at, unpacked}
+use Rattle.mds_world.specs.Facts.{Fact}
+use Rattle.mds_world.specs.Facts.Fact.{VersionIs}
+use Rattle.mds_tables.specs.RowFacts.{facts_with, natural_at, stream_in, text_at}
+use Rattle.mds_pack_rows.specs.PackTables.{pack_tree}
+
+-- the versions of one update that readings from an interval on are, none where an interval has no reading
+abbrev pub facts_from : Stream → ℕ → ℕ → ℕ → List (Option ReadingValue) → List Fact
+facts_from s day update interval [] = []
+facts_from s day update interval (None ∷ readings) = facts_from s day update (interval + 1) readings
+facts_from s day update interval (Some r ∷ readings) =
+    VersionIs (record { stream = s; day = day; interval = interval; update = update }) r
+    ∷ facts_from s day update (interval + 1) readings
+
+-- those of a whole day
+abbrev pub readings_facts : Stream → ℕ → ℕ → List (Option ReadingValue) → List Fact
+readings_facts s day update readings = facts_from s day update 1 readings
+
+-- the readings that bytes are the body of, for as many intervals as they say themselves
+abbrev pub readings_in : List ℕ → Option (List (Option ReadingValue))
+readings_in body = do
+  count ← number_at w16 (drop 1 body)
+  unpacked count.0 body
+
+-- the versions of one update that a body says
+abbrev pub body_facts : Stream → ℕ → ℕ → List ℕ → List Fact
+body_facts s day update body = readings_facts s day update (unwrap_or (readings_in body) [])
+
+abbrev pub pack_facts : Row → List Fact
+pack_facts row = body_facts (stream_in row) (natural_at row 3) (natural_at row 4) (text_at row 5)
+
+-- the versions that the rows of mds_pack name, one row after the other
+abbrev pub pack_versions : Trees → List Fact
+pack_versions trees = flat_map pack_facts (trees pack_tree)
+
+-- The facts of the rows of all tables. The versions are those of mds_pack alone.
+abbrev pub facts_2 : Trees → List Fact
+facts_2 = facts_with pack_versions

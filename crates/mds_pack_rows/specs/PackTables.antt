@@ -1,0 +1,44 @@
+-- The tables of schema 2 (profile): those of schema 1, and behind them mds_pack. It keeps the versions of a day that have one
+-- update in one row, as a body. It stands last, so that the trees of schema 1 keep their numbers.
+use Rattle.std.specs.Prelude.{ℕ, List, [], ◌∷◌, codes}
+use Rattle.sqlite.specs.Kind.TheVariants.{Blob}
+use Rattle.sqlite.specs.Schema.{Schema}
+use Rattle.sqlite.specs.Table.{Table}
+use Rattle.mds_tables.specs.Tables.{More, key_index, needed, number, schema_with, table_of, tables_with, text, to_head}
+
+abbrev pub pack_tree : ℕ
+pack_tree = 16
+
+abbrev pub pack_key : List ℕ
+pack_key = 1 ∷ 2 ∷ 3 ∷ 4 ∷ []
+
+-- the columns of a row that a replacement asks for: its rowid, and its body
+abbrev pub body_columns : List ℕ
+body_columns = 0 ∷ 5 ∷ []
+
+-- those that a day's versions are read from: the update, and the body
+abbrev pub update_columns : List ℕ
+update_columns = 4 ∷ 5 ∷ []
+
+-- what a day's length is read from: that column of its head
+abbrev pub length_columns : List ℕ
+length_columns = 4 ∷ []
+
+abbrev pub pack_table : Table
+pack_table = record (table_of (codes "mds_pack") pack_tree
+    (text (codes "nmi") ∷ text (codes "suffix") ∷ number (codes "day") ∷ number (codes "moment")
+    ∷ needed (codes "body") Blob ∷ [])
+    pack_key) { references = to_head ∷ [] }
+
+-- what stands behind the tables that every schema has
+abbrev pub packs : More
+packs = record {
+  tables = pack_table ∷ [];
+  indexes = key_index (codes "sqlite_autoindex_mds_pack_1") pack_tree pack_key ∷ [];
+}
+
+abbrev pub tables_2 : List Table
+tables_2 = tables_with packs
+
+abbrev pub schema_2 : Schema
+schema_2 = schema_with packs

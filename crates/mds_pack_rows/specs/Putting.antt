@@ -1,0 +1,89 @@
+-- What statements on mds_pack do in a transaction (profile).
+use Rattle.std.specs.Prelude.{◌≡◌, ℕ, ℤ, List, ◌∷◌, [], drop, map, IsTrue, Option}
+use Rattle.std.specs.FinSet as set
+use Rattle.sqlite.specs.State.{HasCleanDisk, State}
+use Rattle.sqlite.specs.declared.types.Value.TheVariants.{Int}
+use Rattle.sqlite_catalog.specs.Listing.{IsSound}
+use Rattle.sqlite_trees.specs.Tree.{Trees}
+use Rattle.sqlite_value.specs.Order.{Row, column}
+use Rattle.mds_names.specs.declared.stream.Stream.{Stream}
+use Rattle.mds_marks.specs.Reading.{ReadingValue}
+use Rattle.mds_world.specs.FactOrder.{fact_cmp}
+use Rattle.mds_world.specs.Facts.{Fact}
+use Rattle.mds_world.specs.Lists.{Member}
+use Rattle.mds_world.specs.World.{union}
+use Rattle.mds_keeper.specs.Books.{row_fact}
+use Rattle.mds_keeper.specs.Content.{version_fact}
+use Rattle.mds_keeper.specs.declared.day_book.Version.{Version}
+use Rattle.mds_tables.specs.Cells.{day_cells, number_cell}
+use Rattle.mds_tables.specs.Stores.{Begins, Gained}
+use Rattle.mds_tables.specs.Tables.{head_tree}
+use Rattle.mds_inserts.specs.Writing.{IsMore, KeepsOthers}
+use Rattle.mds_pack_rows.specs.PackCells.{key_cells, pack_cells}
+use Rattle.mds_pack_rows.specs.PackFacts.{pack_versions, readings_facts}
+use Rattle.mds_pack_rows.specs.PackTables.{body_columns, pack_tree, schema_2, tables_2}
+use Rattle.mds_pack_rows.specs.Swaps.{Swaps}
+
+-- Whatever the tables are, the connection is open where it was, and the transaction goes on.
+pub record GoesOn (old new : State) : Type 0 where
+  pub was_open : HasCleanDisk new → IsTrue new.is_open → IsTrue old.is_open
+  pub is_open : HasCleanDisk new → IsTrue old.is_open → IsTrue new.is_open
+  pub inside : HasCleanDisk new → IsTrue old.in_transaction → IsTrue new.in_transaction
+
+-- The connection was open over the tables of schema 2, and the disk is honest up to the end.
+pub record IsThere (old new : State) : Type 0 where
+  pub clean : HasCleanDisk new
+  pub is_open : IsTrue old.is_open
+  pub schema : old.now.schema ≡ schema_2
+  pub sound : IsSound schema_2 old.now.trees
+
+-- Every table but mds_pack is as it was, and nothing is committed.
+pub record ChangesPacks (old new : State) : Type 0 where
+  pub is_open : IsTrue new.is_open
+  pub schema : new.now.schema ≡ schema_2
+  pub others : KeepsOthers pack_tree old.now.trees new.now.trees tables_2
+  pub committed : new.committed ≡ old.committed
+  pub sound : IsSound schema_2 new.now.trees
+
+-- mds_pack names these facts beside those that it named
+abbrev pub NamesMore : Trees → Trees → List Fact → Type 0
+NamesMore old new = IsMore (pack_versions new) (pack_versions old)
+
+-- mds_pack has the versions that are added
+abbrev pub HasPacked : Gained
+HasPacked old new versions = NamesMore old new (map version_fact versions)
+
+-- these facts are put into mds_pack, as the transaction sees it
+abbrev pub PutsFacts : State → State → List Fact → Type 0
+PutsFacts old new facts =
+    GoesOn old new × (IsThere old new → ChangesPacks old new × NamesMore old.now.trees new.now.trees facts)
+
+-- a row with this rowid and any key has this body in place of its own
+abbrev pub PutsBody : State → State → ℤ → List ℕ → Type 0
+PutsBody old new id body = GoesOn old new × (IsThere old new → ChangesPacks old new
+    × ((s : Stream) (day update : ℕ) (row : Row) → Member row (old.now.trees pack_tree) → column row 0 ≡ Int id
+    → Begins (key_cells s day update) row
+    → Swaps pack_tree (drop 1 row) (pack_cells s day update body) old.now.trees new.now.trees))
+
+-- a row that is shown by its rowid and its body says these readings beside its own
+abbrev pub PutsBeside : State → State → Row → List (Option ReadingValue) → Type 0
+PutsBeside old new shown readings = GoesOn old new × (IsThere old new → ChangesPacks old new
+    × ((s : Stream) (day update : ℕ) (row : Row) → Member row (old.now.trees pack_tree) → shown ≡ map (column row) body_columns
+    → Begins (key_cells s day update) row
+    → NamesMore old.now.trees new.now.trees (readings_facts s day update readings)))
+
+-- a head of the day says the length of its intervals
+abbrev pub HasLength : Stream → ℕ → ℕ → Trees → Type 0
+HasLength s day length trees =
+    (row : Row) × Member row (trees head_tree) × Begins (day_cells s day) row × (column row 4 ≡ number_cell length)
+
+-- readings of one update say what these versions do
+abbrev pub SayRows : ℕ → List (Option ReadingValue) → List (ℕ × Version) → Type 0
+SayRows update readings rows = (s : Stream) (day : ℕ)
+    → set.from_list {R = fact_cmp} (readings_facts s day update readings) ≡ set.from_list (map (row_fact s day) rows)
+
+-- they say this version beside what others say
+abbrev pub SayMore : ℕ → List (Option ReadingValue) → List (Option ReadingValue) → ℕ × Version → Type 0
+SayMore update old new row = (s : Stream) (day : ℕ)
+    → set.from_list {R = fact_cmp} (readings_facts s day update new)
+    ≡ union (set.from_list (readings_facts s day update old)) (set.from_list (row_fact s day row ∷ []))

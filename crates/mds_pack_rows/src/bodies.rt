@@ -1,0 +1,66 @@
+//! The body in a row, and the readings that it says.
+
+ghost use Rattle.std.specs.Prelude.{◌≡◌, ◌≢◌, ◌<◌, ◌^◌, ℕ, List, Option, IfNone, IfOk, IfSome, IsTrue, Some, drop, length as list_length, option_map};
+ghost use Rattle.std.specs.Int.{w16};
+ghost use Rattle.sqlite.specs.Order.{column};
+ghost use Rattle.sqlite.specs.declared.types.Value.TheVariants.{Blob};
+ghost use Rattle.mds_calendar.specs.Length.{count_of, is_length};
+ghost use Rattle.mds_marks.specs.Reading.{ReadingValue};
+ghost use Rattle.mds_packs.specs.Unpacked.{number_at, unpacked};
+ghost use Rattle.mds_pack_rows.specs.PackFacts.{readings_in};
+
+use mds_marks::Reading;
+use mds_packs::unpack_day;
+use mds_terms::Length;
+use sqlite::Row;
+use sqlite::types::ValueRef;
+use std::alloc::{AllocError, Global};
+
+/// The body in a column.
+pub(crate) fn blob_at<'a>(row: &'a Row, at: usize) -> Option<&'a [u8]>
+    ensures { IfSome result (λ body. column row.now at ≡ Blob body.now) }
+{
+    match row.get_ref(at) {
+        Ok(ValueRef::Blob(body)) => Some(body),
+        _ => None,
+    }
+}
+
+/// Unpacks a body for as many intervals as it says. `None` where these bytes are no body of a day.
+pub(crate) fn unpack(alloc: Global, body: &[u8]) -> Result<Option<Vec<Option<Reading>>>, AllocError>
+    ensures says { IfOk result (λ o. IfSome o (λ readings. readings_in body.now ≡ Some readings.items)) }
+    ensures few { IfOk result (λ o. IfSome o (λ readings. list_length readings.items < 2 ^ 16)) }
+    ensures only { IfOk result (λ o. (minutes : ℕ) (readings : List (Option ReadingValue)) → IsTrue (is_length minutes)
+        → unpacked (count_of minutes) body.now ≡ Some readings → option_map (λ v. v.items) o ≡ Some readings) }
+{
+    let Some(count) = count_in(body) else {
+        return Ok(None);
+    };
+    let Some(length) = length_of(count) else {
+        return Ok(None);
+    };
+    unpack_day(alloc, length, body)
+}
+
+/// How many intervals a body says.
+fn count_in(body: &[u8]) -> Option<u16>
+    ensures { result ≡ option_map (λ n. n.0) (number_at w16 (drop 1 body.now)) }
+{
+    match body {
+        [_, high, low, ..] => Some(u16::from_be_bytes([*high, *low])),
+        _ => None,
+    }
+}
+
+/// The length of so many intervals of a day.
+fn length_of(count: u16) -> Option<Length>
+    ensures some { IfSome result (λ minutes. count_of minutes ≡ count) }
+    ensures none { IfNone result ((minutes : ℕ) → IsTrue (is_length minutes) → count_of minutes ≢ count) }
+{
+    match count {
+        288 => Length::from_minutes(5),
+        96 => Length::from_minutes(15),
+        48 => Length::from_minutes(30),
+        _ => None,
+    }
+}

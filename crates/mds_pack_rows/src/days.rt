@@ -1,0 +1,103 @@
+//! The versions of a day, asked of a store.
+
+ghost use Rattle.std.specs.Prelude.{◌≡◌, ◌<◌, ◌^◌, ◌++◌, ◌∷◌, [], ℕ, false, length, map, IfOk, OnOk};
+ghost use Rattle.sqlite.specs.Held.{state};
+ghost use Rattle.mds_names.specs.declared.stream.Stream.{Stream as StreamValue};
+ghost use Rattle.mds_keeper.specs.Books.{row_fact};
+ghost use Rattle.mds_tables.specs.Queries.{Answers};
+ghost use Rattle.mds_tables.specs.Stores.{HoldsTablesOf};
+ghost use Rattle.mds_selects.specs.Found.{AreRowsOf};
+ghost use Rattle.mds_pack_rows.specs.DayRows.{AreHeldIn, shown_facts};
+ghost use Rattle.mds_pack_rows.specs.PackFacts.{facts_from, readings_facts};
+ghost use Rattle.mds_pack_rows.specs.PacksLayout.{packs_layout, world_2};
+
+use crate::bodies::{blob_at, unpack};
+use crate::statements::day_rows;
+use mds_keeper::{Unavailable, Version};
+use mds_marks::Reading;
+use mds_selects::moment_at;
+use mds_tables::ready;
+use mds_terms::{Day, Moment, Stream};
+use sqlite::{Alter, Connection, Row};
+use std::alloc::Global;
+
+/// The versions of a day, each with its interval.
+pub fn versions_of<S: Alter>(
+    alloc: Global,
+    conn: &mut Connection<S>,
+    stream: &Stream,
+    day: Day,
+) -> Result<Vec<(u16, Version)>, Unavailable>
+    requires { conn.old.in_transaction ≡ false }
+    ensures { Answers (HoldsTablesOf packs_layout) (state S.Store conn.old) (state S.Store conn.new) result
+        (λ trees rows. AreRowsOf (world_2 trees) stream.now day rows.items) }
+{
+    let Ok(_) = ready(conn) else {
+        return Err(Unavailable);
+    };
+    let Ok(rows) = day_rows(conn, stream, day) else {
+        return Err(Unavailable);
+    };
+    // For the proof: a day's number is at most that of the last day.
+    let _ = day.number();
+    all_held(alloc, &rows)
+}
+
+/// The versions that rows hold.
+fn all_held(alloc: Global, rows: &[Row]) -> Result<Vec<(u16, Version)>, Unavailable>
+    ensures { IfOk result (λ versions. AreHeldIn rows.now versions.items) }
+{
+    let mut versions = Vec::new(alloc);
+    for row in rows {
+        add_row(alloc, row, &mut versions)?;
+    }
+    Ok(versions)
+}
+
+/// Adds the versions that a row holds. Unavailable where it has no body of a day.
+fn add_row(alloc: Global, row: &Row, versions: &mut Vec<(u16, Version)>) -> Result<(), Unavailable>
+    ensures { OnOk result ((s : StreamValue) (day : ℕ) → map (row_fact s day) versions.new.items ≡ map (row_fact s day) versions.old.items ++ shown_facts s day row.now) }
+{
+    let Some(update) = moment_at(row, 0) else {
+        return Err(Unavailable);
+    };
+    let Some(body) = blob_at(row, 1) else {
+        return Err(Unavailable);
+    };
+    let Some(readings) = unpack(alloc, body)? else {
+        return Err(Unavailable);
+    };
+    add_held(update, readings, versions)
+}
+
+/// Adds a version for each reading.
+fn add_held(
+    update: Moment,
+    readings: Vec<Option<Reading>>,
+    versions: &mut Vec<(u16, Version)>,
+) -> Result<(), Unavailable>
+    requires { length readings.items < 2 ^ 16 }
+    ensures { OnOk result ((s : StreamValue) (day : ℕ) → map (row_fact s day) versions.new.items ≡ map (row_fact s day) versions.old.items ++ readings_facts s day update readings.items) }
+{
+    let mut interval: u16 = 0;
+    for reading in readings {
+        interval += 1;
+        add_one(interval, update, reading, versions)?;
+    }
+    Ok(())
+}
+
+/// Adds the version of an interval, if it has a reading.
+fn add_one(
+    interval: u16,
+    update: Moment,
+    reading: Option<Reading>,
+    versions: &mut Vec<(u16, Version)>,
+) -> Result<(), Unavailable>
+    ensures { OnOk result ((s : StreamValue) (day : ℕ) → map (row_fact s day) versions.new.items ≡ map (row_fact s day) versions.old.items ++ facts_from s day update interval (reading ∷ [])) }
+{
+    if let Some(reading) = reading {
+        versions.push((interval, Version { update, reading }))?;
+    }
+    Ok(())
+}

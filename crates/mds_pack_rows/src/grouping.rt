@@ -1,0 +1,176 @@
+//! The versions of days, put update by update.
+
+ghost use Rattle.std.specs.Prelude.{◌≡◌, ◌<◌, ◌≤◌, ◌^◌, IfOk, IfSome, IsTrue, None, OnOk, is_some, length as list_length, map, replicate};
+ghost use Rattle.std.specs.List.{list_any};
+ghost use Rattle.sqlite.specs.Held.{state};
+ghost use Rattle.sqlite.specs.State.{KeepsCommit, Survives};
+ghost use Rattle.mds_keeper.specs.Books.{row_fact};
+ghost use Rattle.mds_keeper.specs.Content.{day_versions, version_fact, versions_of};
+ghost use Rattle.mds_pack_rows.specs.Putting.{IsThere, PutsFacts, SayMore, SayRows};
+
+use crate::heads::length_of_day;
+use crate::putting::put_readings;
+use mds_keeper::{DayVersions, Unavailable, Version};
+use mds_marks::Reading;
+use mds_terms::{Day, Length, Moment, Stream};
+use sqlite::{Alter, Transaction};
+use std::alloc::{AllocError, Global};
+
+/// Puts versions of days, each of which has its head. Those of a day and an update that lie together go into one row at once. It
+/// is unavailable where a version is kept already, or has an interval that its day doesn't have.
+pub fn put_days<S: Alter>(
+    alloc: Global,
+    tx: &mut Transaction<'_, S>,
+    days: &[DayVersions],
+) -> Result<(), Unavailable>
+    ensures same_reference { tx.new.conn.ghost_name ≡ tx.old.conn.ghost_name }
+    ensures ok { OnOk result (PutsFacts (state S.Store tx.old.conn.now) (state S.Store tx.new.conn.now) (map version_fact (versions_of days.now))) }
+    ensures kept { IsThere (state S.Store tx.old.conn.now) (state S.Store tx.new.conn.now) → KeepsCommit (state S.Store tx.old.conn.now) (state S.Store tx.new.conn.now) }
+    ensures survives { Survives (state S.Store tx.old.conn.now) (state S.Store tx.new.conn.now) (λ _. ⊥) }
+{
+    for added in days {
+        put_known_day(alloc, tx, added)?;
+    }
+    Ok(())
+}
+
+/// Puts versions of a day that has its head.
+fn put_known_day<S: Alter>(
+    alloc: Global,
+    tx: &mut Transaction<'_, S>,
+    added: &DayVersions,
+) -> Result<(), Unavailable>
+    ensures same_reference { tx.new.conn.ghost_name ≡ tx.old.conn.ghost_name }
+    ensures ok { OnOk result (PutsFacts (state S.Store tx.old.conn.now) (state S.Store tx.new.conn.now) (map version_fact (day_versions added.now))) }
+    ensures kept { IsThere (state S.Store tx.old.conn.now) (state S.Store tx.new.conn.now) → KeepsCommit (state S.Store tx.old.conn.now) (state S.Store tx.new.conn.now) }
+    ensures survives { Survives (state S.Store tx.old.conn.now) (state S.Store tx.new.conn.now) (λ _. ⊥) }
+{
+    let length = length_of_day(tx, &added.stream, added.day)?;
+    put_day(alloc, tx, length, added)
+}
+
+/// Puts versions of a day with intervals of this length. Those of one update that lie together go into its row at once. It is
+/// unavailable where a version is kept already, or has an interval that the day doesn't have.
+pub fn put_day<S: Alter>(
+    alloc: Global,
+    tx: &mut Transaction<'_, S>,
+    length: Length,
+    added: &DayVersions,
+) -> Result<(), Unavailable>
+    ensures same_reference { tx.new.conn.ghost_name ≡ tx.old.conn.ghost_name }
+    ensures ok { OnOk result (PutsFacts (state S.Store tx.old.conn.now) (state S.Store tx.new.conn.now) (map version_fact (day_versions added.now))) }
+    ensures kept { IsThere (state S.Store tx.old.conn.now) (state S.Store tx.new.conn.now) → KeepsCommit (state S.Store tx.old.conn.now) (state S.Store tx.new.conn.now) }
+    ensures survives { Survives (state S.Store tx.old.conn.now) (state S.Store tx.new.conn.now) (λ _. ⊥) }
+{
+    let mut left = added.rows.as_slice();
+    while let [first, ..] = left {
+        let update = first.1.update;
+        let end = end_of_run(left);
+        let (run, rest) = left.split_at(end);
+        put_run(alloc, tx, length, &added.stream, added.day, update, run)?;
+        left = rest;
+    }
+    Ok(())
+}
+
+/// How many versions at the front have one update.
+fn end_of_run(rows: &[(u16, Version)]) -> usize
+    requires { 0 < list_length rows.now }
+    ensures { (0 < result) × (result ≤ list_length rows.now) }
+{
+    let update = rows[0].1.update.seconds();
+    for end in 1..rows.len() {
+        if rows[end].1.update.seconds() != update {
+            return end;
+        }
+    }
+    rows.len()
+}
+
+/// Puts versions of one update.
+fn put_run<S: Alter>(
+    alloc: Global,
+    tx: &mut Transaction<'_, S>,
+    length: Length,
+    stream: &Stream,
+    day: Day,
+    update: Moment,
+    rows: &[(u16, Version)],
+) -> Result<(), Unavailable>
+    ensures same_reference { tx.new.conn.ghost_name ≡ tx.old.conn.ghost_name }
+    ensures ok { OnOk result (PutsFacts (state S.Store tx.old.conn.now) (state S.Store tx.new.conn.now) (map (row_fact stream.now day) rows.now)) }
+    ensures kept { IsThere (state S.Store tx.old.conn.now) (state S.Store tx.new.conn.now) → KeepsCommit (state S.Store tx.old.conn.now) (state S.Store tx.new.conn.now) }
+    ensures survives { Survives (state S.Store tx.old.conn.now) (state S.Store tx.new.conn.now) (λ _. ⊥) }
+{
+    let Some(readings) = spread(alloc, length, update, rows)? else {
+        return Err(Unavailable);
+    };
+    if !has_some(readings.as_slice()) {
+        return Err(Unavailable);
+    }
+    put_readings(alloc, tx, stream, day, update, readings.as_slice())
+}
+
+/// Whether an interval has a reading.
+fn has_some(readings: &[Option<Reading>]) -> bool
+    ensures { result ≡ list_any (λ reading. is_some reading) readings.now }
+{
+    match readings {
+        [] => false,
+        [first, rest @ ..] => first.is_some() || has_some(rest),
+    }
+}
+
+/// The readings of versions of one update, each at its interval. `None` where a version has another update, an interval that
+/// the day doesn't have, or that of one before it.
+fn spread(
+    alloc: Global,
+    length: Length,
+    update: Moment,
+    rows: &[(u16, Version)],
+) -> Result<Option<Vec<Option<Reading>>>, AllocError>
+    ensures few { IfOk result (λ o. IfSome o (λ readings. list_length readings.items < 2 ^ 16)) }
+    ensures says { IfOk result (λ o. IfSome o (λ readings. SayRows update readings.items rows.now)) }
+{
+    let mut readings = no_readings(alloc, length)?;
+    for row in rows {
+        if !set_reading(&mut readings, update, row)? {
+            return Ok(None);
+        }
+    }
+    Ok(Some(readings))
+}
+
+/// A place for each interval, without a reading.
+fn no_readings(alloc: Global, length: Length) -> Result<Vec<Option<Reading>>, AllocError>
+    ensures { IfOk result (λ readings. (list_length readings.items < 2 ^ 16) × (readings.items ≡ replicate (list_length readings.items) None)) }
+{
+    let mut readings = Vec::with_capacity(alloc, length.count())?;
+    for _ in 0..length.count() {
+        readings.push(None)?;
+    }
+    Ok(readings)
+}
+
+/// Sets the reading of a version's interval. It tells whether there was none, and the version has this update.
+fn set_reading(
+    readings: &mut Vec<Option<Reading>>,
+    update: Moment,
+    row: &(u16, Version),
+) -> Result<bool, AllocError>
+    ensures len { OnOk result (list_length readings.new.items ≡ list_length readings.old.items) }
+    ensures more { IfOk result (λ set. IsTrue set → SayMore update readings.old.items readings.new.items row.now) }
+{
+    if row.1.update.seconds() != update.seconds() || row.0 == 0 {
+        return Ok(false);
+    }
+    let place = usize::from(row.0) - 1;
+    if place >= readings.len() {
+        return Ok(false);
+    }
+    if readings[place].is_some() {
+        return Ok(false);
+    }
+    readings[place] = Some(row.1.reading.try_clone()?);
+    Ok(true)
+}

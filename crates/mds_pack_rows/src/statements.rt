@@ -1,0 +1,161 @@
+//! The statements of SQL.
+
+ghost use Rattle.std.specs.Prelude.{◌≡◌, [], ◌∷◌, IfOk, OnOk};
+ghost use Rattle.sqlite.specs.Held.{state};
+ghost use Rattle.sqlite.specs.State.{HasCleanDisk, KeepsCommit, Survives};
+ghost use Rattle.sqlite.specs.Values.{bound};
+ghost use Rattle.sqlite.specs.declared.types.Value.TheVariants.{Blob, Int};
+ghost use Rattle.mds_tables.specs.Cells.{day_cells as day_columns};
+ghost use Rattle.mds_tables.specs.Queries.{QueriesOf};
+ghost use Rattle.mds_tables.specs.Stores.{FindsOf, Selects};
+ghost use Rattle.mds_tables.specs.Tables.{head_tree};
+ghost use Rattle.mds_pack_rows.specs.PackCells as row;
+ghost use Rattle.mds_pack_rows.specs.PackFacts.{body_facts};
+ghost use Rattle.mds_pack_rows.specs.PackTables.{body_columns, length_columns, pack_tree, schema_2, update_columns};
+ghost use Rattle.mds_pack_rows.specs.PacksLayout.{packs_layout};
+ghost use Rattle.mds_pack_rows.specs.Putting.{GoesOn, PutsBody, PutsFacts};
+
+use mds_keeper::Unavailable;
+use mds_tables::day_cells;
+use mds_terms::{Day, Moment, Stream};
+use sqlite::types::ValueRef;
+use sqlite::{Alter, Connection, Error, Row, Transaction};
+
+/// The columns that name a day and an update.
+fn key_cells<'a>(stream: &'a Stream, day: Day, update: Moment) -> [ValueRef<'a>; 4]
+    ensures { bound result ≡ row.key_cells stream.now day update }
+{
+    [
+        ValueRef::Text(stream.nmi.text().as_bytes()),
+        ValueRef::Text(stream.suffix.text().as_bytes()),
+        ValueRef::Int(day.number()),
+        ValueRef::Int(update.seconds()),
+    ]
+}
+
+/// The columns of a row.
+fn pack_cells<'a>(stream: &'a Stream, day: Day, update: Moment, body: &'a [u8]) -> [ValueRef<'a>; 5]
+    ensures { bound result ≡ row.pack_cells stream.now day update body.now }
+{
+    [
+        ValueRef::Text(stream.nmi.text().as_bytes()),
+        ValueRef::Text(stream.suffix.text().as_bytes()),
+        ValueRef::Int(day.number()),
+        ValueRef::Int(update.seconds()),
+        ValueRef::Blob(body),
+    ]
+}
+
+/// A rowid and a body.
+fn body_cells<'a>(id: i64, body: &'a [u8]) -> [ValueRef<'a>; 2]
+    ensures { bound result ≡ Int id ∷ Blob body.now ∷ [] }
+{
+    [ValueRef::Int(id), ValueRef::Blob(body)]
+}
+
+/// The updates and the bodies of a day.
+pub(crate) fn day_rows<S: Alter>(
+    conn: &mut Connection<S>,
+    stream: &Stream,
+    day: Day,
+) -> Result<Vec<Row>, Error>
+    ensures { QueriesOf packs_layout (state S.Store conn.old) (state S.Store conn.new) result (Selects pack_tree (day_columns stream.now day) update_columns) }
+{
+    conn.query_all(
+        "SELECT moment, body FROM mds_pack WHERE nmi = ?1 AND suffix = ?2 AND day = ?3",
+        &day_cells(stream, day),
+    )
+}
+
+/// The length of a day's intervals, of each head of it.
+pub(crate) fn length_rows<S: Alter>(
+    tx: &mut Transaction<'_, S>,
+    stream: &Stream,
+    day: Day,
+) -> Result<Vec<Row>, Unavailable>
+    ensures same_reference { tx.new.conn.ghost_name ≡ tx.old.conn.ghost_name }
+    ensures ok { HasCleanDisk (state S.Store tx.new.conn.now)
+        → IfOk result (λ rows. FindsOf packs_layout (state S.Store tx.old.conn.now) (state S.Store tx.new.conn.now) (λ trees. Selects head_tree (day_columns stream.now day) length_columns trees rows.items)) }
+    ensures goes_on { OnOk result (GoesOn (state S.Store tx.old.conn.now) (state S.Store tx.new.conn.now)) }
+    ensures kept { HasCleanDisk (state S.Store tx.new.conn.now) → (state S.Store tx.old.conn.now).now.schema ≡ schema_2
+        → KeepsCommit (state S.Store tx.old.conn.now) (state S.Store tx.new.conn.now) }
+    ensures survives { Survives (state S.Store tx.old.conn.now) (state S.Store tx.new.conn.now) (λ _. ⊥) }
+{
+    match tx.query_all(
+        "SELECT length FROM mds_head WHERE nmi = ?1 AND suffix = ?2 AND day = ?3",
+        &day_cells(stream, day),
+    ) {
+        Ok(rows) => Ok(rows),
+        Err(_) => Err(Unavailable),
+    }
+}
+
+/// The rowid and the body of a day's row of an update, if it has one.
+pub(crate) fn body_rows<S: Alter>(
+    tx: &mut Transaction<'_, S>,
+    stream: &Stream,
+    day: Day,
+    update: Moment,
+) -> Result<Vec<Row>, Unavailable>
+    ensures same_reference { tx.new.conn.ghost_name ≡ tx.old.conn.ghost_name }
+    ensures ok { HasCleanDisk (state S.Store tx.new.conn.now)
+        → IfOk result (λ rows. FindsOf packs_layout (state S.Store tx.old.conn.now) (state S.Store tx.new.conn.now) (λ trees. Selects pack_tree (row.key_cells stream.now day update) body_columns trees rows.items)) }
+    ensures goes_on { OnOk result (GoesOn (state S.Store tx.old.conn.now) (state S.Store tx.new.conn.now)) }
+    ensures kept { HasCleanDisk (state S.Store tx.new.conn.now) → (state S.Store tx.old.conn.now).now.schema ≡ schema_2
+        → KeepsCommit (state S.Store tx.old.conn.now) (state S.Store tx.new.conn.now) }
+    ensures survives { Survives (state S.Store tx.old.conn.now) (state S.Store tx.new.conn.now) (λ _. ⊥) }
+{
+    match tx.query_all(
+        "SELECT rowid, body FROM mds_pack WHERE nmi = ?1 AND suffix = ?2 AND day = ?3 AND moment = ?4",
+        &key_cells(stream, day, update),
+    ) {
+        Ok(rows) => Ok(rows),
+        Err(_) => Err(Unavailable),
+    }
+}
+
+/// Puts a row.
+pub(crate) fn insert_body<S: Alter>(
+    tx: &mut Transaction<'_, S>,
+    stream: &Stream,
+    day: Day,
+    update: Moment,
+    body: &[u8],
+) -> Result<(), Unavailable>
+    ensures same_reference { tx.new.conn.ghost_name ≡ tx.old.conn.ghost_name }
+    ensures ok { OnOk result (PutsFacts (state S.Store tx.old.conn.now) (state S.Store tx.new.conn.now) (body_facts stream.now day update body.now)) }
+    ensures kept { HasCleanDisk (state S.Store tx.new.conn.now) → KeepsCommit (state S.Store tx.old.conn.now) (state S.Store tx.new.conn.now) }
+    ensures survives { Survives (state S.Store tx.old.conn.now) (state S.Store tx.new.conn.now) (λ _. ⊥) }
+{
+    match tx.execute(
+        "INSERT INTO mds_pack (nmi, suffix, day, moment, body) VALUES (?1, ?2, ?3, ?4, ?5)",
+        &pack_cells(stream, day, update, body),
+    ) {
+        Ok(_) => Ok(()),
+        Err(_) => Err(Unavailable),
+    }
+}
+
+/// Replaces the body of the row that has this rowid. Unavailable where there isn't just one.
+pub(crate) fn replace_body<S: Alter>(
+    tx: &mut Transaction<'_, S>,
+    id: i64,
+    body: &[u8],
+) -> Result<(), Unavailable>
+    ensures same_reference { tx.new.conn.ghost_name ≡ tx.old.conn.ghost_name }
+    ensures ok { OnOk result (PutsBody (state S.Store tx.old.conn.now) (state S.Store tx.new.conn.now) id body.now) }
+    ensures kept { HasCleanDisk (state S.Store tx.new.conn.now) → KeepsCommit (state S.Store tx.old.conn.now) (state S.Store tx.new.conn.now) }
+    ensures survives { Survives (state S.Store tx.old.conn.now) (state S.Store tx.new.conn.now) (λ _. ⊥) }
+{
+    let Ok(count) = tx.execute(
+        "UPDATE mds_pack SET body = ?2 WHERE rowid = ?1",
+        &body_cells(id, body),
+    ) else {
+        return Err(Unavailable);
+    };
+    let is_replaced = count == 1;
+    if !is_replaced {
+        return Err(Unavailable);
+    }
+    Ok(())
+}
