@@ -21,6 +21,7 @@ test:
 	tests/service crates/mdstore/out/mdstore
 	tests/examples crates/mdstore/out/mdstore crates/mds_trials/out/mds_trials
 	tests/text crates/mdstore/out/mdstore
+	tests/migration crates/mdstore/out/mdstore
 
 bench: bin/mdstore
 	bench/run

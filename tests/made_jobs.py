@@ -8,6 +8,7 @@ import datetime
 import random
 
 from example_texts import fill_in, filled, refused
+from packed_days import rows_of
 
 EPOCH = datetime.date(1970, 1, 1)
 LAST_DAY = (datetime.date.max - EPOCH).days
@@ -93,11 +94,10 @@ def put_in_tables(database, jobs, holidays):
     for job in jobs:
         for day, (length, unit) in job.heads.items():
             database.execute("INSERT INTO mds_head VALUES (?, 'E1', ?, ?, ?)", (job.nmi, day, length, unit))
-        for (day, interval), versions in job.versions.items():
-            for update, flag, value in versions:
-                quality = flag if flag in "AN" else flag + "51"
-                database.execute("INSERT INTO mds_version VALUES (?, 'E1', ?, ?, ?, ?, -1, '', ?)",
-                                 (job.nmi, day, interval, update, quality, 0 if flag == "N" else value))
+        versions = [(job.nmi, "E1", day, interval, update, flag if flag in "AN" else flag + "51", -1, "", value)
+                    for (day, interval), versions in job.versions.items() for update, flag, value in versions]
+        counts = {(job.nmi, "E1", day): 1440 // length for day, (length, _) in job.heads.items()}
+        database.executemany("INSERT INTO mds_pack VALUES (?, ?, ?, ?, ?)", rows_of(versions, counts))
     for day in holidays:
         database.execute("INSERT INTO mds_holiday VALUES (?)", (day,))
 

@@ -36,6 +36,8 @@ of_request (Err perform.Memory) = outcome.Unavailable
 abbrev pub status_of : Outcome → Status
 status_of outcome.Done = status.Done
 status_of outcome.Created = status.Done
+status_of outcome.Migrated = status.Done
+status_of outcome.AlreadyCurrent = status.Done
 status_of (outcome.Answered s) = s
 status_of (outcome.Fault fault) = status.Fault
 status_of outcome.BadJob = status.Usage
@@ -47,12 +49,15 @@ status_of outcome.NoInput = status.Unavailable
 status_of outcome.NoOutput = status.Unavailable
 status_of outcome.NoPort = status.Unavailable
 status_of outcome.Unavailable = status.Unavailable
+status_of outcome.EarlierSchema = status.Unavailable
 status_of outcome.OtherSchema = status.Unavailable
 
 -- what is still to be printed of it: a line or nothing
 abbrev pub outcome_text : Outcome → List ℕ
 outcome_text outcome.Done = []
 outcome_text outcome.Created = codes "created\n"
+outcome_text outcome.Migrated = codes "migrated\n"
+outcome_text outcome.AlreadyCurrent = codes "already current\n"
 outcome_text (outcome.Answered s) = []
 outcome_text (outcome.Fault fault) = fault_text fault ++ codes "\n"
 outcome_text outcome.BadJob = codes "bad job\n"
@@ -64,16 +69,19 @@ outcome_text outcome.NoInput = codes "cannot read file\n"
 outcome_text outcome.NoOutput = []
 outcome_text outcome.NoPort = codes "cannot listen\n"
 outcome_text outcome.Unavailable = codes "U1\n"
+outcome_text outcome.EarlierSchema = codes "U2\n"
 outcome_text outcome.OtherSchema = codes "U3\n"
 
--- What it comes to where the store can't be closed after it: what was made or printed stands, and a refusal that is still to be
--- printed is U1.
+-- What it comes to where the store can't be closed after it: what was made, migrated or printed stands, and a refusal that is
+-- still to be printed is U1.
 abbrev pub after_failed_close : Outcome → Outcome
 after_failed_close outcome.Done = outcome.Done
 after_failed_close (outcome.Answered s) = outcome.Answered s
 after_failed_close outcome.Usage = outcome.Usage
 after_failed_close outcome.NoOutput = outcome.NoOutput
 after_failed_close outcome.Created = outcome.Created
+after_failed_close outcome.Migrated = outcome.Migrated
+after_failed_close outcome.AlreadyCurrent = outcome.AlreadyCurrent
 after_failed_close (outcome.Fault fault) = outcome.Unavailable
 after_failed_close outcome.BadJob = outcome.Unavailable
 after_failed_close (outcome.BadHolidays row) = outcome.Unavailable
@@ -82,4 +90,5 @@ after_failed_close outcome.NoText = outcome.Unavailable
 after_failed_close outcome.NoInput = outcome.Unavailable
 after_failed_close outcome.NoPort = outcome.Unavailable
 after_failed_close outcome.Unavailable = outcome.Unavailable
+after_failed_close outcome.EarlierSchema = outcome.Unavailable
 after_failed_close outcome.OtherSchema = outcome.Unavailable

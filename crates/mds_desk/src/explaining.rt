@@ -11,8 +11,7 @@ code, and `mdstore explain` prints this whole text. Letters of either case will 
 
 L1 to L12 are faults of a file. `mdstore check FILE` prints the first one, with its line and, for L5,
 its field. Lines and fields count from 1, and the indicator is field 1. M1 to M12 are refusals of a
-store or of a job, and H1 is one of a list of holidays. U1 and U3 say that the store can't be had.
-There is no U2.
+store or of a job, and H1 is one of a list of holidays. U1 to U3 say that the store can't be had.
 
 In the examples `1.5 ..` stands for as many fields `1.5` as the day of 48 intervals still wants. All
 examples of files but those of L1 and L10 can be typed as they stand.
@@ -418,13 +417,26 @@ Example: `mdstore streams --store week.db` while `mdstore serve --store week.db`
 What to do: end the other process, look at the path, the rights and the disk, and try again. Make a
 new store by `mdstore init`. Take a damaged one back from a backup: `docs/USE.md`, "Backups".
 
+## U2: The store is of an earlier schema
+
+The file is a store of schema 1, and this version of mdstore keeps stores of schema 2. Nothing was
+changed in it. `mdstore --version` tells the schema.
+
+Usual causes: a store that an earlier version of mdstore made; such a store from a backup.
+
+Example: `mdstore streams --store week.db` where an earlier version of mdstore made `week.db`.
+
+What to do: stop whatever uses the store, copy it as in `docs/USE.md`, "Backups", and then call
+`mdstore migrate --store PATH`. The migration keeps all versions, and happens whole or not at all.
+While it runs it wants room on the disk for a second copy of the store.
+
 ## U3: The database is no store of this schema
 
-The file is a database of something else, or a store of an older or newer schema, or something was
-added to it. For `init` it isn't empty. `mdstore --version` tells the schema.
+The file is a database of something else, or a store of a newer schema, or something was added to it.
+For `init` it isn't empty. `mdstore --version` tells the schema.
 
 Usual causes: a wrong path; `init` of a store that is there; a file of no bytes, which only `init`
-takes. Or another program made an index, a view or a table in it.
+takes. Or another program made an index, a view or a table in it, or rows in `mds_version`.
 
 Example: `mdstore init --store week.db` where `week.db` is a store already.
 

@@ -29,6 +29,10 @@ pub enum Outcome {
     Done,
     /// A store was made.
     Created,
+    /// A store of an earlier schema became one of this schema.
+    Migrated,
+    /// The store that was to become one of this schema is that already.
+    AlreadyCurrent,
     /// A request was answered, and the answer was printed.
     Answered(Status),
     /// The file isn't well formed.
@@ -51,6 +55,8 @@ pub enum Outcome {
     NoPort,
     /// There is no memory, or the store can't be had (U1).
     Unavailable,
+    /// The database is a store of an earlier schema (U2).
+    EarlierSchema,
     /// The database isn't a store of this schema, or not an empty one to make a store in (U3).
     OtherSchema,
 }
@@ -94,14 +100,16 @@ impl Outcome {
         }
     }
 
-    /// What it comes to where the store can't be closed after it. What was made or answered stands, since the file and its
-    /// log together are the store.
+    /// What it comes to where the store can't be closed after it. What was made, migrated or answered stands, since the file and
+    /// its log together are the store.
     pub fn after_failed_close(self) -> Outcome
         ensures { result ≡ after_failed_close self }
     {
         match self {
             Outcome::Done
             | Outcome::Created
+            | Outcome::Migrated
+            | Outcome::AlreadyCurrent
             | Outcome::Answered(_)
             | Outcome::Usage
             | Outcome::NoOutput => self,
@@ -113,6 +121,7 @@ impl Outcome {
             | Outcome::NoInput
             | Outcome::NoPort
             | Outcome::Unavailable
+            | Outcome::EarlierSchema
             | Outcome::OtherSchema => Outcome::Unavailable,
         }
     }
@@ -122,7 +131,9 @@ impl Outcome {
         ensures { result ≡ status_of self }
     {
         match self {
-            Outcome::Done | Outcome::Created => Status::Done,
+            Outcome::Done | Outcome::Created | Outcome::Migrated | Outcome::AlreadyCurrent => {
+                Status::Done
+            }
             Outcome::Answered(status) => status,
             Outcome::Fault(_) | Outcome::BadHolidays(_) => Status::Fault,
             Outcome::BadJob | Outcome::BadArgument(_) | Outcome::Usage | Outcome::NoText => {
@@ -132,6 +143,7 @@ impl Outcome {
             | Outcome::NoOutput
             | Outcome::NoPort
             | Outcome::Unavailable
+            | Outcome::EarlierSchema
             | Outcome::OtherSchema => Status::Unavailable,
         }
     }
@@ -145,6 +157,8 @@ impl fmt::Display for Outcome {
         match self {
             Outcome::Done | Outcome::Answered(_) | Outcome::Usage | Outcome::NoOutput => Ok(()),
             Outcome::Created => f.write_str("created\n"),
+            Outcome::Migrated => f.write_str("migrated\n"),
+            Outcome::AlreadyCurrent => f.write_str("already current\n"),
             Outcome::Fault(fault) => write!(f, "{fault}\n"),
             Outcome::BadJob => f.write_str("bad job\n"),
             Outcome::BadHolidays(row) => write!(f, "H1 line {row}\n"),
@@ -153,6 +167,7 @@ impl fmt::Display for Outcome {
             Outcome::NoInput => f.write_str("cannot read file\n"),
             Outcome::NoPort => f.write_str("cannot listen\n"),
             Outcome::Unavailable => f.write_str("U1\n"),
+            Outcome::EarlierSchema => f.write_str("U2\n"),
             Outcome::OtherSchema => f.write_str("U3\n"),
         }
     }

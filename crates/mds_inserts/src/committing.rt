@@ -6,20 +6,29 @@ ghost use Rattle.sqlite.specs.State.{HasCleanDisk, KeepsCommit, Survives};
 ghost use Rattle.sqlite_catalog.specs.Listing.{IsSound};
 ghost use Rattle.mds_tables.specs.Tables.{More, schema_1, schema_with};
 ghost use Rattle.mds_inserts.specs.MadeRows.{IsRowOfJob, IsRowOfPeriod};
-ghost use Rattle.mds_inserts.specs.Parts.{rest_in, rows_in};
+ghost use Rattle.mds_inserts.specs.Parts.{head_part, rest_in, rows_in};
 ghost use Rattle.mds_inserts.specs.Refusals.{FailsToPut};
 ghost use Rattle.mds_tables.specs.Stores.{AreRowsOf, Commits, Holds, LeavesAdded};
-ghost use Rattle.mds_inserts.specs.Writing.{Changes, IsFit, LeavesWritten, PutsAll, PutsRestThere, Writes};
+ghost use Rattle.mds_inserts.specs.Writing.{Changes, IsFit, LeavesWritten, PutsAll, PutsEach, PutsRestThere, Writes};
 
 use crate::jobs::JobRow;
 use crate::periods::PeriodRow;
 use crate::putting::{put_days, put_each};
 use mds_keeper::Additions;
 use mds_tables::ready;
+use mds_world::Head;
 use sqlite::{Alter, Connection, Error, Transaction};
 
+/// Puts the rows of heads, whatever tables stand behind those that every schema has.
+pub fn put_heads<S: Alter>(tx: &mut Transaction<'_, S>, heads: &[Head]) -> Result<(), Error>
+    ensures same_reference { tx.new.conn.ghost_name ≡ tx.old.conn.ghost_name }
+    ensures puts { (more : More) → PutsEach (schema_with more) head_part (state S.Store tx.old.conn.now) (state S.Store tx.new.conn.now) result heads.now }
+{
+    put_each(tx, heads)
+}
+
 /// Puts the rows behind those of heads and versions, whatever tables stand behind those that every schema has.
-fn put_rest<S: Alter>(
+pub fn put_rest<S: Alter>(
     tx: &mut Transaction<'_, S>,
     additions: &Additions,
     periods: &[PeriodRow],
@@ -50,7 +59,7 @@ fn put_all<S: Alter>(
     ensures puts { Changes schema_1 (IsFit schema_1 (state S.Store tx.old.conn.now)) (PutsAll (state S.Store tx.old.conn.now) (state S.Store tx.new.conn.now) additions.now)
         (rows_in additions.now periods.now jobs.now) (state S.Store tx.old.conn.now) (state S.Store tx.new.conn.now) result }
 {
-    put_each(tx, &additions.heads)?;
+    put_heads(tx, &additions.heads)?;
     put_days(tx, &additions.days)?;
     put_rest(tx, additions, periods, jobs)
 }

@@ -6,6 +6,6 @@ mod jobs;
 mod periods;
 mod putting;
 
-pub use committing::commit;
+pub use committing::{commit, put_heads, put_rest};
 pub use jobs::{JobRow, job_rows};
 pub use periods::{PeriodRow, period_rows};

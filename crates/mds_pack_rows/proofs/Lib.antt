@@ -1,10 +1,13 @@
 pub mod AskLemmas
 pub mod BodyLemmas
+pub mod CommitLemmas
 pub mod DayLemmas
 pub mod LaidLemmas
 pub mod LayoutLemmas
+pub mod MakingTexts
 pub mod PackTexts
 pub mod PutLemmas
 pub mod SpreadLemmas
 pub mod SwapLemmas
+pub mod TwoSchemas
 pub mod UpdateLemmas

@@ -60,7 +60,7 @@ fits s day update body = rw (cast_int, cast_int)
 
 -- ---- that the transaction goes on
 
-ran_on : (sql : List ℕ) (params : Row) (count : ℕ) (old new : State) → (HasCleanDisk new → ExecutesInside 0 sql params old new (Ok count)) → GoesOn old new
+pub ran_on : (sql : List ℕ) (params : Row) (count : ℕ) (old new : State) → (HasCleanDisk new → ExecutesInside 0 sql params old new (Ok count)) → GoesOn old new
 ran_on sql params count old new runs = record {
   was_open = λ clean _. (runs clean).1.was_open;
   is_open = λ clean _. (runs clean).1.is_open;
@@ -70,7 +70,7 @@ ran_on sql params count old new runs = record {
 on_same : (s : State) → GoesOn s s
 on_same s = record { was_open = λ _ o. o; is_open = λ _ o. o; inside = λ _ o. o }
 
-on_then : (a b c : State) → doubt b.is_clean ≤ doubt c.is_clean → GoesOn a b → GoesOn b c → GoesOn a c
+pub on_then : (a b c : State) → doubt b.is_clean ≤ doubt c.is_clean → GoesOn a b → GoesOn b c → GoesOn a c
 on_then a b c later p q =
     let early : HasCleanDisk c → HasCleanDisk b = λ clean. omega (arith, clean, later) in
     record {

@@ -10,7 +10,7 @@ use Rattle.mds_marks.specs.Reading.{ReadingValue}
 use Rattle.mds_packs.specs.Unpacked.{◌>>=◌, number_at, unpacked}
 use Rattle.mds_world.specs.Facts.{Fact}
 use Rattle.mds_world.specs.Facts.Fact.{VersionIs}
-use Rattle.mds_tables.specs.RowFacts.{facts_with, natural_at, stream_in, text_at}
+use Rattle.mds_tables.specs.RowFacts.{natural_at, stream_in, text_at}
 use Rattle.mds_pack_rows.specs.PackTables.{pack_tree}
 
 -- the versions of one update that readings from an interval on are, none where an interval has no reading
@@ -41,7 +41,3 @@ pack_facts row = body_facts (stream_in row) (natural_at row 3) (natural_at row 4
 -- the versions that the rows of mds_pack name, one row after the other
 abbrev pub pack_versions : Trees → List Fact
 pack_versions trees = flat_map pack_facts (trees pack_tree)
-
--- The facts of the rows of all tables. The versions are those of mds_pack alone.
-abbrev pub facts_2 : Trees → List Fact
-facts_2 = facts_with pack_versions

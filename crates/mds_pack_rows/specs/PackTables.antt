@@ -42,3 +42,7 @@ tables_2 = tables_with packs
 
 abbrev pub schema_2 : Schema
 schema_2 = schema_with packs
+
+-- the statement that makes mds_pack behind the tables of schema 1
+abbrev pub create_pack : List ℕ
+create_pack = codes "CREATE TABLE mds_pack (nmi TEXT NOT NULL, suffix TEXT NOT NULL, day INTEGER NOT NULL, moment INTEGER NOT NULL, body BLOB NOT NULL, PRIMARY KEY (nmi, suffix, day, moment), FOREIGN KEY (nmi, suffix, day) REFERENCES mds_head (nmi, suffix, day)) STRICT"

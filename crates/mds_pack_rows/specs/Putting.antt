@@ -17,8 +17,8 @@ use Rattle.mds_keeper.specs.Content.{version_fact}
 use Rattle.mds_keeper.specs.declared.day_book.Version.{Version}
 use Rattle.mds_tables.specs.Cells.{day_cells, number_cell}
 use Rattle.mds_tables.specs.Stores.{Begins, Gained}
-use Rattle.mds_tables.specs.Tables.{head_tree}
-use Rattle.mds_inserts.specs.Writing.{IsMore, KeepsOthers}
+use Rattle.mds_tables.specs.Tables.{head_tree, tables_1}
+use Rattle.mds_inserts.specs.Writing.{IsMore, Keeps, KeepsOthers}
 use Rattle.mds_pack_rows.specs.PackCells.{key_cells, pack_cells}
 use Rattle.mds_pack_rows.specs.PackFacts.{pack_versions, readings_facts}
 use Rattle.mds_pack_rows.specs.PackTables.{body_columns, pack_tree, schema_2, tables_2}
@@ -42,6 +42,15 @@ pub record ChangesPacks (old new : State) : Type 0 where
   pub is_open : IsTrue new.is_open
   pub schema : new.now.schema ≡ schema_2
   pub others : KeepsOthers pack_tree old.now.trees new.now.trees tables_2
+  pub committed : new.committed ≡ old.committed
+  pub sound : IsSound schema_2 new.now.trees
+
+-- mds_pack stands behind the tables of schema 1, which are as they were, and has no row. Nothing is committed.
+pub record MakesPack (old new : State) : Type 0 where
+  pub is_open : IsTrue new.is_open
+  pub schema : new.now.schema ≡ schema_2
+  pub others : Keeps old.now.trees new.now.trees tables_1
+  pub none : new.now.trees pack_tree ≡ []
   pub committed : new.committed ≡ old.committed
   pub sound : IsSound schema_2 new.now.trees
 

@@ -5,7 +5,7 @@ ghost use Rattle.sqlite.specs.Held.{state};
 ghost use Rattle.mds_names.specs.declared.stream.Stream.{Stream as StreamValue};
 ghost use Rattle.mds_keeper.specs.Books.{row_fact};
 ghost use Rattle.mds_tables.specs.Queries.{Answers};
-ghost use Rattle.mds_tables.specs.Stores.{HoldsTablesOf};
+ghost use Rattle.mds_tables.specs.Stores.{HoldsOf};
 ghost use Rattle.mds_selects.specs.Found.{AreRowsOf};
 ghost use Rattle.mds_pack_rows.specs.DayRows.{AreHeldIn, shown_facts};
 ghost use Rattle.mds_pack_rows.specs.PackFacts.{facts_from, readings_facts};
@@ -29,7 +29,7 @@ pub fn versions_of<S: Alter>(
     day: Day,
 ) -> Result<Vec<(u16, Version)>, Unavailable>
     requires { conn.old.in_transaction ≡ false }
-    ensures { Answers (HoldsTablesOf packs_layout) (state S.Store conn.old) (state S.Store conn.new) result
+    ensures { Answers (HoldsOf packs_layout) (state S.Store conn.old) (state S.Store conn.new) result
         (λ trees rows. AreRowsOf (world_2 trees) stream.now day rows.items) }
 {
     let Ok(_) = ready(conn) else {
@@ -44,7 +44,7 @@ pub fn versions_of<S: Alter>(
 }
 
 /// The versions that rows hold.
-fn all_held(alloc: Global, rows: &[Row]) -> Result<Vec<(u16, Version)>, Unavailable>
+pub fn all_held(alloc: Global, rows: &[Row]) -> Result<Vec<(u16, Version)>, Unavailable>
     ensures { IfOk result (λ versions. AreHeldIn rows.now versions.items) }
 {
     let mut versions = Vec::new(alloc);

@@ -4,54 +4,55 @@ use Rattle.std.specs.declared.alloc.Global.{Global}
 use Rattle.std.specs.declared.vec.Vec.{Vec}
 use Rattle.std.proofs.Common.{inl, sym, ap, subst, ◌∙◌, arith}
 use Rattle.sqlite.specs.Effect.{Database, IsDatabase}
-use Rattle.sqlite.specs.State.{HasCleanDisk, State, Survives}
+use Rattle.sqlite.specs.State.{HasCleanDisk, KeepsCommit, State, Survives}
 use Rattle.sqlite.specs.declared.error.Error.{Error}
 use Rattle.sqlite.proofs.Callers.{unchanged_then}
-use Rattle.sqlite.proofs.InsideLemmas.{unchanged_keeps}
+use Rattle.sqlite.proofs.InsideLemmas.{keeps_then, unchanged_keeps}
 use Rattle.sqlite.proofs.StateLemmas.{survives_weaker}
 use Rattle.sqlite_catalog.specs.Listing.{IsSound}
 use Rattle.sqlite_trees.specs.Tree.{Trees}
 use Rattle.sqlite_value.specs.Order.{Row}
 use Rattle.mds_tables.specs.Causes.{HasFailed}
-use Rattle.mds_tables.specs.Queries.{Answers, Queries}
-use Rattle.mds_tables.specs.Stores.{Finds, Holds, HoldsTables, IsReady}
-use Rattle.mds_tables.specs.Tables.{schema_1}
+use Rattle.mds_tables.specs.Layouts.{Layout}
+use Rattle.mds_tables.specs.Queries.{Answers, QueriesOf}
+use Rattle.mds_tables.specs.Stores.{FindsOf, HoldsOf, HoldsTablesOf, IsReady}
+use Rattle.mds_tables.specs.Tables.{schema_with}
 use Rattle.mds_tables.proofs.CauseLemmas.{failed_since}
 use Rattle.mds_tables.proofs.CallLemmas.{survives_more}
 
-pub tables_held : (s : State) → Holds s → HoldsTables s
-tables_held s holds clean is_open = (holds clean is_open).schema
+pub tables_held : (layout : Layout) (s : State) → HoldsOf layout s → HoldsTablesOf layout s
+tables_held layout s holds clean is_open = (holds clean is_open).schema
 
 -- A connection was ready, what was asked of it since changed nothing, and this is known of the trees that are committed.
-pub record IsSteady (old mid : State) (Known : Trees → Type 0) : Type 0 where
-  pub ready : HoldsTables old → HasCleanDisk mid → IsReady old mid
-  pub quiet : HoldsTables old → Survives old mid (λ _. ⊥)
+pub record IsSteady (layout : Layout) (old mid : State) (Known : Trees → Type 0) : Type 0 where
+  pub ready : HoldsTablesOf layout old → HasCleanDisk mid → IsReady old mid
+  pub quiet : HoldsTablesOf layout old → Survives old mid (λ _. ⊥)
   pub mode : mid.in_transaction ≡ false
-  pub known : HoldsTables old → HasCleanDisk mid → Known old.committed.trees
+  pub known : HoldsTablesOf layout old → HasCleanDisk mid → Known old.committed.trees
 
-on_ok : {A E : Type 0} (P : Type 0) (r : Result A E) → P → OnOk r P
+pub on_ok : {A E : Type 0} (P : Type 0) (r : Result A E) → P → OnOk r P
 on_ok P (Ok x) p = p
 on_ok P (Err e) p = tt
 
 module _ {old mid : State} where
   -- where it is ready, the trees obey schema 1
-  pub steady : (HasCleanDisk mid → IsReady old mid) → Survives old mid (λ _. ⊥) → mid.in_transaction ≡ false
-      → IsSteady old mid (IsSound schema_1)
-  steady ready begun mode = record {
+  pub steady : (layout : Layout) → (HasCleanDisk mid → IsReady old mid) → Survives old mid (λ _. ⊥) → mid.in_transaction ≡ false
+      → IsSteady layout old mid (IsSound (schema_with layout.more))
+  steady layout ready begun mode = record {
     ready = λ _. ready;
     quiet = λ _. begun;
     mode = mode;
     known = λ held clean.
         let it = ready clean in
-        let schema : old.committed.schema ≡ schema_1 = held (omega (arith, begun.clean)) it.same.0.was_open in
+        let schema : old.committed.schema ≡ schema_with layout.more = held (omega (arith, begun.clean)) it.same.0.was_open in
         subst (λ s. IsSound s old.committed.trees) schema (subst IsDatabase it.settled it.sound);
   }
 
   -- what is made of all that is known is answered
-  pub answers : {A E : Type 0} {IsHeld : State → Type 0} {Tells : Trees → A → Type 0} {Known : Trees → Type 0}
-      → (IsHeld old → HoldsTables old) → IsSteady old mid Known → (r : Result A E)
+  pub answers : {A E : Type 0} {layout : Layout} {IsHeld : State → Type 0} {Tells : Trees → A → Type 0} {Known : Trees → Type 0}
+      → (IsHeld old → HoldsTablesOf layout old) → IsSteady layout old mid Known → (r : Result A E)
       → (Known old.committed.trees → IfOk r (Tells old.committed.trees)) → Answers IsHeld old mid r Tells
-  answers held it r tells = record {
+  answers {layout = layout} held it r tells = record {
     found = λ clean is. tells (it.known (held is) clean);
     «open» = λ clean is.
         let same = (it.ready (held is) clean).same.0 in
@@ -61,9 +62,9 @@ module _ {old mid : State} where
     survives = λ is. it.quiet (held is);
   }
 
-module _ {old mid new : State} {Known : Trees → Type 0} {Shows : Trees → List Row → Type 0}
-    {r : Result (Vec Row Global) Error} (before : IsSteady old mid Known) (asked : Queries mid new r Shows) where
-  module _ (held : HoldsTables old) where
+module _ {layout : Layout} {old mid new : State} {Known : Trees → Type 0} {Shows : Trees → List Row → Type 0}
+    {r : Result (Vec Row Global) Error} (before : IsSteady layout old mid Known) (asked : QueriesOf layout mid new r Shows) where
+  module _ (held : HoldsTablesOf layout old) where
     module _ (clean : HasCleanDisk new) where
       early : HasCleanDisk mid
       early = omega (arith, asked.survives.clean, clean)
@@ -74,18 +75,18 @@ module _ {old mid new : State} {Known : Trees → Type 0} {Shows : Trees → Lis
       now_is : mid.now ≡ old.committed
       now_is = was_ready.same.0.now_is ∙ was_ready.settled
 
-      has_schema : mid.now.schema ≡ schema_1
+      has_schema : mid.now.schema ≡ schema_with layout.more
       has_schema =
           let was_clean : HasCleanDisk old = let less = (before.quiet held).clean in let is = early in omega arith in
           ap (λ (d : Database). d.schema) now_is ∙ held was_clean was_ready.same.0.was_open
 
       -- what the query shows of the tables it shows of what is committed
-      shows : (P : Trees → Type 0) → Finds mid new P → P old.committed.trees
+      shows : (P : Trees → Type 0) → FindsOf layout mid new P → P old.committed.trees
       shows P finds =
           subst P (ap (λ (d : Database). d.trees) now_is)
           (finds.shows has_schema (subst IsDatabase (sym was_ready.same.0.now_is) was_ready.sound))
 
-      still_ready : (P : Trees → Type 0) → Finds mid new P → IsReady old new
+      still_ready : (P : Trees → Type 0) → FindsOf layout mid new P → IsReady old new
       still_ready P finds = record {
         same = unchanged_then old mid new was_ready.same (finds.same has_schema);
         settled = was_ready.settled;
@@ -93,7 +94,7 @@ module _ {old mid new : State} {Known : Trees → Type 0} {Shows : Trees → Lis
       }
 
       -- why the query fails is why the call does
-      pub why_failed : (e : Error) → (mid.now.schema ≡ schema_1 → HasFailed mid new e) → HasFailed old new e
+      pub why_failed : (e : Error) → (mid.now.schema ≡ schema_with layout.more → HasFailed mid new e) → HasFailed old new e
       why_failed e h =
           let begun = before.quiet held in
           failed_since old mid new begun.counts was_ready.same.0.is_open begun.limit e (h has_schema)
@@ -105,8 +106,9 @@ module _ {old mid new : State} {Known : Trees → Type 0} {Shows : Trees → Lis
         (survives_weaker mid new _ (λ _. ⊥) (λ clean _ other. other (has_schema clean)) asked.survives)
 
 -- one query later its rows are known too
-pub and_then : {old mid new : State} {Known : Trees → Type 0} {Shows : Trees → List Row → Type 0} {rows : Vec Row Global}
-    → IsSteady old mid Known → Queries mid new (Ok rows) Shows → IsSteady old new (λ trees. Known trees × Shows trees rows.items)
+pub and_then : {layout : Layout} {old mid new : State} {Known : Trees → Type 0} {Shows : Trees → List Row → Type 0} {rows : Vec Row Global}
+    → IsSteady layout old mid Known → QueriesOf layout mid new (Ok rows) Shows
+    → IsSteady layout old new (λ trees. Known trees × Shows trees rows.items)
 and_then {Shows = Shows} {rows = rows} before asked = record {
   ready = λ held clean. still_ready before asked held clean (λ trees. Shows trees rows.items) (asked.ok clean);
   quiet = λ held. still_quiet before asked held;
@@ -115,6 +117,34 @@ and_then {Shows = Shows} {rows = rows} before asked = record {
     before.known held (omega (arith, asked.survives.clean, clean)),
     shows before asked held clean (λ trees. Shows trees rows.items) (asked.ok clean),
   );
+}
+
+-- ---- where nothing is told
+
+-- it isn't ready
+pub unready : {A E : Type 0} {IsHeld : State → Type 0} {Tells : Trees → A → Type 0} {old mid : State} → (HasCleanDisk mid → KeepsCommit old mid)
+    → Survives old mid (λ _. ⊥) → mid.in_transaction ≡ false → (e : E) → Answers IsHeld old mid (Err e) Tells
+unready kept begun mode e = record {
+  found = λ clean is. tt;
+  «open» = λ clean is. tt;
+  kept = λ clean is. kept clean;
+  mode = mode;
+  survives = λ is. begun;
+}
+
+-- or a query isn't answered
+pub unanswered : {A E : Type 0} {layout : Layout} {IsHeld : State → Type 0} {Tells : Trees → A → Type 0} {old mid new : State}
+    {Known : Trees → Type 0} {Shows : Trees → List Row → Type 0} {stop : Error} → (IsHeld old → HoldsTablesOf layout old)
+    → IsSteady layout old mid Known → QueriesOf layout mid new (Err stop) Shows → (e : E) → Answers IsHeld old new (Err e) Tells
+unanswered {old = old} {mid = mid} {new = new} held before asked e = record {
+  found = λ clean is. tt;
+  «open» = λ clean is. tt;
+  kept = λ clean is.
+      let early : HasCleanDisk mid = omega (arith, asked.survives.clean, clean) in
+      keeps_then old mid new (unchanged_keeps old mid (inl (before.ready (held is) early).same))
+      (unchanged_keeps mid new (asked.err clean (has_schema before asked (held is) clean)));
+  mode = asked.mode before.mode;
+  survives = λ is. still_quiet before asked (held is);
 }
 
 -- what is asked of rows is a fact of what they name

@@ -27,8 +27,9 @@ use Rattle.mds_world.proofs.Lists.{in_map}
 use Rattle.mds_world.specs.Lists.{Member}
 use Rattle.mds_tables.specs.Cells.{stream_cells}
 use Rattle.mds_tables.specs.RowFacts.{int_at, natural, natural_at, optional, text_at}
-use Rattle.mds_tables.specs.Stores.{Finds, Selects}
-use Rattle.mds_tables.specs.Tables.{detail_table, schema_1}
+use Rattle.mds_tables.specs.Layouts.{Layout}
+use Rattle.mds_tables.specs.Stores.{FindsOf, Selects}
+use Rattle.mds_tables.specs.Tables.{More, detail_table, schema_with}
 use Rattle.mds_selects.specs.Shown.{AreLatestFirst, IsDetailRow, shown_details}
 use Rattle.mds_selects.proofs.KeyLemmas.{tests}
 use Rattle.mds_selects.proofs.MemberLemmas.{all_of, filter_in, moved, selects}
@@ -149,7 +150,7 @@ all_columns = 1 ∷ 2 ∷ 3 ∷ 4 ∷ 5 ∷ 6 ∷ 7 ∷ 8 ∷ []
 abbrev key_tests : Stream → List Term
 key_tests s = tests 0 (stream_cells s)
 
-module _ (db : Trees) (sound : IsSound schema_1 db) (s : Stream) where
+module _ (more : More) (db : Trees) (sound : IsSound (schema_with more) db) (s : Stream) where
   abbrev show : Row → Output
   show = shows 6 (key_tests s) (columns_at all_columns) falls db (stream_cells s)
 
@@ -158,9 +159,9 @@ module _ (db : Trees) (sound : IsSound schema_1 db) (s : Stream) where
 
   shown_keyed : (row : Row) → Member row (db 6) → IsKeyed (show row)
   shown_keyed row m =
-      let a = alike detail_table.columns any_detail row any_for (detail_typed db sound row m) in
-      let more = a.1.1.1.1 in
-      record { keys = λ i. a.1.1.0 i ∷ a.1.1.1.0 i ∷ more.0 i ∷ more.1.0 i ∷ more.1.1.0 i ∷ more.1.1.1.0 i ∷ [] }
+      let a = alike detail_table.columns any_detail row any_for (detail_typed more db sound row m) in
+      let rest = a.1.1.1.1 in
+      record { keys = λ i. a.1.1.0 i ∷ a.1.1.1.0 i ∷ rest.0 i ∷ rest.1.0 i ∷ rest.1.1.0 i ∷ rest.1.1.1.0 i ∷ [] }
 
   says_latest : (rows : List Row)
       → Picks 6 (key_tests s) (columns_at all_columns) falls db (stream_cells s) rows
@@ -176,13 +177,13 @@ abbrev SaysDetails : Stream → List Row → Trees → Type 0
 SaysDetails s rows trees =
     Selects 6 (stream_cells s) all_columns trees rows × (All (λ row. IsDetailRow row) rows → AreLatestFirst rows)
 
-pub finds_details : {V : Type 0} (s : Stream) (old new : State) (items : V → List Row) (r : Result V Error)
+pub finds_details : {V : Type 0} (layout : Layout) (s : Stream) (old new : State) (items : V → List Row) (r : Result V Error)
     → IfOk r (λ v. Shown select_details (stream_cells s) old new (items v))
-    → IfOk r (λ v. Finds old new (SaysDetails s (items v)))
-finds_details s old new items r h =
-    finds select_details select_details_plain 6 (key_tests s) (columns_at all_columns) falls _ select_details_is
+    → IfOk r (λ v. FindsOf layout old new (SaysDetails s (items v)))
+finds_details layout s old new items r h =
+    finds layout select_details (select_details_plain layout.more) 6 (key_tests s) (columns_at all_columns) falls _ (select_details_is layout.more)
     (λ db. refl) old new (stream_cells s) items (SaysDetails s) (λ db sound rows p. (
-      selects 6 all_columns falls db (stream_cells s) detail_table.columns (details_for s) (detail_typed db sound) rows
+      selects 6 all_columns falls db (stream_cells s) detail_table.columns (details_for s) (detail_typed layout.more db sound) rows
           p,
-      says_latest db sound s rows p,
+      says_latest layout.more db sound s rows p,
     )) r h

@@ -18,9 +18,10 @@ use Rattle.mds_world.specs.Facts.Fact.{DetailIs, EventIs, HeadIs, HolidayIs, Job
 use Rattle.mds_world.specs.Lists.{Member}
 use Rattle.mds_world.specs.Sets.{◌∈◌}
 use Rattle.mds_tables.specs.Cells as cells
-use Rattle.mds_tables.specs.RowFacts.{detail_fact, natural_at, stream_in, world_in}
+use Rattle.mds_tables.specs.Layouts.{Layout, world_with}
+use Rattle.mds_tables.specs.RowFacts.{detail_fact, natural_at, stream_in}
 use Rattle.mds_tables.specs.Stores.{Begins, Selects}
-use Rattle.mds_tables.specs.Tables.{schema_1}
+use Rattle.mds_tables.specs.Tables.{schema_with}
 use Rattle.mds_selects.specs.Shown.{AreFirstDetails, AreLatestFirst, IsDetailRow, shown_details}
 use Rattle.mds_selects.proofs.Named.{Names, of_detail}
 use Rattle.mds_selects.proofs.Listed.{Tells, on_stream, stream_on, tells, told}
@@ -66,10 +67,10 @@ upto_first row rest sorted r (inr m) =
     let at = place_of rest r row m in
     subst (λ x. IsUpto (shown_at x) (shown_at row)) at.2 (sorted 0 (suc at.0) row (omega arith) (omega (arith, at.1)))
 
-module _ (s : Stream) (trees : Trees) (sound : IsSound schema_1 trees) (rows : List Row)
+module _ (layout : Layout) (s : Stream) (trees : Trees) (sound : IsSound (schema_with layout.more) trees) (rows : List Row)
     (sel : Selects 6 (cells.stream_cells s) (1 ∷ 2 ∷ 3 ∷ 4 ∷ 5 ∷ 6 ∷ 7 ∷ 8 ∷ []) trees rows) where
   detail_on : (r : Row) → Member r (trees 6) → Begins (cells.stream_cells s) r ↔ IsDetailOf s (detail_fact r)
-  detail_on r m = ((λ b. on_stream s r b), (λ o. stream_on s r (detail_row trees sound r m).keyed o))
+  detail_on r m = ((λ b. on_stream s r b), (λ o. stream_on s r (detail_row layout.more trees sound r m).keyed o))
 
   shown_of : (f : Fact) → Names detail_fact (trees 6) f → IsDetailOf s f → Tells detail_fact rows f
   shown_of f n o =
@@ -80,11 +81,11 @@ module _ (s : Stream) (trees : Trees) (sound : IsSound schema_1 trees) (rows : L
       told detail_fact 6 _ (1 ∷ 2 ∷ 3 ∷ 4 ∷ 5 ∷ 6 ∷ 7 ∷ 8 ∷ []) trees rows sel (λ r. refl) (IsDetailOf s) detail_on f t
 
   by_rows : (list : List Row) → rows ≡ list → AreLatestFirst list → (details : DetailsValue) → AreFirstDetails list details
-      → IsCurrentDetails (world_in trees) s details
+      → IsCurrentDetails (world_with layout trees) s details
   by_rows [] none sorted details first = inr (
     (λ moment other h.
         let d : Detail = record { stream = s; moment = moment; details = other } in
-        let t = shown_of (DetailIs d) ((of_detail trees d).0 h) refl in
+        let t = shown_of (DetailIs d) ((of_detail layout trees d).0 h) refl in
         subst (Member t.0) none t.1),
     first,
   )
@@ -98,10 +99,10 @@ module _ (s : Stream) (trees : Trees) (sound : IsSound schema_1 trees) (rows : L
       inl (
         d.moment,
         record {
-          held = subst (λ x. DetailIs x ∈ world_in trees) whole ((of_detail trees d).1 t.0);
+          held = subst (λ x. DetailIs x ∈ world_with layout trees) whole ((of_detail layout trees d).1 t.0);
           greatest = λ other of_other h.
               let o : Detail = record { stream = s; moment = other; details = of_other } in
-              let u = shown_of (DetailIs o) ((of_detail trees o).0 h) refl in
+              let u = shown_of (DetailIs o) ((of_detail layout trees o).0 h) refl in
               let same = shown_is u.0 o u.2 in
               let upto = upto_first row rest sorted u.0 (subst (Member u.0) is u.1) in
               let last : IsUpto o d = subst (λ x. IsUpto o x) at (subst (λ x. IsUpto x (shown_at row)) same upto) in
@@ -110,5 +111,5 @@ module _ (s : Stream) (trees : Trees) (sound : IsSound schema_1 trees) (rows : L
       )
 
   pub finds_current : (All (λ row. IsDetailRow row) rows → AreLatestFirst rows) → All (λ row. IsDetailRow row) rows
-      → (details : DetailsValue) → AreFirstDetails rows details → IsCurrentDetails (world_in trees) s details
+      → (details : DetailsValue) → AreFirstDetails rows details → IsCurrentDetails (world_with layout trees) s details
   finds_current sorted all details first = by_rows rows refl (sorted all) details first

@@ -24,12 +24,13 @@ use Rattle.mds_keeper.specs.Books.{row_fact}
 use Rattle.mds_keeper.specs.Queries.{AreEventsOf, AreKnownStreams, stream_cmp}
 use Rattle.mds_keeper.specs.declared.day_book.Version.{Version}
 use Rattle.mds_tables.specs.Cells as cells
-use Rattle.mds_tables.specs.RowFacts.{detail_fact, event_fact, head_fact, int_at, letter_in, natural, natural_at, optional, optional_at, period_fact, stream_in, text_at, unit_named, version_fact, world_in}
+use Rattle.mds_tables.specs.Layouts.{Layout, rows_layout, world_with}
+use Rattle.mds_tables.specs.RowFacts.{detail_fact, event_fact, head_fact, int_at, letter_in, natural, natural_at, optional, optional_at, period_fact, stream_in, text_at, unit_named, version_fact}
 use Rattle.mds_tables.specs.Stores.{Begins, Selects}
-use Rattle.mds_tables.specs.Tables.{schema_1}
+use Rattle.mds_tables.specs.Tables.{schema_with}
 use Rattle.mds_selects.specs.Found.{AreRowsOf, IsHeadOf}
 use Rattle.mds_selects.specs.Shown.{AreEventsIn, AreStreamsIn, AreVersionsIn, IsOnlyHead, SaysVersion, ShowsStream}
-use Rattle.mds_selects.proofs.Named.{Names, of_detail, of_event, of_head, of_period, of_version}
+use Rattle.mds_selects.proofs.Named.{Names, of_detail, of_event, of_head, of_period, of_row}
 use Rattle.mds_selects.proofs.TypedRows.{HasKeyCells, begins_at, begins_by, detail_row, event_row, head_row, period_row, small, small_letter, small_option, letter_back, optional_back, some_cell, version_row}
 
 -- ---- rows that begin with a stream and a day
@@ -49,7 +50,7 @@ module _ (s : Stream) (r : Row) where
   )
 
 module _ (s : Stream) (day : ℕ) (r : Row) where
-  on_day : Begins (cells.day_cells s day) r → (stream_in r ≡ s) × (natural_at r 3 ≡ day)
+  pub on_day : Begins (cells.day_cells s day) r → (stream_in r ≡ s) × (natural_at r 3 ≡ day)
   on_day b =
       let nmi : text_at r 1 ≡ s.nmi = ap bytes (begins_at (cells.day_cells s day) r b 0 (omega arith)) in
       let suffix : text_at r 2 ≡ s.suffix = ap bytes (begins_at (cells.day_cells s day) r b 1 (omega arith)) in
@@ -57,7 +58,7 @@ module _ (s : Stream) (day : ℕ) (r : Row) where
       ap (λ v. natural (id_in v)) (begins_at (cells.day_cells s day) r b 2 (omega arith)) in
       ((λ i. record { nmi = nmi i; suffix = suffix i }), on)
 
-  day_on : day < 2 ^ 63 → HasKeyCells r → stream_in r ≡ s → natural_at r 3 ≡ day → Begins (cells.day_cells s day) r
+  pub day_on : day < 2 ^ 63 → HasKeyCells r → stream_in r ≡ s → natural_at r 3 ≡ day → Begins (cells.day_cells s day) r
   day_on low it e d = begins_by (cells.day_cells s day) r (
     it.nmi ∙ ap (λ (x : Stream). Text x.nmi) e,
     (λ n. cc),
@@ -110,20 +111,20 @@ listed_more rows i row vs new v l is are says more =
     subst (λ rs. AreVersionsIn rs new) (sym rest)
     (subst (AreVersionsIn (take i rows ++ row ∷ [])) (sym more) (one_more (take i rows) vs row v are says))
 
-module _ (s : Stream) (day : ℕ) (low : day < 2 ^ 63) (trees : Trees) (sound : IsSound schema_1 trees) where
+module _ (layout : Layout) (s : Stream) (day : ℕ) (low : day < 2 ^ 63) (trees : Trees) (sound : IsSound (schema_with layout.more) trees) where
   pub head_on : (r : Row) → Member r (trees 2) → Begins (cells.day_cells s day) r ↔ IsOn s day (head_fact r)
-  head_on r m = ((λ b. on_day s day r b), (λ o. day_on s day r low (head_row trees sound r m) o.0 o.1))
+  head_on r m = ((λ b. on_day s day r b), (λ o. day_on s day r low (head_row layout.more trees sound r m) o.0 o.1))
 
   pub version_on : (r : Row) → Member r (trees 4) → Begins (cells.day_cells s day) r ↔ IsOn s day (version_fact r)
-  version_on r m = ((λ b. on_day s day r b), (λ o. day_on s day r low (version_row trees sound r m) o.0 o.1))
+  version_on r m = ((λ b. on_day s day r b), (λ o. day_on s day r low (version_row layout.more trees sound r m) o.0 o.1))
 
   -- the head of a day
   pub finds_head : (rows : List Row) → Selects 2 (cells.day_cells s day) (1 ∷ 2 ∷ 3 ∷ 4 ∷ 5 ∷ []) trees rows
-      → (form : Option (ℕ × MeasureUnit)) → IsOnlyHead rows form → IsHeadOf (world_in trees) s day form
+      → (form : Option (ℕ × MeasureUnit)) → IsOnlyHead rows form → IsHeadOf (world_with layout trees) s day form
   finds_head rows sel None none head = (
     (λ p.
         let t = tells head_fact 2 _ (1 ∷ 2 ∷ 3 ∷ 4 ∷ 5 ∷ []) trees rows sel (λ r. refl) (IsOn s day) head_on (HeadIs head)
-        ((of_head trees head).0 p.0) (p.1, p.2) in
+        ((of_head layout trees head).0 p.0) (p.1, p.2) in
         absurd (subst (Member t.0) none t.1)),
     (λ m. absurd m),
   )
@@ -135,7 +136,7 @@ module _ (s : Stream) (day : ℕ) (low : day < 2 ^ 63) (trees : Trees) (sound : 
       λ i. record { stream = on.0 i; day = on.1 i; length = one.4 i; unit = one.5 i } in (
         (λ p.
             let u = tells head_fact 2 _ (1 ∷ 2 ∷ 3 ∷ 4 ∷ 5 ∷ []) trees rows sel (λ r. refl) (IsOn s day) head_on (HeadIs head)
-            ((of_head trees head).0 p.0) (p.1, p.2) in
+            ((of_head layout trees head).0 p.0) (p.1, p.2) in
             let here : Member u.0 (one.1 ∷ []) = subst (Member u.0) one.2 u.1 in
             elim here [
               | inl e ↦ inl (sym u.2 ∙ ap (λ r. head_fact (Null ∷ r)) e ∙ one.3 ∙ ap HeadIs same)
@@ -145,7 +146,7 @@ module _ (s : Stream) (day : ℕ) (low : day < 2 ^ 63) (trees : Trees) (sound : 
           | inl e ↦
               let is : HeadIs one.0 ≡ HeadIs head = ap HeadIs same ∙ sym e in
               let o : IsOn s day (HeadIs head) = subst (IsOn s day) is t.1 in
-              (subst (λ f. f ∈ world_in trees) is ((of_head trees one.0).1 t.0), o.0, o.1)
+              (subst (λ f. f ∈ world_with layout trees) is ((of_head layout trees one.0).1 t.0), o.0, o.1)
           | inr z ↦ absurd z
         ]),
       )
@@ -178,19 +179,20 @@ module _ (s : Stream) (day : ℕ) (low : day < 2 ^ 63) (trees : Trees) (sound : 
         ]),
       )
 
-  -- the versions of a day
+-- the versions of a day, where each has a row
+module _ (s : Stream) (day : ℕ) (low : day < 2 ^ 63) (trees : Trees) (sound : IsSound (schema_with rows_layout.more) trees) where
   pub finds_versions : (rows : List Row)
       → Selects 4 (cells.day_cells s day) (1 ∷ 2 ∷ 3 ∷ 4 ∷ 5 ∷ 6 ∷ 7 ∷ 8 ∷ 9 ∷ []) trees rows
-      → (vs : List (ℕ × Version)) → AreVersionsIn rows vs → AreRowsOf (world_in trees) s day vs
+      → (vs : List (ℕ × Version)) → AreVersionsIn rows vs → AreRowsOf (world_with rows_layout trees) s day vs
   finds_versions rows sel vs are key reading =
-      let to = told version_fact 4 _ (1 ∷ 2 ∷ 3 ∷ 4 ∷ 5 ∷ 6 ∷ 7 ∷ 8 ∷ 9 ∷ []) trees rows sel (λ r. refl) (IsOn s day) version_on in
-      let list = listed rows vs are (λ f t. (to f t).1) (VersionIs key reading) in (
+      let to = told version_fact 4 _ (1 ∷ 2 ∷ 3 ∷ 4 ∷ 5 ∷ 6 ∷ 7 ∷ 8 ∷ 9 ∷ []) trees rows sel (λ r. refl) (IsOn s day) (version_on rows_layout s day low trees sound) in
+      let list = listed rows_layout s day low trees sound rows vs are (λ f t. (to f t).1) (VersionIs key reading) in (
         (λ p. list.0 (tells version_fact 4 _ (1 ∷ 2 ∷ 3 ∷ 4 ∷ 5 ∷ 6 ∷ 7 ∷ 8 ∷ 9 ∷ []) trees rows sel (λ r. refl) (IsOn s day)
-            version_on (VersionIs key reading) ((of_version trees key reading).0 p.0) (p.1, p.2))),
+            (version_on rows_layout s day low trees sound) (VersionIs key reading) ((of_row trees key reading).0 p.0) (p.1, p.2))),
         (λ m.
             let t = to (VersionIs key reading) (list.1 m) in
             let o : (key.stream ≡ s) × (key.day ≡ day) = t.1 in
-            ((of_version trees key reading).1 t.0, o.0, o.1)),
+            ((of_row trees key reading).1 t.0, o.0, o.1)),
       )
 
 -- the fact is an event of a day
@@ -203,26 +205,26 @@ IsEventOn s day (PeriodIs key content) = ⊥
 IsEventOn s day (HolidayIs date) = ⊥
 IsEventOn s day (JobIs id content count) = ⊥
 
-module _ (s : Stream) (day : ℕ) (low : day < 2 ^ 63) (trees : Trees) (sound : IsSound schema_1 trees) where
+module _ (layout : Layout) (s : Stream) (day : ℕ) (low : day < 2 ^ 63) (trees : Trees) (sound : IsSound (schema_with layout.more) trees) where
   event_on : (r : Row) → Member r (trees 8) → Begins (cells.day_cells s day) r ↔ IsEventOn s day (event_fact r)
   event_on r m = (
     (λ b. let o = on_day s day r b in (ap (λ (x : Stream). x.nmi) o.0, ap (λ (x : Stream). x.suffix) o.0, o.1)),
-    (λ o. day_on s day r low (event_row trees sound r m).keyed (λ i. record { nmi = o.0 i; suffix = o.1 i }) o.2),
+    (λ o. day_on s day r low (event_row layout.more trees sound r m).keyed (λ i. record { nmi = o.0 i; suffix = o.1 i }) o.2),
   )
 
   -- the events of a day
   pub finds_events : (rows : List Row)
       → Selects 8 (cells.day_cells s day) (1 ∷ 2 ∷ 3 ∷ 4 ∷ 5 ∷ 6 ∷ 7 ∷ []) trees rows
       → (events : List EventValue) → AreEventsIn rows events → Apart events
-      → AreEventsOf (world_in trees) s day events
+      → AreEventsOf (world_with layout trees) s day events
   finds_events rows sel events are apart = record {
     each = λ event. (
       (λ m.
           let t = told event_fact 8 _ (1 ∷ 2 ∷ 3 ∷ 4 ∷ 5 ∷ 6 ∷ 7 ∷ []) trees rows sel (λ r. refl) (IsEventOn s day) event_on
           (EventIs event) ((are event).0 m) in
-          ((of_event trees event).1 t.0, t.1)),
+          ((of_event layout trees event).1 t.0, t.1)),
       (λ p. (are event).1 (tells event_fact 8 _ (1 ∷ 2 ∷ 3 ∷ 4 ∷ 5 ∷ 6 ∷ 7 ∷ []) trees rows sel (λ r. refl) (IsEventOn s day)
-          event_on (EventIs event) ((of_event trees event).0 p.0) p.1)),
+          event_on (EventIs event) ((of_event layout trees event).0 p.0) p.1)),
     );
     apart = apart;
   }
@@ -291,11 +293,11 @@ first_shown : (rows : List Row) → rows ≢ [] → (r : Row) × Member r rows
 first_shown [] n = absurd (n refl)
 first_shown (x ∷ xs) n = (x, inl refl)
 
-module _ (trees : Trees) (sound : IsSound schema_1 trees) where
+module _ (layout : Layout) (trees : Trees) (sound : IsSound (schema_with layout.more) trees) where
   module _ (d : Detail) (low : d.moment < 2 ^ 63) (next : (n : ℕ) → d.details.next ≡ Some n → n < 2 ^ 63) where
     detail_begins : (r : Row) → Member r (trees 6) → Begins (cells.detail_cells d) r ↔ (detail_fact r ≡ DetailIs d)
     detail_begins r m =
-        let it = detail_row trees sound r m in (
+        let it = detail_row layout.more trees sound r m in (
           (λ b.
               let at = begins_at (cells.detail_cells d) r b in
               let nmi : text_at r 1 ≡ d.stream.nmi = ap bytes (at 0 (omega arith)) in
@@ -357,14 +359,14 @@ module _ (trees : Trees) (sound : IsSound schema_1 trees) where
 
     -- whether the details are kept
     pub finds_details : (rows : List Row) → Selects 6 (cells.detail_cells d) (1 ∷ []) trees rows
-        → rows ≢ [] ↔ (DetailIs d ∈ world_in trees)
+        → rows ≢ [] ↔ (DetailIs d ∈ world_with layout trees)
     finds_details rows sel = (
       (λ n.
           let f = first_shown rows n in
           let s = (sel f.0).0 f.1 in
-          (of_detail trees d).1 (s.0, s.1, (detail_begins s.0 s.1).0 s.2)),
+          (of_detail layout trees d).1 (s.0, s.1, (detail_begins s.0 s.1).0 s.2)),
       (λ h.
-          let n = (of_detail trees d).0 h in
+          let n = (of_detail layout trees d).0 h in
           any_shown rows (column n.0 1 ∷ [])
           ((sel (column n.0 1 ∷ [])).1 (n.0, n.1, (detail_begins n.0 n.1).1 n.2, refl))),
     )
@@ -373,7 +375,7 @@ module _ (trees : Trees) (sound : IsSound schema_1 trees) where
       (moment : (n : ℕ) → v.moment ≡ Some n → n < 2 ^ 63) where
     event_begins : (r : Row) → Member r (trees 8) → Begins (cells.event_cells v) r ↔ (event_fact r ≡ EventIs v)
     event_begins r m =
-        let it = event_row trees sound r m in (
+        let it = event_row layout.more trees sound r m in (
           (λ b.
               let at = begins_at (cells.event_cells v) r b in
               let nmi : text_at r 1 ≡ v.nmi = ap bytes (at 0 (omega arith)) in
@@ -425,14 +427,14 @@ module _ (trees : Trees) (sound : IsSound schema_1 trees) where
 
     -- whether the event is kept
     pub finds_event : (rows : List Row) → Selects 8 (cells.event_cells v) (1 ∷ []) trees rows
-        → rows ≢ [] ↔ (EventIs v ∈ world_in trees)
+        → rows ≢ [] ↔ (EventIs v ∈ world_with layout trees)
     finds_event rows sel = (
       (λ n.
           let f = first_shown rows n in
           let s = (sel f.0).0 f.1 in
-          (of_event trees v).1 (s.0, s.1, (event_begins s.0 s.1).0 s.2)),
+          (of_event layout trees v).1 (s.0, s.1, (event_begins s.0 s.1).0 s.2)),
       (λ h.
-          let n = (of_event trees v).0 h in
+          let n = (of_event layout trees v).0 h in
           any_shown rows (column n.0 1 ∷ [])
           ((sel (column n.0 1 ∷ [])).1 (n.0, n.1, (event_begins n.0 n.1).1 n.2, refl))),
     )
@@ -449,16 +451,16 @@ module _ (trees : Trees) (sound : IsSound schema_1 trees) where
 
   module _ (rows : List Row) (s : Stream) where
     pub head_streams : Selects 2 [] (1 ∷ 2 ∷ []) trees rows
-        → ShowsStream rows s ↔ ((head : Head) × (HeadIs head ∈ world_in trees) × (head.stream ≡ s))
+        → ShowsStream rows s ↔ ((head : Head) × (HeadIs head ∈ world_with layout trees) × (head.stream ≡ s))
     head_streams sel = (
       (λ t.
           let f = (sel t.0).0 t.1 in
-          (head_at f.0, (of_head trees (head_at f.0)).1 (f.0, f.1, refl), names_stream f.0 t.0 s f.3 t.2 t.3)),
+          (head_at f.0, (of_head layout trees (head_at f.0)).1 (f.0, f.1, refl), names_stream f.0 t.0 s f.3 t.2 t.3)),
       (λ p.
-          let n = (of_head trees p.0).0 p.1 in
+          let n = (of_head layout trees p.0).0 p.1 in
           let same = head_is n.0 p.0 n.2 in
           let on : stream_in n.0 ≡ s = ap (λ (x : Head). x.stream) same ∙ p.2 in
-          let it = head_row trees sound n.0 n.1 in (
+          let it = head_row layout.more trees sound n.0 n.1 in (
             column n.0 1 ∷ column n.0 2 ∷ [],
             (sel (column n.0 1 ∷ column n.0 2 ∷ [])).1 (n.0, n.1, refl, refl),
             it.nmi ∙ ap (λ (x : Stream). Text x.nmi) on,
@@ -467,16 +469,16 @@ module _ (trees : Trees) (sound : IsSound schema_1 trees) where
     )
 
     pub detail_streams : Selects 6 [] (1 ∷ 2 ∷ []) trees rows
-        → ShowsStream rows s ↔ ((detail : Detail) × (DetailIs detail ∈ world_in trees) × (detail.stream ≡ s))
+        → ShowsStream rows s ↔ ((detail : Detail) × (DetailIs detail ∈ world_with layout trees) × (detail.stream ≡ s))
     detail_streams sel = (
       (λ t.
           let f = (sel t.0).0 t.1 in
-          (detail_at f.0, (of_detail trees (detail_at f.0)).1 (f.0, f.1, refl), names_stream f.0 t.0 s f.3 t.2 t.3)),
+          (detail_at f.0, (of_detail layout trees (detail_at f.0)).1 (f.0, f.1, refl), names_stream f.0 t.0 s f.3 t.2 t.3)),
       (λ p.
-          let n = (of_detail trees p.0).0 p.1 in
+          let n = (of_detail layout trees p.0).0 p.1 in
           let same = detail_is n.0 p.0 n.2 in
           let on : stream_in n.0 ≡ s = ap (λ (x : Detail). x.stream) same ∙ p.2 in
-          let it = (detail_row trees sound n.0 n.1).keyed in (
+          let it = (detail_row layout.more trees sound n.0 n.1).keyed in (
             column n.0 1 ∷ column n.0 2 ∷ [],
             (sel (column n.0 1 ∷ column n.0 2 ∷ [])).1 (n.0, n.1, refl, refl),
             it.nmi ∙ ap (λ (x : Stream). Text x.nmi) on,
@@ -486,20 +488,20 @@ module _ (trees : Trees) (sound : IsSound schema_1 trees) where
 
     pub period_streams : Selects 10 [] (1 ∷ 2 ∷ []) trees rows
         → ShowsStream rows s
-        ↔ ((key : PeriodKey) × (content : PeriodContent) × (PeriodIs key content ∈ world_in trees) × (key.stream ≡ s))
+        ↔ ((key : PeriodKey) × (content : PeriodContent) × (PeriodIs key content ∈ world_with layout trees) × (key.stream ≡ s))
     period_streams sel = (
       (λ t.
           let f = (sel t.0).0 t.1 in
           let p = period_at f.0 in (
             p.0,
             p.1,
-            (of_period trees p.0 p.1).1 (f.0, f.1, p.2),
+            (of_period layout trees p.0 p.1).1 (f.0, f.1, p.2),
             p.3 ∙ names_stream f.0 t.0 s f.3 t.2 t.3,
           )),
       (λ p.
-          let n = (of_period trees p.0 p.1).0 p.2 in
+          let n = (of_period layout trees p.0 p.1).0 p.2 in
           let on : stream_in n.0 ≡ s = period_is n.0 p.0 p.1 n.2 ∙ p.3 in
-          let it = period_row trees sound n.0 n.1 in (
+          let it = period_row layout.more trees sound n.0 n.1 in (
             column n.0 1 ∷ column n.0 2 ∷ [],
             (sel (column n.0 1 ∷ column n.0 2 ∷ [])).1 (n.0, n.1, refl, refl),
             it.nmi ∙ ap (λ (x : Stream). Text x.nmi) on,
@@ -511,7 +513,7 @@ module _ (trees : Trees) (sound : IsSound schema_1 trees) where
   pub finds_streams : (heads details periods : List Row) → Selects 2 [] (1 ∷ 2 ∷ []) trees heads
       → Selects 6 [] (1 ∷ 2 ∷ []) trees details → Selects 10 [] (1 ∷ 2 ∷ []) trees periods
       → (streams : List Stream) → AreStreamsIn heads details periods streams
-      → AllPairs (λ a b. stream_cmp a b ≡ Less) streams → AreKnownStreams (world_in trees) streams
+      → AllPairs (λ a b. stream_cmp a b ≡ Less) streams → AreKnownStreams (world_with layout trees) streams
   finds_streams heads details periods of_heads of_details of_periods streams are up = record {
     each = λ s. (
       (λ m. elim ((are s).0 m) [

@@ -15,7 +15,8 @@ use Rattle.mds_world.proofs.Lists.{append_left, append_right, in_map, map_in, me
 use Rattle.mds_world.specs.Lists.{Member}
 use Rattle.mds_world.proofs.Members.{in_list, list_in}
 use Rattle.mds_world.specs.Sets.{◌∈◌}
-use Rattle.mds_tables.specs.RowFacts.{detail_fact, event_fact, facts_in, head_fact, holiday_fact, job_fact, period_fact, version_fact, world_in}
+use Rattle.mds_tables.specs.Layouts.{IsVersion, Layout, rows_layout, world_with}
+use Rattle.mds_tables.specs.RowFacts.{detail_fact, event_fact, facts_with, head_fact, holiday_fact, job_fact, period_fact, version_fact}
 
 -- one of the rows of a tree names the fact
 abbrev pub Names : (Row → Fact) → List Row → Fact → Type 0
@@ -24,27 +25,36 @@ Names read rows f = (row : Row) × Member row rows × (read row ≡ f)
 names : (read : Row → Fact) (rows : List Row) (f : Fact) → Names read rows f → Member f (map read rows)
 names read rows f n = subst (λ g. Member g (map read rows)) n.2 (map_in read rows n.0 n.1)
 
--- a row of the table of its kind names the fact
-abbrev IsNamed : Trees → Fact → Type 0
-IsNamed trees (HeadIs head) = Names head_fact (trees 2) (HeadIs head)
-IsNamed trees (VersionIs key reading) = Names version_fact (trees 4) (VersionIs key reading)
-IsNamed trees (DetailIs detail) = Names detail_fact (trees 6) (DetailIs detail)
-IsNamed trees (EventIs event) = Names event_fact (trees 8) (EventIs event)
-IsNamed trees (PeriodIs key content) = Names period_fact (trees 10) (PeriodIs key content)
-IsNamed trees (HolidayIs day) = Names holiday_fact (trees 12) (HolidayIs day)
-IsNamed trees (JobIs id content count) = Names job_fact (trees 14) (JobIs id content count)
+-- a row of the table of its kind names the fact, and versions are those of the layout
+abbrev IsNamed : Layout → Trees → Fact → Type 0
+IsNamed layout trees (HeadIs head) = Names head_fact (trees 2) (HeadIs head)
+IsNamed layout trees (VersionIs key reading) = Member (VersionIs key reading) (layout.versions trees)
+IsNamed layout trees (DetailIs detail) = Names detail_fact (trees 6) (DetailIs detail)
+IsNamed layout trees (EventIs event) = Names event_fact (trees 8) (EventIs event)
+IsNamed layout trees (PeriodIs key content) = Names period_fact (trees 10) (PeriodIs key content)
+IsNamed layout trees (HolidayIs day) = Names holiday_fact (trees 12) (HolidayIs day)
+IsNamed layout trees (JobIs id content count) = Names job_fact (trees 14) (JobIs id content count)
 
 -- What holds of the fact of each row holds of each fact of the rows.
 of_rows : (P : Fact → Type 0) (read : Row → Fact) (rows : List Row) → ((row : Row) → Member row rows → P (read row))
     → (f : Fact) → Member f (map read rows) → P f
 of_rows P read rows each f m = let r = in_map read rows f m in subst P (sym r.2) (each r.0 r.1)
 
-module _ (trees : Trees) where
+module _ (layout : Layout) (trees : Trees) where
+  version_named : (f : Fact) → IsVersion f → Member f (layout.versions trees) → IsNamed layout trees f
+  version_named (HeadIs head) is m = absurd is
+  version_named (VersionIs key reading) is m = m
+  version_named (DetailIs detail) is m = absurd is
+  version_named (EventIs event) is m = absurd is
+  version_named (PeriodIs key content) is m = absurd is
+  version_named (HolidayIs day) is m = absurd is
+  version_named (JobIs id content count) is m = absurd is
+
   abbrev heads : List Fact
   heads = map head_fact (trees 2)
 
   abbrev versions : List Fact
-  versions = map version_fact (trees 4)
+  versions = layout.versions trees
 
   abbrev details : List Fact
   details = map detail_fact (trees 6)
@@ -77,20 +87,20 @@ module _ (trees : Trees) where
   abbrev six : List Fact
   six = five ++ holidays
 
-  is_named : (f : Fact) → Member f (facts_in trees) → IsNamed trees f
+  is_named : (f : Fact) → Member f (facts_with layout.versions trees) → IsNamed layout trees f
   is_named f m = elim (member_append f six jobs m) [
-    | inr a ↦ of_rows (IsNamed trees) job_fact (trees 14) (λ r n. (r, n, refl)) f a
+    | inr a ↦ of_rows (IsNamed layout trees) job_fact (trees 14) (λ r n. (r, n, refl)) f a
     | inl m ↦ elim (member_append f five holidays m) [
-      | inr a ↦ of_rows (IsNamed trees) holiday_fact (trees 12) (λ r n. (r, n, refl)) f a
+      | inr a ↦ of_rows (IsNamed layout trees) holiday_fact (trees 12) (λ r n. (r, n, refl)) f a
       | inl m ↦ elim (member_append f four periods m) [
-        | inr a ↦ of_rows (IsNamed trees) period_fact (trees 10) (λ r n. (r, n, refl)) f a
+        | inr a ↦ of_rows (IsNamed layout trees) period_fact (trees 10) (λ r n. (r, n, refl)) f a
         | inl m ↦ elim (member_append f three events m) [
-          | inr a ↦ of_rows (IsNamed trees) event_fact (trees 8) (λ r n. (r, n, refl)) f a
+          | inr a ↦ of_rows (IsNamed layout trees) event_fact (trees 8) (λ r n. (r, n, refl)) f a
           | inl m ↦ elim (member_append f two details m) [
-            | inr a ↦ of_rows (IsNamed trees) detail_fact (trees 6) (λ r n. (r, n, refl)) f a
+            | inr a ↦ of_rows (IsNamed layout trees) detail_fact (trees 6) (λ r n. (r, n, refl)) f a
             | inl m ↦ elim (member_append f heads versions m) [
-              | inl a ↦ of_rows (IsNamed trees) head_fact (trees 2) (λ r n. (r, n, refl)) f a
-              | inr a ↦ of_rows (IsNamed trees) version_fact (trees 4) (λ r n. (r, n, refl)) f a
+              | inl a ↦ of_rows (IsNamed layout trees) head_fact (trees 2) (λ r n. (r, n, refl)) f a
+              | inr a ↦ version_named f (layout.only trees f a) a
             ]
           ]
         ]
@@ -99,63 +109,74 @@ module _ (trees : Trees) where
   ]
 
   -- what the first four tables name, all of them name
-  of_four : (f : Fact) → Member f four → Member f (facts_in trees)
+  of_four : (f : Fact) → Member f four → Member f (facts_with layout.versions trees)
   of_four f m = append_left f six jobs (append_left f five holidays (append_left f four periods m))
 
-  of_three : (f : Fact) → Member f three → Member f (facts_in trees)
+  of_three : (f : Fact) → Member f three → Member f (facts_with layout.versions trees)
   of_three f m = of_four f (append_left f three events m)
 
-  of_two : (f : Fact) → Member f two → Member f (facts_in trees)
+  of_two : (f : Fact) → Member f two → Member f (facts_with layout.versions trees)
   of_two f m = of_three f (append_left f two details m)
 
-  pub of_head : (h : Head) → (HeadIs h ∈ world_in trees) ↔ Names head_fact (trees 2) (HeadIs h)
+  pub of_head : (h : Head) → (HeadIs h ∈ world_with layout trees) ↔ Names head_fact (trees 2) (HeadIs h)
   of_head h = (
     (λ m. is_named (HeadIs h) (in_list _ _ m)),
-    (λ n. list_in (facts_in trees) (HeadIs h) (of_two (HeadIs h) (append_left (HeadIs h) heads versions
+    (λ n. list_in (facts_with layout.versions trees) (HeadIs h) (of_two (HeadIs h) (append_left (HeadIs h) heads versions
         (names head_fact (trees 2) _ n)))),
   )
 
-  pub of_version : (k : Key) (v : ReadingValue)
-      → (VersionIs k v ∈ world_in trees) ↔ Names version_fact (trees 4) (VersionIs k v)
+  -- what the layout says of versions is of the World
+  pub in_versions : (f : Fact) → Member f (layout.versions trees) → f ∈ world_with layout trees
+  in_versions f m = list_in (facts_with layout.versions trees) f (of_two f (append_right f heads versions m))
+
+  pub of_version : (k : Key) (v : ReadingValue) → (VersionIs k v ∈ world_with layout trees) ↔ Member (VersionIs k v) (layout.versions trees)
   of_version k v = (
     (λ m. is_named (VersionIs k v) (in_list _ _ m)),
-    (λ n. list_in (facts_in trees) (VersionIs k v) (of_two (VersionIs k v) (append_right (VersionIs k v) heads versions
-        (names version_fact (trees 4) _ n)))),
+    in_versions (VersionIs k v),
   )
 
-  pub of_detail : (d : Detail) → (DetailIs d ∈ world_in trees) ↔ Names detail_fact (trees 6) (DetailIs d)
+  pub of_detail : (d : Detail) → (DetailIs d ∈ world_with layout trees) ↔ Names detail_fact (trees 6) (DetailIs d)
   of_detail d = (
     (λ m. is_named (DetailIs d) (in_list _ _ m)),
-    (λ n. list_in (facts_in trees) (DetailIs d) (of_three (DetailIs d) (append_right (DetailIs d) two details
+    (λ n. list_in (facts_with layout.versions trees) (DetailIs d) (of_three (DetailIs d) (append_right (DetailIs d) two details
         (names detail_fact (trees 6) _ n)))),
   )
 
-  pub of_event : (v : EventValue) → (EventIs v ∈ world_in trees) ↔ Names event_fact (trees 8) (EventIs v)
+  pub of_event : (v : EventValue) → (EventIs v ∈ world_with layout trees) ↔ Names event_fact (trees 8) (EventIs v)
   of_event v = (
     (λ m. is_named (EventIs v) (in_list _ _ m)),
-    (λ n. list_in (facts_in trees) (EventIs v) (of_four (EventIs v) (append_right (EventIs v) three events
+    (λ n. list_in (facts_with layout.versions trees) (EventIs v) (of_four (EventIs v) (append_right (EventIs v) three events
         (names event_fact (trees 8) _ n)))),
   )
 
   pub of_period : (k : PeriodKey) (c : PeriodContent)
-      → (PeriodIs k c ∈ world_in trees) ↔ Names period_fact (trees 10) (PeriodIs k c)
+      → (PeriodIs k c ∈ world_with layout trees) ↔ Names period_fact (trees 10) (PeriodIs k c)
   of_period k c = (
     (λ m. is_named (PeriodIs k c) (in_list _ _ m)),
-    (λ n. list_in (facts_in trees) (PeriodIs k c) (append_left (PeriodIs k c) six jobs (append_left (PeriodIs k c) five holidays
+    (λ n. list_in (facts_with layout.versions trees) (PeriodIs k c) (append_left (PeriodIs k c) six jobs (append_left (PeriodIs k c) five holidays
         (append_right (PeriodIs k c) four periods (names period_fact (trees 10) _ n))))),
   )
 
-  pub of_holiday : (day : ℕ) → (HolidayIs day ∈ world_in trees) ↔ Names holiday_fact (trees 12) (HolidayIs day)
+  pub of_holiday : (day : ℕ) → (HolidayIs day ∈ world_with layout trees) ↔ Names holiday_fact (trees 12) (HolidayIs day)
   of_holiday day = (
     (λ m. is_named (HolidayIs day) (in_list _ _ m)),
-    (λ n. list_in (facts_in trees) (HolidayIs day) (append_left (HolidayIs day) six jobs
+    (λ n. list_in (facts_with layout.versions trees) (HolidayIs day) (append_left (HolidayIs day) six jobs
         (append_right (HolidayIs day) five holidays (names holiday_fact (trees 12) _ n)))),
   )
 
   pub of_job : (id : List ℕ) (c : JobContent) (count : ℕ)
-      → (JobIs id c count ∈ world_in trees) ↔ Names job_fact (trees 14) (JobIs id c count)
+      → (JobIs id c count ∈ world_with layout trees) ↔ Names job_fact (trees 14) (JobIs id c count)
   of_job id c count = (
     (λ m. is_named (JobIs id c count) (in_list _ _ m)),
-    (λ n. list_in (facts_in trees) (JobIs id c count) (append_right (JobIs id c count) six jobs
+    (λ n. list_in (facts_with layout.versions trees) (JobIs id c count) (append_right (JobIs id c count) six jobs
         (names job_fact (trees 14) _ n))),
   )
+
+-- where each version has a row, that names it
+pub of_row : (trees : Trees) (k : Key) (v : ReadingValue)
+    → (VersionIs k v ∈ world_with rows_layout trees) ↔ Names version_fact (trees 4) (VersionIs k v)
+of_row trees k v =
+    let of = of_version rows_layout trees k v in (
+      (λ m. let r = in_map version_fact (trees 4) (VersionIs k v) (of.0 m) in (r.0, r.1, sym r.2)),
+      (λ n. of.1 (names version_fact (trees 4) (VersionIs k v) n)),
+    )

@@ -1,5 +1,5 @@
--- The number that mds_schema says, by the rows that a query of it shows.
-use Rattle.std.specs.Prelude.{◌≡◌, ◌≢◌, pos, List, [], ◌∷◌, map, Bool, true, false, refl}
+-- Whether mds_schema says a number, by the rows that a query of it shows.
+use Rattle.std.specs.Prelude.{◌≡◌, ◌≢◌, ℤ, List, [], ◌∷◌, map, Bool, true, false, refl}
 use Rattle.std.proofs.Common.{ap, subst, inl, ◌∙◌, arith}
 use Rattle.std.specs.Bool.{MatchBool}
 use Rattle.std.specs.List.{AllByRecursion}
@@ -16,7 +16,7 @@ use Rattle.sqlite_value.specs.Order.{Row, column}
 use Rattle.mds_world.specs.Lists.{Member}
 use Rattle.mds_tables.specs.RowFacts.{int_at}
 use Rattle.mds_tables.specs.Stores.{SelectsAll}
-use Rattle.mds_tables.specs.Tables.{schema_1, schema_table}
+use Rattle.mds_tables.specs.Tables.{More, schema_table, schema_with}
 use Rattle.mds_selects.proofs.MemberLemmas.{all_has}
 use Rattle.mds_selects.proofs.TypedRows.{int_typed}
 
@@ -31,32 +31,32 @@ one_order x (y ∷ z ∷ more) p = let n = length_permutation (x ∷ []) (y ∷ 
 abbrev shown_in : List Row → List Row
 shown_in rows = map (λ row. map (column row) (1 ∷ [])) rows
 
-number_row : (trees : Trees) → IsSound schema_1 trees → (r : Row) → Member r (trees 0) → column r 1 ≡ Int (int_at r 1)
-number_row trees sound r m =
-    let fits : passes Datatype schema_1 trees schema_table r ≡ true =
+number_row : (more : More) (trees : Trees) → IsSound (schema_with more) trees → (r : Row) → Member r (trees 0) → column r 1 ≡ Int (int_at r 1)
+number_row more trees sound r m =
+    let fits : passes Datatype (schema_with more) trees schema_table r ≡ true =
     all_has _ (trees 0) r (sound.obeys.rules Datatype).0 m in
-    let there : passes NotNull schema_1 trees schema_table r ≡ true =
+    let there : passes NotNull (schema_with more) trees schema_table r ≡ true =
     all_has _ (trees 0) r (sound.obeys.rules NotNull).0 m in
-    int_typed schema_table.name 0 schema_table.columns [] (1 ∷ []) [] _ trees r 0 refl fits there
+    int_typed more schema_table.name 0 schema_table.columns [] (1 ∷ []) [] _ trees r 0 refl fits there
 
-says_one : (rows : List Row) → shown_in rows ≡ (Int (pos 1) ∷ []) ∷ [] → map (λ row. int_at row 1) rows ≡ pos 1 ∷ []
-says_one [] e = absurd (cc)
-says_one (r ∷ []) e = let is : column r 1 ≡ Int (pos 1) = cc in ap (λ v. id_in v ∷ []) is
-says_one (r ∷ t ∷ more) e = absurd (cc)
+says_one : (number : ℤ) (rows : List Row) → shown_in rows ≡ (Int number ∷ []) ∷ [] → map (λ row. int_at row 1) rows ≡ number ∷ []
+says_one number [] e = absurd (cc)
+says_one number (r ∷ []) e = let is : column r 1 ≡ Int number = cc in ap (λ v. id_in v ∷ []) is
+says_one number (r ∷ t ∷ others) e = absurd (cc)
 
-one_says : (rows : List Row) → ((r : Row) → Member r rows → column r 1 ≡ Int (int_at r 1))
-    → map (λ row. int_at row 1) rows ≡ pos 1 ∷ [] → shown_in rows ≡ (Int (pos 1) ∷ []) ∷ []
-one_says [] typed e = absurd (cc)
-one_says (r ∷ []) typed e =
-    let is : int_at r 1 ≡ pos 1 = cc in ap (λ v. (v ∷ []) ∷ []) (typed r (inl refl) ∙ ap Int is)
-one_says (r ∷ t ∷ more) typed e = absurd (cc)
+one_says : (number : ℤ) (rows : List Row) → ((r : Row) → Member r rows → column r 1 ≡ Int (int_at r 1))
+    → map (λ row. int_at row 1) rows ≡ number ∷ [] → shown_in rows ≡ (Int number ∷ []) ∷ []
+one_says number [] typed e = absurd (cc)
+one_says number (r ∷ []) typed e =
+    let is : int_at r 1 ≡ number = cc in ap (λ v. (v ∷ []) ∷ []) (typed r (inl refl) ∙ ap Int is)
+one_says number (r ∷ t ∷ others) typed e = absurd (cc)
 
-pub finds_number : (trees : Trees) → IsSound schema_1 trees → (rows : List Row) → SelectsAll 0 (1 ∷ []) trees rows
-    → (b : Bool) → MatchBool b (rows ≡ (Int (pos 1) ∷ []) ∷ []) (rows ≢ (Int (pos 1) ∷ []) ∷ [])
-    → MatchBool b (map (λ row. int_at row 1) (trees 0) ≡ pos 1 ∷ []) (map (λ row. int_at row 1) (trees 0) ≢ pos 1 ∷ [])
-finds_number trees sound rows sel true is =
-    says_one (trees 0) (one_order (Int (pos 1) ∷ []) (shown_in (trees 0))
+pub finds_number : (more : More) (number : ℤ) (trees : Trees) → IsSound (schema_with more) trees → (rows : List Row) → SelectsAll 0 (1 ∷ []) trees rows
+    → (b : Bool) → MatchBool b (rows ≡ (Int number ∷ []) ∷ []) (rows ≢ (Int number ∷ []) ∷ [])
+    → MatchBool b (map (λ row. int_at row 1) (trees 0) ≡ number ∷ []) (map (λ row. int_at row 1) (trees 0) ≢ number ∷ [])
+finds_number more number trees sound rows sel true is =
+    says_one number (trees 0) (one_order (Int number ∷ []) (shown_in (trees 0))
     (subst (λ rs. IsPermutation rs (shown_in (trees 0))) is (IsPermutation-sym (shown_in (trees 0)) rows sel)))
-finds_number trees sound rows sel false differs = λ e.
-    let whole = one_says (trees 0) (number_row trees sound) e in
-    differs (one_order (Int (pos 1) ∷ []) rows (subst (λ rs. IsPermutation rs rows) whole sel))
+finds_number more number trees sound rows sel false differs = λ e.
+    let whole = one_says number (trees 0) (number_row more trees sound) e in
+    differs (one_order (Int number ∷ []) rows (subst (λ rs. IsPermutation rs rows) whole sel))

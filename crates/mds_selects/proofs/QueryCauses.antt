@@ -13,22 +13,22 @@ use Rattle.sqlite.specs.declared.error.Error.TheVariants.{SqliteFailure}
 use Rattle.sqlite.specs.declared.error.ErrorCode.TheVariants.{OperationInterrupted}
 use Rattle.sqlite.proofs.Callers.{IsPlain, command_of}
 use Rattle.mds_tables.specs.Causes.{HasFailed}
-use Rattle.mds_tables.specs.Tables.{schema_1}
+use Rattle.mds_tables.specs.Tables.{More, schema_with}
 use Rattle.mds_tables.proofs.CauseLemmas.{IsWhole, a_statement, store_fails}
 use Rattle.mds_selects.proofs.QueryLemmas.{AsksFor}
 use Rattle.mds_selects.proofs.SelectTexts.{from_one}
 
-is_whole : (s : State) → s.now.schema ≡ schema_1 → (db : Database) → db ≡ s.now
-    → db ≡ record { schema = schema_1; trees = s.now.trees }
-is_whole s has db is = is ∙ ap (λ schema. record { schema = schema; trees = s.now.trees }) has
+is_whole : (more : More) (s : State) → s.now.schema ≡ schema_with more → (db : Database) → db ≡ s.now
+    → db ≡ record { schema = schema_with more; trees = s.now.trees }
+is_whole more s has db is = is ∙ ap (λ schema. record { schema = schema; trees = s.now.trees }) has
 
-module _ (sql : List ℕ) (plain : IsPlain (understood schema_1 sql) × (reads_listing schema_1 sql ≡ false)) (params : Row)
-    (whole : IsWhole sql (length params) (understood schema_1 sql)) (tree : ℕ) (test project : List Term)
-    (order : List (Term × Key)) (names : List (List ℕ)) (is : AsksFor sql tree test project order names)
+module _ (more : More) (sql : List ℕ) (plain : IsPlain (understood (schema_with more) sql) × (reads_listing (schema_with more) sql ≡ false)) (params : Row)
+    (whole : IsWhole sql (length params) (understood (schema_with more) sql)) (tree : ℕ) (test project : List Term)
+    (order : List (Term × Key)) (names : List (List ℕ)) (is : AsksFor more sql tree test project order names)
     (cut : (limit : Option ℕ) (trees : Trees) (e : Error)
-    → RefusesQuery limit (record { schema = schema_1; trees = trees }) (record { lets = []; body = from_one tree test project order }) params e
+    → RefusesQuery limit (record { schema = schema_with more; trees = trees }) (record { lets = []; body = from_one tree test project order }) params e
     → (e ≡ SqliteFailure OperationInterrupted) × IsSome limit)
-    (old new : State) (has : old.now.schema ≡ schema_1) where
+    (old new : State) (has : old.now.schema ≡ schema_with more) where
   pub failed : (e : Error) → FailsToQuery sql params old new e → HasFailed old new e
   unfolding FailsToQuery IsNotRun
   failed e (inl (inl none)) =
@@ -38,10 +38,10 @@ module _ (sql : List ℕ) (plain : IsPlain (understood schema_1 sql) × (reads_l
       let known = sym h.1.is ∙ ap (λ s. understood s sql) has in
       let bare = subst IsPlain (sym known) (plain.0) in
       let it = rw (bare.0, bare.1, append-nil params) at h.2 in
-      let db = is_whole old has it.0 (subst (λ b. IsSourceOf b old.now it.0) (ap (λ s. reads_listing s sql) has ∙ plain.1) it.1) in
+      let db = is_whole more old has it.0 (subst (λ b. IsSourceOf b old.now it.0) (ap (λ s. reads_listing s sql) has ∙ plain.1) it.1) in
       let refused = subst (λ d. RefusesToRead old.step_limit h.0.command d params e) db it.2 in
       inr (cut old.step_limit old.now.trees e
-      (subst (λ k. RefusesToRead old.step_limit k (record { schema = schema_1; trees = old.now.trees }) params e)
+      (subst (λ k. RefusesToRead old.step_limit k (record { schema = schema_with more; trees = old.now.trees }) params e)
       (ap command_of known ∙ is) refused))
 
   pub why : {V : Type 0} (r : Result V Error) → IfErr r (FailsToQuery sql params old new) → IfErr r (HasFailed old new)

@@ -26,9 +26,10 @@ use Rattle.mds_terms.specs.Event.{EventValue}
 use Rattle.mds_world.specs.declared.facts.Detail.{Detail}
 use Rattle.mds_world.specs.Lists.{Member}
 use Rattle.mds_tables.specs.Cells.{day_cells, detail_cells, event_cells, optional_cell, stream_cells}
-use Rattle.mds_tables.specs.Queries.{Queries}
-use Rattle.mds_tables.specs.Stores.{ChangesNothing, Finds, Selects, SelectsAll}
-use Rattle.mds_tables.specs.Tables.{detail_table, event_table, head_table, holiday_table, job_table, number, period_table, schema_1, version_table}
+use Rattle.mds_tables.specs.Layouts.{Layout}
+use Rattle.mds_tables.specs.Queries.{QueriesOf}
+use Rattle.mds_tables.specs.Stores.{ChangesNothing, FindsOf, Selects, SelectsAll}
+use Rattle.mds_tables.specs.Tables.{More, detail_table, event_table, head_table, holiday_table, job_table, number, period_table, schema_with, version_table}
 use Rattle.mds_tables.proofs.CallLemmas.{not_run}
 use Rattle.mds_selects.proofs.KeyLemmas.{tests}
 use Rattle.mds_selects.proofs.MemberLemmas.{all_has, selects, selects_all}
@@ -41,13 +42,13 @@ module _ (sql : List ℕ) (params : Row) (old new : State) (schema : Schema) (ha
   there : IsPlain (understood old.now.schema sql)
   there = subst (λ s. IsPlain (understood s sql)) (sym has) plain
 
-  shown_same : (rows : List Row) → Shown sql params old new rows → IsUnchanged old new
+  pub shown_same : (rows : List Row) → Shown sql params old new rows → IsUnchanged old new
   unfolding Shown
   shown_same rows h =
       let none = (subst IsPlain h.1.is there).0 in
       (subst (ShowsRows old new sql h.0 (timed params h.0.formats h.1.now) rows) none h.2).3
 
-  fails_same : (e : Error) → FailsToQuery sql params old new e → ChangesNothing old new
+  pub fails_same : (e : Error) → FailsToQuery sql params old new e → ChangesNothing old new
   unfolding FailsToQuery
   fails_same e (inl h) = not_run old new sql params e h
   fails_same e (inr h) =
@@ -55,31 +56,31 @@ module _ (sql : List ℕ) (params : Row) (old new : State) (schema : Schema) (ha
       inl (subst (FailsToShow old new sql h.0 (timed params h.0.formats h.1.now) e) none h.2).3
 
 -- the text is one query of a table
-abbrev pub AsksFor : List ℕ → ℕ → List Term → List Term → List (Term × Key) → List (List ℕ) → Type 0
-AsksFor sql tree test project order names =
-    command_of (understood schema_1 sql)
+abbrev pub AsksFor : More → List ℕ → ℕ → List Term → List Term → List (Term × Key) → List (List ℕ) → Type 0
+AsksFor more sql tree test project order names =
+    command_of (understood (schema_with more) sql)
     ≡ Select (record { lets = []; body = from_one tree test project order }) names
 
-module _ (sql : List ℕ) (plain : IsPlain (understood schema_1 sql) × (reads_listing schema_1 sql ≡ false)) where
+module _ (layout : Layout) (sql : List ℕ) (plain : IsPlain (understood (schema_with layout.more) sql) × (reads_listing (schema_with layout.more) sql ≡ false)) where
   -- a query that fails changes nothing
-  fails : {V : Type 0} (old new : State) (params : Row) → old.now.schema ≡ schema_1 → (r : Result V Error)
+  fails : {V : Type 0} (old new : State) (params : Row) → old.now.schema ≡ schema_with layout.more → (r : Result V Error)
       → IfErr r (FailsToQuery sql params old new) → OnErr r (ChangesNothing old new)
   fails old new params has (Ok v) h = tt
-  fails old new params has (Err e) h = fails_same sql params old new schema_1 has plain.0 e h
+  fails old new params has (Err e) h = fails_same sql params old new (schema_with layout.more) has plain.0 e h
 
   -- nor does it commit anything
   quiet : (old new : State) (params : Row) → Survives old new (CommitsShowing sql params old)
-      → Survives old new (λ _. old.now.schema ≢ schema_1)
+      → Survives old new (λ _. old.now.schema ≢ schema_with layout.more)
   quiet old new params s =
       survives_weaker old new _ _ (λ _ db commits has.
-      never_commits sql params old db (there sql params old new schema_1 has plain.0) commits) s
+      never_commits sql params old db (there sql params old new (schema_with layout.more) has plain.0) commits) s
 
   -- what the library says of a call, and what is found, in the words of a query
   pub queried : {old new : State} {r : Result (Vec Row Global) Error} {Shows : Trees → List Row → Type 0} (params : Row)
-      → (HasCleanDisk new → IfOk r (λ rows. Finds old new (λ trees. Shows trees rows.items)))
+      → (HasCleanDisk new → IfOk r (λ rows. FindsOf layout old new (λ trees. Shows trees rows.items)))
       → (HasCleanDisk new → IfErr r (FailsToQuery sql params old new))
       → (old.in_transaction ≡ false → new.in_transaction ≡ false)
-      → Survives old new (CommitsShowing sql params old) → Queries old new r Shows
+      → Survives old new (CommitsShowing sql params old) → QueriesOf layout old new r Shows
   queried {old} {new} {r} {Shows} params ok err mode survives = record {
     ok = ok;
     err = λ clean has. fails old new params has r (err clean);
@@ -88,31 +89,31 @@ module _ (sql : List ℕ) (plain : IsPlain (understood schema_1 sql) × (reads_l
   }
 
   module _ (tree : ℕ) (test project : List Term) (order : List (Term × Key)) (names : List (List ℕ))
-      (is : AsksFor sql tree test project order names) (low : (db : Trees) → overlay db [] tree ≡ db tree) where
+      (is : AsksFor layout.more sql tree test project order names) (low : (db : Trees) → overlay db [] tree ≡ db tree) where
     -- What is shown of a query's rows in any sound database is found.
     pub finds : {V : Type 0} (old new : State) (params : Row) (items : V → List Row) (Says : List Row → Trees → Type 0)
-        → ((db : Trees) → IsSound schema_1 db → (rows : List Row) → Picks tree test project order db params rows
+        → ((db : Trees) → IsSound (schema_with layout.more) db → (rows : List Row) → Picks tree test project order db params rows
         → Says rows db)
         → (r : Result V Error) → IfOk r (λ v. Shown sql params old new (items v))
-        → IfOk r (λ v. Finds old new (Says (items v)))
+        → IfOk r (λ v. FindsOf layout old new (Says (items v)))
     finds old new params items Says says (Err e) h = tt
     finds old new params items Says says (Ok v) h = record {
-      same = λ has. shown_same sql params old new schema_1 has plain.0 (items v) h;
+      same = λ has. shown_same sql params old new (schema_with layout.more) has plain.0 (items v) h;
       shows = λ has sound.
-          let read = reads_as sql params old new schema_1 has _ is plain.0 plain.1 (items v) h in
+          let read = reads_as sql params old new (schema_with layout.more) has _ is plain.0 plain.1 (items v) h in
           says old.now.trees (rw has at sound) (items v)
           (picks tree test project order old.now.trees params (items v) (low old.now.trees) read.answer);
     }
 
 -- ---- the types of the tables
 
-module _ (db : Trees) (sound : IsSound schema_1 db) (row : Row) where
-  kept : (table : Table) (rows : List Row) → AllByRecursion (λ r. keeps_rule Datatype schema_1 db table r ≡ true) rows
-      → AllByRecursion (λ r. keeps_rule NotNull schema_1 db table r ≡ true) rows → Member row rows
-      → (keeps_rule Datatype schema_1 db table row ≡ true) × (keeps_rule NotNull schema_1 db table row ≡ true)
+module _ (more : More) (db : Trees) (sound : IsSound (schema_with more) db) (row : Row) where
+  pub kept : (table : Table) (rows : List Row) → AllByRecursion (λ r. keeps_rule Datatype (schema_with more) db table r ≡ true) rows
+      → AllByRecursion (λ r. keeps_rule NotNull (schema_with more) db table r ≡ true) rows → Member row rows
+      → (keeps_rule Datatype (schema_with more) db table row ≡ true) × (keeps_rule NotNull (schema_with more) db table row ≡ true)
   kept table rows fits there m = (
-    all_has (λ r. keeps_rule Datatype schema_1 db table r ≡ true) rows row fits m,
-    all_has (λ r. keeps_rule NotNull schema_1 db table r ≡ true) rows row there m,
+    all_has (λ r. keeps_rule Datatype (schema_with more) db table r ≡ true) rows row fits m,
+    all_has (λ r. keeps_rule NotNull (schema_with more) db table r ≡ true) rows row there m,
   )
 
   pub head_typed : Member row (db 2) → AreTyped head_table.columns row
@@ -182,25 +183,25 @@ event_for e =
 
 -- ---- the queries by a key, and of all rows
 
-module _ (sql : List ℕ) (plain : IsPlain (understood schema_1 sql) × (reads_listing schema_1 sql ≡ false)) (tree : ℕ)
+module _ (layout : Layout) (sql : List ℕ) (plain : IsPlain (understood (schema_with layout.more) sql) × (reads_listing (schema_with layout.more) sql ≡ false)) (tree : ℕ)
     (places : List ℕ) (names : List (List ℕ)) (low : (db : Trees) → overlay db [] tree ≡ db tree) where
   pub finds_rows : {V : Type 0} (key : Row)
-      → AsksFor sql tree (tests 0 key) (columns_at places) [] names
+      → AsksFor layout.more sql tree (tests 0 key) (columns_at places) [] names
       → (cs : List Column) → AreFor cs key
-      → ((db : Trees) → IsSound schema_1 db → (row : Row) → Member row (db tree) → AreTyped cs row)
+      → ((db : Trees) → IsSound (schema_with layout.more) db → (row : Row) → Member row (db tree) → AreTyped cs row)
       → (old new : State) (items : V → List Row) (r : Result V Error)
       → IfOk r (λ v. Shown sql key old new (items v))
-      → IfOk r (λ v. Finds old new (λ trees. Selects tree key places trees (items v)))
+      → IfOk r (λ v. FindsOf layout old new (λ trees. Selects tree key places trees (items v)))
   finds_rows key is cs of typed old new items r h =
-      finds sql plain tree (tests 0 key) (columns_at places) [] names is low old new key items
+      finds layout sql plain tree (tests 0 key) (columns_at places) [] names is low old new key items
       (λ rows trees. Selects tree key places trees rows)
       (λ db sound rows p. selects tree places [] db key cs of (typed db sound) rows p) r h
 
   pub finds_every : {V : Type 0}
-      → AsksFor sql tree [] (columns_at places) [] names
+      → AsksFor layout.more sql tree [] (columns_at places) [] names
       → (old new : State) (items : V → List Row) (r : Result V Error)
       → IfOk r (λ v. Shown sql [] old new (items v))
-      → IfOk r (λ v. Finds old new (λ trees. SelectsAll tree places trees (items v)))
+      → IfOk r (λ v. FindsOf layout old new (λ trees. SelectsAll tree places trees (items v)))
   finds_every is old new items r h =
-      finds sql plain tree [] (columns_at places) [] names is low old new [] items
+      finds layout sql plain tree [] (columns_at places) [] names is low old new [] items
       (λ rows trees. SelectsAll tree places trees rows) (λ db sound rows p. selects_all tree places db rows p) r h

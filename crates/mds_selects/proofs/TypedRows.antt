@@ -20,7 +20,7 @@ use Rattle.mds_tables.specs.Cells.{letter_text, optional_cell}
 use Rattle.mds_tables.specs.Stores.{Begins}
 use Rattle.mds_selects.proofs.MemberLemmas.{all_has}
 use Rattle.mds_selects.proofs.TypedLemmas.{both, is_integer, is_text}
-use Rattle.mds_tables.specs.Tables.{needed, keyed_table, schema_1, head_table, version_table, detail_table, event_table, period_table, day_key, version_key, detail_key, event_key, period_key, to_head}
+use Rattle.mds_tables.specs.Tables.{More, needed, keyed_table, schema_with, head_table, version_table, detail_table, event_table, period_table, day_key, version_key, detail_key, event_key, period_key, to_head}
 
 -- a column that is needed has a value of its type
 needed_typed : (name : List ℕ) (k : Kind) (at : ℕ) (cs : List Column) (row : Row) → slice_get cs at ≡ Some (needed name k)
@@ -53,12 +53,12 @@ next_column : (row : Row) (at : ℕ) → column (drop 1 row) at ≡ column row (
 next_column [] at = refl
 next_column (v ∷ vs) at = refl
 
-module _ (name : List ℕ) (tree : ℕ) (columns : List Column) (primary key : List ℕ) (refs : List Reference) where
+module _ (more : More) (name : List ℕ) (tree : ℕ) (columns : List Column) (primary key : List ℕ) (refs : List Reference) where
   abbrev pub one_of : Table
   one_of = record (keyed_table name tree columns primary key) { references = refs }
 
   typed_at : (k : Kind) (called : List ℕ) (db : Trees) (r : Row) (at : ℕ) → slice_get columns at ≡ Some (needed called k)
-      → passes Datatype schema_1 db one_of r ≡ true → passes NotNull schema_1 db one_of r ≡ true
+      → passes Datatype (schema_with more) db one_of r ≡ true → passes NotNull (schema_with more) db one_of r ≡ true
       → (is_of k (column r (suc at)) ≡ true) × (is_null (column r (suc at)) ≡ false)
   typed_at k called db r at is fits there =
       let some : is_null (column r (suc at)) ≡ false = needed_present called k at columns r is 0 (suc at) (omega arith) there in
@@ -66,13 +66,13 @@ module _ (name : List ℕ) (tree : ℕ) (columns : List Column) (primary key : L
       (ap (is_of k) (sym (next_column r at)) ∙ typed, some)
 
   pub text_typed : (called : List ℕ) (db : Trees) (r : Row) (at : ℕ) → slice_get columns at ≡ Some (needed called kind.Text)
-      → passes Datatype schema_1 db one_of r ≡ true → passes NotNull schema_1 db one_of r ≡ true
+      → passes Datatype (schema_with more) db one_of r ≡ true → passes NotNull (schema_with more) db one_of r ≡ true
       → column r (suc at) ≡ Text (text_at r (suc at))
   text_typed called db r at is fits there =
       let t = typed_at kind.Text called db r at is fits there in is_text _ t.0 t.1
 
   pub int_typed : (called : List ℕ) (db : Trees) (r : Row) (at : ℕ) → slice_get columns at ≡ Some (needed called kind.Integer)
-      → passes Datatype schema_1 db one_of r ≡ true → passes NotNull schema_1 db one_of r ≡ true
+      → passes Datatype (schema_with more) db one_of r ≡ true → passes NotNull (schema_with more) db one_of r ≡ true
       → column r (suc at) ≡ Int (int_at r (suc at))
   int_typed called db r at is fits there =
       let t = typed_at kind.Integer called db r at is fits there in is_integer _ t.0 t.1
@@ -106,19 +106,19 @@ pub record HasPeriodCells (r : Row) : Type 0 where
   pub finish : column r 5 ≡ Int (int_at r 5)
   pub update : column r 6 ≡ Int (int_at r 6)
 
-module _ (db : Trees) (sound : IsSound schema_1 db) (r : Row) where
+module _ (more : More) (db : Trees) (sound : IsSound (schema_with more) db) (r : Row) where
   pub head_row : Member r (db 2) → HasKeyCells r
   head_row m =
-      let fits : passes Datatype schema_1 db head_table r ≡ true =
+      let fits : passes Datatype (schema_with more) db head_table r ≡ true =
       all_has _ (db 2) r (sound.obeys.rules Datatype).1.0 m in
-      let there : passes NotNull schema_1 db head_table r ≡ true =
+      let there : passes NotNull (schema_with more) db head_table r ≡ true =
       all_has _ (db 2) r (sound.obeys.rules NotNull).1.0 m in
       let texts : (called : List ℕ) (at : ℕ) → slice_get head_table.columns at ≡ Some (needed called kind.Text)
       → column r (suc at) ≡ Text (text_at r (suc at)) =
-      λ called at is. text_typed head_table.name 2 head_table.columns day_key day_key [] called db r at is fits there in
+      λ called at is. text_typed more head_table.name 2 head_table.columns day_key day_key [] called db r at is fits there in
       let ints : (called : List ℕ) (at : ℕ) → slice_get head_table.columns at ≡ Some (needed called kind.Integer)
       → column r (suc at) ≡ Int (int_at r (suc at)) =
-      λ called at is. int_typed head_table.name 2 head_table.columns day_key day_key [] called db r at is fits there in
+      λ called at is. int_typed more head_table.name 2 head_table.columns day_key day_key [] called db r at is fits there in
       record {
         nmi = texts _ 0 refl;
         suffix = texts _ 1 refl;
@@ -127,16 +127,16 @@ module _ (db : Trees) (sound : IsSound schema_1 db) (r : Row) where
 
   pub version_row : Member r (db 4) → HasKeyCells r
   version_row m =
-      let fits : passes Datatype schema_1 db version_table r ≡ true =
+      let fits : passes Datatype (schema_with more) db version_table r ≡ true =
       all_has _ (db 4) r (sound.obeys.rules Datatype).1.1.0 m in
-      let there : passes NotNull schema_1 db version_table r ≡ true =
+      let there : passes NotNull (schema_with more) db version_table r ≡ true =
       all_has _ (db 4) r (sound.obeys.rules NotNull).1.1.0 m in
       let texts : (called : List ℕ) (at : ℕ) → slice_get version_table.columns at ≡ Some (needed called kind.Text)
       → column r (suc at) ≡ Text (text_at r (suc at)) =
-      λ called at is. text_typed version_table.name 4 version_table.columns version_key version_key (to_head ∷ []) called db r at is fits there in
+      λ called at is. text_typed more version_table.name 4 version_table.columns version_key version_key (to_head ∷ []) called db r at is fits there in
       let ints : (called : List ℕ) (at : ℕ) → slice_get version_table.columns at ≡ Some (needed called kind.Integer)
       → column r (suc at) ≡ Int (int_at r (suc at)) =
-      λ called at is. int_typed version_table.name 4 version_table.columns version_key version_key (to_head ∷ []) called db r at is fits there in
+      λ called at is. int_typed more version_table.name 4 version_table.columns version_key version_key (to_head ∷ []) called db r at is fits there in
       record {
         nmi = texts _ 0 refl;
         suffix = texts _ 1 refl;
@@ -145,16 +145,16 @@ module _ (db : Trees) (sound : IsSound schema_1 db) (r : Row) where
 
   pub detail_row : Member r (db 6) → HasDetailCells r
   detail_row m =
-      let fits : passes Datatype schema_1 db detail_table r ≡ true =
+      let fits : passes Datatype (schema_with more) db detail_table r ≡ true =
       all_has _ (db 6) r (sound.obeys.rules Datatype).1.1.1.0 m in
-      let there : passes NotNull schema_1 db detail_table r ≡ true =
+      let there : passes NotNull (schema_with more) db detail_table r ≡ true =
       all_has _ (db 6) r (sound.obeys.rules NotNull).1.1.1.0 m in
       let texts : (called : List ℕ) (at : ℕ) → slice_get detail_table.columns at ≡ Some (needed called kind.Text)
       → column r (suc at) ≡ Text (text_at r (suc at)) =
-      λ called at is. text_typed detail_table.name 6 detail_table.columns detail_key detail_key [] called db r at is fits there in
+      λ called at is. text_typed more detail_table.name 6 detail_table.columns detail_key detail_key [] called db r at is fits there in
       let ints : (called : List ℕ) (at : ℕ) → slice_get detail_table.columns at ≡ Some (needed called kind.Integer)
       → column r (suc at) ≡ Int (int_at r (suc at)) =
-      λ called at is. int_typed detail_table.name 6 detail_table.columns detail_key detail_key [] called db r at is fits there in
+      λ called at is. int_typed more detail_table.name 6 detail_table.columns detail_key detail_key [] called db r at is fits there in
       record {
         keyed = record {
           nmi = texts _ 0 refl;
@@ -170,16 +170,16 @@ module _ (db : Trees) (sound : IsSound schema_1 db) (r : Row) where
 
   pub event_row : Member r (db 8) → HasEventCells r
   event_row m =
-      let fits : passes Datatype schema_1 db event_table r ≡ true =
+      let fits : passes Datatype (schema_with more) db event_table r ≡ true =
       all_has _ (db 8) r (sound.obeys.rules Datatype).1.1.1.1.0 m in
-      let there : passes NotNull schema_1 db event_table r ≡ true =
+      let there : passes NotNull (schema_with more) db event_table r ≡ true =
       all_has _ (db 8) r (sound.obeys.rules NotNull).1.1.1.1.0 m in
       let texts : (called : List ℕ) (at : ℕ) → slice_get event_table.columns at ≡ Some (needed called kind.Text)
       → column r (suc at) ≡ Text (text_at r (suc at)) =
-      λ called at is. text_typed event_table.name 8 event_table.columns event_key event_key [] called db r at is fits there in
+      λ called at is. text_typed more event_table.name 8 event_table.columns event_key event_key [] called db r at is fits there in
       let ints : (called : List ℕ) (at : ℕ) → slice_get event_table.columns at ≡ Some (needed called kind.Integer)
       → column r (suc at) ≡ Int (int_at r (suc at)) =
-      λ called at is. int_typed event_table.name 8 event_table.columns event_key event_key [] called db r at is fits there in
+      λ called at is. int_typed more event_table.name 8 event_table.columns event_key event_key [] called db r at is fits there in
       record {
         keyed = record {
           nmi = texts _ 0 refl;
@@ -194,16 +194,16 @@ module _ (db : Trees) (sound : IsSound schema_1 db) (r : Row) where
 
   pub period_row : Member r (db 10) → HasPeriodCells r
   period_row m =
-      let fits : passes Datatype schema_1 db period_table r ≡ true =
+      let fits : passes Datatype (schema_with more) db period_table r ≡ true =
       all_has _ (db 10) r (sound.obeys.rules Datatype).1.1.1.1.1.0 m in
-      let there : passes NotNull schema_1 db period_table r ≡ true =
+      let there : passes NotNull (schema_with more) db period_table r ≡ true =
       all_has _ (db 10) r (sound.obeys.rules NotNull).1.1.1.1.1.0 m in
       let texts : (called : List ℕ) (at : ℕ) → slice_get period_table.columns at ≡ Some (needed called kind.Text)
       → column r (suc at) ≡ Text (text_at r (suc at)) =
-      λ called at is. text_typed period_table.name 10 period_table.columns period_key period_key [] called db r at is fits there in
+      λ called at is. text_typed more period_table.name 10 period_table.columns period_key period_key [] called db r at is fits there in
       let ints : (called : List ℕ) (at : ℕ) → slice_get period_table.columns at ≡ Some (needed called kind.Integer)
       → column r (suc at) ≡ Int (int_at r (suc at)) =
-      λ called at is. int_typed period_table.name 10 period_table.columns period_key period_key [] called db r at is fits there in
+      λ called at is. int_typed more period_table.name 10 period_table.columns period_key period_key [] called db r at is fits there in
       record {
         nmi = texts _ 0 refl;
         suffix = texts _ 1 refl;

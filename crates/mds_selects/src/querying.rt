@@ -1,7 +1,7 @@
 //! What is asked of a store, found by queries. A store that can't answer is unavailable (U1). So is one that holds a row that it
 //! didn't write.
 
-ghost use Rattle.std.specs.Prelude.{◌≡◌, ◌≢◌, ◌⊎◌, ◌<◌, ◌^◌, ◌↔◌, ℕ, List, [], ◌∷◌, false, length, pos, All, IfErr, IfOk, IsOkAnd, IsTrue, OnErr, OnOk, Some};
+ghost use Rattle.std.specs.Prelude.{◌≡◌, ◌≢◌, ◌⊎◌, ◌<◌, ◌^◌, ◌↔◌, ℕ, List, [], ◌∷◌, false, length, All, IfErr, IfOk, IsOkAnd, IsTrue, OnErr, OnOk, Some};
 ghost use Rattle.std.specs.Bool.{MatchBool, OnFalse};
 ghost use Rattle.std.specs.FinSet.{IsAntisymmetric};
 ghost use Rattle.std.specs.List.{AllPairs};
@@ -15,9 +15,10 @@ ghost use Rattle.mds_world.specs.Lists.{Apart, Member};
 ghost use Rattle.mds_world.specs.Sets.{◌∈◌};
 ghost use Rattle.mds_keeper.specs.Queries.{AreEventsOf, AreKnownStreams, stream_cmp};
 ghost use Rattle.mds_tables.specs.Causes.{HasFailed};
+ghost use Rattle.mds_tables.specs.Layouts.{Layout, world_with};
 ghost use Rattle.mds_tables.specs.Queries.{Answers};
 ghost use Rattle.mds_tables.specs.RowFacts.{world_in};
-ghost use Rattle.mds_tables.specs.Stores.{Holds, HoldsTables, versions_said};
+ghost use Rattle.mds_tables.specs.Stores.{Holds, HoldsOf, HoldsTablesOf, versions_said};
 ghost use Rattle.mds_selects.specs.Found.{AreRowsOf, IsHeadOf};
 ghost use Rattle.mds_selects.specs.Shown.{AreEventsIn, AreFirstDetails, AreStreamsIn, AreVersionsIn, IsDetailRow, IsOnlyHead, SaysVersion};
 ghost use Rattle.sqlite_value.specs.Order.{Row as RowValue};
@@ -32,46 +33,45 @@ use crate::rows::{
     detail_stream_rows, details_rows, event_rows, head_rows, head_stream_rows, period_stream_rows,
     same_details_rows, same_event_rows, version_numbers, version_rows,
 };
-use crate::terms::{detail_in, event_at, head_in, is_detail_row, stream_in, version_in};
+use crate::terms::{detail_in, event_at, head_in, int_at, is_detail_row, stream_in, version_in};
 use mds_keeper::{Unavailable, Version};
 use mds_quantity::Unit;
 use mds_tables::{letter_of, ready};
 use mds_terms::{Day, Details, Event, Length, Moment, Stream, TransCode};
 use mds_world::Detail;
-use sqlite::types::ValueRef;
 use sqlite::{Alter, Connection, Error, Row};
 use std::alloc::Global;
 use std::collections::BTreeSet;
 
-/// Whether mds_schema says 1 and nothing else, in a database that has the tables of schema 1. Else it is no store (U3). An error
-/// is the library's: the store failed with a cause, or the limit of steps was reached.
-pub fn is_version_1<S: Alter>(conn: &mut Connection<S>) -> Result<bool, Error>
+/// Whether mds_schema says this number and nothing else, whatever tables stand behind those that every schema has. An error is
+/// the library's: the store failed with a cause, or the limit of steps was reached.
+pub fn is_version<S: Alter>(conn: &mut Connection<S>, number: i64) -> Result<bool, Error>
     requires { conn.old.in_transaction ≡ false }
-    ensures answers { Answers HoldsTables (state S.Store conn.old) (state S.Store conn.new) result
-        (λ trees is. MatchBool is (versions_said trees ≡ pos 1 ∷ []) (versions_said trees ≢ pos 1 ∷ [])) }
-    ensures cause { HasCleanDisk (state S.Store conn.new) → HoldsTables (state S.Store conn.old)
+    ensures answers { (layout : Layout) → Answers (HoldsTablesOf layout) (state S.Store conn.old) (state S.Store conn.new) result
+        (λ trees is. MatchBool is (versions_said trees ≡ number ∷ []) (versions_said trees ≢ number ∷ [])) }
+    ensures cause { (layout : Layout) → HasCleanDisk (state S.Store conn.new) → HoldsTablesOf layout (state S.Store conn.old)
         → IfErr result (HasFailed (state S.Store conn.old) (state S.Store conn.new)) }
 {
     ready(conn)?;
     let rows = version_numbers(conn)?;
-    Ok(is_one(&rows))
+    Ok(is_only(&rows, number))
 }
 
-/// Whether there is one row, and it says 1.
-fn is_one(rows: &[Row]) -> bool
-    ensures { MatchBool result (rows.now ≡ (Int (pos 1) ∷ []) ∷ []) (rows.now ≢ (Int (pos 1) ∷ []) ∷ []) }
+/// Whether there is one row, and it says this number.
+fn is_only(rows: &[Row], number: i64) -> bool
+    ensures { MatchBool result (rows.now ≡ (Int number ∷ []) ∷ []) (rows.now ≢ (Int number ∷ []) ∷ []) }
 {
     match rows {
-        [row] => is_number_1(row),
+        [row] => is_number(row, number),
         _ => false,
     }
 }
 
-/// Whether a row is the number 1 alone.
-fn is_number_1(row: &Row) -> bool
-    ensures { MatchBool result (row.now ≡ Int (pos 1) ∷ []) (row.now ≢ Int (pos 1) ∷ []) }
+/// Whether a row is this number alone.
+fn is_number(row: &Row, number: i64) -> bool
+    ensures { MatchBool result (row.now ≡ Int number ∷ []) (row.now ≢ Int number ∷ []) }
 {
-    row.column_count() == 1 && matches!(row.get_ref(0), Ok(ValueRef::Int(1)))
+    row.column_count() == 1 && int_at(row, 0) == Some(number)
 }
 
 /// The length and unit of a day, where it is known.
@@ -81,8 +81,8 @@ pub fn head_of<S: Alter>(
     day: Day,
 ) -> Result<Option<(Length, Unit)>, Unavailable>
     requires { conn.old.in_transaction ≡ false }
-    ensures { Answers Holds (state S.Store conn.old) (state S.Store conn.new) result
-        (λ trees. IsHeadOf (world_in trees) stream.now day) }
+    ensures { (layout : Layout) → Answers (HoldsOf layout) (state S.Store conn.old) (state S.Store conn.new) result
+        (λ trees. IsHeadOf (world_with layout trees) stream.now day) }
 {
     let Ok(_) = ready(conn) else {
         return Err(Unavailable);
@@ -170,8 +170,8 @@ pub fn current_details<S: Alter>(
     stream: &Stream,
 ) -> Result<Details, Unavailable>
     requires { conn.old.in_transaction ≡ false }
-    ensures { Answers Holds (state S.Store conn.old) (state S.Store conn.new) result
-        (λ trees. IsCurrentDetails (world_in trees) stream.now) }
+    ensures { (layout : Layout) → Answers (HoldsOf layout) (state S.Store conn.old) (state S.Store conn.new) result
+        (λ trees. IsCurrentDetails (world_with layout trees) stream.now) }
 {
     let Ok(_) = ready(conn) else {
         return Err(Unavailable);
@@ -236,8 +236,8 @@ fn empty_details(alloc: Global) -> Result<Details, Unavailable>
 /// Whether these details are kept, current or not.
 pub fn has_details<S: Alter>(conn: &mut Connection<S>, detail: &Detail) -> Result<bool, Unavailable>
     requires { conn.old.in_transaction ≡ false }
-    ensures { Answers Holds (state S.Store conn.old) (state S.Store conn.new) result
-        (λ trees has. IsTrue has ↔ (DetailIs detail.now ∈ world_in trees)) }
+    ensures { (layout : Layout) → Answers (HoldsOf layout) (state S.Store conn.old) (state S.Store conn.new) result
+        (λ trees has. IsTrue has ↔ (DetailIs detail.now ∈ world_with layout trees)) }
 {
     let Ok(_) = ready(conn) else {
         return Err(Unavailable);
@@ -258,8 +258,8 @@ pub fn events_of<S: Alter>(
     day: Day,
 ) -> Result<Vec<Event>, Unavailable>
     requires { conn.old.in_transaction ≡ false }
-    ensures { Answers Holds (state S.Store conn.old) (state S.Store conn.new) result
-        (λ trees events. AreEventsOf (world_in trees) stream.now day events.items) }
+    ensures { (layout : Layout) → Answers (HoldsOf layout) (state S.Store conn.old) (state S.Store conn.new) result
+        (λ trees events. AreEventsOf (world_with layout trees) stream.now day events.items) }
 {
     let Ok(_) = ready(conn) else {
         return Err(Unavailable);
@@ -325,8 +325,8 @@ pub fn in_order<T: Ord + Drop>(alloc: Global, found: BTreeSet<T>) -> Result<Vec<
 /// Whether the event is kept.
 pub fn has_event<S: Alter>(conn: &mut Connection<S>, event: &Event) -> Result<bool, Unavailable>
     requires { conn.old.in_transaction ≡ false }
-    ensures { Answers Holds (state S.Store conn.old) (state S.Store conn.new) result
-        (λ trees has. IsTrue has ↔ (EventIs event.now ∈ world_in trees)) }
+    ensures { (layout : Layout) → Answers (HoldsOf layout) (state S.Store conn.old) (state S.Store conn.new) result
+        (λ trees has. IsTrue has ↔ (EventIs event.now ∈ world_with layout trees)) }
 {
     let Ok(_) = ready(conn) else {
         return Err(Unavailable);
@@ -412,8 +412,8 @@ pub fn streams<S: Alter>(
     conn: &mut Connection<S>,
 ) -> Result<Vec<Stream>, Unavailable>
     requires { conn.old.in_transaction ≡ false }
-    ensures { Answers Holds (state S.Store conn.old) (state S.Store conn.new) result
-        (λ trees streams. AreKnownStreams (world_in trees) streams.items) }
+    ensures { (layout : Layout) → Answers (HoldsOf layout) (state S.Store conn.old) (state S.Store conn.new) result
+        (λ trees streams. AreKnownStreams (world_with layout trees) streams.items) }
 {
     let Ok(_) = ready(conn) else {
         return Err(Unavailable);

@@ -1,13 +1,14 @@
-//! The queries, and the rows that they answer.
+//! The queries, and the rows that they answer, whatever tables stand behind those that every schema has.
 
 ghost use Rattle.std.specs.Prelude.{◌≡◌, [], ◌∷◌, All, IfErr};
 ghost use Rattle.sqlite.specs.Held.{state};
 ghost use Rattle.sqlite.specs.State.{HasCleanDisk};
 ghost use Rattle.mds_tables.specs.Causes.{HasFailed};
 ghost use Rattle.mds_tables.specs.Cells as row;
-ghost use Rattle.mds_tables.specs.Queries.{Queries};
+ghost use Rattle.mds_tables.specs.Layouts.{Layout};
+ghost use Rattle.mds_tables.specs.Queries.{QueriesOf};
 ghost use Rattle.mds_tables.specs.Stores.{Selects, SelectsAll};
-ghost use Rattle.mds_tables.specs.Tables.{detail_columns, detail_nmi, detail_tree, event_columns, event_nmi, event_tree, head_columns, head_tree, period_tree, schema_1, schema_tree, schema_version, stream_columns, version_columns, version_tree};
+ghost use Rattle.mds_tables.specs.Tables.{detail_columns, detail_nmi, detail_tree, event_columns, event_nmi, event_tree, head_columns, head_tree, period_tree, schema_tree, schema_version, schema_with, stream_columns, version_columns, version_tree};
 ghost use Rattle.mds_selects.specs.Shown.{AreLatestFirst, IsDetailRow};
 
 use mds_tables::{day_cells, detail_cells, event_cells, stream_cells};
@@ -17,8 +18,9 @@ use sqlite::{Alter, Connection, Error, Row};
 
 /// The numbers that mds_schema says.
 pub(crate) fn version_numbers<S: Alter>(conn: &mut Connection<S>) -> Result<Vec<Row>, Error>
-    ensures asked { Queries (state S.Store conn.old) (state S.Store conn.new) result (SelectsAll schema_tree (schema_version ∷ [])) }
-    ensures cause { HasCleanDisk (state S.Store conn.new) → (state S.Store conn.old).now.schema ≡ schema_1 → IfErr result (HasFailed (state S.Store conn.old) (state S.Store conn.new)) }
+    ensures asked { (layout : Layout) → QueriesOf layout (state S.Store conn.old) (state S.Store conn.new) result (SelectsAll schema_tree (schema_version ∷ [])) }
+    ensures cause { (layout : Layout) → HasCleanDisk (state S.Store conn.new) → (state S.Store conn.old).now.schema ≡ schema_with layout.more
+        → IfErr result (HasFailed (state S.Store conn.old) (state S.Store conn.new)) }
 {
     conn.query_all("SELECT version FROM mds_schema", &[])
 }
@@ -29,7 +31,7 @@ pub(crate) fn head_rows<S: Alter>(
     stream: &Stream,
     day: Day,
 ) -> Result<Vec<Row>, Error>
-    ensures { Queries (state S.Store conn.old) (state S.Store conn.new) result (Selects head_tree (row.day_cells stream.now day) head_columns) }
+    ensures { (layout : Layout) → QueriesOf layout (state S.Store conn.old) (state S.Store conn.new) result (Selects head_tree (row.day_cells stream.now day) head_columns) }
 {
     conn.query_all(
         "SELECT nmi, suffix, day, length, unit FROM mds_head WHERE nmi = ?1 AND suffix = ?2 AND day = ?3",
@@ -43,7 +45,7 @@ pub(crate) fn version_rows<S: Alter>(
     stream: &Stream,
     day: Day,
 ) -> Result<Vec<Row>, Error>
-    ensures { Queries (state S.Store conn.old) (state S.Store conn.new) result (Selects version_tree (row.day_cells stream.now day) version_columns) }
+    ensures { (layout : Layout) → QueriesOf layout (state S.Store conn.old) (state S.Store conn.new) result (Selects version_tree (row.day_cells stream.now day) version_columns) }
 {
     conn.query_all(
         "SELECT nmi, suffix, day, slot, moment, quality, code, note, amount FROM mds_version WHERE nmi = ?1 AND suffix = ?2 AND day = ?3",
@@ -56,7 +58,7 @@ pub(crate) fn details_rows<S: Alter>(
     conn: &mut Connection<S>,
     stream: &Stream,
 ) -> Result<Vec<Row>, Error>
-    ensures { Queries (state S.Store conn.old) (state S.Store conn.new) result (λ trees rows. Selects detail_tree (row.stream_cells stream.now) detail_columns trees rows × (All (λ row. IsDetailRow row) rows → AreLatestFirst rows)) }
+    ensures { (layout : Layout) → QueriesOf layout (state S.Store conn.old) (state S.Store conn.new) result (λ trees rows. Selects detail_tree (row.stream_cells stream.now) detail_columns trees rows × (All (λ row. IsDetailRow row) rows → AreLatestFirst rows)) }
 {
     conn.query_all(
         "SELECT nmi, suffix, moment, configuration, register, datastream, meter, next FROM mds_detail WHERE nmi = ?1 AND suffix = ?2 ORDER BY moment DESC, configuration DESC, register DESC, datastream DESC, meter DESC, next DESC",
@@ -69,7 +71,7 @@ pub(crate) fn same_details_rows<S: Alter>(
     conn: &mut Connection<S>,
     detail: &Detail,
 ) -> Result<Vec<Row>, Error>
-    ensures { Queries (state S.Store conn.old) (state S.Store conn.new) result (Selects detail_tree (row.detail_cells detail.now) (detail_nmi ∷ [])) }
+    ensures { (layout : Layout) → QueriesOf layout (state S.Store conn.old) (state S.Store conn.new) result (Selects detail_tree (row.detail_cells detail.now) (detail_nmi ∷ [])) }
 {
     conn.query_all(
         "SELECT nmi FROM mds_detail WHERE nmi = ?1 AND suffix = ?2 AND moment = ?3 AND configuration = ?4 AND register = ?5 AND datastream = ?6 AND meter = ?7 AND next = ?8",
@@ -83,7 +85,7 @@ pub(crate) fn event_rows<S: Alter>(
     stream: &Stream,
     day: Day,
 ) -> Result<Vec<Row>, Error>
-    ensures { Queries (state S.Store conn.old) (state S.Store conn.new) result (Selects event_tree (row.day_cells stream.now day) event_columns) }
+    ensures { (layout : Layout) → QueriesOf layout (state S.Store conn.old) (state S.Store conn.new) result (Selects event_tree (row.day_cells stream.now day) event_columns) }
 {
     conn.query_all(
         "SELECT nmi, suffix, day, trans, ticket, moment, reading FROM mds_event WHERE nmi = ?1 AND suffix = ?2 AND day = ?3",
@@ -102,7 +104,7 @@ pub(crate) fn same_event_rows<S: Alter>(
     requires nmi { nmi.now ≡ event.now.nmi }
     requires suffix { suffix.now ≡ event.now.suffix }
     requires letter { letter.now ≡ row.letter_text event.now.trans }
-    ensures { Queries (state S.Store conn.old) (state S.Store conn.new) result (Selects event_tree (row.event_cells event.now) (event_nmi ∷ [])) }
+    ensures { (layout : Layout) → QueriesOf layout (state S.Store conn.old) (state S.Store conn.new) result (Selects event_tree (row.event_cells event.now) (event_nmi ∷ [])) }
 {
     conn.query_all(
         "SELECT nmi FROM mds_event WHERE nmi = ?1 AND suffix = ?2 AND day = ?3 AND trans = ?4 AND ticket = ?5 AND moment = ?6 AND reading = ?7",
@@ -112,21 +114,21 @@ pub(crate) fn same_event_rows<S: Alter>(
 
 /// The streams of all heads.
 pub(crate) fn head_stream_rows<S: Alter>(conn: &mut Connection<S>) -> Result<Vec<Row>, Error>
-    ensures { Queries (state S.Store conn.old) (state S.Store conn.new) result (Selects head_tree [] stream_columns) }
+    ensures { (layout : Layout) → QueriesOf layout (state S.Store conn.old) (state S.Store conn.new) result (Selects head_tree [] stream_columns) }
 {
     conn.query_all("SELECT nmi, suffix FROM mds_head", &[])
 }
 
 /// The streams of all details.
 pub(crate) fn detail_stream_rows<S: Alter>(conn: &mut Connection<S>) -> Result<Vec<Row>, Error>
-    ensures { Queries (state S.Store conn.old) (state S.Store conn.new) result (Selects detail_tree [] stream_columns) }
+    ensures { (layout : Layout) → QueriesOf layout (state S.Store conn.old) (state S.Store conn.new) result (Selects detail_tree [] stream_columns) }
 {
     conn.query_all("SELECT nmi, suffix FROM mds_detail", &[])
 }
 
 /// The streams of all periods.
 pub(crate) fn period_stream_rows<S: Alter>(conn: &mut Connection<S>) -> Result<Vec<Row>, Error>
-    ensures { Queries (state S.Store conn.old) (state S.Store conn.new) result (Selects period_tree [] stream_columns) }
+    ensures { (layout : Layout) → QueriesOf layout (state S.Store conn.old) (state S.Store conn.new) result (Selects period_tree [] stream_columns) }
 {
     conn.query_all("SELECT nmi, suffix FROM mds_period", &[])
 }

@@ -1,6 +1,6 @@
 //! Rows that queries answer, as terms. `None` where a row isn't one that the store writes.
 
-ghost use Rattle.std.specs.Prelude.{◌≡◌, ◌≢◌, ◌<◌, ◌≤◌, ◌+◌, ◌^◌, ◌∷◌, ℕ, ℤ, List, Option, length, pos, unsigned_abs, Some, IfErr, IfNone, IfOk, IfSome, IsTrue, OnErr};
+ghost use Rattle.std.specs.Prelude.{◌≡◌, ◌≢◌, ◌<◌, ◌≤◌, ◌+◌, ◌^◌, ◌∷◌, ℕ, ℤ, List, Option, length, pos, unsigned_abs, Some, IfNone, IfOk, IfSome, IsTrue, OnErr};
 ghost use Rattle.std.specs.Bool.{OnFalse};
 ghost use Rattle.std.specs.Str.{is_utf8};
 ghost use Rattle.sqlite.specs.declared.types.Value.TheVariants.{Int, Null, Text};

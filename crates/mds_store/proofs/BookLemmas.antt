@@ -13,6 +13,7 @@ use Rattle.sqlite_catalog.specs.Listing.{IsSound}
 use Rattle.sqlite_trees.specs.Tree.{Trees}
 use Rattle.sqlite_value.specs.Order.{Row, column}
 use Rattle.mds_names.specs.declared.stream.Stream.{Stream}
+use Rattle.mds_marks.specs.Reading.{ReadingValue}
 use Rattle.mds_world.specs.declared.facts.Head.{Head}
 use Rattle.mds_world.specs.declared.facts.Key.{Key}
 use Rattle.mds_world.specs.Facts.{Fact}
@@ -24,123 +25,127 @@ use Rattle.mds_world.specs.Sets.{◌∈◌}
 use Rattle.mds_world.specs.World.{IsKnownDay, IsOn}
 use Rattle.mds_keeper.specs.Books.{BookValue, IsDay, book_facts, book_world, head_facts, row_fact}
 use Rattle.mds_keeper.specs.Queries.{AreDaysOf}
+use Rattle.mds_keeper.specs.declared.day_book.Version.{Version}
 use Rattle.mds_keeper.proofs.BookFacts.{from_book}
 use Rattle.mds_tables.specs.Cells.{day_cells}
-use Rattle.mds_tables.specs.RowFacts.{head_fact, natural_at, version_fact, world_in}
+use Rattle.mds_tables.specs.Layouts.{Layout, rows_layout, world_with}
+use Rattle.mds_tables.specs.RowFacts.{head_fact, natural_at, version_fact}
 use Rattle.mds_tables.specs.Stores.{Begins}
-use Rattle.mds_tables.specs.Tables.{schema_1}
+use Rattle.mds_tables.specs.Tables.{schema_1, schema_with}
 use Rattle.mds_selects.proofs.Adding.{member_at}
 use Rattle.mds_selects.proofs.Latest.{place_of}
 use Rattle.mds_selects.proofs.Listed.{Tells, head_on, listed, version_on}
-use Rattle.mds_selects.proofs.Named.{Names, of_head, of_version}
-use Rattle.mds_store.specs.Ranges.{AreBooksIn, IsBookOf, SelectsRange}
+use Rattle.mds_selects.proofs.Named.{Names, of_head, of_row}
+use Rattle.mds_selects.specs.Shown.{AreVersionsIn}
+use Rattle.mds_store.specs.Ranges.{AreBooksIn, AreOfDay, IsBookOf, SelectsRange}
 
 -- ---- books that are cut one after the other
 
-no_more : (s : Stream) (head : Head) (shown : Row) (mine later left : List Row) (book : BookValue) → left ≡ mine ++ later
-    → head_fact (Null ∷ shown) ≡ HeadIs head → IsBookOf s head mine book → (rows : List Row) → rows ≡ left
-    → AreBooksIn s (shown ∷ []) rows later (book ∷ [])
-no_more s head shown mine later left book split says made rows are = (head, mine, later, says, are ∙ split, made, refl)
+module _ (Are : List Row → List (ℕ × Version) → Type 0) where
+  no_more : (s : Stream) (head : Head) (shown : Row) (mine later left : List Row) (book : BookValue) → left ≡ mine ++ later
+      → head_fact (Null ∷ shown) ≡ HeadIs head → IsBookOf Are s head mine book → (rows : List Row) → rows ≡ left
+      → AreBooksIn Are s (shown ∷ []) rows later (book ∷ [])
+  no_more s head shown mine later left book split says made rows are = (head, mine, later, says, are ∙ split, made, refl)
 
-one_more : (s : Stream) (heads rows left : List Row) (books : List BookValue) (head : Head) (shown : Row) (mine later : List Row)
-    (book : BookValue) → AreBooksIn s heads rows left books → left ≡ mine ++ later → head_fact (Null ∷ shown) ≡ HeadIs head
-    → IsBookOf s head mine book → AreBooksIn s (heads ++ shown ∷ []) rows later (books ++ book ∷ [])
-one_more s [] rows left [] head shown mine later book are split says made =
-    no_more s head shown mine later left book split says made rows are
-one_more s [] rows left (b ∷ bs) head shown mine later book are split says made = absurd are
-one_more s (h ∷ hs) rows left [] head shown mine later book are split says made = absurd are
-one_more s (h ∷ hs) rows left (b ∷ bs) head shown mine later book are split says made = (
-  are.0,
-  are.1,
-  are.2,
-  are.3,
-  are.4,
-  are.5,
-  one_more s hs are.2 left bs head shown mine later book are.6 split says made,
-)
+  one_more : (s : Stream) (heads rows left : List Row) (books : List BookValue) (head : Head) (shown : Row) (mine later : List Row)
+      (book : BookValue) → AreBooksIn Are s heads rows left books → left ≡ mine ++ later → head_fact (Null ∷ shown) ≡ HeadIs head
+      → IsBookOf Are s head mine book → AreBooksIn Are s (heads ++ shown ∷ []) rows later (books ++ book ∷ [])
+  one_more s [] rows left [] head shown mine later book are split says made =
+      no_more s head shown mine later left book split says made rows are
+  one_more s [] rows left (b ∷ bs) head shown mine later book are split says made = absurd are
+  one_more s (h ∷ hs) rows left [] head shown mine later book are split says made = absurd are
+  one_more s (h ∷ hs) rows left (b ∷ bs) head shown mine later book are split says made = (
+    are.0,
+    are.1,
+    are.2,
+    are.3,
+    are.4,
+    are.5,
+    one_more s hs are.2 left bs head shown mine later book are.6 split says made,
+  )
 
--- one head's row more
-pub cut_more : (s : Stream) (heads rows left : List Row) (i : ℕ) (books new : List BookValue) (head : Head) (shown : Row)
-    (mine later : List Row) (book : BookValue) → i < length heads → shown ≡ slice_index_or heads i shown
-    → AreBooksIn s (take i heads) rows left books → left ≡ mine ++ later → head_fact (Null ∷ shown) ≡ HeadIs head
-    → IsBookOf s head mine book → new ≡ books ++ book ∷ [] → AreBooksIn s (take (i + 1) heads) rows later new
-cut_more s heads rows left i books new head shown mine later book low is are split says made more =
-    let front : take (i + 1) heads ≡ take i heads ++ shown ∷ [] =
-    take_more heads i shown low ∙ ap (λ x. take i heads ++ x ∷ []) (sym is) in
-    subst (λ hs. AreBooksIn s hs rows later new) (sym front)
-    (subst (AreBooksIn s (take i heads ++ shown ∷ []) rows later) (sym more)
-    (one_more s (take i heads) rows left books head shown mine later book are split says made))
+  -- one head's row more
+  pub cut_more : (s : Stream) (heads rows left : List Row) (i : ℕ) (books new : List BookValue) (head : Head) (shown : Row)
+      (mine later : List Row) (book : BookValue) → i < length heads → shown ≡ slice_index_or heads i shown
+      → AreBooksIn Are s (take i heads) rows left books → left ≡ mine ++ later → head_fact (Null ∷ shown) ≡ HeadIs head
+      → IsBookOf Are s head mine book → new ≡ books ++ book ∷ [] → AreBooksIn Are s (take (i + 1) heads) rows later new
+  cut_more s heads rows left i books new head shown mine later book low is are split says made more =
+      let front : take (i + 1) heads ≡ take i heads ++ shown ∷ [] =
+      take_more heads i shown low ∙ ap (λ x. take i heads ++ x ∷ []) (sym is) in
+      subst (λ hs. AreBooksIn Are s hs rows later new) (sym front)
+      (subst (AreBooksIn Are s (take i heads ++ shown ∷ []) rows later) (sym more)
+      (one_more s (take i heads) rows left books head shown mine later book are split says made))
 
--- where a book comes from
-record IsCut (s : Stream) (heads rows : List Row) (book : BookValue) : Type 0 where
-  shown : Row
-  head : Head
-  mine : List Row
-  there : Member shown heads
-  is : head_fact (Null ∷ shown) ≡ HeadIs head
-  among : (v : Row) → Member v mine → Member v rows
-  made : IsBookOf s head mine book
+  -- where a book comes from
+  pub record IsCut (s : Stream) (heads rows : List Row) (book : BookValue) : Type 0 where
+    shown : Row
+    head : Head
+    mine : List Row
+    there : Member shown heads
+    is : head_fact (Null ∷ shown) ≡ HeadIs head
+    among : (v : Row) → Member v mine → Member v rows
+    made : IsBookOf Are s head mine book
 
-abbrev first_cut : (s : Stream) (h : Row) (hs rows mine later : List Row) (head : Head) (book : BookValue)
-    → head_fact (Null ∷ h) ≡ HeadIs head → rows ≡ mine ++ later → IsBookOf s head mine book → IsCut s (h ∷ hs) rows book
-first_cut s h hs rows mine later head book is split made = record {
-  shown = h;
-  head = head;
-  mine = mine;
-  there = inl refl;
-  is = is;
-  among = λ v m. subst (Member v) (sym split) (append_left v mine later m);
-  made = made;
-}
+  abbrev first_cut : (s : Stream) (h : Row) (hs rows mine later : List Row) (head : Head) (book : BookValue)
+      → head_fact (Null ∷ h) ≡ HeadIs head → rows ≡ mine ++ later → IsBookOf Are s head mine book → IsCut s (h ∷ hs) rows book
+  first_cut s h hs rows mine later head book is split made = record {
+    shown = h;
+    head = head;
+    mine = mine;
+    there = inl refl;
+    is = is;
+    among = λ v m. subst (Member v) (sym split) (append_left v mine later m);
+    made = made;
+  }
 
-abbrev later_cut : (s : Stream) (h : Row) (hs rows mine later : List Row) (book : BookValue) → rows ≡ mine ++ later
-    → IsCut s hs later book → IsCut s (h ∷ hs) rows book
-later_cut s h hs rows mine later book split cut = record {
-  shown = cut.shown;
-  head = cut.head;
-  mine = cut.mine;
-  there = inr cut.there;
-  is = cut.is;
-  among = λ v m. subst (Member v) (sym split) (append_right v mine later (cut.among v m));
-  made = cut.made;
-}
+  abbrev later_cut : (s : Stream) (h : Row) (hs rows mine later : List Row) (book : BookValue) → rows ≡ mine ++ later
+      → IsCut s hs later book → IsCut s (h ∷ hs) rows book
+  later_cut s h hs rows mine later book split cut = record {
+    shown = cut.shown;
+    head = cut.head;
+    mine = cut.mine;
+    there = inr cut.there;
+    is = cut.is;
+    among = λ v m. subst (Member v) (sym split) (append_right v mine later (cut.among v m));
+    made = cut.made;
+  }
 
-cut_of : (s : Stream) (heads rows left : List Row) (books : List BookValue) → AreBooksIn s heads rows left books
-    → (book : BookValue) → Member book books → IsCut s heads rows book
-cut_of s [] rows left [] are book m = absurd m
-cut_of s [] rows left (b ∷ bs) are book m = absurd are
-cut_of s (h ∷ hs) rows left [] are book m = absurd are
-cut_of s (h ∷ hs) rows left (b ∷ bs) are book (inl e) =
-    subst (IsCut s (h ∷ hs) rows) (sym e) (first_cut s h hs rows are.1 are.2 are.0 b are.3 are.4 are.5)
-cut_of s (h ∷ hs) rows left (b ∷ bs) are book (inr m) =
-    later_cut s h hs rows are.1 are.2 book are.4 (cut_of s hs are.2 left bs are.6 book m)
+  cut_of : (s : Stream) (heads rows left : List Row) (books : List BookValue) → AreBooksIn Are s heads rows left books
+      → (book : BookValue) → Member book books → IsCut s heads rows book
+  cut_of s [] rows left [] are book m = absurd m
+  cut_of s [] rows left (b ∷ bs) are book m = absurd are
+  cut_of s (h ∷ hs) rows left [] are book m = absurd are
+  cut_of s (h ∷ hs) rows left (b ∷ bs) are book (inl e) =
+      subst (IsCut s (h ∷ hs) rows) (sym e) (first_cut s h hs rows are.1 are.2 are.0 b are.3 are.4 are.5)
+  cut_of s (h ∷ hs) rows left (b ∷ bs) are book (inr m) =
+      later_cut s h hs rows are.1 are.2 book are.4 (cut_of s hs are.2 left bs are.6 book m)
 
--- each head's row has its book
-head_cut : (s : Stream) (heads rows left : List Row) (books : List BookValue) → AreBooksIn s heads rows left books
-    → (shown : Row) → Member shown heads
-    → (book : BookValue) × Member book books × (cut : IsCut s heads rows book) × (cut.shown ≡ shown)
-head_cut s [] rows left [] are shown m = absurd m
-head_cut s [] rows left (b ∷ bs) are shown m = absurd are
-head_cut s (h ∷ hs) rows left [] are shown m = absurd are
-head_cut s (h ∷ hs) rows left (b ∷ bs) are shown (inl e) =
-    (b, inl refl, first_cut s h hs rows are.1 are.2 are.0 b are.3 are.4 are.5, sym e)
-head_cut s (h ∷ hs) rows left (b ∷ bs) are shown (inr m) =
-    let it = head_cut s hs are.2 left bs are.6 shown m in
-    (it.0, inr it.1, later_cut s h hs rows are.1 are.2 it.0 are.4 it.2, it.3)
-
--- each version's row is in a book, where none is left
-version_cut : (s : Stream) (heads rows : List Row) (books : List BookValue) → AreBooksIn s heads rows [] books
-    → (v : Row) → Member v rows
-    → (book : BookValue) × Member book books × (cut : IsCut s heads rows book) × Member v cut.mine
-version_cut s [] rows [] are v m = absurd (subst (Member v) are m)
-version_cut s [] rows (b ∷ bs) are v m = absurd are
-version_cut s (h ∷ hs) rows [] are v m = absurd are
-version_cut s (h ∷ hs) rows (b ∷ bs) are v m = elim (member_append v are.1 are.2 (subst (Member v) are.4 m)) [
-  | inl mine ↦ (b, inl refl, first_cut s h hs rows are.1 are.2 are.0 b are.3 are.4 are.5, mine)
-  | inr later ↦
-      let it = version_cut s hs are.2 bs are.6 v later in
+  -- each head's row has its book
+  head_cut : (s : Stream) (heads rows left : List Row) (books : List BookValue) → AreBooksIn Are s heads rows left books
+      → (shown : Row) → Member shown heads
+      → (book : BookValue) × Member book books × (cut : IsCut s heads rows book) × (cut.shown ≡ shown)
+  head_cut s [] rows left [] are shown m = absurd m
+  head_cut s [] rows left (b ∷ bs) are shown m = absurd are
+  head_cut s (h ∷ hs) rows left [] are shown m = absurd are
+  head_cut s (h ∷ hs) rows left (b ∷ bs) are shown (inl e) =
+      (b, inl refl, first_cut s h hs rows are.1 are.2 are.0 b are.3 are.4 are.5, sym e)
+  head_cut s (h ∷ hs) rows left (b ∷ bs) are shown (inr m) =
+      let it = head_cut s hs are.2 left bs are.6 shown m in
       (it.0, inr it.1, later_cut s h hs rows are.1 are.2 it.0 are.4 it.2, it.3)
-]
+
+  -- each version's row is in a book, where none is left
+  version_cut : (s : Stream) (heads rows : List Row) (books : List BookValue) → AreBooksIn Are s heads rows [] books
+      → (v : Row) → Member v rows
+      → (book : BookValue) × Member book books × (cut : IsCut s heads rows book) × Member v cut.mine
+  version_cut s [] rows [] are v m = absurd (subst (Member v) are m)
+  version_cut s [] rows (b ∷ bs) are v m = absurd are
+  version_cut s (h ∷ hs) rows [] are v m = absurd are
+  version_cut s (h ∷ hs) rows (b ∷ bs) are v m = elim (member_append v are.1 are.2 (subst (Member v) are.4 m)) [
+    | inl mine ↦ (b, inl refl, first_cut s h hs rows are.1 are.2 are.0 b are.3 are.4 are.5, mine)
+    | inr later ↦
+        let it = version_cut s hs are.2 bs are.6 v later in
+        (it.0, inr it.1, later_cut s h hs rows are.1 are.2 it.0 are.4 it.2, it.3)
+  ]
 
 -- one book's day is before another's
 abbrev pub IsBefore : BookValue → BookValue → Type 0
@@ -198,17 +203,17 @@ pub no_next : {X : Type 0} (xs : List X) (y : X) (later : List X) → drop (leng
 no_next [] y later split = absurd (cc)
 no_next (x ∷ xs) y later split = no_next xs y later split
 
-of_all : {X : Type 0} (P : X → Type 0) (xs : List X) → All P xs → (x : X) → Member x xs → P x
+pub of_all : {X : Type 0} (P : X → Type 0) (xs : List X) → All P xs → (x : X) → Member x xs → P x
 of_all P xs all x m = let i = place_of xs x x m in subst P i.2 (all i.0 x i.1)
 
 -- ---- the facts of a range of days
 
 -- the fact is on a day of a stream, from the first to the last one
-record IsOnRange (s : Stream) (first last : ℕ) (f : Fact) : Type 0 where
-  day : ℕ
-  from : first ≤ day
-  to : day ≤ last
-  on : IsOn s day f
+pub record IsOnRange (s : Stream) (first last : ℕ) (f : Fact) : Type 0 where
+  pub day : ℕ
+  pub from : first ≤ day
+  pub to : day ≤ last
+  pub on : IsOn s day f
 
 module _ (read : Row → Fact) (tree : ℕ) (places : List ℕ) (trees : Trees) (rows : List Row) (s : Stream) (first last : ℕ)
     (sel : SelectsRange tree s first last places trees rows)
@@ -234,51 +239,46 @@ module _ (read : Row → Fact) (tree : ℕ) (places : List ℕ) (trees : Trees) 
 same_head : (a b : Head) → HeadIs a ≡ HeadIs b → a ≡ b
 same_head a b e = cc
 
--- the day of a version's fact
-abbrev day_of : ℕ → Fact → ℕ
-day_of none (HeadIs head) = none
-day_of none (VersionIs key reading) = key.day
-day_of none (DetailIs detail) = none
-day_of none (EventIs event) = none
-day_of none (PeriodIs key content) = none
-day_of none (HolidayIs date) = none
-day_of none (JobIs id content count) = none
-
 abbrev head_columns : List ℕ
 head_columns = 1 ∷ 2 ∷ 3 ∷ 4 ∷ 5 ∷ []
 
-abbrev version_columns : List ℕ
-version_columns = 1 ∷ 2 ∷ 3 ∷ 4 ∷ 5 ∷ 6 ∷ 7 ∷ 8 ∷ 9 ∷ []
+-- What rows that are shown of a range of days say of versions: all that the World has there, and nothing else.
+pub record SayVersions (layout : Layout) (trees : Trees) (s : Stream) (first last : ℕ) (rows : List Row) (Says : Row → Fact → Type 0)
+    (Are : List Row → List (ℕ × Version) → Type 0) : Type 0 where
+  pub told : (row : Row) (f : Fact) → Member row rows → Says row f → (f ∈ world_with layout trees) × IsOnRange s first last f
+  pub of_day : (row : Row) (key : Key) (reading : ReadingValue) → Says row (VersionIs key reading) → natural_at row 2 ≡ key.day
+  pub tells : (key : Key) (reading : ReadingValue) → VersionIs key reading ∈ world_with layout trees
+      → IsOnRange s first last (VersionIs key reading) → (row : Row) × Member row rows × Says row (VersionIs key reading)
+  pub listed : (day : ℕ) → day ≤ last → (mine : List Row) (versions : List (ℕ × Version)) → Are mine versions → AreOfDay day mine
+      → ((row : Row) → Member row mine → Member row rows)
+      → (f : Fact) → ((row : Row) × Member row mine × Says row f) ↔ Member f (map (row_fact s day) versions)
 
-module _ (s : Stream) (first last : ℕ) (small : last < 2 ^ 63) (trees : Trees) (sound : IsSound schema_1 trees)
-    (heads versions : List Row) (of_heads : SelectsRange 2 s first last head_columns trees heads)
-    (of_versions : SelectsRange 4 s first last version_columns trees versions) (books : List BookValue)
-    (are : AreBooksIn s heads versions [] books) (up : AllPairs IsBefore books) where
+module _ (layout : Layout) (s : Stream) (first last : ℕ) (small : last < 2 ^ 63) (trees : Trees)
+    (sound : IsSound (schema_with layout.more) trees) (heads rows : List Row) (of_heads : SelectsRange 2 s first last head_columns trees heads)
+    (Says : Row → Fact → Type 0) (Are : List Row → List (ℕ × Version) → Type 0)
+    (say : SayVersions layout trees s first last rows Says Are) (books : List BookValue) (are : AreBooksIn Are s heads rows [] books)
+    (up : AllPairs IsBefore books) where
   low : (day : ℕ) → day ≤ last → day < 2 ^ 63
   low day to = omega (arith, to, small)
 
   abbrev Cut : BookValue → Type 0
-  Cut = IsCut s heads versions
+  Cut = IsCut Are s heads rows
 
   head_told : (f : Fact) → Tells head_fact heads f → Names head_fact (trees 2) f × IsOnRange s first last f
   head_told = told_in head_fact 2 head_columns trees heads s first last of_heads (λ r. refl)
-      (λ day to. head_on s day (low day to) trees sound)
+      (λ day to. head_on layout s day (low day to) trees sound)
 
   head_tells : (f : Fact) → Names head_fact (trees 2) f → IsOnRange s first last f → Tells head_fact heads f
   head_tells = tells_in head_fact 2 head_columns trees heads s first last of_heads (λ r. refl)
-      (λ day to. head_on s day (low day to) trees sound)
+      (λ day to. head_on layout s day (low day to) trees sound)
 
-  version_told : (f : Fact) → Tells version_fact versions f → Names version_fact (trees 4) f × IsOnRange s first last f
-  version_told = told_in version_fact 4 version_columns trees versions s first last of_versions (λ r. refl)
-      (λ day to. version_on s day (low day to) trees sound)
-
-  version_tells : (f : Fact) → Names version_fact (trees 4) f → IsOnRange s first last f → Tells version_fact versions f
-  version_tells = tells_in version_fact 4 version_columns trees versions s first last of_versions (λ r. refl)
-      (λ day to. version_on s day (low day to) trees sound)
+  -- one of the rows says the fact
+  abbrev IsSaid : List Row → Fact → Type 0
+  IsSaid mine f = (row : Row) × Member row mine × Says row f
 
   -- a book's head is one of the World, on a day of the range
   record HasHead (head : Head) : Type 0 where
-    kept : HeadIs head ∈ world_in trees
+    kept : HeadIs head ∈ world_with layout trees
     stream : head.stream ≡ s
     from : first ≤ head.day
     to : head.day ≤ last
@@ -291,7 +291,7 @@ module _ (s : Stream) (first last : ℕ) (small : last < 2 ^ 63) (trees : Trees)
       let from = o.from in
       let to = o.to in
       record {
-        kept = (of_head trees cut.head).1 t.0;
+        kept = (of_head layout trees cut.head).1 t.0;
         stream = on.0;
         from = omega (arith, from, on.1);
         to = omega (arith, to, on.1);
@@ -312,18 +312,9 @@ module _ (s : Stream) (first last : ℕ) (small : last < 2 ^ 63) (trees : Trees)
   is_head_in : (head : Head) → head.stream ≡ s → head ≡ head_in head
   is_head_in head e = λ i. record { stream = e i; day = head.day; length = head.length; unit = head.unit }
 
-  mine_on : (book : BookValue) (cut : Cut book) (f : Fact) → Tells version_fact cut.mine f → IsOn s cut.head.day f
-  mine_on book cut f t =
-      let o = (version_told f (t.0, cut.among t.0 t.1, t.2)).1 in
-      let on : IsOn s o.day (version_fact (Null ∷ t.0)) = subst (IsOn s o.day) (sym t.2) o.on in
-      subst (IsOn s cut.head.day) t.2
-      (on.0, of_all (λ row. natural_at row 2 ≡ cut.head.day) cut.mine cut.made.alike t.0 t.1)
-
-  mine_listed : (book : BookValue) (cut : Cut book) (f : Fact)
-      → Tells version_fact cut.mine f ↔ Member f (map (row_fact s cut.head.day) cut.made.versions)
+  mine_listed : (book : BookValue) (cut : Cut book) (f : Fact) → IsSaid cut.mine f ↔ Member f (map (row_fact s cut.head.day) cut.made.versions)
   mine_listed book cut =
-      listed s cut.head.day (low cut.head.day (has_head book cut).to) trees sound cut.mine cut.made.versions cut.made.are
-      (mine_on book cut)
+      say.listed cut.head.day (has_head book cut).to cut.mine cut.made.versions cut.made.are cut.made.alike cut.among
 
   has_its_head : (book : BookValue) (cut : Cut book) → HeadIs cut.head ∈ book_world book
   has_its_head book cut =
@@ -334,7 +325,7 @@ module _ (s : Stream) (first last : ℕ) (small : last < 2 ^ 63) (trees : Trees)
       (map (row_fact s cut.head.day) cut.made.versions)
       (inl (ap HeadIs (is_head_in cut.head (has_head book cut).stream)))))
 
-  has_version : (book : BookValue) (cut : Cut book) (f : Fact) → Tells version_fact cut.mine f → f ∈ book_world book
+  has_version : (book : BookValue) (cut : Cut book) (f : Fact) → IsSaid cut.mine f → f ∈ book_world book
   has_version book cut f t =
       let it = made_of book cut in
       subst (λ w. f ∈ w) (sym cut.made.says)
@@ -344,7 +335,7 @@ module _ (s : Stream) (first last : ℕ) (small : last < 2 ^ 63) (trees : Trees)
 
   module _ (book : BookValue) (m : Member book books) where
     cut : Cut book
-    cut = cut_of s heads versions [] books are book m
+    cut = cut_of Are s heads rows [] books are book m
 
     abbrev its : HasHead cut.head
     its = has_head book cut
@@ -357,11 +348,11 @@ module _ (s : Stream) (first last : ℕ) (small : last < 2 ^ 63) (trees : Trees)
         let day = cut.made.day in
         record { day = book.day; from = omega (arith, from, day); to = omega (arith, to, day); on = on }
 
-    whole : (f : Fact) → IsOn book.stream book.day f → f ∈ world_in trees → f ∈ book_world book
+    whole : (f : Fact) → IsOn book.stream book.day f → f ∈ world_with layout trees → f ∈ book_world book
     whole (HeadIs head) on h =
         let here : IsOn s book.day (HeadIs head) = (on.0 ∙ cut.made.stream, on.1) in
-        let t = head_tells (HeadIs head) ((of_head trees head).0 h) (in_range (HeadIs head) here) in
-        let c = head_cut s heads versions [] books are t.0 t.1 in
+        let t = head_tells (HeadIs head) ((of_head layout trees head).0 h) (in_range (HeadIs head) here) in
+        let c = head_cut Are s heads rows [] books are t.0 t.1 in
         let same : c.2.head ≡ head =
         same_head c.2.head head (sym c.2.is ∙ ap (λ r. head_fact (Null ∷ r)) c.3 ∙ t.2) in
         let day : c.0.day ≡ book.day = c.2.made.day ∙ ap (λ (x : Head). x.day) same ∙ on.1 in
@@ -371,12 +362,12 @@ module _ (s : Stream) (first last : ℕ) (small : last < 2 ^ 63) (trees : Trees)
     whole (VersionIs key reading) on h =
         let here : IsOn s book.day (VersionIs key reading) = (on.0 ∙ cut.made.stream, on.1) in
         let f = VersionIs key reading in
-        let t = version_tells f ((of_version trees key reading).0 h) (in_range f here) in
-        let c = version_cut s heads versions books are t.0 t.1 in
-        let of_row : natural_at t.0 2 ≡ key.day = ap (day_of 0) t.2 in
-        let of_head : natural_at t.0 2 ≡ c.2.head.day =
+        let t = say.tells key reading h (in_range f here) in
+        let c = version_cut Are s heads rows books are t.0 t.1 in
+        let on_key : natural_at t.0 2 ≡ key.day = say.of_day t.0 key reading t.2 in
+        let on_head : natural_at t.0 2 ≡ c.2.head.day =
         of_all (λ row. natural_at row 2 ≡ c.2.head.day) c.2.mine c.2.made.alike t.0 c.3 in
-        let day : c.0.day ≡ book.day = c.2.made.day ∙ sym of_head ∙ of_row ∙ on.1 in
+        let day : c.0.day ≡ book.day = c.2.made.day ∙ sym on_head ∙ on_key ∙ on.1 in
         let one = same_book books up c.0 book c.1 m day in
         subst (λ b. f ∈ book_world b) one (has_version c.0 c.2 f (t.0, c.3, t.2))
     whole (DetailIs detail) on h = absurd on
@@ -385,57 +376,110 @@ module _ (s : Stream) (first last : ℕ) (small : last < 2 ^ 63) (trees : Trees)
     whole (HolidayIs date) on h = absurd on
     whole (JobIs id content count) on h = absurd on
 
-    head_kept : (f : Fact) → Member f (HeadIs (head_in cut.head) ∷ []) → f ∈ world_in trees
+    head_kept : (f : Fact) → Member f (HeadIs (head_in cut.head) ∷ []) → f ∈ world_with layout trees
     head_kept f (inl e) =
-        subst (λ g. g ∈ world_in trees) (ap HeadIs (is_head_in cut.head its.stream) ∙ sym e) its.kept
+        subst (λ g. g ∈ world_with layout trees) (ap HeadIs (is_head_in cut.head its.stream) ∙ sym e) its.kept
     head_kept f (inr n) = absurd n
 
-    only : (f : Fact) → f ∈ book_world book → f ∈ world_in trees
+    only : (f : Fact) → f ∈ book_world book → f ∈ world_with layout trees
     only f h =
         let it = made_of book cut in
         elim (from_book it f (subst (λ w. f ∈ w) cut.made.says h)) [
           | inl a ↦ head_kept f a
           | inr b ↦
               let g = row_fact s cut.head.day b.0 in
-              let key : Key =
-              record { stream = s; day = cut.head.day; interval = b.0.0; update = b.0.1.update } in
               let t = (mine_listed book cut g).1 (map_in (row_fact s cut.head.day) cut.made.versions b.0 b.1) in
-              let n = (version_told g (t.0, cut.among t.0 t.1, t.2)).0 in
-              subst (λ x. x ∈ world_in trees) (sym b.2) ((of_version trees key b.0.1.reading).1 n)
+              subst (λ x. x ∈ world_with layout trees) (sym b.2) (say.told t.0 g (cut.among t.0 t.1) t.2).0
         ]
 
-    is_day : (book.stream ≡ s) × IsDay (world_in trees) book
+    is_day : (book.stream ≡ s) × IsDay (world_with layout trees) book
     is_day = (cut.made.stream, record { whole = whole; only = only })
 
     -- its day is known, and of the range
-    known_day : (first ≤ book.day) × (book.day ≤ last) × IsKnownDay (world_in trees) s book.day
+    known_day : (first ≤ book.day) × (book.day ≤ last) × IsKnownDay (world_with layout trees) s book.day
     known_day =
         let from = its.from in
         let to = its.to in
         let day = cut.made.day in
         (omega (arith, from, day), omega (arith, to, day), (cut.head, its.kept, its.stream, sym day))
 
-  has_day : (day : ℕ) → first ≤ day → day ≤ last → IsKnownDay (world_in trees) s day → Member day (map (λ book. book.day) books)
+  has_day : (day : ℕ) → first ≤ day → day ≤ last → IsKnownDay (world_with layout trees) s day → Member day (map (λ book. book.day) books)
   has_day day from to known =
       let head = known.0 in
       let o : IsOnRange s first last (HeadIs head) = record { day = day; from = from; to = to; on = (known.2, known.3) } in
-      let t = head_tells (HeadIs head) ((of_head trees head).0 known.1) o in
-      let c = head_cut s heads versions [] books are t.0 t.1 in
+      let t = head_tells (HeadIs head) ((of_head layout trees head).0 known.1) o in
+      let c = head_cut Are s heads rows [] books are t.0 t.1 in
       let same : c.2.head ≡ head =
       same_head c.2.head head (sym c.2.is ∙ ap (λ r. head_fact (Null ∷ r)) c.3 ∙ t.2) in
       let is : c.0.day ≡ day = c.2.made.day ∙ ap (λ (x : Head). x.day) same ∙ known.3 in
       subst (λ d. Member d (map (λ book. book.day) books)) is (map_in (λ (book : BookValue). book.day) books c.0 c.1)
 
-  pub finds_days : AreDaysOf (world_in trees) s first last books
-  finds_days = record {
+  pub are_days : AreDaysOf (world_with layout trees) s first last books
+  are_days = record {
     each = λ i d l. is_day (slice_index_or books i d) (member_at books i d l);
     known = λ day. (
       (λ m.
           let b = in_map (λ (book : BookValue). book.day) books day m in
           let k = known_day b.0 b.1 in
           let same : b.0.day ≡ day = sym b.2 in
-          subst (λ d. (first ≤ d) × (d ≤ last) × IsKnownDay (world_in trees) s d) same k),
+          subst (λ d. (first ≤ d) × (d ≤ last) × IsKnownDay (world_with layout trees) s d) same k),
       (λ p. has_day day p.0 p.1 p.2),
     );
     ascending = up;
   }
+
+-- ---- where each version has a row
+
+abbrev version_columns : List ℕ
+version_columns = 1 ∷ 2 ∷ 3 ∷ 4 ∷ 5 ∷ 6 ∷ 7 ∷ 8 ∷ 9 ∷ []
+
+-- the day of a version's fact
+abbrev day_of : ℕ → Fact → ℕ
+day_of none (HeadIs head) = none
+day_of none (VersionIs key reading) = key.day
+day_of none (DetailIs detail) = none
+day_of none (EventIs event) = none
+day_of none (PeriodIs key content) = none
+day_of none (HolidayIs date) = none
+day_of none (JobIs id content count) = none
+
+-- a row says a version
+version_at : (r : Row) → (key : Key) × (reading : ReadingValue) × (version_fact r ≡ VersionIs key reading)
+version_at r = (_, _, refl)
+
+abbrev SaysRow : Row → Fact → Type 0
+SaysRow row f = version_fact (Null ∷ row) ≡ f
+
+module _ (s : Stream) (first last : ℕ) (small : last < 2 ^ 63) (trees : Trees) (sound : IsSound schema_1 trees) (rows : List Row)
+    (of_rows : SelectsRange 4 s first last version_columns trees rows) where
+  row_on : (day : ℕ) → day ≤ last → (r : Row) → Member r (trees 4) → Begins (day_cells s day) r ↔ IsOn s day (version_fact r)
+  row_on day to = version_on rows_layout s day (omega (arith, to, small)) trees sound
+
+  row_told : (f : Fact) → Tells version_fact rows f → Names version_fact (trees 4) f × IsOnRange s first last f
+  row_told = told_in version_fact 4 version_columns trees rows s first last of_rows (λ r. refl) row_on
+
+  named : (f : Fact) → Names version_fact (trees 4) f → f ∈ world_with rows_layout trees
+  named f n =
+      let at = version_at n.0 in
+      subst (λ g. g ∈ world_with rows_layout trees) (sym at.2 ∙ n.2) ((of_row trees at.0 at.1).1 (n.0, n.1, at.2))
+
+  pub say_rows : SayVersions rows_layout trees s first last rows SaysRow AreVersionsIn
+  say_rows = record {
+    told = λ row f m is. let t = row_told f (row, m, is) in (named f t.0, t.1);
+    of_day = λ row key reading is. ap (day_of 0) is;
+    tells = λ key reading h on.
+        tells_in version_fact 4 version_columns trees rows s first last of_rows (λ r. refl) row_on (VersionIs key reading)
+        ((of_row trees key reading).0 h) on;
+    listed = λ day to mine versions are alike among.
+        listed rows_layout s day (omega (arith, to, small)) trees sound mine versions are (λ f t.
+        let o = (row_told f (t.0, among t.0 t.1, t.2)).1 in
+        let on : IsOn s o.day (version_fact (Null ∷ t.0)) = subst (IsOn s o.day) (sym t.2) o.on in
+        subst (IsOn s day) t.2 (on.0, of_all (λ row. natural_at row 2 ≡ day) mine alike t.0 t.1));
+  }
+
+pub finds_days : (s : Stream) (first last : ℕ) → last < 2 ^ 63 → (trees : Trees) → IsSound schema_1 trees → (heads rows : List Row)
+    → SelectsRange 2 s first last head_columns trees heads → SelectsRange 4 s first last version_columns trees rows
+    → (books : List BookValue) → AreBooksIn AreVersionsIn s heads rows [] books → AllPairs IsBefore books
+    → AreDaysOf (world_with rows_layout trees) s first last books
+finds_days s first last small trees sound heads rows of_heads of_rows =
+    are_days rows_layout s first last small trees sound heads rows of_heads SaysRow AreVersionsIn (say_rows s first last small trees sound rows of_rows)

@@ -5,67 +5,85 @@ use Rattle.std.proofs.Common.{◌∙◌, ap, arith, inl, inr, subst, sym}
 use Rattle.std.proofs.lemmas.Result.{on_err_weaker, on_ok_weaker}
 use Rattle.sqlite.specs.Effect.{Database}
 use Rattle.sqlite.specs.State.{HasCleanDisk, KeepsCommit, State, Survives}
+use Rattle.sqlite_trees.specs.Tree.{Trees}
 use Rattle.mds_world.specs.World.{World}
 use Rattle.mds_keeper.specs.Content.{content}
 use Rattle.mds_keeper.specs.Kept.{Adds, Asks, Stays}
 use Rattle.mds_keeper.specs.declared.additions.Additions.{Additions}
 use Rattle.mds_keeper.proofs.Asked.{stays_on}
+use Rattle.mds_tables.specs.Layouts.{Layout, world_with}
 use Rattle.mds_tables.specs.Queries.{Answers}
-use Rattle.mds_tables.specs.RowFacts.{world_in}
-use Rattle.mds_tables.specs.Stores.{Commits, Holds, IsStore, LeavesAdded, world_of}
+use Rattle.mds_tables.specs.Stores.{CommitsOf, Gained, HoldsOf, IsStoreOf, LeavesAddedOf, world_kept}
 use Rattle.mds_store.specs.KeptRows.{kept_in}
 
-module _ {A E : Type 0} {old new : State} {r : Result A E} (Tells : World → A → Type 0) (holds : Holds old)
-    (answered : Answers Holds old new r (λ trees. Tells (world_in trees))) where
+module _ (layout : Layout) {A E : Type 0} {old new : State} {r : Result A E} {Tells : Trees → A → Type 0} (holds : HoldsOf layout old)
+    (answered : Answers (HoldsOf layout) old new r Tells) where
   -- it keeps what it kept
-  stays : Stays (kept_in old) (kept_in new)
+  pub stays : Stays (kept_in layout old) (kept_in layout new)
   stays = record {
     outside = λ clean. omega (arith, (answered.survives holds).clean, clean);
     before = λ sound. (
       omega (arith, (answered.survives holds).clean, sound.0),
       (answered.kept sound.0 holds).was_open sound.1,
     );
-    same = λ sound. ap (λ (db : Database). world_in db.trees) ((answered.kept sound.0 holds).committed sound.1);
+    same = λ sound. ap (λ (db : Database). world_with layout db.trees) ((answered.kept sound.0 holds).committed sound.1);
     crash = λ clean left may. elim ((answered.survives holds).crash clean may.0 may.1) [
       | inl was ↦ (may.0, was, may.2)
       | inr none ↦ absurd none
     ];
   }
 
-  -- and answers what is so of it
-  pub asked : Asks (kept_in old) (kept_in new) r Tells
-  asked = record {
-    stays = stays;
-    opens = λ clean. on_ok_weaker r (λ are. (clean, are.is_open)) (answered.open clean holds);
-    tells = λ sound. answered.found sound.0 holds;
-  }
-
   -- what was not changed holds as it did
-  holds_on : Holds new
+  pub holds_on : HoldsOf layout new
   holds_on clean is_open =
       let kept = answered.kept clean holds in
       let before : HasCleanDisk old = omega (arith, (answered.survives holds).clean, clean) in
-      subst IsStore (sym (kept.committed is_open)) (holds before (kept.was_open is_open))
+      subst (IsStoreOf layout) (sym (kept.committed is_open)) (holds before (kept.was_open is_open))
+
+-- an answer is what is so of the World
+pub asked : (layout : Layout) {A E : Type 0} {old new : State} {r : Result A E} (Tells : World → A → Type 0) (holds : HoldsOf layout old)
+    → Answers (HoldsOf layout) old new r (λ trees. Tells (world_with layout trees)) → Asks (kept_in layout old) (kept_in layout new) r Tells
+asked layout {new = new} {r = r} Tells holds answered = record {
+  stays = stays layout holds answered;
+  opens = λ clean. on_ok_weaker r (λ are. (clean, are.is_open)) (answered.open clean holds);
+  tells = λ sound. answered.found sound.0 holds;
+}
+
+-- one that isn't given says nothing
+pub unasked : (layout : Layout) {A B E F : Type 0} {old new : State} {e : E} {Tells : Trees → A → Type 0} {Shows : World → B → Type 0}
+    → HoldsOf layout old → Answers {A = A} (HoldsOf layout) old new (Err e) Tells → (f : F)
+    → Asks {A = B} (kept_in layout old) (kept_in layout new) (Err f) Shows
+unasked layout holds answered f = record { stays = stays layout holds answered; opens = λ clean. tt; tells = λ sound. tt }
+
+-- nor does one that isn't given after another was
+pub unasked_then : (layout : Layout) {A B C E F G : Type 0} {old mid new : State} {x : A} {e : F} {Tells : Trees → A → Type 0}
+    {Says : Trees → B → Type 0} {Shows : World → C → Type 0} → HoldsOf layout old → Answers {E = E} (HoldsOf layout) old mid (Ok x) Tells
+    → Answers {A = B} (HoldsOf layout) mid new (Err e) Says → (g : G) → Asks {A = C} (kept_in layout old) (kept_in layout new) (Err g) Shows
+unasked_then layout holds first second g = record {
+  stays = stays_on (stays layout holds first) (stays layout (holds_on layout holds first) second);
+  opens = λ clean. tt;
+  tells = λ sound. tt;
+}
 
 on_ok : {A E P : Type 0} (r : Result A E) → P → OnOk r P
 on_ok (Ok x) p = p
 on_ok (Err e) p = tt
 
 -- what is made of the answers of two questions
-pub asked_both : {A B C E F G : Type 0} {old mid new : State} (Tells : World → A → Type 0) (Says : World → B → Type 0)
-    {Shows : World → C → Type 0} (x : A) (y : B) (r : Result C G) → Holds old
-    → Answers {E = E} Holds old mid (Ok x) (λ trees. Tells (world_in trees))
-    → Answers {E = F} Holds mid new (Ok y) (λ trees. Says (world_in trees))
-    → ((w : World) → Tells w x → Says w y → IfOk r (Shows w)) → Asks (kept_in old) (kept_in new) r Shows
-asked_both {old = old} Tells Says x y r holds first second made =
-    let one = asked Tells holds first in
-    let other = asked Says (holds_on Tells holds first) second in
+pub asked_both : (layout : Layout) {A B C E F G : Type 0} {old mid new : State} (Tells : World → A → Type 0) (Says : World → B → Type 0)
+    {Shows : World → C → Type 0} (x : A) (y : B) (r : Result C G) → HoldsOf layout old
+    → Answers {E = E} (HoldsOf layout) old mid (Ok x) (λ trees. Tells (world_with layout trees))
+    → Answers {E = F} (HoldsOf layout) mid new (Ok y) (λ trees. Says (world_with layout trees))
+    → ((w : World) → Tells w x → Says w y → IfOk r (Shows w)) → Asks (kept_in layout old) (kept_in layout new) r Shows
+asked_both layout {old = old} Tells Says x y r holds first second made =
+    let one = asked layout Tells holds first in
+    let other = asked layout Says (holds_on layout holds first) second in
     record {
       stays = stays_on one.stays other.stays;
       opens = λ clean. on_ok r (other.opens clean);
       tells = λ sound.
           let before = other.stays.before sound in
-          made (world_of old) (one.tells before) (subst (λ w. Says w y) (one.stays.same before) (other.tells sound));
+          made (world_kept layout old) (one.tells before) (subst (λ w. Says w y) (one.stays.same before) (other.tells sound));
     }
 
 -- where one result is of a kind with another, it is known of both
@@ -80,27 +98,27 @@ as_err P r (Ok y) like p = tt
 as_err P (Ok x) (Err f) like p = absurd cc
 as_err P (Err e) (Err f) like p = p
 
-module _ {A E : Type 0} {old new : State} {additions : Additions} (r : Result A E)
-    (holds : Holds old) (ok : HasCleanDisk new → Holds old → OnOk r (Commits old new additions))
+module _ (layout : Layout) (HasVersions : Gained) {A E : Type 0} {old new : State} {additions : Additions} (r : Result A E)
+    (holds : HoldsOf layout old) (ok : HasCleanDisk new → HoldsOf layout old → OnOk r (CommitsOf layout HasVersions old new additions))
     (err : HasCleanDisk new → OnErr r (KeepsCommit old new))
-    (survives : Holds old → Survives old new (LeavesAdded old additions)) where
+    (survives : HoldsOf layout old → Survives old new (LeavesAddedOf layout HasVersions old additions)) where
   was_clean : HasCleanDisk new → HasCleanDisk old
   was_clean clean = omega (arith, (survives holds).clean, clean)
 
-  was_open : (s : Result A E) → OnOk s (Commits old new additions) → OnErr s (KeepsCommit old new)
+  was_open : (s : Result A E) → OnOk s (CommitsOf layout HasVersions old new additions) → OnErr s (KeepsCommit old new)
       → IsTrue new.is_open → IsTrue old.is_open
   was_open (Ok x) made kept is_open = made.was_open
   was_open (Err e) made kept is_open = kept.was_open is_open
 
   -- a commit adds, and so does what answers of the same kind
-  pub added : {B F : Type 0} (s : Result B F) → is_ok s ≡ is_ok r → Adds (kept_in old) (kept_in new) s (content additions)
+  pub added : {B F : Type 0} (s : Result B F) → is_ok s ≡ is_ok r → Adds (kept_in layout old) (kept_in layout new) s (content additions)
   added s like = record {
     outside = was_clean;
     before = λ sound. (was_clean sound.0, was_open r (ok sound.0 holds) (err sound.0) sound.1);
     opens = λ clean. as_ok _ r s like (on_ok_weaker r (λ made. (clean, made.is_open)) (ok clean holds));
     ok = λ sound. as_ok _ r s like (on_ok_weaker r (λ made. made.world) (ok sound.0 holds));
     err = λ sound. as_err _ r s like (on_err_weaker r
-        (λ kept. ap (λ (db : Database). world_in db.trees) (kept.committed sound.1)) (err sound.0));
+        (λ kept. ap (λ (db : Database). world_with layout db.trees) (kept.committed sound.1)) (err sound.0));
     crash = λ clean left may. elim ((survives holds).crash clean may.0 may.1) [
       | inl was ↦ inl (may.0, was, may.2)
       | inr left ↦ inr ((was_clean clean, left.was_open), sym may.2 ∙ left.world)

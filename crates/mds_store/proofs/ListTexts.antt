@@ -1,4 +1,4 @@
--- What the texts of the queries mean.
+-- What the texts of the queries mean, whatever tables stand behind those that every schema has.
 use Rattle.std.proofs.Common.{◌≡◌, List, ℕ, [], ◌∷◌, false, codes, refl}
 use Rattle.sqlite.specs.Collation.TheVariants.{Binary}
 use Rattle.sqlite.specs.Command.TheVariants.{Select}
@@ -10,7 +10,7 @@ use Rattle.sqlite_sql.specs.declared.ops.BinaryOp.TheVariants.{Compare}
 use Rattle.sqlite_sql.specs.declared.ops.CompareOp.TheVariants.{Ge, Le}
 use Rattle.sqlite_tied.specs.Compute.{everything}
 use Rattle.sqlite_value.specs.declared.keys.Key.{Key}
-use Rattle.mds_tables.specs.Tables.{schema_1}
+use Rattle.mds_tables.specs.Tables.{More, schema_with}
 use Rattle.mds_selects.proofs.SelectTexts.{columns_at, equals, from_one}
 
 abbrev pub select_holidays : List ℕ
@@ -19,15 +19,14 @@ select_holidays = codes "SELECT day FROM mds_holiday"
 abbrev pub holidays_query : Query
 holidays_query = from_one 12 ([]) (columns_at (1 ∷ [])) ([])
 
-pub select_holidays_is : command_of (understood schema_1 select_holidays)
+pub select_holidays_is : (more : More) → command_of (understood (schema_with more) select_holidays)
     ≡ Select (record { lets = []; body = holidays_query }) (codes "day" ∷ [])
 unfolding understood everything
-select_holidays_is = refl
+select_holidays_is more = refl
 
-pub select_holidays_plain :
-    IsPlain (understood schema_1 select_holidays) × (reads_listing schema_1 select_holidays ≡ false)
+pub select_holidays_plain : (more : More) → IsPlain (understood (schema_with more) select_holidays) × (reads_listing (schema_with more) select_holidays ≡ false)
 unfolding understood everything
-select_holidays_plain = ((refl, refl), refl)
+select_holidays_plain more = ((refl, refl), refl)
 
 abbrev pub select_job : List ℕ
 select_job = codes "SELECT body, total FROM mds_job WHERE id = ?1"
@@ -35,14 +34,14 @@ select_job = codes "SELECT body, total FROM mds_job WHERE id = ?1"
 abbrev pub job_query : Query
 job_query = from_one 14 (equals 1 0 ∷ []) (columns_at (2 ∷ 3 ∷ [])) ([])
 
-pub select_job_is : command_of (understood schema_1 select_job)
+pub select_job_is : (more : More) → command_of (understood (schema_with more) select_job)
     ≡ Select (record { lets = []; body = job_query }) (codes "body" ∷ codes "total" ∷ [])
 unfolding understood everything
-select_job_is = refl
+select_job_is more = refl
 
-pub select_job_plain : IsPlain (understood schema_1 select_job) × (reads_listing schema_1 select_job ≡ false)
+pub select_job_plain : (more : More) → IsPlain (understood (schema_with more) select_job) × (reads_listing (schema_with more) select_job ≡ false)
 unfolding understood everything
-select_job_plain = ((refl, refl), refl)
+select_job_plain more = ((refl, refl), refl)
 
 abbrev pub rising : Key
 rising = record { collation = Binary; descending = false }
@@ -55,14 +54,14 @@ periods_query =
     from_one 10 (equals 1 0 ∷ equals 2 1 ∷ []) (columns_at (1 ∷ 2 ∷ 3 ∷ 4 ∷ 5 ∷ 6 ∷ 7 ∷ [])) ((col 1 3, rising)
     ∷ (col 1 4, rising) ∷ (col 1 5, rising) ∷ (col 1 6, rising) ∷ [])
 
-pub select_periods_is : command_of (understood schema_1 select_periods)
+pub select_periods_is : (more : More) → command_of (understood (schema_with more) select_periods)
     ≡ Select (record { lets = []; body = periods_query }) (codes "nmi" ∷ codes "suffix" ∷ codes "register" ∷ codes "start" ∷ codes "finish" ∷ codes "moment" ∷ codes "body" ∷ [])
 unfolding understood everything
-select_periods_is = refl
+select_periods_is more = refl
 
-pub select_periods_plain : IsPlain (understood schema_1 select_periods) × (reads_listing schema_1 select_periods ≡ false)
+pub select_periods_plain : (more : More) → IsPlain (understood (schema_with more) select_periods) × (reads_listing (schema_with more) select_periods ≡ false)
 unfolding understood everything
-select_periods_plain = ((refl, refl), refl)
+select_periods_plain more = ((refl, refl), refl)
 
 abbrev pub select_content : List ℕ
 select_content = codes "SELECT body FROM mds_period WHERE nmi = ?1 AND suffix = ?2 AND register = ?3 AND start = ?4 AND finish = ?5 AND moment = ?6"
@@ -71,14 +70,14 @@ abbrev pub content_query : Query
 content_query =
     from_one 10 (equals 1 0 ∷ equals 2 1 ∷ equals 3 2 ∷ equals 4 3 ∷ equals 5 4 ∷ equals 6 5 ∷ []) (columns_at (7 ∷ [])) ([])
 
-pub select_content_is : command_of (understood schema_1 select_content)
+pub select_content_is : (more : More) → command_of (understood (schema_with more) select_content)
     ≡ Select (record { lets = []; body = content_query }) (codes "body" ∷ [])
 unfolding understood everything
-select_content_is = refl
+select_content_is more = refl
 
-pub select_content_plain : IsPlain (understood schema_1 select_content) × (reads_listing schema_1 select_content ≡ false)
+pub select_content_plain : (more : More) → IsPlain (understood (schema_with more) select_content) × (reads_listing (schema_with more) select_content ≡ false)
 unfolding understood everything
-select_content_plain = ((refl, refl), refl)
+select_content_plain more = ((refl, refl), refl)
 
 -- a column is at least, and at most, the parameter
 abbrev pub at_least : ℕ → ℕ → Term
@@ -97,14 +96,14 @@ select_heads = codes "SELECT nmi, suffix, day, length, unit FROM mds_head WHERE 
 abbrev pub heads_query : Query
 heads_query = from_one 2 range_tests (columns_at (1 ∷ 2 ∷ 3 ∷ 4 ∷ 5 ∷ [])) ((col 1 3, rising) ∷ [])
 
-pub select_heads_is : command_of (understood schema_1 select_heads)
+pub select_heads_is : (more : More) → command_of (understood (schema_with more) select_heads)
     ≡ Select (record { lets = []; body = heads_query }) (codes "nmi" ∷ codes "suffix" ∷ codes "day" ∷ codes "length" ∷ codes "unit" ∷ [])
 unfolding understood everything
-select_heads_is = refl
+select_heads_is more = refl
 
-pub select_heads_plain : IsPlain (understood schema_1 select_heads) × (reads_listing schema_1 select_heads ≡ false)
+pub select_heads_plain : (more : More) → IsPlain (understood (schema_with more) select_heads) × (reads_listing (schema_with more) select_heads ≡ false)
 unfolding understood everything
-select_heads_plain = ((refl, refl), refl)
+select_heads_plain more = ((refl, refl), refl)
 
 abbrev pub select_versions : List ℕ
 select_versions = codes "SELECT nmi, suffix, day, slot, moment, quality, code, note, amount FROM mds_version WHERE nmi = ?1 AND suffix = ?2 AND day >= ?3 AND day <= ?4 ORDER BY day, slot, moment"
@@ -114,11 +113,11 @@ versions_query =
     from_one 4 range_tests (columns_at (1 ∷ 2 ∷ 3 ∷ 4 ∷ 5 ∷ 6 ∷ 7 ∷ 8 ∷ 9 ∷ [])) ((col 1 3, rising) ∷ (col 1 4, rising)
     ∷ (col 1 5, rising) ∷ [])
 
-pub select_versions_is : command_of (understood schema_1 select_versions)
+pub select_versions_is : (more : More) → command_of (understood (schema_with more) select_versions)
     ≡ Select (record { lets = []; body = versions_query }) (codes "nmi" ∷ codes "suffix" ∷ codes "day" ∷ codes "slot" ∷ codes "moment" ∷ codes "quality" ∷ codes "code" ∷ codes "note" ∷ codes "amount" ∷ [])
 unfolding understood everything
-select_versions_is = refl
+select_versions_is more = refl
 
-pub select_versions_plain : IsPlain (understood schema_1 select_versions) × (reads_listing schema_1 select_versions ≡ false)
+pub select_versions_plain : (more : More) → IsPlain (understood (schema_with more) select_versions) × (reads_listing (schema_with more) select_versions ≡ false)
 unfolding understood everything
-select_versions_plain = ((refl, refl), refl)
+select_versions_plain more = ((refl, refl), refl)

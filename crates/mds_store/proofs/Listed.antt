@@ -21,9 +21,10 @@ use Rattle.mds_world.specs.Facts.Fact.{DetailIs, EventIs, HeadIs, HolidayIs, Job
 use Rattle.mds_world.specs.Lists.{Member}
 use Rattle.mds_world.specs.Sets.{◌∈◌}
 use Rattle.mds_keeper.specs.Queries.{AreHolidays, IsJobOf}
-use Rattle.mds_tables.specs.RowFacts.{holiday_fact, natural, natural_at, text_at, world_in}
+use Rattle.mds_tables.specs.Layouts.{Layout, world_with}
+use Rattle.mds_tables.specs.RowFacts.{holiday_fact, natural, natural_at, text_at}
 use Rattle.mds_tables.specs.Stores.{Begins, Selects}
-use Rattle.mds_tables.specs.Tables.{job_table, schema_1}
+use Rattle.mds_tables.specs.Tables.{job_table, schema_with}
 use Rattle.mds_selects.proofs.Listed.{tells, told}
 use Rattle.mds_selects.proofs.MemberLemmas.{all_has}
 use Rattle.mds_selects.proofs.Named.{of_holiday, of_job}
@@ -47,18 +48,18 @@ one_row (r ∷ t ∷ more) row some few is = absurd (omega arith)
 pub one_holiday : (row : Row) (a b : ℕ) → SaysHoliday row a → SaysHoliday row b → a ≡ b
 one_holiday row a b p q = let same : HolidayIs a ≡ HolidayIs b = sym p ∙ q in cc
 
-module _ (trees : Trees) where
+module _ (layout : Layout) (trees : Trees) where
   -- the listed holidays
   pub finds_holidays : (rows : List Row) → Selects 12 [] (1 ∷ []) trees rows → (days : List ℕ) → AreHolidaysIn rows days
-      → AllPairs (λ a b. a < b) days → AreHolidays (world_in trees) days
+      → AllPairs (λ a b. a < b) days → AreHolidays (world_with layout trees) days
   finds_holidays rows sel days are up = record {
     each = λ day. (
-      (λ m. (of_holiday trees day).1
+      (λ m. (of_holiday layout trees day).1
           (told holiday_fact 12 [] (1 ∷ []) trees rows sel (λ r. refl) (λ f. Unit {0}) (λ r m. ((λ b. tt), (λ u. refl)))
           (HolidayIs day) ((are day).0 m)).0),
       (λ h. (are day).1
           (tells holiday_fact 12 [] (1 ∷ []) trees rows sel (λ r. refl) (λ f. Unit {0}) (λ r m. ((λ b. tt), (λ u. refl)))
-          (HolidayIs day) ((of_holiday trees day).0 h) tt)),
+          (HolidayIs day) ((of_holiday layout trees day).0 h) tt)),
     );
     ascending = up;
   }
@@ -73,29 +74,29 @@ module _ (trees : Trees) where
   id_of (HolidayIs day) = []
   id_of (JobIs id content count) = id
 
-  module _ (sound : IsSound schema_1 trees) (id : List ℕ) where
+  module _ (sound : IsSound (schema_with layout.more) trees) (id : List ℕ) where
     -- a row of the job begins with its id
     begins_with : (r : Row) → Member r (trees 14) → text_at r 1 ≡ id → Begins (Text id ∷ []) r
     begins_with r m is =
-        let fits : passes Datatype schema_1 trees job_table r ≡ true =
+        let fits : passes Datatype (schema_with layout.more) trees job_table r ≡ true =
         all_has _ (trees 14) r (sound.obeys.rules Datatype).1.1.1.1.1.1.1.0 m in
-        let there : passes NotNull schema_1 trees job_table r ≡ true =
+        let there : passes NotNull (schema_with layout.more) trees job_table r ≡ true =
         all_has _ (trees 14) r (sound.obeys.rules NotNull).1.1.1.1.1.1.1.0 m in
-        let typed = text_typed job_table.name 14 job_table.columns (1 ∷ []) (1 ∷ []) [] (codes "id") trees r 0 refl fits there in
+        let typed = text_typed layout.more job_table.name 14 job_table.columns (1 ∷ []) (1 ∷ []) [] (codes "id") trees r 0 refl fits there in
         begins_by (Text id ∷ []) r (typed ∙ ap Text is, (λ n. cc), tt)
 
     module _ (rows : List Row) (sel : Selects 14 (Text id ∷ []) (2 ∷ 3 ∷ []) trees rows) where
       -- a job of the id has a row
-      shown_for : (content : JobContent) (count : ℕ) → JobIs id content count ∈ world_in trees → rows ≢ []
+      shown_for : (content : JobContent) (count : ℕ) → JobIs id content count ∈ world_with layout trees → rows ≢ []
       shown_for content count h none =
-          let n = (of_job trees id content count).0 h in
+          let n = (of_job layout trees id content count).0 h in
           let is : text_at n.0 1 ≡ id = ap id_of n.2 in
           let shown = (sel (column n.0 2 ∷ column n.0 3 ∷ [])).1 (n.0, n.1, begins_with n.0 n.1 is, refl) in
           subst (Member (column n.0 2 ∷ column n.0 3 ∷ [])) none shown
 
       -- the row is that of a job
       said_by : (row : Row) → Member row rows → (kept : Job × ℕ) → SaysJob id row kept
-          → JobIs id (content_of kept.0) kept.1 ∈ world_in trees
+          → JobIs id (content_of kept.0) kept.1 ∈ world_with layout trees
       said_by row m kept says =
           let s = (sel row).0 m in
           let r = s.0 in
@@ -105,11 +106,11 @@ module _ (trees : Trees) where
           let content : job_in (parts_of (text_at r 2)) ≡ content_of kept.0 =
           ap (λ t. job_in (parts_of t)) body ∙ sym says.content in
           let count : natural_at r 3 ≡ kept.1 = number ∙ says.count in
-          (of_job trees id (content_of kept.0) kept.1).1 (r, s.1, λ i. JobIs (named i) (content i) (count i))
+          (of_job layout trees id (content_of kept.0) kept.1).1 (r, s.1, λ i. JobIs (named i) (content i) (count i))
 
     -- the job of an id
     pub finds_job : (rows : List Row) → Selects 14 (Text id ∷ []) (2 ∷ 3 ∷ []) trees rows → (found : Option (Job × ℕ))
-        → IsOnlyJob id rows found → IsJobOf (world_in trees) id found
+        → IsOnlyJob id rows found → IsJobOf (world_with layout trees) id found
     finds_job rows sel None only = λ content count h. shown_for rows sel content count h only
     finds_job rows sel (Some kept) only =
         (only.2.named, said_by rows sel only.0 (subst (Member only.0) (sym only.1) (inl refl)) kept only.2)

@@ -22,9 +22,10 @@ use Rattle.mds_world.specs.Facts.Fact.{DetailIs, EventIs, HeadIs, HolidayIs, Job
 use Rattle.mds_world.specs.Lists.{Member}
 use Rattle.mds_keeper.specs.Queries.{ArePeriodsOf, IsContentOf, period_cmp}
 use Rattle.mds_tables.specs.Cells as cells
-use Rattle.mds_tables.specs.RowFacts.{int_at, natural, natural_at, period_fact, stream_in, text_at, world_in}
+use Rattle.mds_tables.specs.Layouts.{Layout, world_with}
+use Rattle.mds_tables.specs.RowFacts.{int_at, natural, natural_at, period_fact, stream_in, text_at}
 use Rattle.mds_tables.specs.Stores.{Begins, Selects}
-use Rattle.mds_tables.specs.Tables.{schema_1}
+use Rattle.mds_tables.specs.Tables.{schema_with}
 use Rattle.mds_selects.proofs.Listed.{on_stream, tells, told}
 use Rattle.mds_selects.proofs.Named.{of_period}
 use Rattle.mds_selects.proofs.TypedRows.{begins_at, begins_by, period_row, small}
@@ -115,10 +116,10 @@ IsPeriodOf s (JobIs id content count) = ⊥
 abbrev all_columns : List ℕ
 all_columns = 1 ∷ 2 ∷ 3 ∷ 4 ∷ 5 ∷ 6 ∷ 7 ∷ []
 
-module _ (s : Stream) (trees : Trees) (sound : IsSound schema_1 trees) where
+module _ (layout : Layout) (s : Stream) (trees : Trees) (sound : IsSound (schema_with layout.more) trees) where
   period_on : (r : Row) → Member r (trees 10) → Begins (cells.stream_cells s) r ↔ IsPeriodOf s (period_fact r)
   period_on r m =
-      let it = period_row trees sound r m in (
+      let it = period_row layout.more trees sound r m in (
         (λ b. on_stream s r b),
         (λ e. begins_by (cells.stream_cells s) r (
           it.nmi ∙ ap (λ (x : Stream). Text x.nmi) e,
@@ -128,16 +129,16 @@ module _ (s : Stream) (trees : Trees) (sound : IsSound schema_1 trees) where
       )
 
   pub finds_periods : (rows : List Row) → Selects 10 (cells.stream_cells s) all_columns trees rows → (periods : List Period)
-      → ArePeriodsIn rows periods → AllPairs IsBefore periods → ArePeriodsOf (world_in trees) s periods
+      → ArePeriodsIn rows periods → AllPairs IsBefore periods → ArePeriodsOf (world_with layout trees) s periods
   finds_periods rows sel periods are up = record {
     each = λ period. (
       (λ m.
           let t = told period_fact 10 _ all_columns trees rows sel (λ r. refl) (IsPeriodOf s) period_on
           (PeriodIs period.key period.content) (row_of rows periods are period m) in
-          ((of_period trees period.key period.content).1 t.0, t.1)),
+          ((of_period layout trees period.key period.content).1 t.0, t.1)),
       (λ p.
           let t = tells period_fact 10 _ all_columns trees rows sel (λ r. refl) (IsPeriodOf s) period_on
-          (PeriodIs period.key period.content) ((of_period trees period.key period.content).0 p.0) p.1 in
+          (PeriodIs period.key period.content) ((of_period layout trees period.key period.content).0 p.0) p.1 in
           period_of rows periods are period t.0 t.1 t.2),
     );
     ascending = up;
@@ -167,12 +168,12 @@ key_at r = record {
 key_is : (r : Row) (k : PeriodKey) (c : PeriodContent) → period_fact r ≡ PeriodIs k c → key_at r ≡ k
 key_is r k c e = ap (key_of k) e
 
-module _ (trees : Trees) (sound : IsSound schema_1 trees) (k : PeriodKey) (start : k.start < 2 ^ 63) (finish : k.finish < 2 ^ 63)
+module _ (layout : Layout) (trees : Trees) (sound : IsSound (schema_with layout.more) trees) (k : PeriodKey) (start : k.start < 2 ^ 63) (finish : k.finish < 2 ^ 63)
     (update : k.update < 2 ^ 63) where
   -- a row of the key begins with its cells
   key_begins : (r : Row) → Member r (trees 10) → key_at r ≡ k → Begins (cells.period_key_cells k) r
   key_begins r m same =
-      let it = period_row trees sound r m in
+      let it = period_row layout.more trees sound r m in
       begins_by (cells.period_key_cells k) r (
         it.nmi ∙ ap (λ (x : PeriodKey). Text x.stream.nmi) same,
         (λ n. cc),
@@ -218,9 +219,9 @@ module _ (trees : Trees) (sound : IsSound schema_1 trees) (k : PeriodKey) (start
       }
 
   pub finds_content : (rows : List Row) → Selects 10 (cells.period_key_cells k) (7 ∷ []) trees rows
-      → (found : Option PeriodContent) → IsOnlyContent rows found → IsContentOf (world_in trees) k found
+      → (found : Option PeriodContent) → IsOnlyContent rows found → IsContentOf (world_with layout trees) k found
   finds_content rows sel None only = λ content h.
-      let n = (of_period trees k content).0 h in
+      let n = (of_period layout trees k content).0 h in
       let begins = key_begins n.0 n.1 (key_is n.0 k content n.2) in
       let shown = (sel (column n.0 7 ∷ [])).1 (n.0, n.1, begins, refl) in
       subst (Member (column n.0 7 ∷ [])) only shown
@@ -230,4 +231,4 @@ module _ (trees : Trees) (sound : IsSound schema_1 trees) (k : PeriodKey) (start
       let key : key_at s.0 ≡ k = begun s.0 s.2 in
       let body : text_at s.0 7 ≡ text_at row 0 = ap (λ x. bytes (column x 0)) (sym s.3) in
       let says : content_of_body (text_at s.0 7) ≡ content = ap (λ t. content_of_body t) body ∙ only.2 in
-      (of_period trees k content).1 (s.0, s.1, λ i. PeriodIs (key i) (says i))
+      (of_period layout trees k content).1 (s.0, s.1, λ i. PeriodIs (key i) (says i))

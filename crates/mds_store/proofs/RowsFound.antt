@@ -14,8 +14,9 @@ use Rattle.mds_names.specs.declared.stream.Stream.{Stream}
 use Rattle.mds_statements.specs.declared.periods.PeriodKey.{PeriodKey}
 use Rattle.mds_world.specs.Lists.{Member}
 use Rattle.mds_tables.specs.Cells.{period_key_cells, range_cells, stream_cells}
-use Rattle.mds_tables.specs.Stores.{Finds, Selects}
-use Rattle.mds_tables.specs.Tables.{period_table, schema_1}
+use Rattle.mds_tables.specs.Layouts.{Layout}
+use Rattle.mds_tables.specs.Stores.{FindsOf, Selects}
+use Rattle.mds_tables.specs.Tables.{period_table, schema_with}
 use Rattle.mds_selects.proofs.KeyLemmas.{tests}
 use Rattle.mds_selects.proofs.MemberLemmas.{selects, selects_by}
 use Rattle.mds_selects.proofs.QueryLemmas.{AsksFor, finds, period_typed}
@@ -39,25 +40,25 @@ period_columns = 1 ∷ 2 ∷ 3 ∷ 4 ∷ 5 ∷ 6 ∷ 7 ∷ []
 abbrev by_key : List (Term × Key)
 by_key = (col 1 3, rising) ∷ (col 1 4, rising) ∷ (col 1 5, rising) ∷ (col 1 6, rising) ∷ []
 
-pub finds_period_rows : {V : Type 0} (s : Stream) (old new : State) (items : V → List Row) (r : Result V Error)
+pub finds_period_rows : {V : Type 0} (layout : Layout) (s : Stream) (old new : State) (items : V → List Row) (r : Result V Error)
     → IfOk r (λ v. Shown select_periods (stream_cells s) old new (items v))
-    → IfOk r (λ v. Finds old new (λ trees. Selects 10 (stream_cells s) period_columns trees (items v)))
-finds_period_rows s old new items r h =
-    finds select_periods select_periods_plain 10 (tests 0 (stream_cells s)) (columns_at period_columns) by_key _
-    select_periods_is (λ db. refl) old new (stream_cells s) items
+    → IfOk r (λ v. FindsOf layout old new (λ trees. Selects 10 (stream_cells s) period_columns trees (items v)))
+finds_period_rows layout s old new items r h =
+    finds layout select_periods (select_periods_plain layout.more) 10 (tests 0 (stream_cells s)) (columns_at period_columns) by_key _
+    (select_periods_is layout.more) (λ db. refl) old new (stream_cells s) items
     (λ rows trees. Selects 10 (stream_cells s) period_columns trees rows)
     (λ db sound rows p.
-    selects 10 period_columns by_key db (stream_cells s) period_table.columns (periods_for s) (period_typed db sound) rows p) r h
+    selects 10 period_columns by_key db (stream_cells s) period_table.columns (periods_for s) (period_typed layout.more db sound) rows p) r h
 
-module _ (sql : List ℕ) (plain : IsPlain (understood schema_1 sql) × (reads_listing schema_1 sql ≡ false)) (tree : ℕ)
+module _ (layout : Layout) (sql : List ℕ) (plain : IsPlain (understood (schema_with layout.more) sql) × (reads_listing (schema_with layout.more) sql ≡ false)) (tree : ℕ)
     (places : List ℕ) (order : List (Term × Key)) (names : List (List ℕ))
-    (is : AsksFor sql tree range_tests (columns_at places) order names) (low : (db : Trees) → overlay db [] tree ≡ db tree)
-    (keyed : (db : Trees) → IsSound schema_1 db → (row : Row) → Member row (db tree) → HasKeyCells row) where
+    (is : AsksFor layout.more sql tree range_tests (columns_at places) order names) (low : (db : Trees) → overlay db [] tree ≡ db tree)
+    (keyed : (db : Trees) → IsSound (schema_with layout.more) db → (row : Row) → Member row (db tree) → HasKeyCells row) where
   pub finds_range : {V : Type 0} (s : Stream) (first last : ℕ) (old new : State) (items : V → List Row) (r : Result V Error)
       → IfOk r (λ v. Shown sql (range_cells s first last) old new (items v))
-      → IfOk r (λ v. Finds old new (λ trees. SelectsRange tree s first last places trees (items v)))
+      → IfOk r (λ v. FindsOf layout old new (λ trees. SelectsRange tree s first last places trees (items v)))
   finds_range s first last old new items r h =
-      finds sql plain tree range_tests (columns_at places) order names is low old new (range_cells s first last) items
+      finds layout sql plain tree range_tests (columns_at places) order names is low old new (range_cells s first last) items
       (λ rows trees. SelectsRange tree s first last places trees rows)
       (λ db sound rows p x.
       selects_by tree range_tests places order db (range_cells s first last) (IsInRange s first last)

@@ -7,18 +7,18 @@ use Rattle.sqlite.specs.Effect.{Database}
 use Rattle.sqlite.specs.State.{State}
 use Rattle.sqlite_trees.specs.Tree.{Trees}
 use Rattle.mds_world.specs.World.{World}
-use Rattle.mds_tables.specs.RowFacts.{world_in}
-use Rattle.mds_tables.specs.Stores.{Holds, IsStore}
+use Rattle.mds_tables.specs.Layouts.{Layout, world_with}
+use Rattle.mds_tables.specs.Stores.{HoldsOf, IsStoreOf}
 
-pub IsStore-prop : (db : Database) → IsProp (IsStore db)
-IsStore-prop db a b = λ i. record {
+pub IsStore-prop : (layout : Layout) (db : Database) → IsProp (IsStoreOf layout db)
+IsStore-prop layout db a b = λ i. record {
   schema = Coded-set the_row.coded _ _ a.schema b.schema i;
   version = Coded-set (coded_list coded_ℤ) _ _ a.version b.version i;
 }
 
-pub Holds-prop : (s : State) → IsProp (Holds s)
-Holds-prop s = Π_prop (λ _. Π_prop (λ _. IsStore-prop s.committed))
+pub Holds-prop : (layout : Layout) (s : State) → IsProp (HoldsOf layout s)
+Holds-prop layout s = Π_prop (λ _. Π_prop (λ _. IsStore-prop layout s.committed))
 
-pub settles : (may_leave : Trees → Type 0) (committed : Trees) → ((trees : Trees) → may_leave trees → trees ≡ committed)
-    → (left : World) → (trees : Trees) × may_leave trees × (world_in trees ≡ left) → left ≡ world_in committed
-settles may_leave committed settled left it = sym it.2 ∙ ap world_in (settled it.0 it.1)
+pub settles : (layout : Layout) (may_leave : Trees → Type 0) (committed : Trees) → ((trees : Trees) → may_leave trees → trees ≡ committed)
+    → (left : World) → (trees : Trees) × may_leave trees × (world_with layout trees ≡ left) → left ≡ world_with layout committed
+settles layout may_leave committed settled left it = sym it.2 ∙ ap (world_with layout) (settled it.0 it.1)

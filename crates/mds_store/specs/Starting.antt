@@ -2,29 +2,31 @@
 use Rattle.std.specs.Prelude.{◌≡◌, IsTrue, true}
 use Rattle.sqlite.specs.State.{KeepsCommit, State}
 use Rattle.mds_tables.specs.Causes.{HasFailed}
-use Rattle.mds_tables.specs.Making.{KeepsNothing}
-use Rattle.mds_tables.specs.Stores.{IsStore}
+use Rattle.mds_tables.specs.Layouts.{Layout}
+use Rattle.mds_tables.specs.Making.{KeepsNothingOf}
+use Rattle.mds_tables.specs.Stores.{IsStoreOf}
 use Rattle.mds_tables.specs.Tables.{no_schema}
 use Rattle.mds_store.specs.declared.starting.StoreFault.{StoreFault}
-use Rattle.mds_store.specs.declared.starting.StoreFault.TheVariants.{InTransaction, OtherSchema, Unavailable}
+use Rattle.mds_store.specs.declared.starting.StoreFault.TheVariants.{EarlierSchema, InTransaction, OtherSchema, Unavailable}
 
 -- The database was empty, and is a store that keeps nothing.
-pub record IsCreated (old new : State) : Type 0 where
+pub record IsCreated (layout : Layout) (old new : State) : Type 0 where
   pub was_open : IsTrue old.is_open
   pub was_empty : old.now.schema ≡ no_schema
   pub is_open : IsTrue new.is_open
-  pub made : KeepsNothing new.committed
+  pub made : KeepsNothingOf layout new.committed
 
 -- The database was a store, and keeps what it kept.
-pub record IsAdopted (old new : State) : Type 0 where
+pub record IsAdopted (layout : Layout) (old new : State) : Type 0 where
   pub was_open : IsTrue old.is_open
   pub is_open : IsTrue new.is_open
-  pub store : IsStore old.committed
+  pub store : IsStoreOf layout old.committed
   pub same : new.committed ≡ old.committed
 
--- Nothing was changed. U3 only where the database isn't the one that is wanted, and U1 only in a transaction or where the store
--- failed with this error.
-abbrev pub IsRefused : Type 0 → State → State → StoreFault → Type 0
-IsRefused Wanted old new OtherSchema = KeepsCommit old new × (Wanted → ⊥)
-IsRefused Wanted old new InTransaction = KeepsCommit old new × (old.in_transaction ≡ true)
-IsRefused Wanted old new (Unavailable error) = KeepsCommit old new × HasFailed old new error
+-- Nothing was changed. U3 only where the database isn't the one that is wanted, nor an earlier one, and U2 only where it is an
+-- earlier one. U1 only in a transaction or where the store failed with this error.
+abbrev pub IsRefused : (Wanted IsEarlier : Type 0) → State → State → StoreFault → Type 0
+IsRefused Wanted IsEarlier old new OtherSchema = KeepsCommit old new × (Wanted → ⊥) × (IsEarlier → ⊥)
+IsRefused Wanted IsEarlier old new EarlierSchema = KeepsCommit old new × IsEarlier
+IsRefused Wanted IsEarlier old new InTransaction = KeepsCommit old new × (old.in_transaction ≡ true)
+IsRefused Wanted IsEarlier old new (Unavailable error) = KeepsCommit old new × HasFailed old new error

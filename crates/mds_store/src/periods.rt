@@ -11,9 +11,9 @@ ghost use Rattle.mds_terms.specs.Printable.{is_printable};
 ghost use Rattle.mds_statements.specs.Contents.{text_of};
 ghost use Rattle.mds_statements.specs.declared.periods.Period.{Period as PeriodValue};
 ghost use Rattle.mds_keeper.specs.Queries.{ArePeriodsOf, IsContentOf, period_cmp};
+ghost use Rattle.mds_tables.specs.Layouts.{Layout, world_with};
 ghost use Rattle.mds_tables.specs.Queries.{Answers};
-ghost use Rattle.mds_tables.specs.RowFacts.{world_in};
-ghost use Rattle.mds_tables.specs.Stores.{Holds};
+ghost use Rattle.mds_tables.specs.Stores.{HoldsOf};
 ghost use Rattle.mds_store.specs.Periods.{ArePeriodsIn, IsBodyAt, IsOnlyContent, IsRowOfPeriod, SaysContent, SaysPeriod, shown_key, text_length};
 
 use crate::rows::{content_rows, period_rows};
@@ -27,14 +27,14 @@ use std::alloc::Global;
 use std::cmp::Ordering;
 
 /// The accumulations of a stream, by register, previous read, current read and update, each once.
-pub(crate) fn periods_of<S: Alter>(
+pub fn periods_of<S: Alter>(
     alloc: Global,
     conn: &mut Connection<S>,
     stream: &Stream,
 ) -> Result<Vec<Period>, Unavailable>
     requires { conn.old.in_transaction ≡ false }
-    ensures { Answers Holds (state S.Store conn.old) (state S.Store conn.new) result
-        (λ trees periods. ArePeriodsOf (world_in trees) stream.now periods.items) }
+    ensures { (layout : Layout) → Answers (HoldsOf layout) (state S.Store conn.old) (state S.Store conn.new) result
+        (λ trees periods. ArePeriodsOf (world_with layout trees) stream.now periods.items) }
 {
     let Ok(_) = ready(conn) else {
         return Err(Unavailable);
@@ -172,14 +172,14 @@ fn content_at(alloc: Global, row: &Row, at: usize) -> Result<PeriodContent, Unav
 }
 
 /// What is kept of the accumulation of a key. `None` where there is none.
-pub(crate) fn content_of_period<S: Alter>(
+pub fn content_of_period<S: Alter>(
     alloc: Global,
     conn: &mut Connection<S>,
     key: &PeriodKey,
 ) -> Result<Option<PeriodContent>, Unavailable>
     requires { conn.old.in_transaction ≡ false }
-    ensures { Answers Holds (state S.Store conn.old) (state S.Store conn.new) result
-        (λ trees. IsContentOf (world_in trees) key.now) }
+    ensures { (layout : Layout) → Answers (HoldsOf layout) (state S.Store conn.old) (state S.Store conn.new) result
+        (λ trees. IsContentOf (world_with layout trees) key.now) }
 {
     let Ok(_) = ready(conn) else {
         return Err(Unavailable);

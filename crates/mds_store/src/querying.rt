@@ -5,9 +5,9 @@ ghost use Rattle.std.specs.Prelude.{◌≡◌, ◌<◌, false, IfOk, OnOk};
 ghost use Rattle.std.specs.List.{AllPairs};
 ghost use Rattle.sqlite.specs.Held.{state};
 ghost use Rattle.mds_keeper.specs.Queries.{AreHolidays, IsJobOf};
+ghost use Rattle.mds_tables.specs.Layouts.{Layout, world_with};
 ghost use Rattle.mds_tables.specs.Queries.{Answers};
-ghost use Rattle.mds_tables.specs.RowFacts.{world_in};
-ghost use Rattle.mds_tables.specs.Stores.{Holds};
+ghost use Rattle.mds_tables.specs.Stores.{HoldsOf};
 ghost use Rattle.mds_selects.specs.Added.{AreAdded, IsAdded};
 ghost use Rattle.mds_store.specs.Said.{AreHolidaysIn, IsOnlyJob, SaysHoliday, SaysJob};
 
@@ -22,13 +22,13 @@ use std::alloc::Global;
 use std::collections::BTreeSet;
 
 /// The listed holidays, ascending, each once.
-pub(crate) fn holidays_of<S: Alter>(
+pub fn holidays_of<S: Alter>(
     alloc: Global,
     conn: &mut Connection<S>,
 ) -> Result<Vec<Day>, Unavailable>
     requires { conn.old.in_transaction ≡ false }
-    ensures { Answers Holds (state S.Store conn.old) (state S.Store conn.new) result
-        (λ trees days. AreHolidays (world_in trees) days.items) }
+    ensures { (layout : Layout) → Answers (HoldsOf layout) (state S.Store conn.old) (state S.Store conn.new) result
+        (λ trees days. AreHolidays (world_with layout trees) days.items) }
 {
     let Ok(_) = ready(conn) else {
         return Err(Unavailable);
@@ -74,14 +74,14 @@ fn add_holiday(found: &mut BTreeSet<Day>, row: &Row) -> Result<(), Unavailable>
 }
 
 /// The job of an id, with the count of the readings that it made, where there is one.
-pub(crate) fn job_of<S: Alter>(
+pub fn job_of<S: Alter>(
     alloc: Global,
     conn: &mut Connection<S>,
     id: JobId,
 ) -> Result<Option<(Job, u64)>, Unavailable>
     requires { conn.old.in_transaction ≡ false }
-    ensures { Answers Holds (state S.Store conn.old) (state S.Store conn.new) result
-        (λ trees. IsJobOf (world_in trees) id) }
+    ensures { (layout : Layout) → Answers (HoldsOf layout) (state S.Store conn.old) (state S.Store conn.new) result
+        (λ trees. IsJobOf (world_with layout trees) id) }
 {
     let Ok(_) = ready(conn) else {
         return Err(Unavailable);

@@ -1,20 +1,22 @@
 //! The days of a range, found by two queries, whatever its length. A store that can't answer is unavailable (U1). So is one that
 //! holds a row that it didn't write.
 
-ghost use Rattle.std.specs.Prelude.{◌≡◌, ◌≢◌, ◌<◌, ◌≤◌, ◌↔◌, false, List, [], ◌∷◌, drop, length, take, IfOk, IsTrue};
+ghost use Rattle.std.specs.Prelude.{◌≡◌, ◌≢◌, ◌<◌, ◌≤◌, ◌↔◌, ℕ, false, List, [], ◌∷◌, drop, length, take, IfOk, IsTrue};
 ghost use Rattle.std.specs.Bool.{OnFalse};
 ghost use Rattle.std.specs.List.{AllPairs};
 ghost use Rattle.sqlite.specs.Held.{state};
 ghost use Rattle.sqlite_value.specs.Order.{Row as RowValue, column};
 ghost use Rattle.mds_keeper.specs.Queries.{AreDaysOf};
+ghost use Rattle.mds_keeper.specs.declared.day_book.Version.{Version as VersionValue};
 ghost use Rattle.mds_tables.specs.Cells.{number_cell};
 ghost use Rattle.mds_tables.specs.Queries.{Answers};
 ghost use Rattle.mds_tables.specs.RowFacts.{natural_at, world_in};
 ghost use Rattle.mds_tables.specs.Stores.{Holds};
+ghost use Rattle.mds_selects.specs.Shown.{AreVersionsIn};
 ghost use Rattle.mds_store.specs.Ranges.{AreBooksIn, AreOfDay, IsBookOf};
 
 use crate::rows::{head_range_rows, version_range_rows};
-use mds_keeper::{DayBook, Unavailable};
+use mds_keeper::{DayBook, Unavailable, Version};
 use mds_selects::{all_versions, day_at, head_in};
 use mds_tables::ready;
 use mds_terms::{Day, Stream};
@@ -45,20 +47,41 @@ pub(crate) fn days_of<S: Alter>(
     };
     // For the proof: a day's number is at most that of the last day.
     let _ = last.number();
-    all_books(alloc, stream, &heads, &versions)
+    all_books::<EachRow>(alloc, stream, &heads, &versions)
+}
+
+/// How the versions of a day are read from rows that a query shows.
+pub trait ReadVersions {
+    /// These versions are those that the rows say.
+    ghost are: { List RowValue → List (ℕ × VersionValue) → Type 0 };
+
+    /// The versions of rows of a day, each with its interval.
+    fn read(alloc: Global, rows: &[Row]) -> Result<Vec<(u16, Version)>, Unavailable>
+        ensures { IfOk result (λ versions. are rows.now versions.items) };
+}
+
+/// Each row is a version.
+pub struct EachRow;
+
+impl ReadVersions for EachRow {
+    ghost are = { AreVersionsIn };
+
+    fn read(alloc: Global, rows: &[Row]) -> Result<Vec<(u16, Version)>, Unavailable> {
+        all_versions(alloc, rows)
+    }
 }
 
 /// The days of heads, in ascending order, with all of these versions.
-fn all_books(
+pub fn all_books<V: ReadVersions>(
     alloc: Global,
     stream: &Stream,
     heads: &[Row],
     versions: &[Row],
 ) -> Result<Vec<DayBook>, Unavailable>
-    ensures each { IfOk result (λ books. AreBooksIn stream.now heads.now versions.now [] books.items) }
+    ensures each { IfOk result (λ books. AreBooksIn V.are stream.now heads.now versions.now [] books.items) }
     ensures ascending { IfOk result (λ books. AllPairs (λ a b. a.day < b.day) books.items) }
 {
-    let Ok(books) = cut_by_day(alloc, stream, heads, versions) else {
+    let Ok(books) = cut_by_day::<V>(alloc, stream, heads, versions) else {
         return Err(Unavailable);
     };
     // The query gives them in this order, and there is one row of a day.
@@ -71,13 +94,13 @@ fn all_books(
 
 /// A day for each head, with the versions of that day. They are cut off the front of those that are left. At the end none may be
 /// left.
-fn cut_by_day(
+fn cut_by_day<V: ReadVersions>(
     alloc: Global,
     stream: &Stream,
     heads: &[Row],
     versions: &[Row],
 ) -> Result<Vec<DayBook>, Unavailable>
-    ensures { IfOk result (λ books. AreBooksIn stream.now heads.now versions.now [] books.items) }
+    ensures { IfOk result (λ books. AreBooksIn V.are stream.now heads.now versions.now [] books.items) }
 {
     let Ok(mut books) = Vec::with_capacity(alloc, heads.len()) else {
         return Err(Unavailable);
@@ -88,7 +111,7 @@ fn cut_by_day(
             return Err(Unavailable);
         };
         let (mine, later) = left.split_at(count_of_day(left, head.day));
-        let Ok(book) = book_of(alloc, stream, &head, mine) else {
+        let Ok(book) = book_of::<V>(alloc, stream, &head, mine) else {
             return Err(Unavailable);
         };
         let Ok(_) = books.push(book) else {
@@ -104,16 +127,16 @@ fn cut_by_day(
 }
 
 /// The book of a head, with the versions of rows of its day.
-fn book_of(
+fn book_of<V: ReadVersions>(
     alloc: Global,
     stream: &Stream,
     head: &Head,
     rows: &[Row],
 ) -> Result<DayBook, Unavailable>
     requires { AreOfDay head.now.day rows.now }
-    ensures { IfOk result (IsBookOf stream.now head.now rows.now) }
+    ensures { IfOk result (IsBookOf V.are stream.now head.now rows.now) }
 {
-    let Ok(versions) = all_versions(alloc, rows) else {
+    let Ok(versions) = V::read(alloc, rows) else {
         return Err(Unavailable);
     };
     let form = Some((head.length, head.unit));

@@ -2,6 +2,7 @@
 
 ghost use Rattle.std.specs.Prelude.{◌≡◌, false};
 ghost use Rattle.sqlite.specs.Held.{state};
+ghost use Rattle.mds_tables.specs.Layouts.{rows_layout};
 ghost use Rattle.mds_tables.specs.Stores.{Holds};
 ghost use Rattle.mds_store.specs.KeptRows.{kept_in};
 ghost use Rattle.mds_store.specs.Props.{Holds-prop, settles};
@@ -29,7 +30,7 @@ pub struct RowKeeper<S: Alter> {
     // It is in no transaction.
     pub ghost autocommit: { conn.in_transaction ≡ false },
     // While the disk is honest and the connection open, what is committed is a store.
-    pub ghost holds: { Holds (state S.Store conn) } by { Holds-prop (state S.Store conn) },
+    pub ghost holds: { Holds (state S.Store conn) } by { Holds-prop rows_layout (state S.Store conn) },
 }
 
 impl<S: Alter> RowKeeper<S> {
@@ -54,11 +55,11 @@ impl<S: Alter> RowKeeper<S> {
 }
 
 impl<S: Alter> Keeper for RowKeeper<S> {
-    ghost kept = { λ k. kept_in (state S.Store k.conn) };
+    ghost kept = { λ k. kept_in rows_layout (state S.Store k.conn) };
 
     ghost sound_honest = { λ _ sound. sound.0 };
 
-    ghost settled = { λ k sound left may. settles _ _ (λ trees. S.Store.settled k.conn.store trees sound.1) left may };
+    ghost settled = { λ k sound left may. settles rows_layout _ _ (λ trees. S.Store.settled k.conn.store trees sound.1) left may };
 
     fn day(&mut self, stream: Stream, day: Day) -> Result<DayBook, Unavailable> {
         let head = head_of(&mut self.conn, &stream, day)?;

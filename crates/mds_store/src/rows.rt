@@ -1,10 +1,11 @@
-//! The queries, and the rows that they answer.
+//! The queries, and the rows that they answer, whatever tables stand behind those that every schema has.
 
 ghost use Rattle.std.specs.Prelude.{[], ◌∷◌};
 ghost use Rattle.sqlite.specs.Held.{state};
 ghost use Rattle.sqlite.specs.declared.types.Value.TheVariants.{Text};
 ghost use Rattle.mds_tables.specs.Cells as row;
-ghost use Rattle.mds_tables.specs.Queries.{Queries};
+ghost use Rattle.mds_tables.specs.Layouts.{Layout};
+ghost use Rattle.mds_tables.specs.Queries.{QueriesOf};
 ghost use Rattle.mds_tables.specs.Stores.{Selects};
 ghost use Rattle.mds_tables.specs.Tables.{head_columns, head_tree, holiday_day, holiday_tree, job_body, job_total, job_tree, period_body, period_columns, period_tree, version_columns, version_tree};
 ghost use Rattle.mds_store.specs.Ranges.{SelectsRange};
@@ -17,14 +18,14 @@ use sqlite::{Alter, Connection, Error, Row};
 
 /// All holidays.
 pub(crate) fn holiday_rows<S: Alter>(conn: &mut Connection<S>) -> Result<Vec<Row>, Error>
-    ensures { Queries (state S.Store conn.old) (state S.Store conn.new) result (Selects holiday_tree [] (holiday_day ∷ [])) }
+    ensures { (layout : Layout) → QueriesOf layout (state S.Store conn.old) (state S.Store conn.new) result (Selects holiday_tree [] (holiday_day ∷ [])) }
 {
     conn.query_all("SELECT day FROM mds_holiday", &[])
 }
 
 /// The body and the count of a job.
 pub(crate) fn job_rows<S: Alter>(conn: &mut Connection<S>, id: &JobId) -> Result<Vec<Row>, Error>
-    ensures { Queries (state S.Store conn.old) (state S.Store conn.new) result (Selects job_tree (Text id.now ∷ []) (job_body ∷ job_total ∷ [])) }
+    ensures { (layout : Layout) → QueriesOf layout (state S.Store conn.old) (state S.Store conn.new) result (Selects job_tree (Text id.now ∷ []) (job_body ∷ job_total ∷ [])) }
 {
     conn.query_all(
         "SELECT body, total FROM mds_job WHERE id = ?1",
@@ -37,7 +38,7 @@ pub(crate) fn period_rows<S: Alter>(
     conn: &mut Connection<S>,
     stream: &Stream,
 ) -> Result<Vec<Row>, Error>
-    ensures { Queries (state S.Store conn.old) (state S.Store conn.new) result (Selects period_tree (row.stream_cells stream.now) period_columns) }
+    ensures { (layout : Layout) → QueriesOf layout (state S.Store conn.old) (state S.Store conn.new) result (Selects period_tree (row.stream_cells stream.now) period_columns) }
 {
     conn.query_all(
         "SELECT nmi, suffix, register, start, finish, moment, body FROM mds_period WHERE nmi = ?1 AND suffix = ?2 ORDER BY register, start, finish, moment",
@@ -50,7 +51,7 @@ pub(crate) fn content_rows<S: Alter>(
     conn: &mut Connection<S>,
     key: &PeriodKey,
 ) -> Result<Vec<Row>, Error>
-    ensures { Queries (state S.Store conn.old) (state S.Store conn.new) result (Selects period_tree (row.period_key_cells key.now) (period_body ∷ [])) }
+    ensures { (layout : Layout) → QueriesOf layout (state S.Store conn.old) (state S.Store conn.new) result (Selects period_tree (row.period_key_cells key.now) (period_body ∷ [])) }
 {
     conn.query_all(
         "SELECT body FROM mds_period WHERE nmi = ?1 AND suffix = ?2 AND register = ?3 AND start = ?4 AND finish = ?5 AND moment = ?6",
@@ -59,13 +60,13 @@ pub(crate) fn content_rows<S: Alter>(
 }
 
 /// The heads of a range of days, by day.
-pub(crate) fn head_range_rows<S: Alter>(
+pub fn head_range_rows<S: Alter>(
     conn: &mut Connection<S>,
     stream: &Stream,
     first: Day,
     last: Day,
 ) -> Result<Vec<Row>, Error>
-    ensures { Queries (state S.Store conn.old) (state S.Store conn.new) result (SelectsRange head_tree stream.now first last head_columns) }
+    ensures { (layout : Layout) → QueriesOf layout (state S.Store conn.old) (state S.Store conn.new) result (SelectsRange head_tree stream.now first last head_columns) }
 {
     conn.query_all(
         "SELECT nmi, suffix, day, length, unit FROM mds_head WHERE nmi = ?1 AND suffix = ?2 AND day >= ?3 AND day <= ?4 ORDER BY day",
@@ -80,7 +81,7 @@ pub(crate) fn version_range_rows<S: Alter>(
     first: Day,
     last: Day,
 ) -> Result<Vec<Row>, Error>
-    ensures { Queries (state S.Store conn.old) (state S.Store conn.new) result (SelectsRange version_tree stream.now first last version_columns) }
+    ensures { (layout : Layout) → QueriesOf layout (state S.Store conn.old) (state S.Store conn.new) result (SelectsRange version_tree stream.now first last version_columns) }
 {
     conn.query_all(
         "SELECT nmi, suffix, day, slot, moment, quality, code, note, amount FROM mds_version WHERE nmi = ?1 AND suffix = ?2 AND day >= ?3 AND day <= ?4 ORDER BY day, slot, moment",

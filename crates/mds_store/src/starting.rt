@@ -4,13 +4,14 @@ ghost use Rattle.std.specs.Prelude.{◌≡◌, ◌≢◌, true, IfErr, IfOk, Mat
 ghost use Rattle.std.specs.Bool.{MatchBool};
 ghost use Rattle.sqlite.specs.Held.{state};
 ghost use Rattle.sqlite.specs.State.{HasCleanDisk, Survives};
+ghost use Rattle.mds_tables.specs.Layouts.{rows_layout};
 ghost use Rattle.mds_tables.specs.Making.{LeavesMade};
 ghost use Rattle.mds_tables.specs.Stores.{IsStore};
 ghost use Rattle.mds_tables.specs.Tables.{no_schema};
 ghost use Rattle.mds_store.specs.Starting.{IsAdopted, IsCreated, IsRefused};
 
 use crate::row_keeper::RowKeeper;
-use mds_selects::is_version_1;
+use mds_selects::is_version;
 use mds_tables::{has_schema_1, make_tables};
 use sqlite::{Alter, Connection, Error};
 use sqlite_schema::schema::Schema;
@@ -24,7 +25,9 @@ pub enum StoreFault {
     /// The store failed with this error of the library (U1). Memory was wanting, the disk had a fault, or the limit of steps was
     /// reached.
     Unavailable(Error),
-    /// The database isn't a store of schema 1 (U3). Where a store was to be made, it isn't empty (U3).
+    /// The database is a store of an earlier schema (U2).
+    EarlierSchema,
+    /// The database isn't a store (U3). Where a store was to be made, it isn't empty (U3).
     OtherSchema,
 }
 
@@ -37,9 +40,9 @@ pub fn create<S: Alter>(
     conn: Connection<S>,
 ) -> Result<RowKeeper<S>, (StoreFault, Connection<S>)>
     ensures ok { IfOk result (λ keeper. HasCleanDisk (state S.Store keeper.conn)
-        → IsCreated (state S.Store conn) (state S.Store keeper.conn)) }
+        → IsCreated rows_layout (state S.Store conn) (state S.Store keeper.conn)) }
     ensures err { IfErr result (λ e. HasCleanDisk (state S.Store e.1)
-        → IsRefused ((state S.Store conn).now.schema ≡ no_schema) (state S.Store conn) (state S.Store e.1) e.0) }
+        → IsRefused ((state S.Store conn).now.schema ≡ no_schema) ⊥ (state S.Store conn) (state S.Store e.1) e.0) }
     ensures busy { conn.in_transaction ≡ true
         → MatchResult result (λ keeper. ⊥) (λ e. (e.0 ≡ StoreFault.InTransaction) × (e.1 ≡ conn)) }
     ensures limit { MatchResult result (λ keeper. keeper.conn.step_limit ≡ conn.step_limit) (λ e. e.1.step_limit ≡ conn.step_limit) }
@@ -62,7 +65,7 @@ pub fn create<S: Alter>(
 }
 
 /// Whether a database has nothing in it. In any other no store is made (U3).
-fn is_empty(schema: &Schema) -> bool
+pub fn is_empty(schema: &Schema) -> bool
     ensures { MatchBool result (schema.now ≡ no_schema) (schema.now ≢ no_schema) }
 {
     schema.tables.is_empty() && schema.indexes.is_empty() && schema.views.is_empty()
@@ -77,9 +80,9 @@ pub fn adopt<S: Alter>(
     conn: Connection<S>,
 ) -> Result<RowKeeper<S>, (StoreFault, Connection<S>)>
     ensures ok { IfOk result (λ keeper. HasCleanDisk (state S.Store keeper.conn)
-        → IsAdopted (state S.Store conn) (state S.Store keeper.conn)) }
+        → IsAdopted rows_layout (state S.Store conn) (state S.Store keeper.conn)) }
     ensures err { IfErr result (λ e. HasCleanDisk (state S.Store e.1)
-        → IsRefused (IsStore (state S.Store conn).now) (state S.Store conn) (state S.Store e.1) e.0) }
+        → IsRefused (IsStore (state S.Store conn).now) ⊥ (state S.Store conn) (state S.Store e.1) e.0) }
     ensures busy { conn.in_transaction ≡ true
         → MatchResult result (λ keeper. ⊥) (λ e. (e.0 ≡ StoreFault.InTransaction) × (e.1 ≡ conn)) }
     ensures limit { MatchResult result (λ keeper. keeper.conn.step_limit ≡ conn.step_limit) (λ e. e.1.step_limit ≡ conn.step_limit) }
@@ -95,7 +98,7 @@ pub fn adopt<S: Alter>(
     if !has_schema_1(conn.schema()) {
         return Err((StoreFault::OtherSchema, conn));
     }
-    match is_version_1(&mut conn) {
+    match is_version(&mut conn, 1) {
         Ok(true) => Ok(RowKeeper::over(alloc, conn)),
         Ok(false) => Err((StoreFault::OtherSchema, conn)),
         Err(error) => Err((StoreFault::Unavailable(error), conn)),

@@ -3,4 +3,4 @@
 
 mod runs;
 
-pub use runs::run_rows;
+pub use runs::{run_packs, run_rows};

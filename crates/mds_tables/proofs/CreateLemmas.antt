@@ -15,6 +15,7 @@ use Rattle.sqlite.specs.declared.error.Error.{Error}
 use Rattle.sqlite.specs.declared.run.Mode.{Mode}
 use Rattle.sqlite.proofs.Callers.{IsPlain, command_of, runs_as, statement_of}
 use Rattle.sqlite_catalog.specs.Calls.{IsLongTable, RefusesTable}
+use Rattle.sqlite_catalog.specs.Listing.{IsSound}
 use Rattle.sqlite_catalog.specs.declared.error.Refusal.{Refusal}
 use Rattle.sqlite_catalog.specs.declared.error.Refusal.TheVariants.{Invalid, NameTaken, BadName, TooBig, BadKey, BadText, Violates}
 use Rattle.sqlite_rules.specs.Lists.{Has}
@@ -29,6 +30,7 @@ pub record Makes (before after : Schema) (tree : ℕ) (old new : Database) : Typ
   pub schema : new.schema ≡ after
   pub empty : new.trees tree ≡ []
   pub others : KeepsRows before.tables old.trees new.trees
+  pub sound : IsSound after new.trees
 
 -- tables without rows, which keep them, and one more
 one_more : (tables : List Table) (table : Table) (old new : Database) → KeepsRows tables old.trees new.trees → AreEmpty tables old
@@ -94,7 +96,7 @@ module _ (before after : Schema) (text : List ℕ) (table : Table) (it : IsText 
   whole : IsWhole text 0 (understood before text)
   whole = subst (IsWhole text 0) (sym it.is_read) (omega arith, refl, refl)
 
-  makes : (old new : State) (count : ℕ) → old.now.schema ≡ before → Executes text [] old new (Ok count)
+  pub makes : (old new : State) (count : ℕ) → old.now.schema ≡ before → Executes text [] old new (Ok count)
       → Makes before after table.tree old.now new.now
   makes old new count has h =
       let w = subst (λ t. Writes old new None CreateTable t [] count) statement (runs_as text [] old new before has CreateTable command plain count h) in
@@ -108,7 +110,13 @@ module _ (before after : Schema) (text : List ℕ) (table : Table) (it : IsText 
       let now : new.now ≡ first.0 = ap (λ (p : Tally × Database). p.1) (same_value all.2) ∙ same_value (rw plainly at first.2) in
       let empty = subst (λ at. first.0.trees at ≡ []) (ap next_tree has ∙ it.placed) made.empty in
       let others = subst (λ (s : Schema). KeepsRows s.tables old.now.trees first.0.trees) has made.others in
-      rw now (record { schema = schema; empty = empty; others = others })
+      let sound : IsSound after new.now.trees = subst (λ s. IsSound s new.now.trees) (ap (λ (db : Database). db.schema) now ∙ schema) w.sound in
+      rw now (record {
+        schema = schema;
+        empty = empty;
+        others = others;
+        sound = subst (λ (db : Database). IsSound after db.trees) now sound;
+      })
 
   pub there : (old new : State) (count : ℕ) → (HasCleanDisk new → ExecutesInside 0 text [] old new (Ok count)) → MakesThere before after old new
   there old new count runs = record {

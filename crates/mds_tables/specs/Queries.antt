@@ -6,7 +6,7 @@ use Rattle.sqlite.specs.declared.error.Error.{Error}
 use Rattle.sqlite.specs.State.{HasCleanDisk, KeepsCommit, State, Survives}
 use Rattle.sqlite_trees.specs.Tree.{Trees}
 use Rattle.sqlite_value.specs.Order.{Row}
-use Rattle.mds_tables.specs.Layouts.{Layout, rows_layout}
+use Rattle.mds_tables.specs.Layouts.{Layout}
 use Rattle.mds_tables.specs.Stores.{AreOpen, ChangesNothing, FindsOf}
 use Rattle.mds_tables.specs.Tables.{schema_with}
 
@@ -16,10 +16,6 @@ pub record QueriesOf (layout : Layout) (old new : State) (result : Result (Vec R
   pub err : HasCleanDisk new → old.now.schema ≡ schema_with layout.more → OnErr result (ChangesNothing old new)
   pub mode : old.in_transaction ≡ false → new.in_transaction ≡ false
   pub survives : Survives old new (λ _. old.now.schema ≢ schema_with layout.more)
-
--- one over the tables of schema 1
-abbrev pub Queries : State → State → Result (Vec Row Global) Error → (Trees → List Row → Type 0) → Type 0
-Queries = QueriesOf rows_layout
 
 -- A question to what is held, whose answer tells this of the trees that are committed. It changes nothing, only an open
 -- connection answers it, and none is left in a transaction.

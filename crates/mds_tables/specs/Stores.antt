@@ -154,6 +154,3 @@ Commits = CommitsOf rows_layout HasRows
 
 abbrev pub LeavesAdded : State → Additions → Trees → Type 0
 LeavesAdded = LeavesAddedOf rows_layout HasRows
-
-abbrev pub Finds : State → State → (Trees → Type 0) → Type 0
-Finds = FindsOf rows_layout

@@ -106,7 +106,7 @@ fn is_bare(table: &Table) -> bool
 }
 
 /// Whether a table has this name, tree, columns and keys, and nothing else but references.
-fn is_keyed(
+pub fn is_keyed(
     table: &Table,
     name: &str,
     tree: u32,
@@ -159,7 +159,7 @@ fn are_names(names: &[Bytes], wanted: &[&str]) -> bool
     is_name(name, one) && are_names(others, later)
 }
 
-/// Whether a reference is that of a version to the head of its day.
+/// Whether a reference is that to the head of a day.
 fn is_to_head(reference: &Reference) -> bool
     ensures { IsTrue result ↔ (reference.now ≡ to_head) }
 {
@@ -175,7 +175,7 @@ fn is_to_head(reference: &Reference) -> bool
 }
 
 /// Whether there is this one reference.
-fn are_to_head(references: &[Reference]) -> bool
+pub fn are_to_head(references: &[Reference]) -> bool
     ensures { IsTrue result ↔ (references.now ≡ to_head ∷ []) }
 {
     match references {
@@ -185,7 +185,7 @@ fn are_to_head(references: &[Reference]) -> bool
 }
 
 /// Whether an index is that of the key of a table, with the tree behind the table's.
-fn is_key_index(index: &Index, name: &str, table: u32, key: &[usize]) -> bool
+pub fn is_key_index(index: &Index, name: &str, table: u32, key: &[usize]) -> bool
     ensures { IsTrue result ↔ (index.now ≡ key_index name.now table key.now) }
 {
     index.name.as_slice() == name.as_bytes()
@@ -368,7 +368,7 @@ fn are_last_tables(event: &Table, period: &Table, holiday: &Table, job: &Table) 
 }
 
 /// Whether these are the eight tables of schema 1.
-fn are_tables(tables: &[Table]) -> bool
+pub fn are_tables(tables: &[Table]) -> bool
     ensures { IsTrue result ↔ (tables.now ≡ tables_1) }
 {
     match tables {
@@ -427,7 +427,7 @@ fn are_last_indexes(event: &Index, period: &Index, holiday: &Index, job: &Index)
 }
 
 /// Whether these are the indexes of the eight keys.
-fn are_indexes(indexes: &[Index]) -> bool
+pub fn are_indexes(indexes: &[Index]) -> bool
     ensures { IsTrue result ↔ (indexes.now ≡ indexes_1) }
 {
     match indexes {
@@ -439,8 +439,7 @@ fn are_indexes(indexes: &[Index]) -> bool
     }
 }
 
-/// Whether a database has just the tables of schema 1, as the store makes them. Else it is no store
-/// (U3).
+/// Whether a database has just the tables of schema 1, as the store makes them.
 pub fn has_schema_1(schema: &Schema) -> bool
     ensures { MatchBool result (schema.now ≡ schema_1) (schema.now ≢ schema_1) }
 {

@@ -11,6 +11,6 @@ pub use cells::{
     letter_of, period_cells, period_key_cells, range_cells, reading_cells, slot_cells,
     stream_cells, version_cells,
 };
-pub use known::has_schema_1;
-pub use making::make_tables;
+pub use known::{are_indexes, are_tables, are_to_head, has_schema_1, is_key_index, is_keyed};
+pub use making::{make_empty, make_tables, say_version};
 pub use readiness::ready;

@@ -50,8 +50,8 @@ fn make_table<S: Alter>(tx: &mut Transaction<'_, S>, n: usize) -> Result<(), Err
     Ok(())
 }
 
-/// Makes all of the tables, without a row.
-fn make_empty<S: Alter>(tx: &mut Transaction<'_, S>) -> Result<(), Error>
+/// Makes the tables of schema 1, without a row.
+pub fn make_empty<S: Alter>(tx: &mut Transaction<'_, S>) -> Result<(), Error>
     ensures same_reference { tx.new.conn.ghost_name ≡ tx.old.conn.ghost_name }
     ensures ok { OnOk result (MakesThere no_schema schema_1 (state S.Store tx.old.conn.now) (state S.Store tx.new.conn.now)) }
     ensures cause { HasCleanDisk (state S.Store tx.new.conn.now) → IsTrue (state S.Store tx.old.conn.now).is_open
@@ -67,7 +67,7 @@ fn make_empty<S: Alter>(tx: &mut Transaction<'_, S>) -> Result<(), Error>
 }
 
 /// Puts the row that says the number of the schema, whatever tables stand behind those that every schema has.
-fn say_version<S: Alter>(tx: &mut Transaction<'_, S>, number: i64) -> Result<(), Error>
+pub fn say_version<S: Alter>(tx: &mut Transaction<'_, S>, number: i64) -> Result<(), Error>
     ensures same_reference { tx.new.conn.ghost_name ≡ tx.old.conn.ghost_name }
     ensures ok { OnOk result ((layout : Layout) → number ≡ pos layout.number
         → SaysVersionOf layout (state S.Store tx.old.conn.now) (state S.Store tx.new.conn.now)) }

@@ -11,7 +11,8 @@ use Rattle.mds_words.specs.Grammar.{IsMdstore}
 use Rattle.mds_words.specs.declared.words.Input.{Input}
 use Rattle.mds_words.specs.declared.words.Input.TheVariants.{Standard, File}
 use Rattle.mds_words.specs.declared.words.Words.{Words}
-use Rattle.mds_words.specs.declared.words.Words.TheVariants.{Check, Init, Import, Substitute, Holidays, Streams, Day, Versions, Periods, Gaps, Finals, Export, Serve, Explain}
+use Rattle.mds_words.specs.declared.words.Words.TheVariants.{Check, Init, Migrate, Import, Substitute, Holidays, Streams}
+use Rattle.mds_words.specs.declared.words.Words.TheVariants.{Day, Versions, Periods, Gaps, Finals, Export, Serve, Explain}
 
 -- standard input, or the file of a name
 abbrev pub input_value : Input → Option Text
@@ -51,6 +52,8 @@ Asks (Some (name, rows)) (Check kind input) = (name ≡ codes "check")
     × (kind ≡ kind_of_name (value_of (codes "kind") rows))
     × (input_value input ≡ input_of (value_of (codes "file") rows))
 Asks (Some (name, rows)) (Init store) = (name ≡ codes "init")
+    × (store.now ≡ value_of (codes "store") rows)
+Asks (Some (name, rows)) (Migrate store) = (name ≡ codes "migrate")
     × (store.now ≡ value_of (codes "store") rows)
 Asks (Some (name, rows)) (Import store kind inputs) = (name ≡ codes "import")
     × (store.now ≡ value_of (codes "store") rows)

@@ -115,6 +115,9 @@ check_command kinds = command_of (codes "check") (kind kinds ∷ placed (codes "
 abbrev pub init_command : Shape
 init_command = command_of (codes "init") (store ∷ [])
 
+abbrev pub migrate_command : Shape
+migrate_command = command_of (codes "migrate") (store ∷ [])
+
 abbrev pub import_command : Bor (List (Bor Text)) → Shape
 import_command kinds = command_of (codes "import") (store ∷ kind kinds ∷ several (codes "file") ∷ [])
 
@@ -125,7 +128,7 @@ abbrev pub holidays_command : Shape
 holidays_command = command_of (codes "holidays") (store ∷ placed (codes "file") ∷ [])
 
 abbrev pub file_commands : Bor (List (Bor Text)) → List Shape
-file_commands kinds = check_command kinds ∷ init_command ∷ import_command kinds
+file_commands kinds = check_command kinds ∷ init_command ∷ migrate_command ∷ import_command kinds
     ∷ substitute_command ∷ holidays_command ∷ []
 
 -- ---- the commands on a store alone
@@ -178,12 +181,13 @@ explain_command = command_of (codes "explain") (code ∷ [])
 
 -- all names, in the order of the help
 abbrev pub all_names : List Name
-all_names = name.Check ∷ name.Init ∷ name.Import ∷ name.Substitute ∷ name.Holidays ∷ name.Streams ∷ name.Day ∷ name.Versions
-    ∷ name.Periods ∷ name.Gaps ∷ name.Finals ∷ name.Export ∷ name.Serve ∷ name.Explain ∷ []
+all_names = name.Check ∷ name.Init ∷ name.Migrate ∷ name.Import ∷ name.Substitute ∷ name.Holidays ∷ name.Streams ∷ name.Day
+    ∷ name.Versions ∷ name.Periods ∷ name.Gaps ∷ name.Finals ∷ name.Export ∷ name.Serve ∷ name.Explain ∷ []
 
 abbrev pub name_text : Name → Text
 name_text name.Check = codes "check"
 name_text name.Init = codes "init"
+name_text name.Migrate = codes "migrate"
 name_text name.Import = codes "import"
 name_text name.Substitute = codes "substitute"
 name_text name.Holidays = codes "holidays"
@@ -201,6 +205,7 @@ name_text name.Explain = codes "explain"
 abbrev pub words_of : Name → List Word
 words_of name.Check = word.Kind ∷ word.File ∷ []
 words_of name.Init = word.Store ∷ []
+words_of name.Migrate = word.Store ∷ []
 words_of name.Import = word.Store ∷ word.Kind ∷ word.Files ∷ []
 words_of name.Substitute = word.Store ∷ word.Job ∷ []
 words_of name.Holidays = word.Store ∷ word.List ∷ []

@@ -10,7 +10,7 @@ ghost use Rattle.mds_words.specs.Asked.{Asks, IsAskedBy, input_of, input_value, 
 ghost use Rattle.mds_words.specs.Commands.{has_command};
 ghost use Rattle.mds_words.specs.Refused.{IsRefusedAs, IsRefusedBy};
 ghost use Rattle.mds_words.specs.Grammar.{IsMdstore, mdstore_app, check_command, init_command, substitute_command, holidays_command, streams_command};
-ghost use Rattle.mds_words.specs.Grammar.{day_command, versions_command, periods_command, gaps_command, finals_command, serve_command};
+ghost use Rattle.mds_words.specs.Grammar.{migrate_command, day_command, versions_command, periods_command, gaps_command, finals_command, serve_command};
 
 use crate::commands::{grammar, kinds};
 use crate::words::{Input, Words, WordsFault};
@@ -93,7 +93,7 @@ fn asked<'a>(alloc: Global, name: &str, found: &ArgMatches<'a>) -> Result<Words<
 fn asked_without_memory<'a>(name: &str, found: &ArgMatches<'a>, store: &'a str) -> Words<'a>
     requires { store.now ≡ value_of (codes "store") (rows_of (found_of found.now)) }
     ensures { (kinds : Bor (List (Bor Text)))
-        → list_any (λ shape. bytes_eq shape.name name.now) (check_command kinds ∷ init_command ∷ substitute_command
+        → list_any (λ shape. bytes_eq shape.name name.now) (check_command kinds ∷ init_command ∷ migrate_command ∷ substitute_command
         ∷ holidays_command ∷ streams_command ∷ day_command ∷ versions_command ∷ periods_command ∷ gaps_command
         ∷ finals_command ∷ serve_command ∷ []) ≡ true
         → Asks (Some (name.now, rows_of (found_of found.now))) result }
@@ -104,6 +104,7 @@ fn asked_without_memory<'a>(name: &str, found: &ArgMatches<'a>, store: &'a str) 
             input: input(found),
         },
         "init" => Words::Init { store },
+        "migrate" => Words::Migrate { store },
         "substitute" => Words::Substitute {
             store,
             input: input(found),

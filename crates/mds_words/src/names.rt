@@ -8,6 +8,7 @@ ghost use Rattle.mds_words.specs.Grammar.{id_of, name_text, words_of};
 pub(crate) enum Name {
     Check,
     Init,
+    Migrate,
     Import,
     Substitute,
     Holidays,
@@ -48,9 +49,10 @@ pub(crate) enum Word {
 
 impl Name {
     /// All of them, in the order of the help.
-    pub(crate) const ALL: [Name; 14] = [
+    pub(crate) const ALL: [Name; 15] = [
         Name::Check,
         Name::Init,
+        Name::Migrate,
         Name::Import,
         Name::Substitute,
         Name::Holidays,
@@ -72,6 +74,7 @@ impl Name {
         match self {
             Name::Check => "check",
             Name::Init => "init",
+            Name::Migrate => "migrate",
             Name::Import => "import",
             Name::Substitute => "substitute",
             Name::Holidays => "holidays",
@@ -94,6 +97,7 @@ impl Name {
                 "Checks a file, and prints what each of its days or accumulations comes to"
             }
             Name::Init => "Makes a store in a new file",
+            Name::Migrate => "Takes a store of schema 1 to packed days",
             Name::Import => "Adds what files state to a store",
             Name::Substitute => {
                 "Fills in readings of a day by a substitution job, and keeps the job"
@@ -123,7 +127,7 @@ impl Name {
     {
         match self {
             Name::Check => &[Word::Kind, Word::File],
-            Name::Init | Name::Streams => &[Word::Store],
+            Name::Init | Name::Migrate | Name::Streams => &[Word::Store],
             Name::Import => &[Word::Store, Word::Kind, Word::Files],
             Name::Substitute => &[Word::Store, Word::Job],
             Name::Holidays => &[Word::Store, Word::List],

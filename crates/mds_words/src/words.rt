@@ -30,6 +30,10 @@ pub enum Words<'a> {
     Init {
         store: &'a str,
     },
+    /// The store of schema 1 in the file of a name is taken to packed days.
+    Migrate {
+        store: &'a str,
+    },
     /// Files of a kind are imported, one after the other, into the store in the file of a name.
     Import {
         store: &'a str,

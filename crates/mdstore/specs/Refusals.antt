@@ -1,6 +1,11 @@
--- What the want of a store, or of a request, comes to (profile).
+-- What a migration comes to, and what the want of a store or of a request does (profile).
+use Rattle.std.specs.Prelude.{Result, Ok, Err}
 use Rattle.mds_store.specs.declared.starting.StoreFault.{StoreFault}
 use Rattle.mds_store.specs.declared.starting.StoreFault.TheVariants as store
+use Rattle.mds_migrate.specs.declared.migrating.Migrated.{Migrated}
+use Rattle.mds_migrate.specs.declared.migrating.Migrated.TheVariants as migrated
+use Rattle.mds_migrate.specs.declared.migrating.MigrateFault.{MigrateFault}
+use Rattle.mds_migrate.specs.declared.migrating.MigrateFault.TheVariants as fault
 use Rattle.mds_requests.specs.declared.files.RequestFault.{RequestFault}
 use Rattle.mds_requests.specs.declared.files.RequestFault.TheVariants as request
 use Rattle.mds_desk.specs.declared.outcome.Outcome.{Outcome}
@@ -9,7 +14,14 @@ use Rattle.mds_desk.specs.declared.outcome.Outcome.TheVariants as outcome
 abbrev pub of_store : StoreFault → Outcome
 of_store store.InTransaction = outcome.Unavailable
 of_store (store.Unavailable error) = outcome.Unavailable
+of_store store.EarlierSchema = outcome.EarlierSchema
 of_store store.OtherSchema = outcome.OtherSchema
+
+abbrev pub of_migration : Result Migrated MigrateFault → Outcome
+of_migration (Ok migrated.Done) = outcome.Migrated
+of_migration (Ok migrated.AlreadyCurrent) = outcome.AlreadyCurrent
+of_migration (Err fault.Unavailable) = outcome.Unavailable
+of_migration (Err fault.OtherSchema) = outcome.OtherSchema
 
 abbrev pub of_request_fault : RequestFault → Outcome
 of_request_fault request.BadJob = outcome.BadJob

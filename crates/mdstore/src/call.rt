@@ -6,7 +6,7 @@ ghost use Rattle.std.specs.IoError.{error_kind};
 use crate::commands::serve;
 use crate::inputs::{ask_input, check_input, import_inputs};
 use crate::queries::{query, query_export};
-use crate::store_file::make_store;
+use crate::store_file::{make_store, migrate_store};
 use mds_arguments::{day_request, finals_request, gaps_request, periods_request, versions_request};
 use mds_desk::{EXPLANATIONS, Outcome, Status, section_of};
 use mds_messages::Request;
@@ -17,7 +17,7 @@ use std::{env, io};
 
 /// What is printed where no code is as the words spell it.
 const NO_SUCH_CODE: &str =
-    "unknown code; the codes are L1 to L12, M1 to M12, H1, U1, U3, bad job, bad argument, a word is not UTF-8, cannot read file and cannot listen\n";
+    "unknown code; the codes are L1 to L12, M1 to M12, H1, U1 to U3, bad job, bad argument, a word is not UTF-8, cannot read file and cannot listen\n";
 
 /// Runs the program, and gives the status to end with.
 pub(crate) fn run(rt: &HostRuntime) -> Status {
@@ -51,6 +51,7 @@ fn outcome_of_words(rt: &HostRuntime, words: Words<'_>) -> Outcome {
     match words {
         Words::Check { kind, input } => check_input(rt, kind, input),
         Words::Init { store } => make_store(rt, store),
+        Words::Migrate { store } => migrate_store(rt, store),
         Words::Import {
             store,
             kind,

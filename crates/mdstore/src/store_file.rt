@@ -1,12 +1,14 @@
 //! A store in a file, which this process has for itself while it is open.
 
 ghost use Rattle.std.specs.Prelude.{◌≡◌};
-ghost use Rattle.mdstore.specs.Refusals.{of_store};
+ghost use Rattle.mdstore.specs.Refusals.{of_migration, of_store};
 
 use crate::place::{Place, Standing};
 use mds_desk::Outcome;
 use mds_keeper::Keeper;
-use mds_store::{StoreFault, adopt, create};
+use mds_migrate::{MigrateFault, Migrated, migrate};
+use mds_pack_store::{adopt, create};
+use mds_store::StoreFault;
 use sqlite::{Alter, Connection, Error, ErrorCode, FileFrom, FileStore, Files, Wary};
 
 /// What is done with an open store. It is written over any keeper, so that it is proved without all that the library says of files.
@@ -35,11 +37,21 @@ pub(crate) fn make_store(rt: &HostRuntime, path: &str) -> Outcome {
 
 /// Opens the store of a path, which isn't made where there is none, does something with it, and closes it.
 pub(crate) fn in_store<T: Task + Drop>(rt: &HostRuntime, path: &str, task: T) -> Outcome {
+    in_file(rt, path, Adopt { task })
+}
+
+/// Takes the store of a path, which isn't made where there is none, to packed days. A store of these is left as it is.
+pub(crate) fn migrate_store(rt: &HostRuntime, path: &str) -> Outcome {
+    in_file(rt, path, Migrate)
+}
+
+/// Opens the database of a path, which isn't made where there is none, does something with it, and closes it.
+fn in_file<T: DatabaseTask + Drop>(rt: &HostRuntime, path: &str, task: T) -> Outcome {
     let Ok(place) = Place::of_file(rt, path) else {
         return Outcome::Unavailable;
     };
     match place.standing() {
-        Standing::Files => in_database(rt, path, &place, Adopt { task }),
+        Standing::Files => in_database(rt, path, &place, task),
         Standing::Nothing | Standing::LogAlone => Outcome::OtherSchema,
         Standing::NoDatabase => Outcome::Unavailable,
     }
@@ -82,12 +94,37 @@ impl<T: Task + Drop> DatabaseTask for Adopt<T> {
     }
 }
 
+/// To take the store that it is to packed days.
+#[derive(Drop)]
+struct Migrate;
+
+impl DatabaseTask for Migrate {
+    fn run<S: Alter>(self, rt: &HostRuntime, conn: Connection<S>) -> (Connection<S>, Outcome) {
+        let mut conn = conn;
+        let outcome = of_migration(migrate(rt.alloc(), &mut conn));
+        (conn, outcome)
+    }
+}
+
+/// What a migration comes to.
+fn of_migration(answer: Result<Migrated, MigrateFault>) -> Outcome
+    ensures { result ≡ of_migration answer }
+{
+    match answer {
+        Ok(Migrated::Done) => Outcome::Migrated,
+        Ok(Migrated::AlreadyCurrent) => Outcome::AlreadyCurrent,
+        Err(MigrateFault::Unavailable) => Outcome::Unavailable,
+        Err(MigrateFault::OtherSchema) => Outcome::OtherSchema,
+    }
+}
+
 /// What the want of a store comes to.
 fn of_store(fault: StoreFault) -> Outcome
     ensures { result ≡ of_store fault }
 {
     match fault {
         StoreFault::InTransaction | StoreFault::Unavailable(_) => Outcome::Unavailable,
+        StoreFault::EarlierSchema => Outcome::EarlierSchema,
         StoreFault::OtherSchema => Outcome::OtherSchema,
     }
 }

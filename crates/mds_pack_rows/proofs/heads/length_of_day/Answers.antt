@@ -1,7 +1,8 @@
 use Rattle.std.proofs.Common.{◌≡◌, [], ◌∷◌, arith, sym, ◌∙◌}
 use Rattle.std.proofs.lemmas.Result.{IfOk-weaker}
 use Rattle.sqlite.specs.Held.{state}
-use Rattle.mds_pack_rows.proofs.AskLemmas.{finds_length, on_ok}
+use Rattle.mds_selects.proofs.Asked.{on_ok}
+use Rattle.mds_pack_rows.proofs.AskLemmas.{finds_length}
 use Rattle.mds_pack_rows.proofs.PutLemmas.{one_row}
 use Rattle.mds_pack_rows.proofs.heads.length_of_day.Goals as goal
 

@@ -1,16 +1,19 @@
 use Rattle.std.proofs.Common.{refl}
 use Rattle.sqlite.specs.Held.{state}
+use Rattle.mds_selects.proofs.QueryLemmas.{finds_rows}
 use Rattle.mds_pack_rows.specs.PackCells as row
-use Rattle.mds_pack_rows.specs.PackTables.{body_columns, pack_table}
-use Rattle.mds_pack_rows.proofs.AskLemmas.{fails_kept, finds_packs, key_for, pack_typed, shown_kept, shown_on}
+use Rattle.mds_pack_rows.specs.PackTables.{body_columns, pack_table, pack_tree}
+use Rattle.mds_pack_rows.specs.PacksLayout.{packs_layout}
+use Rattle.mds_pack_rows.proofs.AskLemmas.{fails_kept, key_for, pack_typed, shown_kept, shown_on}
 use Rattle.mds_pack_rows.proofs.PackTexts.{select_body, select_body_is, select_body_plain}
 use Rattle.mds_pack_rows.proofs.statements.body_rows.Goals as goal
 
 pub returns-in-Ok-clause-ok : goal.returns-in-Ok-clause-ok
 returns-in-Ok-clause-ok g c clean =
     rw c.in-Ok.is at
-    (finds_packs select_body select_body_plain pack_table pack_typed (λ db. refl) (row.key_cells c.args.stream.now c.args.day c.args.update)
-    (key_for c.args.stream.now c.args.day c.args.update) body_columns _ select_body_is
+    (finds_rows packs_layout select_body select_body_plain pack_tree body_columns _ (λ db. refl)
+    (row.key_cells c.args.stream.now c.args.day c.args.update) select_body_is
+    pack_table.columns (key_for c.args.stream.now c.args.day c.args.update) pack_typed
     (state g.S.Store c.args.tx.now.conn.now) (state g.S.Store c.query_all.new.self.conn.now) (λ v. v.items) c.query_all.result
     (rw c.key_cells.ensures at (c.query_all.ensures.ok clean)))
 

@@ -1,18 +1,20 @@
 use Rattle.std.proofs.Common.{refl}
 use Rattle.sqlite.specs.Held.{state}
 use Rattle.mds_tables.specs.Cells as row
-use Rattle.mds_tables.specs.Tables.{head_table}
-use Rattle.mds_selects.proofs.QueryLemmas.{head_for}
-use Rattle.mds_pack_rows.specs.PackTables.{length_columns}
-use Rattle.mds_pack_rows.proofs.AskLemmas.{fails_kept, finds_packs, head_typed, shown_kept, shown_on}
+use Rattle.mds_tables.specs.Tables.{head_table, head_tree}
+use Rattle.mds_selects.proofs.QueryLemmas.{finds_rows, head_for, head_typed}
+use Rattle.mds_pack_rows.specs.PackTables.{length_columns, packs}
+use Rattle.mds_pack_rows.specs.PacksLayout.{packs_layout}
+use Rattle.mds_pack_rows.proofs.AskLemmas.{fails_kept, shown_kept, shown_on}
 use Rattle.mds_pack_rows.proofs.PackTexts.{select_length, select_length_is, select_length_plain}
 use Rattle.mds_pack_rows.proofs.statements.length_rows.Goals as goal
 
 pub returns-in-Ok-clause-ok : goal.returns-in-Ok-clause-ok
 returns-in-Ok-clause-ok g c clean =
     rw c.in-Ok.is at
-    (finds_packs select_length select_length_plain head_table head_typed (λ db. refl) (row.day_cells c.args.stream.now c.args.day)
-    (head_for c.args.stream.now c.args.day) length_columns _ select_length_is
+    (finds_rows packs_layout select_length select_length_plain head_tree length_columns _ (λ db. refl)
+    (row.day_cells c.args.stream.now c.args.day) select_length_is
+    head_table.columns (head_for c.args.stream.now c.args.day) (head_typed packs)
     (state g.S.Store c.args.tx.now.conn.now) (state g.S.Store c.query_all.new.self.conn.now) (λ v. v.items) c.query_all.result
     (rw c.day_cells.ensures at (c.query_all.ensures.ok clean)))
 

@@ -6,10 +6,10 @@ use Rattle.mds_selects.proofs.SelectTexts.{select_events, select_events_is, sele
 use Rattle.mds_selects.proofs.rows.event_rows.Goals as goal
 
 pub returns : goal.returns
-returns g c =
-    queried select_events select_events_plain _
-    (λ clean. finds_rows select_events select_events_plain event_tree event_columns _ (λ db. refl)
-    (row.day_cells c.args.stream.now c.args.day) select_events_is
-    event_table.columns (events_for c.args.stream.now c.args.day) event_typed _ _ (λ v. v.items) c.query_all.result
+returns g c layout =
+    queried layout select_events (select_events_plain layout.more) _
+    (λ clean. finds_rows layout select_events (select_events_plain layout.more) event_tree event_columns _ (λ db. refl)
+    (row.day_cells c.args.stream.now c.args.day) (select_events_is layout.more)
+    event_table.columns (events_for c.args.stream.now c.args.day) (event_typed layout.more) _ _ (λ v. v.items) c.query_all.result
     (rw c.day_cells.ensures at (c.query_all.ensures.ok clean)))
     c.query_all.ensures.err c.query_all.ensures.mode c.query_all.ensures.survives

@@ -6,10 +6,10 @@ use Rattle.mds_selects.proofs.SelectTexts.{select_head, select_head_is, select_h
 use Rattle.mds_selects.proofs.rows.head_rows.Goals as goal
 
 pub returns : goal.returns
-returns g c =
-    queried select_head select_head_plain _
-    (λ clean. finds_rows select_head select_head_plain head_tree head_columns _ (λ db. refl)
-    (row.day_cells c.args.stream.now c.args.day) select_head_is
-    head_table.columns (head_for c.args.stream.now c.args.day) head_typed _ _ (λ v. v.items) c.query_all.result
+returns g c layout =
+    queried layout select_head (select_head_plain layout.more) _
+    (λ clean. finds_rows layout select_head (select_head_plain layout.more) head_tree head_columns _ (λ db. refl)
+    (row.day_cells c.args.stream.now c.args.day) (select_head_is layout.more)
+    head_table.columns (head_for c.args.stream.now c.args.day) (head_typed layout.more) _ _ (λ v. v.items) c.query_all.result
     (rw c.day_cells.ensures at (c.query_all.ensures.ok clean)))
     c.query_all.ensures.err c.query_all.ensures.mode c.query_all.ensures.survives

@@ -5,10 +5,10 @@ use Rattle.mds_selects.proofs.SelectTexts.{select_head_streams, select_head_stre
 use Rattle.mds_selects.proofs.rows.head_stream_rows.Goals as goal
 
 pub returns : goal.returns
-returns g c =
-    queried select_head_streams select_head_streams_plain _
-    (λ clean. finds_rows select_head_streams select_head_streams_plain head_tree stream_columns _ (λ db. refl)
-    [] select_head_streams_is
-    head_table.columns tt head_typed _ _ (λ v. v.items) c.query_all.result
+returns g c layout =
+    queried layout select_head_streams (select_head_streams_plain layout.more) _
+    (λ clean. finds_rows layout select_head_streams (select_head_streams_plain layout.more) head_tree stream_columns _ (λ db. refl)
+    [] (select_head_streams_is layout.more)
+    head_table.columns tt (head_typed layout.more) _ _ (λ v. v.items) c.query_all.result
     (c.query_all.ensures.ok clean))
     c.query_all.ensures.err c.query_all.ensures.mode c.query_all.ensures.survives

@@ -5,10 +5,10 @@ use Rattle.mds_selects.proofs.SelectTexts.{select_period_streams, select_period_
 use Rattle.mds_selects.proofs.rows.period_stream_rows.Goals as goal
 
 pub returns : goal.returns
-returns g c =
-    queried select_period_streams select_period_streams_plain _
-    (λ clean. finds_rows select_period_streams select_period_streams_plain period_tree stream_columns _ (λ db. refl)
-    [] select_period_streams_is
-    period_table.columns tt period_typed _ _ (λ v. v.items) c.query_all.result
+returns g c layout =
+    queried layout select_period_streams (select_period_streams_plain layout.more) _
+    (λ clean. finds_rows layout select_period_streams (select_period_streams_plain layout.more) period_tree stream_columns _ (λ db. refl)
+    [] (select_period_streams_is layout.more)
+    period_table.columns tt (period_typed layout.more) _ _ (λ v. v.items) c.query_all.result
     (c.query_all.ensures.ok clean))
     c.query_all.ensures.err c.query_all.ensures.mode c.query_all.ensures.survives

@@ -6,10 +6,10 @@ use Rattle.mds_selects.proofs.SelectTexts.{select_detail, select_detail_is, sele
 use Rattle.mds_selects.proofs.rows.same_details_rows.Goals as goal
 
 pub returns : goal.returns
-returns g c =
-    queried select_detail select_detail_plain _
-    (λ clean. finds_rows select_detail select_detail_plain detail_tree (detail_nmi ∷ []) _ (λ db. refl)
-    (row.detail_cells c.args.detail.now) select_detail_is
-    detail_table.columns (detail_for c.args.detail.now) detail_typed _ _ (λ v. v.items) c.query_all.result
+returns g c layout =
+    queried layout select_detail (select_detail_plain layout.more) _
+    (λ clean. finds_rows layout select_detail (select_detail_plain layout.more) detail_tree (detail_nmi ∷ []) _ (λ db. refl)
+    (row.detail_cells c.args.detail.now) (select_detail_is layout.more)
+    detail_table.columns (detail_for c.args.detail.now) (detail_typed layout.more) _ _ (λ v. v.items) c.query_all.result
     (rw c.detail_cells.ensures at (c.query_all.ensures.ok clean)))
     c.query_all.ensures.err c.query_all.ensures.mode c.query_all.ensures.survives

@@ -6,10 +6,10 @@ use Rattle.mds_selects.proofs.SelectTexts.{select_event, select_event_is, select
 use Rattle.mds_selects.proofs.rows.same_event_rows.Goals as goal
 
 pub returns : goal.returns
-returns g c =
-    queried select_event select_event_plain _
-    (λ clean. finds_rows select_event select_event_plain event_tree (event_nmi ∷ []) _ (λ db. refl)
-    (row.event_cells c.args.event.now) select_event_is
-    event_table.columns (event_for c.args.event.now) event_typed _ _ (λ v. v.items) c.query_all.result
+returns g c layout =
+    queried layout select_event (select_event_plain layout.more) _
+    (λ clean. finds_rows layout select_event (select_event_plain layout.more) event_tree (event_nmi ∷ []) _ (λ db. refl)
+    (row.event_cells c.args.event.now) (select_event_is layout.more)
+    event_table.columns (event_for c.args.event.now) (event_typed layout.more) _ _ (λ v. v.items) c.query_all.result
     (rw c.event_cells.ensures at (c.query_all.ensures.ok clean)))
     c.query_all.ensures.err c.query_all.ensures.mode c.query_all.ensures.survives

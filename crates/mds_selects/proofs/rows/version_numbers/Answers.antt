@@ -7,16 +7,17 @@ use Rattle.mds_selects.proofs.SelectTexts.{select_version, select_version_cut, s
 use Rattle.mds_selects.proofs.rows.version_numbers.Goals as goal
 
 pub returns-clause-asked : goal.returns-clause-asked
-returns-clause-asked g c =
-    queried select_version select_version_plain _
-    (λ clean. finds_every select_version select_version_plain schema_tree (schema_version ∷ []) _ (λ db. refl) select_version_is
+returns-clause-asked g c layout =
+    queried layout select_version (select_version_plain layout.more) _
+    (λ clean. finds_every layout select_version (select_version_plain layout.more) schema_tree (schema_version ∷ []) _ (λ db. refl) (select_version_is layout.more)
     _ _ (λ v. v.items) c.query_all.result
     (c.query_all.ensures.ok clean))
     c.query_all.ensures.err c.query_all.ensures.mode c.query_all.ensures.survives
 
 pub returns-clause-cause : goal.returns-clause-cause
-returns-clause-cause g c clean has =
+returns-clause-cause g c layout clean has =
     let old = state g.S.Store c.args.conn.now in
     let new = state g.S.Store c.query_all.new.self in
-    why select_version select_version_plain [] select_version_whole 0 [] _ [] _ select_version_is select_version_cut old new has
+    why layout.more select_version (select_version_plain layout.more) [] (select_version_whole layout.more) 0 [] _ [] _ (select_version_is layout.more)
+    (select_version_cut layout.more) old new has
     c.query_all.result (c.query_all.ensures.err clean)

@@ -6,11 +6,11 @@ use Rattle.mds_selects.proofs.SelectTexts.{select_versions, select_versions_is, 
 use Rattle.mds_selects.proofs.rows.version_rows.Goals as goal
 
 pub returns : goal.returns
-returns g c =
-    queried select_versions select_versions_plain _
-    (λ clean. finds_rows select_versions select_versions_plain version_tree version_columns _ (λ db. refl)
-    (row.day_cells c.args.stream.now c.args.day) select_versions_is
-    version_table.columns (version_for c.args.stream.now c.args.day) version_typed _ _ (λ v. v.items)
+returns g c layout =
+    queried layout select_versions (select_versions_plain layout.more) _
+    (λ clean. finds_rows layout select_versions (select_versions_plain layout.more) version_tree version_columns _ (λ db. refl)
+    (row.day_cells c.args.stream.now c.args.day) (select_versions_is layout.more)
+    version_table.columns (version_for c.args.stream.now c.args.day) (version_typed layout.more) _ _ (λ v. v.items)
     c.query_all.result
     (rw c.day_cells.ensures at (c.query_all.ensures.ok clean)))
     c.query_all.ensures.err c.query_all.ensures.mode c.query_all.ensures.survives

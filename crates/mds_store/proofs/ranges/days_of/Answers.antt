@@ -1,19 +1,31 @@
 use Rattle.std.proofs.Common.{[], arith}
 use Rattle.std.specs.List.{AllPairs}
 use Rattle.sqlite.specs.Held.{state}
-use Rattle.mds_selects.proofs.Asked.{and_then, answers, steady, tables_held, with_both}
+use Rattle.mds_tables.specs.Layouts.{rows_layout}
+use Rattle.mds_selects.proofs.Asked.{and_then, answers, steady, tables_held, unanswered, with_both}
+use Rattle.mds_selects.specs.Shown.{AreVersionsIn}
 use Rattle.mds_store.specs.Ranges.{AreBooksIn}
 use Rattle.mds_store.proofs.BookLemmas.{IsBefore, finds_days}
 use Rattle.mds_store.proofs.ranges.days_of.Goals as goal
+
+pub returns-in_default-head_range_rows : goal.returns-in_default-head_range_rows
+returns-in_default-head_range_rows g c =
+    let ready = steady rows_layout c.in-Ok.ensures.ok c.ready.ensures.survives c.ready.ensures.mode in
+    unanswered (tables_held rows_layout (state g.S.Store c.args.conn.now)) ready (c.in_default-head_range_rows.ensures rows_layout) _
+
+pub returns-in_default-version_range_rows : goal.returns-in_default-version_range_rows
+returns-in_default-version_range_rows g c =
+    let ready = steady rows_layout c.in-Ok.ensures.ok c.ready.ensures.survives c.ready.ensures.mode in
+    unanswered (tables_held rows_layout (state g.S.Store c.args.conn.now)) (and_then ready (c.in-Ok-head_range_rows.ensures rows_layout)) (c.in_default-version_range_rows.ensures rows_layout) _
 
 pub returns : goal.returns
 returns g c =
     let heads = c.in-Ok-head_range_rows.heads.items in
     let versions = c.in-Ok-version_range_rows.versions.items in
-    let ready = steady c.in-Ok.ensures.ok c.ready.ensures.survives c.ready.ensures.mode in
-    let asked = and_then (and_then ready c.in-Ok-head_range_rows.ensures) c.in-Ok-version_range_rows.ensures in
-    answers (tables_held (state g.S.Store c.args.conn.now)) asked c.all_books.result
-    (λ known. with_both c.all_books.result (λ books. AreBooksIn c.args.stream.now heads versions [] books.items)
+    let ready = steady rows_layout c.in-Ok.ensures.ok c.ready.ensures.survives c.ready.ensures.mode in
+    let asked = and_then (and_then ready (c.in-Ok-head_range_rows.ensures rows_layout)) (c.in-Ok-version_range_rows.ensures rows_layout) in
+    answers (tables_held rows_layout (state g.S.Store c.args.conn.now)) asked c.all_books.result
+    (λ known. with_both c.all_books.result (λ books. AreBooksIn AreVersionsIn c.args.stream.now heads versions [] books.items)
     (λ books. AllPairs IsBefore books.items) _
     (λ books. finds_days c.args.stream.now c.args.first c.args.last (omega (arith, c.number.ensures.last)) _ known.0.0 heads versions
     known.0.1 known.1 books.items)

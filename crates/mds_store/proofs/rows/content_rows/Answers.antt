@@ -7,10 +7,10 @@ use Rattle.mds_store.proofs.RowsFound.{content_for}
 use Rattle.mds_store.proofs.rows.content_rows.Goals as goal
 
 pub returns : goal.returns
-returns g c =
-    queried select_content select_content_plain _
-    (λ clean. finds_rows select_content select_content_plain period_tree (period_body ∷ []) _ (λ db. refl)
-    (row.period_key_cells c.args.key.now) select_content_is
-    period_table.columns (content_for c.args.key.now) period_typed _ _ (λ v. v.items) c.query_all.result
+returns g c layout =
+    queried layout select_content (select_content_plain layout.more) _
+    (λ clean. finds_rows layout select_content (select_content_plain layout.more) period_tree (period_body ∷ []) _ (λ db. refl)
+    (row.period_key_cells c.args.key.now) (select_content_is layout.more)
+    period_table.columns (content_for c.args.key.now) (period_typed layout.more) _ _ (λ v. v.items) c.query_all.result
     (rw c.period_key_cells.ensures at (c.query_all.ensures.ok clean)))
     c.query_all.ensures.err c.query_all.ensures.mode c.query_all.ensures.survives

@@ -5,10 +5,10 @@ use Rattle.mds_store.proofs.ListTexts.{select_holidays, select_holidays_is, sele
 use Rattle.mds_store.proofs.rows.holiday_rows.Goals as goal
 
 pub returns : goal.returns
-returns g c =
-    queried select_holidays select_holidays_plain _
-    (λ clean. finds_rows select_holidays select_holidays_plain holiday_tree (holiday_day ∷ []) _ (λ db. refl)
-    [] select_holidays_is
-    holiday_table.columns tt holiday_typed _ _ (λ v. v.items) c.query_all.result
+returns g c layout =
+    queried layout select_holidays (select_holidays_plain layout.more) _
+    (λ clean. finds_rows layout select_holidays (select_holidays_plain layout.more) holiday_tree (holiday_day ∷ []) _ (λ db. refl)
+    [] (select_holidays_is layout.more)
+    holiday_table.columns tt (holiday_typed layout.more) _ _ (λ v. v.items) c.query_all.result
     (c.query_all.ensures.ok clean))
     c.query_all.ensures.err c.query_all.ensures.mode c.query_all.ensures.survives

@@ -6,10 +6,10 @@ use Rattle.mds_store.proofs.ListTexts.{select_job, select_job_is, select_job_pla
 use Rattle.mds_store.proofs.rows.job_rows.Goals as goal
 
 pub returns : goal.returns
-returns g c =
-    queried select_job select_job_plain _
-    (λ clean. finds_rows select_job select_job_plain job_tree (job_body ∷ job_total ∷ []) _ (λ db. refl)
-    (Text c.args.id.now ∷ []) select_job_is
-    job_table.columns ((codes "id", refl), tt) job_typed _ _ (λ v. v.items) c.query_all.result
+returns g c layout =
+    queried layout select_job (select_job_plain layout.more) _
+    (λ clean. finds_rows layout select_job (select_job_plain layout.more) job_tree (job_body ∷ job_total ∷ []) _ (λ db. refl)
+    (Text c.args.id.now ∷ []) (select_job_is layout.more)
+    job_table.columns ((codes "id", refl), tt) (job_typed layout.more) _ _ (λ v. v.items) c.query_all.result
     (rw c.id_cells.ensures at (c.query_all.ensures.ok clean)))
     c.query_all.ensures.err c.query_all.ensures.mode c.query_all.ensures.survives

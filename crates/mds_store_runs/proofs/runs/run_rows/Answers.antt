@@ -1,4 +1,5 @@
 use Rattle.std.proofs.Common.{refl, inl, inr, sym, ◌∙◌}
+use Rattle.mds_tables.specs.Layouts.{rows_layout}
 use Rattle.mds_tables.specs.RowFacts.{world_in}
 use Rattle.mds_store.specs.Props.{settles}
 use Rattle.mds_store_runs.proofs.Answered.{if_ok}
@@ -15,7 +16,7 @@ returns g c = record {
         λ trees left. elim (it.4 _ (trees, left, refl)) [
           | inl may ↦ may
           | inr same ↦
-              let stood = settles _ _ (λ before. g.met.S.Store.settled c.args.keeper.now.conn.store before was) (world_in trees) same.1 in
+              let stood = settles rows_layout _ _ (λ before. g.met.S.Store.settled c.args.keeper.now.conn.store before was) (world_in trees) same.1 in
               inl (stood ∙ sym same.0)
         ],
       )) c.run.ensures.run;

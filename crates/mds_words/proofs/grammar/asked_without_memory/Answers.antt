@@ -9,6 +9,7 @@ returns-in_default c = λ kinds named.
     c.asked_of_stream.ensures _ c.requires c.query_words.ensures (rw (
       differs (codes "check") name no.not-check,
       differs (codes "init") name no.not-init,
+      differs (codes "migrate") name no.not-migrate,
       differs (codes "substitute") name no.not-substitute,
       differs (codes "holidays") name no.not-holidays,
       differs (codes "streams") name no.not-streams,

@@ -3,14 +3,16 @@ use Rattle.std.proofs.lemmas.Result.{err_from_is_err_and}
 use Rattle.sqlite.specs.Held.{state}
 use Rattle.mds_tables.proofs.CauseLemmas.{store_fails}
 use Rattle.mds_selects.proofs.Asked.{and_then, answers, steady, why_failed}
-use Rattle.mds_selects.proofs.OneNumber.{finds_number}
-use Rattle.mds_selects.proofs.querying.is_version_1.Goals as goal
+use Rattle.mds_pack_rows.specs.PacksLayout.{packs_layout}
+use Rattle.mds_pack_store.proofs.Adopting.{shows_none}
+use Rattle.mds_pack_store.proofs.starting.is_unversioned.Goals as goal
 
 pub returns-clause-answers : goal.returns-clause-answers
 returns-clause-answers g c =
     answers (λ held. held)
-    (and_then (steady c.in_ok-ready.ensures.ok c.ready.ensures.survives c.ready.ensures.mode) c.in_ok-rows.ensures.asked) _
-    (λ known. finds_number _ known.0 c.in_ok-rows.rows.items known.1 c.is_one.result (rw c.deref.ensures.value at c.is_one.ensures))
+    (and_then (steady packs_layout c.in_ok-ready.ensures.ok c.ready.ensures.survives c.ready.ensures.mode) c.in_ok-rows.ensures.asked) _
+    (λ known. shows_none (state g.S.Store c.args.conn.now).committed.trees c.in_ok-rows.rows.items known.1 c.are_none.result
+    (rw c.deref.ensures.value at c.are_none.ensures))
 
 pub returns-in_err-ready-clause-cause : goal.returns-in_err-ready-clause-cause
 returns-in_err-ready-clause-cause g c clean held =
@@ -22,5 +24,5 @@ pub returns-in_err-rows-clause-cause : goal.returns-in_err-rows-clause-cause
 returns-in_err-rows-clause-cause g c clean held =
     let p = err_from_is_err_and c.from_residual-in_err-rows.result c.from_residual-in_err-rows.ensures.1 in
     rw (p.1, p.2)
-    (why_failed (steady c.in_ok-ready.ensures.ok c.ready.ensures.survives c.ready.ensures.mode) c.version_numbers.ensures.asked held clean
+    (why_failed (steady packs_layout c.in_ok-ready.ensures.ok c.ready.ensures.survives c.ready.ensures.mode) c.slot_rows.ensures.asked held clean
     _ (c.in_err-rows.ensures.cause clean))

@@ -1,0 +1,71 @@
+use Rattle.std.proofs.Common.{◌≡◌, [], ◌∷◌, arith, refl, sym, ◌∙◌}
+use Rattle.sqlite.specs.Held.{state}
+use Rattle.sqlite.specs.State.{HasCleanDisk, KeepsCommit}
+use Rattle.sqlite.proofs.InsideLemmas.{keeps_then}
+use Rattle.mds_tables.specs.Stores.{FindsOf, SelectsAll}
+use Rattle.mds_tables.specs.Tables.{schema_tree}
+use Rattle.mds_selects.proofs.QueryLemmas.{finds_every}
+use Rattle.mds_pack_rows.specs.PackTables.{schema_2}
+use Rattle.mds_pack_rows.specs.PacksLayout.{packs_layout}
+use Rattle.mds_pack_rows.specs.Putting.{GoesOn}
+use Rattle.mds_pack_rows.proofs.AskLemmas.{fails_kept, shown_kept, shown_on}
+use Rattle.mds_pack_rows.proofs.PutLemmas.{if_ok, one_row}
+use Rattle.mds_pack_rows.proofs.PutLemmas.{on_then}
+use Rattle.mds_migrate.proofs.StatementLemmas.{raises}
+use Rattle.mds_migrate.proofs.StatementTexts.{rowid_columns, select_rowids, select_rowids_is, select_rowids_plain}
+use Rattle.mds_migrate.proofs.statements.raise_version.Given.{Over}
+use Rattle.mds_migrate.proofs.statements.raise_version.Goals as goal
+use Rattle.mds_migrate.proofs.statements.raise_version.Goals.{In-Ok}
+
+-- the rowids were found
+finds : (g : Over) (c : In-Ok g) → HasCleanDisk (state g.S.Store c.query_all.new.self.conn.now)
+    → FindsOf packs_layout (state g.S.Store c.args.tx.now.conn.now) (state g.S.Store c.query_all.new.self.conn.now)
+    (λ trees. SelectsAll schema_tree rowid_columns trees c.in-Ok.rows.items)
+finds g c clean =
+    rw c.in-Ok.is at
+    (finds_every packs_layout select_rowids select_rowids_plain schema_tree rowid_columns _ (λ db. refl) select_rowids_is
+    (state g.S.Store c.args.tx.now.conn.now) (state g.S.Store c.query_all.new.self.conn.now) (λ v. v.items) c.query_all.result (c.query_all.ensures.ok clean))
+
+-- and nothing was committed
+kept : (g : Over) (c : In-Ok g) → HasCleanDisk (state g.S.Store c.query_all.new.self.conn.now) → (state g.S.Store c.args.tx.now.conn.now).now.schema ≡ schema_2
+    → KeepsCommit (state g.S.Store c.args.tx.now.conn.now) (state g.S.Store c.query_all.new.self.conn.now)
+kept g c clean has =
+    shown_kept select_rowids select_rowids_plain.0 (state g.S.Store c.args.tx.now.conn.now) (state g.S.Store c.query_all.new.self.conn.now) [] has
+    c.in-Ok.rows.items (rw c.in-Ok.is at (c.query_all.ensures.ok clean))
+
+pub returns-in_default-clause-kept : goal.returns-in_default-clause-kept
+returns-in_default-clause-kept g c there =
+    fails_kept select_rowids select_rowids_plain.0 (state g.S.Store c.args.tx.now.conn.now) (state g.S.Store c.query_all.new.self.conn.now) [] there.schema
+    c.in_default.field-0 (rw c.in_default.is at (c.query_all.ensures.err there.clean))
+
+pub returns-in-len1-clause-goes_on : goal.returns-in-len1-clause-goes_on
+returns-in-len1-clause-goes_on g c =
+    let old = state g.S.Store c.args.tx.now.conn.now in
+    let mid = state g.S.Store c.query_all.new.self.conn.now in
+    let new = state g.S.Store c.replace_version.new.tx.conn.now in
+    if_ok c.replace_version.result (GoesOn mid new) (GoesOn old new)
+    (on_then old mid new c.replace_version.ensures.survives.clean
+    (shown_on select_rowids [] old mid c.in-Ok.rows.items (λ clean. rw c.in-Ok.is at (c.query_all.ensures.ok clean))))
+    c.replace_version.ensures.goes_on
+
+pub returns-in-len1-clause-ok : goal.returns-in-len1-clause-ok
+returns-in-len1-clause-ok g c =
+    let old = state g.S.Store c.args.tx.now.conn.now in
+    let mid = state g.S.Store c.query_all.new.self.conn.now in
+    let new = state g.S.Store c.replace_version.new.tx.conn.now in
+    let found = finds g (goal.at.returns-in-len1-clause-ok g c).In-Ok in
+    let shown = c.row-item.result in
+    let alone : c.in-Ok.rows.items ≡ shown ∷ [] = sym c.as_slice.ensures.value ∙ one_row _ shown (omega arith) c.row-item.is in
+    if_ok c.replace_version.result _ _
+    (λ raise there _.
+    raises old mid new c.replace_version.ensures.survives.clean (λ clean. (found clean).same) c.in-Ok.rows.items shown alone found raise there)
+    c.replace_version.ensures.ok
+
+pub returns-in-len1-clause-kept : goal.returns-in-len1-clause-kept
+returns-in-len1-clause-kept g c there =
+    keeps_then (state g.S.Store c.args.tx.now.conn.now) (state g.S.Store c.query_all.new.self.conn.now) (state g.S.Store c.replace_version.new.tx.conn.now)
+    (kept g (goal.at.returns-in-len1-clause-kept g c).In-Ok (omega (arith, there.clean, c.replace_version.ensures.survives.clean)) there.schema)
+    (c.replace_version.ensures.kept there.clean)
+
+pub returns-clause-kept : goal.returns-clause-kept
+returns-clause-kept g c there = kept g (goal.at.returns-clause-kept g c).In-Ok there.clean there.schema

@@ -1,0 +1,3 @@
+pub mod Migrated
+pub mod Migrating
+pub mod Packing

@@ -1,0 +1,109 @@
+//! The versions of all days, packed.
+
+ghost use Rattle.std.specs.Prelude.{◌≡◌, [], ◌∷◌, IfOk, OnOk};
+ghost use Rattle.sqlite.specs.Held.{state};
+ghost use Rattle.sqlite.specs.State.{HasCleanDisk, KeepsCommit, Survives};
+ghost use Rattle.mds_tables.specs.Cells.{day_cells as day_columns};
+ghost use Rattle.mds_tables.specs.Stores.{FindsOf, Selects};
+ghost use Rattle.mds_tables.specs.Tables.{head_columns, head_tree, version_columns, version_tree};
+ghost use Rattle.mds_migrate.specs.Migrating.{Packs};
+ghost use Rattle.mds_migrate.specs.Packing.{PacksDays};
+ghost use Rattle.mds_pack_rows.specs.PackTables.{pack_tree, schema_2};
+ghost use Rattle.mds_pack_rows.specs.PacksLayout.{packs_layout};
+ghost use Rattle.mds_pack_rows.specs.Putting.{GoesOn, IsThere};
+
+use mds_keeper::{DayVersions, Unavailable};
+use mds_pack_rows::put_day;
+use mds_selects::{all_versions, head_in};
+use mds_tables::day_cells;
+use mds_terms::{Day, Stream};
+use sqlite::{Alter, Row, Transaction};
+use std::alloc::Global;
+
+/// Packs the versions of all days, where no day is packed yet. It is unavailable where a day has a version of an interval that its
+/// length doesn't have, or a row that the store didn't write.
+pub(crate) fn pack_days<S: Alter>(
+    alloc: Global,
+    tx: &mut Transaction<'_, S>,
+) -> Result<(), Unavailable>
+    ensures same_reference { tx.new.conn.ghost_name ≡ tx.old.conn.ghost_name }
+    ensures goes_on { OnOk result (GoesOn (state S.Store tx.old.conn.now) (state S.Store tx.new.conn.now)) }
+    ensures ok { OnOk result (IsThere (state S.Store tx.old.conn.now) (state S.Store tx.new.conn.now)
+        → (state S.Store tx.old.conn.now).now.trees pack_tree ≡ [] → Packs (state S.Store tx.old.conn.now) (state S.Store tx.new.conn.now)) }
+    ensures kept { IsThere (state S.Store tx.old.conn.now) (state S.Store tx.new.conn.now)
+        → KeepsCommit (state S.Store tx.old.conn.now) (state S.Store tx.new.conn.now) }
+    ensures survives { Survives (state S.Store tx.old.conn.now) (state S.Store tx.new.conn.now) (λ _. ⊥) }
+{
+    let heads = all_heads(tx)?;
+    for row in heads.as_slice() {
+        pack_day_of(alloc, tx, row)?;
+    }
+    Ok(())
+}
+
+/// All heads.
+fn all_heads<S: Alter>(tx: &mut Transaction<'_, S>) -> Result<Vec<Row>, Unavailable>
+    ensures same_reference { tx.new.conn.ghost_name ≡ tx.old.conn.ghost_name }
+    ensures ok { HasCleanDisk (state S.Store tx.new.conn.now)
+        → IfOk result (λ rows. FindsOf packs_layout (state S.Store tx.old.conn.now) (state S.Store tx.new.conn.now)
+        (λ trees. Selects head_tree [] head_columns trees rows.items)) }
+    ensures goes_on { OnOk result (GoesOn (state S.Store tx.old.conn.now) (state S.Store tx.new.conn.now)) }
+    ensures kept { HasCleanDisk (state S.Store tx.new.conn.now) → (state S.Store tx.old.conn.now).now.schema ≡ schema_2
+        → KeepsCommit (state S.Store tx.old.conn.now) (state S.Store tx.new.conn.now) }
+    ensures survives { Survives (state S.Store tx.old.conn.now) (state S.Store tx.new.conn.now) (λ _. ⊥) }
+{
+    match tx.query_all("SELECT nmi, suffix, day, length, unit FROM mds_head", &[]) {
+        Ok(rows) => Ok(rows),
+        Err(_) => Err(Unavailable),
+    }
+}
+
+/// The versions of a day, as rows of mds_version. Those of one update lie together, so that they are packed at once.
+fn version_rows<S: Alter>(
+    tx: &mut Transaction<'_, S>,
+    stream: &Stream,
+    day: Day,
+) -> Result<Vec<Row>, Unavailable>
+    ensures same_reference { tx.new.conn.ghost_name ≡ tx.old.conn.ghost_name }
+    ensures ok { HasCleanDisk (state S.Store tx.new.conn.now)
+        → IfOk result (λ rows. FindsOf packs_layout (state S.Store tx.old.conn.now) (state S.Store tx.new.conn.now)
+        (λ trees. Selects version_tree (day_columns stream.now day) version_columns trees rows.items)) }
+    ensures goes_on { OnOk result (GoesOn (state S.Store tx.old.conn.now) (state S.Store tx.new.conn.now)) }
+    ensures kept { HasCleanDisk (state S.Store tx.new.conn.now) → (state S.Store tx.old.conn.now).now.schema ≡ schema_2
+        → KeepsCommit (state S.Store tx.old.conn.now) (state S.Store tx.new.conn.now) }
+    ensures survives { Survives (state S.Store tx.old.conn.now) (state S.Store tx.new.conn.now) (λ _. ⊥) }
+{
+    match tx.query_all(
+        "SELECT nmi, suffix, day, slot, moment, quality, code, note, amount FROM mds_version WHERE nmi = ?1 AND suffix = ?2 AND day = ?3 ORDER BY moment",
+        &day_cells(stream, day),
+    ) {
+        Ok(rows) => Ok(rows),
+        Err(_) => Err(Unavailable),
+    }
+}
+
+/// Packs the versions of the day of which a head is shown.
+fn pack_day_of<S: Alter>(
+    alloc: Global,
+    tx: &mut Transaction<'_, S>,
+    row: &Row,
+) -> Result<(), Unavailable>
+    ensures same_reference { tx.new.conn.ghost_name ≡ tx.old.conn.ghost_name }
+    ensures ok { OnOk result (PacksDays (state S.Store tx.old.conn.now) (state S.Store tx.new.conn.now) (row.now ∷ [])) }
+    ensures kept { IsThere (state S.Store tx.old.conn.now) (state S.Store tx.new.conn.now)
+        → KeepsCommit (state S.Store tx.old.conn.now) (state S.Store tx.new.conn.now) }
+    ensures survives { Survives (state S.Store tx.old.conn.now) (state S.Store tx.new.conn.now) (λ _. ⊥) }
+{
+    let Some(head) = head_in(row) else {
+        return Err(Unavailable);
+    };
+    let rows = version_rows(tx, &head.stream, head.day)?;
+    let added = DayVersions {
+        stream: head.stream,
+        day: head.day,
+        rows: all_versions(alloc, rows.as_slice())?,
+    };
+    // For the proof: a day's number is at most that of the last day.
+    let _ = head.day.number();
+    put_day(alloc, tx, head.length, &added)
+}

@@ -1,0 +1,89 @@
+//! The statements that leave schema 1 behind.
+
+ghost use Rattle.std.specs.Prelude.{◌≡◌, [], ◌∷◌, pos, OnOk};
+ghost use Rattle.sqlite.specs.Held.{state};
+ghost use Rattle.sqlite.specs.State.{HasCleanDisk, KeepsCommit, Survives};
+ghost use Rattle.sqlite.specs.Values.{bound};
+ghost use Rattle.sqlite.specs.declared.types.Value.TheVariants.{Int};
+ghost use Rattle.mds_tables.specs.Stores.{versions_said};
+ghost use Rattle.mds_migrate.specs.Migrating.{Clears, Raises, RaisesRow};
+ghost use Rattle.mds_pack_rows.specs.Putting.{GoesOn, IsThere};
+
+use mds_keeper::Unavailable;
+use mds_selects::int_at;
+use sqlite::types::ValueRef;
+use sqlite::{Alter, Row, Transaction};
+
+/// Takes all rows away from mds_version. Unavailable where one is left.
+pub(crate) fn clear_versions<S: Alter>(tx: &mut Transaction<'_, S>) -> Result<(), Unavailable>
+    ensures same_reference { tx.new.conn.ghost_name ≡ tx.old.conn.ghost_name }
+    ensures goes_on { OnOk result (GoesOn (state S.Store tx.old.conn.now) (state S.Store tx.new.conn.now)) }
+    ensures ok { OnOk result (IsThere (state S.Store tx.old.conn.now) (state S.Store tx.new.conn.now)
+        → Clears (state S.Store tx.old.conn.now) (state S.Store tx.new.conn.now)) }
+    ensures kept { IsThere (state S.Store tx.old.conn.now) (state S.Store tx.new.conn.now)
+        → KeepsCommit (state S.Store tx.old.conn.now) (state S.Store tx.new.conn.now) }
+    ensures survives { Survives (state S.Store tx.old.conn.now) (state S.Store tx.new.conn.now) (λ _. ⊥) }
+{
+    let Ok(_) = tx.execute("DELETE FROM mds_version", &[]) else {
+        return Err(Unavailable);
+    };
+    let Ok(left) = tx.query_all("SELECT slot FROM mds_version", &[]) else {
+        return Err(Unavailable);
+    };
+    if left.is_empty() {
+        Ok(())
+    } else {
+        Err(Unavailable)
+    }
+}
+
+/// Lets mds_schema say 2 where it says 1. Unavailable where it has not just one row.
+pub(crate) fn raise_version<S: Alter>(tx: &mut Transaction<'_, S>) -> Result<(), Unavailable>
+    ensures same_reference { tx.new.conn.ghost_name ≡ tx.old.conn.ghost_name }
+    ensures goes_on { OnOk result (GoesOn (state S.Store tx.old.conn.now) (state S.Store tx.new.conn.now)) }
+    ensures ok { OnOk result (IsThere (state S.Store tx.old.conn.now) (state S.Store tx.new.conn.now)
+        → versions_said (state S.Store tx.old.conn.now).now.trees ≡ pos 1 ∷ [] → Raises (state S.Store tx.old.conn.now) (state S.Store tx.new.conn.now)) }
+    ensures kept { IsThere (state S.Store tx.old.conn.now) (state S.Store tx.new.conn.now)
+        → KeepsCommit (state S.Store tx.old.conn.now) (state S.Store tx.new.conn.now) }
+    ensures survives { Survives (state S.Store tx.old.conn.now) (state S.Store tx.new.conn.now) (λ _. ⊥) }
+{
+    let Ok(rows) = tx.query_all("SELECT rowid FROM mds_schema", &[]) else {
+        return Err(Unavailable);
+    };
+    match rows.as_slice() {
+        [row] => replace_version(tx, row),
+        _ => Err(Unavailable),
+    }
+}
+
+/// A rowid.
+fn id_cells<'a>(id: i64) -> [ValueRef<'a>; 1]
+    ensures { bound result ≡ Int id ∷ [] }
+{
+    [ValueRef::Int(id)]
+}
+
+/// Lets the row of mds_schema say 2 whose rowid is shown. Unavailable where there isn't just one.
+fn replace_version<S: Alter>(tx: &mut Transaction<'_, S>, shown: &Row) -> Result<(), Unavailable>
+    ensures same_reference { tx.new.conn.ghost_name ≡ tx.old.conn.ghost_name }
+    ensures goes_on { OnOk result (GoesOn (state S.Store tx.old.conn.now) (state S.Store tx.new.conn.now)) }
+    ensures ok { OnOk result (IsThere (state S.Store tx.old.conn.now) (state S.Store tx.new.conn.now)
+        → RaisesRow (state S.Store tx.old.conn.now) (state S.Store tx.new.conn.now) shown.now) }
+    ensures kept { HasCleanDisk (state S.Store tx.new.conn.now) → KeepsCommit (state S.Store tx.old.conn.now) (state S.Store tx.new.conn.now) }
+    ensures survives { Survives (state S.Store tx.old.conn.now) (state S.Store tx.new.conn.now) (λ _. ⊥) }
+{
+    let Some(id) = int_at(shown, 0) else {
+        return Err(Unavailable);
+    };
+    let Ok(count) = tx.execute(
+        "UPDATE mds_schema SET version = 2 WHERE rowid = ?1",
+        &id_cells(id),
+    ) else {
+        return Err(Unavailable);
+    };
+    let is_replaced = count == 1;
+    if !is_replaced {
+        return Err(Unavailable);
+    }
+    Ok(())
+}

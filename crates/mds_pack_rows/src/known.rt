@@ -1,0 +1,65 @@
+//! Knows the tables of schema 2 again.
+
+ghost use Rattle.std.specs.Prelude.{◌≡◌, ◌≢◌, ◌↔◌, IsTrue, codes};
+ghost use Rattle.std.specs.Bool.{MatchBool};
+ghost use Rattle.mds_tables.specs.Tables.{indexes_with, key_index};
+ghost use Rattle.mds_pack_rows.specs.PackTables.{pack_key, pack_table, pack_tree, packs, schema_2, tables_2};
+
+use mds_tables::{are_indexes, are_tables, are_to_head, is_key_index, is_keyed};
+use sqlite_schema::schema::{Index, Kind, Schema, Table};
+
+/// Whether this is the table of packed days.
+fn is_pack(table: &Table) -> bool
+    ensures { IsTrue result ↔ (table.now ≡ pack_table) }
+{
+    is_keyed(
+        table,
+        "mds_pack",
+        16,
+        &[
+            ("nmi", Kind::Text),
+            ("suffix", Kind::Text),
+            ("day", Kind::Integer),
+            ("moment", Kind::Integer),
+            ("body", Kind::Blob),
+        ],
+        &[1, 2, 3, 4],
+        &[1, 2, 3, 4],
+    ) && are_to_head(table.references.as_slice())
+}
+
+/// Whether this is the index of its key.
+fn is_pack_index(index: &Index) -> bool
+    ensures { IsTrue result ↔ (index.now ≡ key_index (codes "sqlite_autoindex_mds_pack_1") pack_tree pack_key) }
+{
+    is_key_index(index, "sqlite_autoindex_mds_pack_1", 16, &[1, 2, 3, 4])
+}
+
+/// Whether these are the tables of schema 1, and behind them that of packed days.
+fn are_all_tables(tables: &[Table]) -> bool
+    ensures { IsTrue result ↔ (tables.now ≡ tables_2) }
+{
+    match tables {
+        [first @ .., last] => are_tables(first) && is_pack(last),
+        [] => false,
+    }
+}
+
+/// Whether these are the indexes of their keys.
+fn are_all_indexes(indexes: &[Index]) -> bool
+    ensures { IsTrue result ↔ (indexes.now ≡ indexes_with packs) }
+{
+    match indexes {
+        [first @ .., last] => are_indexes(first) && is_pack_index(last),
+        [] => false,
+    }
+}
+
+/// Whether a database has just the tables of schema 2, as the store makes them. Else it is no store of packed days.
+pub fn has_schema_2(schema: &Schema) -> bool
+    ensures { MatchBool result (schema.now ≡ schema_2) (schema.now ≢ schema_2) }
+{
+    are_all_tables(schema.tables.as_slice())
+        && are_all_indexes(schema.indexes.as_slice())
+        && schema.views.is_empty()
+}

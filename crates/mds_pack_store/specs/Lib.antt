@@ -1,0 +1,2 @@
+pub mod PackRanges
+pub mod Packed

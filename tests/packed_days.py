@@ -1,0 +1,40 @@
+"""Packs the readings of a day by hand, as "Packed days" of docs/FORMATS.md tells. It shares no code with examples/unpack.py."""
+
+import itertools
+import struct
+
+COUNTS = {5: 288, 15: 96, 30: 48}
+
+
+def run_bytes(first, last, quality, code, text):
+    """A run: its first and last interval, and its mark. A code of -1 is none."""
+    flag, method = ord(quality[0]), int(quality[1:] or "0")
+    text = text.encode()
+    return struct.pack(">HHBBHH", first, last, flag, method, 0xFFFF if code == -1 else code, len(text)) + text
+
+
+def body_of(readings):
+    """The body of a day's readings: for each interval a quality, code, text and value, or `None` where it has no reading. A code of -1
+    is none; a value is in millionths, and isn't looked at where the quality is N."""
+    runs = []
+    for mark, places in itertools.groupby(range(len(readings)), lambda place: readings[place] and readings[place][:3]):
+        if mark is not None:
+            places = list(places)
+            runs.append(run_bytes(places[0] + 1, places[-1] + 1, *mark))
+    values = [struct.pack(">q", reading[3]) for reading in readings if reading is not None and reading[0] != "N"]
+    return struct.pack(">BHH", 1, len(readings), len(runs)) + b"".join(runs) + b"".join(values)
+
+
+def actual(value):
+    """A reading of quality A, without a reason."""
+    return "A", -1, "", value
+
+
+def rows_of(versions, counts):
+    """The rows of mds_pack, in order, of rows of mds_version: nmi, suffix, day, interval, moment, quality, code, text, value. How many
+    intervals each day has is told by nmi, suffix and day."""
+    days = {}
+    for nmi, suffix, day, interval, moment, *reading in versions:
+        empty = counts[nmi, suffix, day] * [None]
+        days.setdefault((nmi, suffix, day, moment), empty)[interval - 1] = tuple(reading)
+    return [(*key, body_of(readings)) for key, readings in sorted(days.items())]
