@@ -20,6 +20,7 @@ test:
 	tests/program crates/mdstore/out/mdstore
 	tests/service crates/mdstore/out/mdstore
 	tests/examples crates/mdstore/out/mdstore crates/mds_trials/out/mds_trials
+	tests/keepers crates/mdstore/out/mdstore crates/mds_trials/out/mds_trials
 	tests/text crates/mdstore/out/mdstore
 	tests/migration crates/mdstore/out/mdstore
 

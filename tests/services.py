@@ -1,0 +1,96 @@
+"""The services that scripts ask: `mdstore serve` over a store in a file, and `mds_trials` over keepers of its own."""
+
+import functools
+import os
+import shutil
+import socket
+import subprocess
+import tempfile
+import time
+
+import checks
+from checks import MDSTORE, free_port, is_listening, mdstore, program
+
+TRIALS = program(2, "crates/mds_trials/out/mds_trials")
+DIR = tempfile.mkdtemp()
+processes = []
+
+# Some files and answers are long.
+check = functools.partial(checks.check, most=1000)
+
+
+def command(*words, file=b""):
+    """The status of a command, and what it prints."""
+    ran = mdstore(*words, given=file)
+    return ran.returncode, ran.stdout.decode()
+
+
+class Service:
+    """A process that serves so many connections, if it lives to listen."""
+
+    def __init__(self, words, environment=None):
+        self.port = free_port()
+        self.process = subprocess.Popen(words(str(self.port)), env=environment, stdin=subprocess.DEVNULL, stdout=subprocess.PIPE,
+                                        stderr=subprocess.DEVNULL)
+        processes.append(self.process)
+        while self.process.poll() is None and not is_listening(self.port):
+            time.sleep(0.002)
+        self.is_there = self.process.poll() is None
+
+    def ask(self, request):
+        """The answer to a request, or nothing where the connection is closed without one."""
+        method, target, body = request
+        head = f"{method} {target} HTTP/1.1\r\nHost: x\r\n"
+        if body is not None:
+            head += f"Content-Length: {len(body)}\r\n"
+        try:
+            with socket.create_connection(("127.0.0.1", self.port)) as peer:
+                peer.settimeout(60)
+                peer.sendall(head.encode() + b"\r\n" + (body or b""))
+                data = peer.makefile("rb").read()
+        except ConnectionError:
+            return None
+        if not data:
+            return None
+        head, _, text = data.partition(b"\r\n\r\n")
+        line, kind, *_ = head.decode().split("\r\n")
+        return int(line.split()[1]), kind.removeprefix("Content-Type: "), text.decode()
+
+    def ended(self):
+        """The status that it ends with, and what it printed."""
+        out, _ = self.process.communicate(timeout=60)
+        return self.process.returncode, out
+
+
+def started(words):
+    """A service that listens. A port may be taken before it does."""
+    for _ in range(20):
+        service = Service(words)
+        if service.is_there:
+            return service
+    raise RuntimeError(f"no service listens: {words('PORT')}")
+
+
+def over_file(store, count):
+    return started(lambda port: [MDSTORE, "serve", "--store", store, "--port", port, "--count", str(count)])
+
+
+def in_memory(count):
+    return started(lambda port: [TRIALS, "serve", port, str(count)])
+
+
+def in_rows(count):
+    return started(lambda port: [TRIALS, "serve-rows", port, str(count)])
+
+
+def new_store(name):
+    store = os.path.join(DIR, name)
+    check(f"init of {name}", command("init", "--store", store), (0, "created\n"))
+    return store
+
+
+def clear():
+    """Ends the services that still run, and takes the files away."""
+    for process in processes:
+        process.kill()
+    shutil.rmtree(DIR)
