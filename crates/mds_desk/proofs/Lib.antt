@@ -1,3 +1,4 @@
 pub mod Codes
 pub mod Headings
+pub mod ReadIn
 pub mod Requested

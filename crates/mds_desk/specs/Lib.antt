@@ -1,3 +1,4 @@
+pub mod Imported
 pub mod Performed
 pub mod Printed
 pub mod Program

@@ -4,6 +4,8 @@ use Rattle.mds_records.specs.Printed.{fault_text}
 use Rattle.mds_arguments.specs.Arguments.{argument_name}
 use Rattle.mds_check.specs.declared.checking.CheckFault.{CheckFault}
 use Rattle.mds_check.specs.declared.checking.CheckFault.TheVariants as check
+use Rattle.mds_desk.specs.declared.importing.ImportFault.{ImportFault}
+use Rattle.mds_desk.specs.declared.importing.ImportFault.TheVariants as import
 use Rattle.mds_desk.specs.declared.performing.PerformFault.{PerformFault}
 use Rattle.mds_desk.specs.declared.performing.PerformFault.TheVariants as perform
 use Rattle.mds_desk.specs.declared.outcome.Outcome.{Outcome}
@@ -31,6 +33,13 @@ abbrev pub of_request : Result Status PerformFault → Outcome
 of_request (Ok s) = outcome.Answered s
 of_request (Err perform.Write) = outcome.NoOutput
 of_request (Err perform.Memory) = outcome.Unavailable
+
+-- what the import of a file comes to
+abbrev pub of_import : Result Status ImportFault → Outcome
+of_import (Ok s) = outcome.Answered s
+of_import (Err import.Read) = outcome.NoInput
+of_import (Err import.Write) = outcome.NoOutput
+of_import (Err import.Memory) = outcome.Unavailable
 
 -- the status of it
 abbrev pub status_of : Outcome → Status

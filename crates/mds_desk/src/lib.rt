@@ -3,9 +3,11 @@
 #![tactic(auto)]
 
 mod explaining;
+mod importing;
 mod outcome;
 mod performing;
 
 pub use explaining::{EXPLANATIONS, section_of};
+pub use importing::{ImportFault, import_file, import_read};
 pub use outcome::{Outcome, Status};
 pub use performing::{PerformFault, perform};

@@ -1,8 +1,9 @@
 //! What a run comes to, what is printed of it, and the status that it ends with.
 
 ghost use Rattle.std.specs.Prelude.{◌≡◌, Some};
-ghost use Rattle.mds_desk.specs.Program.{after_failed_close, of_check, of_request, outcome_text, status_code, status_of};
+ghost use Rattle.mds_desk.specs.Program.{after_failed_close, of_check, of_import, of_request, outcome_text, status_code, status_of};
 
+use crate::importing::ImportFault;
 use crate::performing::PerformFault;
 use mds_arguments::Argument;
 use mds_check::CheckFault;
@@ -97,6 +98,18 @@ impl Outcome {
             Ok(status) => Outcome::Answered(status),
             Err(PerformFault::Write) => Outcome::NoOutput,
             Err(PerformFault::Memory) => Outcome::Unavailable,
+        }
+    }
+
+    /// What a run comes to that took in a file as it was read.
+    pub fn of_import(answer: Result<Status, ImportFault>) -> Outcome
+        ensures { result ≡ of_import answer }
+    {
+        match answer {
+            Ok(status) => Outcome::Answered(status),
+            Err(ImportFault::Read) => Outcome::NoInput,
+            Err(ImportFault::Write) => Outcome::NoOutput,
+            Err(ImportFault::Memory) => Outcome::Unavailable,
         }
     }
 

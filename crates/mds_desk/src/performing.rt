@@ -119,7 +119,7 @@ pub fn perform<K: Keeper, W: Sink>(
 
 /// Writes what a command prints of an answer, and answers the status to end with. It takes no memory but for the JSON text of a
 /// query's answer: where there is none, the answer is told as unavailable.
-fn print_answer<W: Sink>(
+pub(crate) fn print_answer<W: Sink>(
     alloc: Global,
     answer: &Answer,
     writer: &mut W,

@@ -9,3 +9,4 @@ mod putting;
 pub use committing::{commit, put_heads, put_rest};
 pub use jobs::{JobRow, job_rows};
 pub use periods::{PeriodRow, period_rows};
+pub use putting::is_failure;

@@ -171,8 +171,8 @@ fn eight_cells<'a>(
     ]
 }
 
-/// Whether an error says that the store failed.
-fn is_failure(e: &Error) -> bool
+/// Whether an error says that the store failed, and not the statement.
+pub fn is_failure(e: &Error) -> bool
     ensures { result ≡ is_store_error e.now }
 {
     match e {

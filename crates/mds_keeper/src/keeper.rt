@@ -91,7 +91,7 @@ pub trait Keeper {
     /// Adds what isn't there yet: all of it, or nothing where it is unavailable. A crash after that may leave it all the
     /// same, whole.
     fn commit(&mut self, additions: Additions) -> Result<(), Unavailable>
-        requires new { (kept self.old).sound → AreNew (kept self.old).world additions }
+        requires new { (kept self.old).sound → IsLawful (kept self.old).world → AreNew (kept self.old).world additions }
         requires lawful { (kept self.old).sound → IsLawful (kept self.old).world
             → IsLawful (union (kept self.old).world (content additions)) }
         ensures { Adds (kept self.old) (kept self.new) result (content additions) };

@@ -5,6 +5,7 @@ pub mod Judged
 pub mod Kept
 pub mod Lacking
 pub mod Lasts
+pub mod Names
 pub mod Orderly
 pub mod States
 pub mod Taken

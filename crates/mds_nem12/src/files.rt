@@ -5,16 +5,17 @@ ghost use Rattle.std.specs.List.{concat};
 ghost use Rattle.mds_lines.specs.Lines.{longest_line, most_lines};
 ghost use Rattle.mds_lines.specs.Reads.{Reads, block};
 ghost use Rattle.mds_records.specs.declared.file.FileFault.{FileFault};
-ghost use Rattle.mds_nem12.specs.Answers.{is_read_fault};
+ghost use Rattle.mds_nem12.specs.Answers.{IsReadOf, is_read_fault};
 ghost use Rattle.mds_statements.specs.Delivered.{delivery_statements};
 ghost use Rattle.mds_nem12.specs.Faults.{fault_of};
 ghost use Rattle.mds_nem12.specs.Statements.{statements_of};
 ghost use Rattle.mds_nem12.specs.Told.{is_headed};
 
 use crate::delivery::DeliveryBuilder;
+use crate::feeding::Reader;
 use crate::file_reader::FileReader;
 use crate::sink::StatementSink;
-use mds_lines::{Source, TextSource};
+use mds_lines::Source;
 use mds_records::FileFault;
 use mds_statements::Delivery;
 use mds_walk::{ReadFault, TakeFault, read_file};
@@ -34,6 +35,9 @@ pub fn read_lines<R: Source, T: StatementSink + Drop>(
     ensures done { IfOk result (λ out. IfSome (R.remaining source.old) (λ text. (fault_of text ≡ None)
         × T.told out (statements_of text) × (is_headed (statements_of text) ≡ true))) }
 
+    // It was told what some text states, also where nobody knows what the source gives.
+    ensures some { IfOk result (λ out. (text : List ℕ) × T.told out (statements_of text) × (is_headed (statements_of text) ≡ true)) }
+
     // The fault is that of the text.
     ensures fault { (fault : FileFault) → result ≡ Err (ReadFault.File fault)
         → IfSome (R.remaining source.old) (λ text. fault_of text ≡ Some fault) }
@@ -51,20 +55,40 @@ pub fn read_lines<R: Source, T: StatementSink + Drop>(
     read_file(alloc, source, file)
 }
 
+/// Reads a NEM12 file from a source: what it states, or its first fault. It holds a line, and what the lines before it state.
+pub fn read_delivery<R: Source>(alloc: Global, source: &mut R) -> Result<Delivery, ReadFault>
+    requires { R.failures source.old < 2 ^ 64 - 1 }
+
+    // What is read, or its fault, is that of the text.
+    ensures read { IfSome (R.remaining source.old) (λ text. IsReadOf text result) }
+
+    // `Read` is answered just where the source failed, once.
+    ensures counted { R.failures source.new ≡ R.failures source.old + (if is_read_fault result then 1 else 0) }
+
+    // It reads no more of the source, whatever that gives, than the lines that a file may have, and a block.
+    ensures bounded { (given : List (List ℕ)) × Reads R.gives source.old given source.new
+        × (length (concat given) ≤ most_lines * (longest_line + 1) + block) }
+{
+    match read_lines(alloc, source, DeliveryBuilder::new(alloc)) {
+        Ok(builder) => match builder.into_delivery() {
+            Some(delivery) => Ok(delivery),
+            None => unreachable!(),
+        },
+        Err(fault) => Err(fault),
+    }
+}
+
 /// Reads a whole NEM12 file: what it states, or its first fault.
 pub fn read_nem12(alloc: Global, text: &[u8]) -> Result<Delivery, TakeFault>
     ensures done { IfOk result (λ delivery. (fault_of text.now ≡ None)
         × (delivery_statements delivery ≡ statements_of text.now)) }
     ensures fault { (fault : FileFault) → result ≡ Err (TakeFault.File fault) → fault_of text.now ≡ Some fault }
 {
-    let mut source = TextSource::new(text);
-    match read_lines(alloc, &mut source, DeliveryBuilder::new(alloc)) {
-        Ok(builder) => match builder.into_delivery() {
-            Some(delivery) => Ok(delivery),
-            None => unreachable!(),
-        },
-        Err(ReadFault::File(fault)) => Err(TakeFault::File(fault)),
-        Err(ReadFault::Memory) => Err(TakeFault::Memory),
-        Err(ReadFault::Read) => unreachable!(),
+    let Ok(mut reader) = Reader::new(alloc) else {
+        return Err(TakeFault::Memory);
+    };
+    match reader.feed(text) {
+        Ok(()) => reader.finish(),
+        Err(fault) => Err(fault),
     }
 }

@@ -7,7 +7,8 @@ ghost use Rattle.mds_records.specs.declared.file.FileFault.{FileFault};
 ghost use Rattle.mds_lines.specs.Lines.{line_feed, line_pieces, line_text, most_lines};
 ghost use Rattle.mds_runs.specs.Runs.{holds};
 ghost use Rattle.mds_runs.specs.declared.cover.Run.{Run};
-ghost use Rattle.mds_nem12.specs.Faults.{fault_at, fault_of};
+ghost use Rattle.mds_walk.specs.SoFar.{fault_so_far, whole_pieces};
+ghost use Rattle.mds_nem12.specs.Faults.{fault_at, fault_of, nem12};
 ghost use Rattle.mds_nem12.specs.Governing.{runs_of};
 ghost use Rattle.mds_statements.specs.Statements.{days_of};
 ghost use Rattle.mds_nem12.specs.Statements.{statements_of};
@@ -29,6 +30,15 @@ pub fn fault_is_of_every_longer_text()
         → fault_of (text ++ line_feed ∷ []) ≡ Some fault
         → fault.line ≤ length (line_pieces (text ++ line_feed ∷ []))
         → fault_of (text ++ line_feed ∷ more) ≡ Some fault }
+{}
+
+/// A fault that a file has so far is that of every file that begins so. The fault of a file is the one that it has so far,
+/// once the line of that fault is whole.
+pub fn fault_is_fed()
+    ensures every { (text more : List ℕ) (fault : FileFault) → fault_so_far nem12 text ≡ Some fault
+        → fault_of (text ++ more) ≡ Some fault }
+    ensures early { (text : List ℕ) (fault : FileFault) → fault_of text ≡ Some fault
+        → fault.line ≤ length (whole_pieces text) → fault_so_far nem12 text ≡ Some fault }
 {}
 
 /// The days that a text states stand on ascending lines, each with a reading for each interval of

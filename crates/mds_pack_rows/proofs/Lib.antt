@@ -2,9 +2,11 @@ pub mod AskLemmas
 pub mod BodyLemmas
 pub mod CommitLemmas
 pub mod DayLemmas
+pub mod EightLemmas
 pub mod LaidLemmas
 pub mod LayoutLemmas
 pub mod MakingTexts
+pub mod ManyLemmas
 pub mod PackTexts
 pub mod PutLemmas
 pub mod SpreadLemmas

@@ -1,5 +1,5 @@
 -- What the texts of the statements mean.
-use Rattle.std.proofs.Common.{◌≡◌, List, ℕ, [], ◌∷◌, codes, refl, false}
+use Rattle.std.proofs.Common.{◌≡◌, List, ℕ, [], ◌∷◌, ◌++◌, codes, refl, false}
 use Rattle.sqlite.specs.Command.TheVariants.{Insert, Select, Update}
 use Rattle.sqlite.specs.Listing.{reads_listing, understood}
 use Rattle.sqlite.specs.Query.{Query}
@@ -31,6 +31,28 @@ insert_pack_is = refl
 pub insert_pack_plain : IsPlain (understood schema_2 insert_pack)
 unfolding understood everything
 insert_pack_plain = (refl, refl)
+
+-- ---- eight rows that are put
+
+abbrev pub insert_packs : List ℕ
+insert_packs = codes "INSERT INTO mds_pack (nmi, suffix, day, moment, body) VALUES (?1, ?2, ?3, ?4, ?5), (?6, ?7, ?8, ?9, ?10), (?11, ?12, ?13, ?14, ?15), (?16, ?17, ?18, ?19, ?20), (?21, ?22, ?23, ?24, ?25), (?26, ?27, ?28, ?29, ?30), (?31, ?32, ?33, ?34, ?35), (?36, ?37, ?38, ?39, ?40)"
+
+-- the row that has these cells
+abbrev row_terms : ℕ → ℕ → ℕ → ℕ → ℕ → List Term
+row_terms a b c d e = lit Null ∷ col 0 a ∷ col 0 b ∷ col 0 c ∷ col 0 d ∷ col 0 e ∷ []
+
+abbrev pub eight_terms : List Term
+eight_terms =
+    row_terms 0 1 2 3 4 ++ (row_terms 5 6 7 8 9 ++ (row_terms 10 11 12 13 14 ++ (row_terms 15 16 17 18 19
+    ++ (row_terms 20 21 22 23 24 ++ (row_terms 25 26 27 28 29 ++ (row_terms 30 31 32 33 34 ++ row_terms 35 36 37 38 39))))))
+
+pub insert_packs_is : command_of (understood schema_2 insert_packs) ≡ Insert pack_place (Values eight_terms 6)
+unfolding understood everything
+insert_packs_is = refl
+
+pub insert_packs_plain : IsPlain (understood schema_2 insert_packs)
+unfolding understood everything
+insert_packs_plain = (refl, refl)
 
 -- ---- the row of a day and an update
 

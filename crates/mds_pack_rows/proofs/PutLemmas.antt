@@ -55,7 +55,7 @@ use Rattle.mds_pack_rows.proofs.LaidLemmas.{laid_more}
 use Rattle.mds_pack_rows.proofs.UpdateLemmas.{Changes, swaps, updates}
 
 -- the cells are of their types
-fits : (s : Stream) (day update : ℕ) (body : List ℕ) → cast_all pack_table.columns (pack_cells s day update body) ≡ pack_cells s day update body
+pub fits : (s : Stream) (day update : ℕ) (body : List ℕ) → cast_all pack_table.columns (pack_cells s day update body) ≡ pack_cells s day update body
 fits s day update body = rw (cast_int, cast_int)
 
 -- ---- that the transaction goes on
@@ -287,7 +287,7 @@ others_then : (a b c : Trees) (tables : List Table) → KeepsOthers pack_tree a 
 others_then a b c [] p q = tt
 others_then a b c (t ∷ ts) p q = (λ other. q.0 other ∙ p.0 other, others_then a b c ts p.1 q.1)
 
-same_others : (a : Trees) (tables : List Table) → KeepsOthers pack_tree a a tables
+pub same_others : (a : Trees) (tables : List Table) → KeepsOthers pack_tree a a tables
 same_others a [] = tt
 same_others a (t ∷ ts) = (λ _. refl, same_others a ts)
 

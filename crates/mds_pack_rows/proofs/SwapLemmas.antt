@@ -1,5 +1,5 @@
 -- What a table names once a row was added, or one stands in the place of another.
-use Rattle.std.proofs.Common.{◌≡◌, ℕ, List, [], ◌∷◌, ◌++◌, drop, map, refl, sym, ap, ◌∙◌}
+use Rattle.std.proofs.Common.{◌≡◌, ℕ, List, [], ◌∷◌, ◌++◌, drop, map, refl, sym, ap, subst, ◌∙◌}
 use Rattle.std.proofs.lemmas.Grind.{flat_map-append}
 use Rattle.std.proofs.lemmas.List.{append-nil}
 use Rattle.std.proofs.lemmas.List.Sorted.{IsPermutation-sym}
@@ -41,16 +41,22 @@ module _ (read : Row → List Fact) (bare : (row : Row) → read row ≡ read (N
   plainly [] = refl
   plainly (r ∷ rs) = λ i. bare r i ++ plainly rs i
 
-  -- a table with one row more
+  -- a table with more rows
+  pub gained_all : (tree : ℕ) (cells : List Row) (old new : Trees) → Gains tree cells old new
+      → IsMore (flat_map read (new tree)) (flat_map read (old tree)) (flat_map plain cells)
+  gained_all tree cells old new gains =
+      let rows : List Row = map (drop 1) (old tree) in
+      ap of (plainly (new tree))
+      ∙ sym (shuffled plain (rows ++ cells) (map (drop 1) (new tree)) gains)
+      ∙ ap of (flat_map-append plain rows cells)
+      ∙ ap (λ facts. of (facts ++ flat_map plain cells)) (sym (plainly (old tree)))
+      ∙ append_of (flat_map read (old tree)) (flat_map plain cells)
+
+  -- one with one row more
   pub gained : (tree : ℕ) (cells : Row) (old new : Trees) → Gains tree (cells ∷ []) old new
       → IsMore (flat_map read (new tree)) (flat_map read (old tree)) (plain cells)
   gained tree cells old new gains =
-      let rows : List Row = map (drop 1) (old tree) in
-      ap of (plainly (new tree))
-      ∙ sym (shuffled plain (rows ++ cells ∷ []) (map (drop 1) (new tree)) gains)
-      ∙ ap of (flat_map-append plain rows (cells ∷ []))
-      ∙ (λ i. of (sym (plainly (old tree)) i ++ append-nil (plain cells) i))
-      ∙ append_of (flat_map read (old tree)) (plain cells)
+      subst (IsMore (flat_map read (new tree)) (flat_map read (old tree))) (append-nil (plain cells)) (gained_all tree (cells ∷ []) old new gains)
 
   -- a table with one row in the place of another, which says more
   pub swapped : (tree : ℕ) (gone come : Row) (facts : List Fact) (old new : Trees) → Swaps tree gone come old new

@@ -1,4 +1,5 @@
 pub mod DayRows
+pub mod Eights
 pub mod Laying
 pub mod PackCells
 pub mod PackFacts

@@ -39,6 +39,20 @@ pub(crate) fn unpack(alloc: Global, body: &[u8]) -> Result<Option<Vec<Option<Rea
     let Some(length) = length_of(count) else {
         return Ok(None);
     };
+    unpack_for(alloc, length, body)
+}
+
+/// Unpacks a body for a day with intervals of this length. `None` where these bytes are no body of such a day: a body
+/// that says another count of intervals isn't read.
+pub(crate) fn unpack_for(
+    alloc: Global,
+    length: Length,
+    body: &[u8],
+) -> Result<Option<Vec<Option<Reading>>>, AllocError>
+    ensures says { IfOk result (λ o. IfSome o (λ readings. readings_in body.now ≡ Some readings.items)) }
+    ensures few { IfOk result (λ o. IfSome o (λ readings. list_length readings.items < 2 ^ 16)) }
+    ensures value { IfOk result (λ o. option_map (λ v. v.items) o ≡ unpacked (count_of length) body.now) }
+{
     unpack_day(alloc, length, body)
 }
 

@@ -9,7 +9,7 @@ ghost use Rattle.mds_inserts.specs.Writing.{LeavesWrittenOf, PutsAllOf, WritesOf
 ghost use Rattle.mds_pack_rows.specs.PacksLayout.{packs_layout};
 ghost use Rattle.mds_pack_rows.specs.Putting.{HasPacked, IsThere};
 
-use crate::grouping::put_days;
+use crate::eights::put_days;
 use mds_inserts::{JobRow, PeriodRow, put_heads, put_rest};
 use mds_keeper::{Additions, Unavailable};
 use mds_tables::ready;
@@ -34,7 +34,7 @@ fn put_all<S: Alter>(
     let Ok(_) = put_heads(tx, &additions.heads) else {
         return Err(Unavailable);
     };
-    put_days(alloc, tx, &additions.days)?;
+    put_days(alloc, tx, &additions.heads, &additions.days)?;
     match put_rest(tx, additions, periods, jobs) {
         Ok(()) => Ok(()),
         Err(_) => Err(Unavailable),

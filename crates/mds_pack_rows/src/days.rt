@@ -11,22 +11,24 @@ ghost use Rattle.mds_pack_rows.specs.DayRows.{AreHeldIn, shown_facts};
 ghost use Rattle.mds_pack_rows.specs.PackFacts.{facts_from, readings_facts};
 ghost use Rattle.mds_pack_rows.specs.PacksLayout.{packs_layout, world_2};
 
-use crate::bodies::{blob_at, unpack};
+use crate::bodies::{blob_at, unpack_for};
 use crate::statements::day_rows;
 use mds_keeper::{Unavailable, Version};
 use mds_marks::Reading;
 use mds_selects::moment_at;
 use mds_tables::ready;
-use mds_terms::{Day, Moment, Stream};
+use mds_terms::{Day, Length, Moment, Stream};
 use sqlite::{Alter, Connection, Row};
 use std::alloc::Global;
 
-/// The versions of a day, each with its interval.
+/// The versions of a day, each with its interval. The length of the day's intervals is that of its head. A body for another
+/// count of intervals, or one of a day without a head, is unavailable.
 pub fn versions_of<S: Alter>(
     alloc: Global,
     conn: &mut Connection<S>,
     stream: &Stream,
     day: Day,
+    length: Option<Length>,
 ) -> Result<Vec<(u16, Version)>, Unavailable>
     requires { conn.old.in_transaction ≡ false }
     ensures { Answers (HoldsOf packs_layout) (state S.Store conn.old) (state S.Store conn.new) result
@@ -40,22 +42,46 @@ pub fn versions_of<S: Alter>(
     };
     // For the proof: a day's number is at most that of the last day.
     let _ = day.number();
-    all_held(alloc, &rows)
+    held_of(alloc, length, &rows)
 }
 
-/// The versions that rows hold.
-pub fn all_held(alloc: Global, rows: &[Row]) -> Result<Vec<(u16, Version)>, Unavailable>
+/// The versions that rows of a day hold. A day without a length has none.
+fn held_of(
+    alloc: Global,
+    length: Option<Length>,
+    rows: &[Row],
+) -> Result<Vec<(u16, Version)>, Unavailable>
+    ensures { IfOk result (λ versions. AreHeldIn rows.now versions.items) }
+{
+    match length {
+        Some(length) => all_held(alloc, length, rows),
+        None if rows.is_empty() => Ok(Vec::new(alloc)),
+        None => Err(Unavailable),
+    }
+}
+
+/// The versions that rows of a day hold, whose intervals have this length.
+pub fn all_held(
+    alloc: Global,
+    length: Length,
+    rows: &[Row],
+) -> Result<Vec<(u16, Version)>, Unavailable>
     ensures { IfOk result (λ versions. AreHeldIn rows.now versions.items) }
 {
     let mut versions = Vec::new(alloc);
     for row in rows {
-        add_row(alloc, row, &mut versions)?;
+        add_row(alloc, length, row, &mut versions)?;
     }
     Ok(versions)
 }
 
-/// Adds the versions that a row holds. Unavailable where it has no body of a day.
-fn add_row(alloc: Global, row: &Row, versions: &mut Vec<(u16, Version)>) -> Result<(), Unavailable>
+/// Adds the versions that a row holds. Unavailable where it has no body of such a day.
+fn add_row(
+    alloc: Global,
+    length: Length,
+    row: &Row,
+    versions: &mut Vec<(u16, Version)>,
+) -> Result<(), Unavailable>
     ensures { OnOk result ((s : StreamValue) (day : ℕ) → map (row_fact s day) versions.new.items ≡ map (row_fact s day) versions.old.items ++ shown_facts s day row.now) }
 {
     let Some(update) = moment_at(row, 0) else {
@@ -64,7 +90,7 @@ fn add_row(alloc: Global, row: &Row, versions: &mut Vec<(u16, Version)>) -> Resu
     let Some(body) = blob_at(row, 1) else {
         return Err(Unavailable);
     };
-    let Some(readings) = unpack(alloc, body)? else {
+    let Some(readings) = unpack_for(alloc, length, body)? else {
         return Err(Unavailable);
     };
     add_held(update, readings, versions)

@@ -16,9 +16,9 @@ use mds_terms::{Day, Length, Moment, Stream};
 use sqlite::{Alter, Transaction};
 use std::alloc::{AllocError, Global};
 
-/// Puts versions of days, each of which has its head. Those of a day and an update that lie together go into one row at once. It
-/// is unavailable where a version is kept already, or has an interval that its day doesn't have.
-pub fn put_days<S: Alter>(
+/// Puts versions of days day by day, each of which has its head. It is unavailable where a version is kept already, or has an
+/// interval that its day doesn't have.
+pub(crate) fn put_each_day<S: Alter>(
     alloc: Global,
     tx: &mut Transaction<'_, S>,
     days: &[DayVersions],
@@ -112,7 +112,7 @@ fn put_run<S: Alter>(
 }
 
 /// Whether an interval has a reading.
-fn has_some(readings: &[Option<Reading>]) -> bool
+pub(crate) fn has_some(readings: &[Option<Reading>]) -> bool
     ensures { result ≡ list_any (λ reading. is_some reading) readings.now }
 {
     match readings {
@@ -123,7 +123,7 @@ fn has_some(readings: &[Option<Reading>]) -> bool
 
 /// The readings of versions of one update, each at its interval. `None` where a version has another update, an interval that
 /// the day doesn't have, or that of one before it.
-fn spread(
+pub(crate) fn spread(
     alloc: Global,
     length: Length,
     update: Moment,

@@ -5,6 +5,7 @@
 mod bodies;
 mod committing;
 mod days;
+mod eights;
 mod grouping;
 mod heads;
 mod known;
@@ -15,6 +16,7 @@ mod statements;
 
 pub use committing::commit;
 pub use days::{all_held, versions_of};
-pub use grouping::{put_day, put_days};
+pub use eights::put_days;
+pub use grouping::put_day;
 pub use known::has_schema_2;
 pub use making::{make_pack, make_tables};

@@ -1,6 +1,7 @@
 //! The statements of SQL.
 
-ghost use Rattle.std.specs.Prelude.{◌≡◌, [], ◌∷◌, IfOk, OnOk};
+ghost use Rattle.std.specs.Prelude.{◌≡◌, [], ◌∷◌, IfOk, IsTrue, OnOk, false, length};
+ghost use Rattle.std.specs.List.{flat_map};
 ghost use Rattle.sqlite.specs.Held.{state};
 ghost use Rattle.sqlite.specs.State.{HasCleanDisk, KeepsCommit, Survives};
 ghost use Rattle.sqlite.specs.Values.{bound};
@@ -9,12 +10,14 @@ ghost use Rattle.mds_tables.specs.Cells.{day_cells as day_columns};
 ghost use Rattle.mds_tables.specs.Queries.{QueriesOf};
 ghost use Rattle.mds_tables.specs.Stores.{FindsOf, Selects};
 ghost use Rattle.mds_tables.specs.Tables.{head_tree};
+ghost use Rattle.mds_pack_rows.specs.Eights.{columns_of, said_by};
 ghost use Rattle.mds_pack_rows.specs.PackCells as row;
 ghost use Rattle.mds_pack_rows.specs.PackFacts.{body_facts};
 ghost use Rattle.mds_pack_rows.specs.PackTables.{body_columns, length_columns, pack_tree, schema_2, update_columns};
 ghost use Rattle.mds_pack_rows.specs.PacksLayout.{packs_layout};
 ghost use Rattle.mds_pack_rows.specs.Putting.{GoesOn, PutsBody, PutsFacts};
 
+use mds_inserts::is_failure;
 use mds_keeper::Unavailable;
 use mds_tables::day_cells;
 use mds_terms::{Day, Moment, Stream};
@@ -43,6 +46,48 @@ fn pack_cells<'a>(stream: &'a Stream, day: Day, update: Moment, body: &'a [u8]) 
         ValueRef::Int(day.number()),
         ValueRef::Int(update.seconds()),
         ValueRef::Blob(body),
+    ]
+}
+
+/// A row that is still to be put.
+#[derive(Drop)]
+pub(crate) struct PackRow {
+    pub(crate) stream: Stream,
+    pub(crate) day: Day,
+    pub(crate) update: Moment,
+    /// The body of its readings.
+    pub(crate) body: Vec<u8>,
+}
+
+/// The columns of a row that is still to be put.
+fn cells_of<'a>(row: &'a PackRow) -> [ValueRef<'a>; 5]
+    ensures { bound result ≡ columns_of row.now }
+{
+    pack_cells(&row.stream, row.day, row.update, row.body.as_slice())
+}
+
+/// The columns of eight rows.
+fn eight_cells<'a>(rows: &'a [PackRow]) -> [[ValueRef<'a>; 5]; 8]
+    requires { length rows.now ≡ 8 }
+    ensures { bound (flat_map (λ x. x) result) ≡ flat_map columns_of rows.now }
+{
+    let a = &rows[0];
+    let b = &rows[1];
+    let c = &rows[2];
+    let d = &rows[3];
+    let e = &rows[4];
+    let f = &rows[5];
+    let g = &rows[6];
+    let h = &rows[7];
+    [
+        cells_of(a),
+        cells_of(b),
+        cells_of(c),
+        cells_of(d),
+        cells_of(e),
+        cells_of(f),
+        cells_of(g),
+        cells_of(h),
     ]
 }
 
@@ -133,6 +178,33 @@ pub(crate) fn insert_body<S: Alter>(
     ) {
         Ok(_) => Ok(()),
         Err(_) => Err(Unavailable),
+    }
+}
+
+/// Puts eight rows by one statement. It tells whether the tables took them: where they refuse one, all stays as it was.
+pub(crate) fn insert_eight<S: Alter>(
+    tx: &mut Transaction<'_, S>,
+    rows: &[PackRow],
+) -> Result<bool, Unavailable>
+    requires { length rows.now ≡ 8 }
+    ensures same_reference { tx.new.conn.ghost_name ≡ tx.old.conn.ghost_name }
+    ensures put { IfOk result (λ put. IsTrue put → PutsFacts (state S.Store tx.old.conn.now) (state S.Store tx.new.conn.now) (flat_map said_by rows.now)) }
+    ensures none { IfOk result (λ put. put ≡ false → PutsFacts (state S.Store tx.old.conn.now) (state S.Store tx.new.conn.now) []) }
+    ensures kept { HasCleanDisk (state S.Store tx.new.conn.now) → KeepsCommit (state S.Store tx.old.conn.now) (state S.Store tx.new.conn.now) }
+    ensures survives { Survives (state S.Store tx.old.conn.now) (state S.Store tx.new.conn.now) (λ _. ⊥) }
+{
+    let cells = eight_cells(rows);
+    match tx.execute(
+        "INSERT INTO mds_pack (nmi, suffix, day, moment, body) VALUES (?1, ?2, ?3, ?4, ?5), (?6, ?7, ?8, ?9, ?10), (?11, ?12, ?13, ?14, ?15), (?16, ?17, ?18, ?19, ?20), (?21, ?22, ?23, ?24, ?25), (?26, ?27, ?28, ?29, ?30), (?31, ?32, ?33, ?34, ?35), (?36, ?37, ?38, ?39, ?40)",
+        cells.as_flattened(),
+    ) {
+        Ok(_) => Ok(true),
+        Err(e) => {
+            if is_failure(&e) {
+                return Err(Unavailable);
+            }
+            Ok(false)
+        }
     }
 }
 

@@ -12,10 +12,11 @@ use mds_inserts::{job_rows, period_rows};
 use mds_jobs::{Job, JobId};
 use mds_keeper::{Additions, DayBook, Keeper, Unavailable};
 use mds_pack_rows::{commit, versions_of};
+use mds_quantity::Unit;
 use mds_selects::{current_details, events_of, has_details, has_event, head_of, streams};
 use mds_statements::{Period, PeriodContent, PeriodKey};
 use mds_store::{content_of_period, holidays_of, job_of, periods_of};
-use mds_terms::{Day, Details, Event, Stream};
+use mds_terms::{Day, Details, Event, Length, Stream};
 use mds_world::Detail;
 use sqlite::{Alter, Connection};
 use std::alloc::Global;
@@ -52,6 +53,14 @@ impl<S: Alter> PackKeeper<S> {
     }
 }
 
+/// The length of a day's intervals, which its head says.
+fn length_in(head: &Option<(Length, Unit)>) -> Option<Length> {
+    match head {
+        Some((length, _)) => Some(*length),
+        None => None,
+    }
+}
+
 impl<S: Alter> Keeper for PackKeeper<S> {
     ghost kept = { λ k. kept_in packs_layout (state S.Store k.conn) };
 
@@ -61,7 +70,8 @@ impl<S: Alter> Keeper for PackKeeper<S> {
 
     fn day(&mut self, stream: Stream, day: Day) -> Result<DayBook, Unavailable> {
         let head = head_of(&mut self.conn, &stream, day)?;
-        let versions = versions_of(self.alloc, &mut self.conn, &stream, day)?;
+        let length = length_in(&head);
+        let versions = versions_of(self.alloc, &mut self.conn, &stream, day, length)?;
         DayBook::new(stream, day, head, versions).ok_or(Unavailable)
     }
 

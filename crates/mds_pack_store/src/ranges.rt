@@ -14,7 +14,7 @@ use mds_keeper::{DayBook, Unavailable, Version};
 use mds_pack_rows::all_held;
 use mds_store::{ReadVersions, all_books, head_range_rows};
 use mds_tables::ready;
-use mds_terms::{Day, Stream};
+use mds_terms::{Day, Length, Stream};
 use sqlite::{Alter, Connection, Row};
 use std::alloc::Global;
 
@@ -24,8 +24,12 @@ struct PackedRows;
 impl ReadVersions for PackedRows {
     ghost are = { AreHeldIn };
 
-    fn read(alloc: Global, rows: &[Row]) -> Result<Vec<(u16, Version)>, Unavailable> {
-        all_held(alloc, rows)
+    fn read(
+        alloc: Global,
+        length: Length,
+        rows: &[Row],
+    ) -> Result<Vec<(u16, Version)>, Unavailable> {
+        all_held(alloc, length, rows)
     }
 }
 

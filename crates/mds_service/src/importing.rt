@@ -1,8 +1,9 @@
 //! The request to take in a file.
 
 ghost use Rattle.mds_records.specs.declared.file.FileKind.TheVariants as kinds;
+ghost use Rattle.mds_statements.specs.Delivered.{delivery_statements};
 ghost use Rattle.mds_service.specs.Crashes.{GoesBy};
-ghost use Rattle.mds_service.specs.Machine.{ImportStep};
+ghost use Rattle.mds_service.specs.Machine.{ImportStep, TakesIn};
 
 use crate::accumulating::import_nem13;
 use crate::gathering::{Gathered, gather};
@@ -12,6 +13,7 @@ use mds_keeper::{Keeper, MergeCounts, Stop};
 use mds_messages::Answer;
 use mds_nem12::{Nem12Fault, read_nem12};
 use mds_records::FileKind;
+use mds_statements::Delivery;
 use std::alloc::Global;
 
 /// Takes in what a file of a kind states: all of it by one commit, or nothing.
@@ -35,11 +37,18 @@ pub(crate) fn import<K: Keeper>(
 fn import_nem12<K: Keeper>(alloc: Global, keeper: &mut K, text: &[u8]) -> Answer
     ensures { GoesBy (K.kept keeper.old) (K.kept keeper.new) (λ w. ImportStep w kinds.Nem12 text.now) result }
 {
-    let delivery = match read_nem12(alloc, text) {
-        Ok(delivery) => delivery,
-        Err(Nem12Fault::File(fault)) => return Answer::File(fault),
-        Err(Nem12Fault::Memory) => return Answer::Unavailable,
-    };
+    match read_nem12(alloc, text) {
+        Ok(delivery) => import_delivery(alloc, keeper, delivery),
+        Err(Nem12Fault::File(fault)) => Answer::File(fault),
+        Err(Nem12Fault::Memory) => Answer::Unavailable,
+    }
+}
+
+/// Takes in a delivery: all that it states by one commit, or nothing. Whoever reads a NEM12 file in pieces has one in the
+/// end. The answer is that of an import of any file with these statements.
+pub fn import_delivery<K: Keeper>(alloc: Global, keeper: &mut K, delivery: Delivery) -> Answer
+    ensures { GoesBy (K.kept keeper.old) (K.kept keeper.new) (λ w. TakesIn w (delivery_statements delivery)) result }
+{
     let gathered = match gather(alloc, keeper, delivery) {
         Ok(gathered) => gathered,
         Err(Stop::Refused(refusal)) => return Answer::Refused(refusal),

@@ -19,7 +19,7 @@ use crate::rows::{head_range_rows, version_range_rows};
 use mds_keeper::{DayBook, Unavailable, Version};
 use mds_selects::{all_versions, day_at, head_in};
 use mds_tables::ready;
-use mds_terms::{Day, Stream};
+use mds_terms::{Day, Length, Stream};
 use mds_world::Head;
 use sqlite::{Alter, Connection, Row};
 use std::alloc::Global;
@@ -55,8 +55,8 @@ pub trait ReadVersions {
     /// These versions are those that the rows say.
     ghost are: { List RowValue → List (ℕ × VersionValue) → Type 0 };
 
-    /// The versions of rows of a day, each with its interval.
-    fn read(alloc: Global, rows: &[Row]) -> Result<Vec<(u16, Version)>, Unavailable>
+    /// The versions of rows of a day with intervals of this length, each with its interval.
+    fn read(alloc: Global, length: Length, rows: &[Row]) -> Result<Vec<(u16, Version)>, Unavailable>
         ensures { IfOk result (λ versions. are rows.now versions.items) };
 }
 
@@ -66,7 +66,11 @@ pub struct EachRow;
 impl ReadVersions for EachRow {
     ghost are = { AreVersionsIn };
 
-    fn read(alloc: Global, rows: &[Row]) -> Result<Vec<(u16, Version)>, Unavailable> {
+    fn read(
+        alloc: Global,
+        _length: Length,
+        rows: &[Row],
+    ) -> Result<Vec<(u16, Version)>, Unavailable> {
         all_versions(alloc, rows)
     }
 }
@@ -136,7 +140,7 @@ fn book_of<V: ReadVersions>(
     requires { AreOfDay head.now.day rows.now }
     ensures { IfOk result (IsBookOf V.are stream.now head.now rows.now) }
 {
-    let Ok(versions) = V::read(alloc, rows) else {
+    let Ok(versions) = V::read(alloc, head.length, rows) else {
         return Err(Unavailable);
     };
     let form = Some((head.length, head.unit));

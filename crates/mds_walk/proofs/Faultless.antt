@@ -50,14 +50,14 @@ faultless_push judge done piece before here = record {
       ap (fault_at judge (done ++ piece ∷ [])) same ∙ fault_here judge done piece [] ∙ here
 
 -- the first fault of a list that has none up to a place
-first_none : (f : ℕ → Option FileFault) (more : List (Option FileFault)) (a n : ℕ) → ((k : ℕ) → a ≤ k → k < a + n → f k ≡ None)
+pub first_none : (f : ℕ → Option FileFault) (more : List (Option FileFault)) (a n : ℕ) → ((k : ℕ) → a ≤ k → k < a + n → f k ≡ None)
     → first_of (map f (range_with_len a n) ++ more) ≡ first_of more
 first_none f more a zero none = refl
 first_none f more a (suc n) none =
     ap (λ o. first_of (o ∷ (map f (range_with_len (a + 1) n) ++ more))) (none a (omega arith) (omega arith))
     ∙ first_none f more (a + 1) n (λ k h l. none k (omega arith) (omega arith))
 
-first_some : (f : ℕ → Option FileFault) (more : List (Option FileFault)) (fault : FileFault) (a n j : ℕ)
+pub first_some : (f : ℕ → Option FileFault) (more : List (Option FileFault)) (fault : FileFault) (a n j : ℕ)
     → ((k : ℕ) → a ≤ k → k < j → f k ≡ None) → a ≤ j → j < a + n → f j ≡ Some fault
     → first_of (map f (range_with_len a n) ++ more) ≡ Some fault
 first_some f more fault a zero j none low high here = absurd (omega arith)

@@ -1,4 +1,9 @@
+pub mod Bounds
+pub mod Early
 pub mod Faultless
-pub mod LinesRead
 pub mod Longer
 pub mod Numbered
+pub mod Parts
+pub mod Sources
+pub mod Steps
+pub mod Stops

@@ -22,6 +22,10 @@ IsStop found lack Memory = lack
 abbrev pub IsEndFault : Option FileFault → TakeFault → Type 0
 IsEndFault found answer = IsStop found ⊥ answer
 
+-- a text is refused for the fault that it has, or for want of memory
+abbrev pub IsRefusal : Option FileFault → TakeFault → Type 0
+IsRefusal found answer = IsStop found (Unit {0}) answer
+
 -- A line that has this fault, if it has one, is taken or refused with it. Memory may be wanting where `may_lack` holds.
 abbrev pub Takes : {T : Type 0} {U : Type 0} → (T → List (List ℕ) → Type 0) → (List (List ℕ) → List ℕ → Option FileFault → Type 0)
     → List (List ℕ) → List ℕ → Option FileFault → Result U TakeFault → T → Type 0

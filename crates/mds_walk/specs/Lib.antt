@@ -1,5 +1,7 @@
 pub mod Answers
 pub mod Faults
+pub mod Feeding
 pub mod FileSteps
 pub mod Governing
 pub mod Said
+pub mod SoFar

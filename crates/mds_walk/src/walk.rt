@@ -1,14 +1,21 @@
 //! A walk through the lines of a file.
 
-ghost use Rattle.std.specs.Prelude.{◌≡◌, ◌^◌, ◌-◌, ◌<◌, ◌+◌, ℕ, List, [], length, None, Some, Err, IfSome, IfErr, MatchResult};
+ghost use Rattle.std.specs.Prelude.{◌≡◌, ◌^◌, ◌-◌, ◌<◌, ◌+◌, ℕ, List, [], ◌∷◌, ◌++◌, length, None, Some, Err, IfSome, IfOk, IfErr, MatchResult};
+ghost use Rattle.mds_lines.specs.Lines.{line_text, most_lines};
 ghost use Rattle.mds_lines.specs.Numbered.{number_of, text_of};
-ghost use Rattle.mds_walk.specs.Answers.{HasWalked, IsEndFault, Takes, fault_answered};
-ghost use Rattle.mds_walk.specs.Faults.{end_fault, text_fault};
+ghost use Rattle.mds_walk.specs.Answers.{HasWalked, IsEndFault, IsRefusal, Takes, fault_answered};
+ghost use Rattle.mds_walk.specs.Faults.{end_fault, line_fault, text_fault};
 
 use crate::fault::{TakeFault, at_end, at_line};
 use crate::sink::RecordSink;
 use mds_lines::{KindFault, Line};
 use mds_records::FaultCode;
+
+/// The most bytes that a line has before its line feed (L10).
+pub(crate) const LONGEST_LINE: usize = 16_384;
+
+/// The most lines that a file has (L10).
+const MOST_LINES: u64 = 1_000_000;
 
 /// A walk through the lines of a file, as far as it has come. Its records go to a sink. After a fault it
 /// answers the same fault to every further line.
@@ -48,6 +55,37 @@ impl<T: RecordSink + Drop> Walk<T> {
                 }
             },
         }
+    }
+
+    /// Takes the next line, by the bytes before its line feed. It comes after so many lines. It may be too long, or one too many
+    /// (L10).
+    pub(crate) fn take_piece(&mut self, lines: u32, piece: &[u8]) -> Result<(), TakeFault>
+        ensures taken { (before : List (List ℕ)) → HasWalked T.taken self.old before → lines ≡ length before
+            → MatchResult result
+            (λ _. (line_fault T.judge before piece.now ≡ None)
+            × HasWalked T.taken self.new (before ++ line_text piece.now ∷ []))
+            (IsRefusal (line_fault T.judge before piece.now)) }
+        ensures few { IfOk result (λ _. lines < most_lines) }
+    {
+        let number = u64::from(lines) + 1;
+        if piece.len() > LONGEST_LINE || number > MOST_LINES {
+            return Err(at_end(FaultCode::TooLarge, u64::from(lines)));
+        }
+        self.take(&Line::new(number, piece))
+    }
+
+    /// The fault that it has answered, if it has answered one.
+    pub(crate) fn fault(&self) -> Option<TakeFault>
+        ensures { result ≡ fault_answered self.now }
+    {
+        self.fault
+    }
+
+    /// Makes it answer a fault from now on, as it does after one of its own.
+    pub(crate) fn refuse(&mut self, fault: TakeFault)
+        ensures { fault_answered self.new ≡ Some fault }
+    {
+        self.fault = Some(fault);
     }
 
     /// Ends the file after so many lines, and gives what the sink made of them; or answers the fault

@@ -2,6 +2,7 @@
 
 use crate::asking::{ask_keeper, read_whole};
 use crate::commands::ask;
+use crate::importing::{import, import_over};
 use crate::store_file::{Task, in_store};
 use mds_check::check;
 use mds_desk::{Outcome, Status};
@@ -56,8 +57,20 @@ pub(crate) fn import_inputs(
     inputs: &[Input<'_>],
 ) -> Outcome {
     match inputs {
-        [input] => ask_input(rt, store, FileCommand::Import(kind), *input),
+        [input] => import_input(rt, store, kind, *input),
         _ => in_store(rt, store, Importing { kind, inputs }),
+    }
+}
+
+/// Imports an input of a kind into a store. A NEM12 file is taken in as it is read, a NEM13 file once it was read.
+fn import_input(rt: &HostRuntime, store: &str, kind: FileKind, input: Input<'_>) -> Outcome {
+    match (kind, input) {
+        (FileKind::Nem12, Input::Standard) => import(rt, store, rt.reader()),
+        (FileKind::Nem12, Input::File(name)) => match fs::open(rt, name) {
+            Ok(file) => import(rt, store, file),
+            Err(_) => Outcome::NoInput,
+        },
+        (FileKind::Nem13, _) => ask_input(rt, store, FileCommand::Import(kind), input),
     }
 }
 
@@ -97,6 +110,29 @@ fn import_named<K: Keeper>(
     if print!(rt; "{name}: ").is_err() {
         return None;
     }
+    let outcome = match kind {
+        FileKind::Nem12 => import_nem12(rt, keeper, input),
+        FileKind::Nem13 => import_nem13(rt, keeper, input),
+    };
+    if matches!(outcome, Outcome::NoOutput) || print!(rt; "{outcome}").is_err() {
+        return None;
+    }
+    Some(outcome.status())
+}
+
+/// Takes in a NEM12 file over a keeper, and prints its answer.
+fn import_nem12<K: Keeper>(rt: &HostRuntime, keeper: &mut K, input: Input<'_>) -> Outcome {
+    match input {
+        Input::Standard => import_over(rt, keeper, rt.reader()),
+        Input::File(name) => match fs::open(rt, name) {
+            Ok(file) => import_over(rt, keeper, file),
+            Err(_) => Outcome::NoInput,
+        },
+    }
+}
+
+/// Takes in a NEM13 file over a keeper, and prints its answer.
+fn import_nem13<K: Keeper>(rt: &HostRuntime, keeper: &mut K, input: Input<'_>) -> Outcome {
     let bytes = match input {
         Input::Standard => read_whole(rt, rt.reader()),
         Input::File(name) => match fs::open(rt, name) {
@@ -104,11 +140,7 @@ fn import_named<K: Keeper>(
             Err(_) => Err(Outcome::NoInput),
         },
     };
-    let outcome = ask_keeper(rt, keeper, FileCommand::Import(kind), bytes);
-    if matches!(outcome, Outcome::NoOutput) || print!(rt; "{outcome}").is_err() {
-        return None;
-    }
-    Some(outcome.status())
+    ask_keeper(rt, keeper, FileCommand::Import(FileKind::Nem13), bytes)
 }
 
 /// The greater of two statuses.

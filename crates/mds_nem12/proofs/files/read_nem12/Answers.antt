@@ -1,10 +1,14 @@
-use Rattle.std.proofs.lemmas.Bool.{false≢true}
-use Rattle.mds_nem12.specs.Statements.{statements_of}
-use Rattle.mds_nem12.proofs.Orderly.{days_ascend, days_whole}
+use Rattle.std.proofs.Common.{◌≡◌, [], subst}
+use Rattle.mds_walk.proofs.Steps.{refusal_ends}
+use Rattle.mds_walk.specs.Answers.{IsRefusal}
+use Rattle.mds_walk.specs.declared.fault.TakeFault.{TakeFault}
+use Rattle.mds_walk.specs.declared.fault.TakeFault.TheVariants.{File}
+use Rattle.mds_nem12.specs.Faults.{fault_of, nem12}
 use Rattle.mds_nem12.proofs.files.read_nem12.Goals as goal
 
-pub unreachable-requires : goal.unreachable-requires
-unreachable-requires c =
-    let text = c.new-source.result.left.now in
-    let done = c.in-Ok.ensures.done in
-    absurd (false≢true (c.in-None.ensures.some (statements_of text) done.1 done.2 (days_ascend text) (days_whole text)))
+pub returns-in-Err-clause-fault : goal.returns-in-Err-clause-fault
+unfolding fault_of
+returns-in-Err-clause-fault c = λ fault e.
+    let same : c.in-Err.fault ≡ File fault = cc in
+    subst (λ (t : TakeFault). IsRefusal (fault_of c.args.text.now) t) same
+    (refusal_ends nem12 c.args.text.now _ (c.in-Err.ensures.answer [] c.in-Ok.ensures.read))

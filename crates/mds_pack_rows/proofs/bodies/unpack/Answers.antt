@@ -16,14 +16,14 @@ returns-in_default-length_of-clause-only c minutes readings lawful read =
     absurd (c.in_default-length_of.ensures.none minutes lawful (let e = says in cc))
 
 pub returns-clause-says : goal.returns-clause-says
-returns-clause-says c = all_said (λ v. v.items) _ c.args.body.now c.unpack_day.result c.unpack_day.ensures.value
+returns-clause-says c = c.unpack_for.ensures.says
 
 pub returns-clause-only : goal.returns-clause-only
 returns-clause-only c =
     let body = c.args.body.now in
-    IfOk-weaker c.unpack_day.result (λ o. option_map (λ v. v.items) o ≡ unpacked (count_of c.in-Some-length_of.length) body) _
+    IfOk-weaker c.unpack_for.result (λ o. option_map (λ v. v.items) o ≡ unpacked (count_of c.in-Some-length_of.length) body) _
     (λ o value minutes readings lawful read.
     let says : Some c.in-Some.count ≡ Some (count_of minutes) = c.in-Some.ensures ∙ counted_as (count_of minutes) body readings read in
     let same : count_of c.in-Some-length_of.length ≡ count_of minutes = c.in-Some-length_of.ensures.some ∙ (let e = says in cc) in
     value ∙ ap (λ n. unpacked n body) same ∙ read)
-    c.unpack_day.ensures.value
+    c.unpack_for.ensures.value

@@ -28,7 +28,7 @@ returns-in_err-put_days-clause-survives g c =
 pub returns-in-Ok-put_rest-clause-ok : goal.returns-in-Ok-put_rest-clause-ok
 returns-in-Ok-put_rest-clause-ok g c =
     let heads = rw (c.deref.ensures.value) at (c.in-Ok.ensures.puts packs) in
-    let versions = rw (c.deref-2.ensures.value) at c.in_ok-put_days.ensures.ok in
+    let versions = rw (c.deref-3.ensures.value) at c.in_ok-put_days.ensures.ok in
     let rest = c.in-Ok-put_rest.ensures.puts packs in
     all_there packs_layout HasPacked steady_packs (state g.S.Store c.args.tx.now.conn.now) (state g.S.Store c.put_heads.new.tx.conn.now)
     (state g.S.Store c.put_days.new.tx.conn.now) (state g.S.Store c.put_rest.new.tx.conn.now) c.args.additions.now c.args.periods.now c.args.jobs.now

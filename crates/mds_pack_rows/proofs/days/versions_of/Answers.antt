@@ -11,7 +11,7 @@ pub returns : goal.returns
 returns g c =
     let rows = c.in-Ok-day_rows.rows.items in
     let ready = steady packs_layout c.in-Ok.ensures.ok c.ready.ensures.survives c.ready.ensures.mode in
-    answers (tables_held packs_layout (state g.S.Store c.args.conn.now)) (and_then ready c.in-Ok-day_rows.ensures) c.all_held.result
-    (λ known. IfOk-weaker c.all_held.result (λ versions. AreHeldIn rows versions.items) _
+    answers (tables_held packs_layout (state g.S.Store c.args.conn.now)) (and_then ready c.in-Ok-day_rows.ensures) c.held_of.result
+    (λ known. IfOk-weaker c.held_of.result (λ versions. AreHeldIn rows versions.items) _
     (λ versions. finds_held c.args.stream.now c.args.day (omega (arith, c.number.ensures.last)) _ known.0 rows known.1 versions.items)
-    (rw c.deref.ensures.value at c.all_held.ensures))
+    (rw c.deref.ensures.value at c.held_of.ensures))

@@ -16,13 +16,13 @@ changed_days-requires-clause-lawful c =
 
 pub insert_notes-requires-clause-apart : goal.insert_notes-requires-clause-apart
 insert_notes-requires-clause-apart c =
-    rw c.deref-3.ensures.value (notes_apart c.args.self.now c.args.additions c.in_ok-notes.notes.items (c.requires.new tt) c.in_ok-notes.ensures)
+    rw c.deref-3.ensures.value (notes_apart c.args.self.now c.args.additions c.in_ok-notes.notes.items (c.requires.new tt (rw c.self.view_is at c.self.invariant.lawful)) c.in_ok-notes.ensures)
 
 pub insert_notes-requires-clause-absent : goal.insert_notes-requires-clause-absent
 insert_notes-requires-clause-absent c =
     rw c.deref-3.ensures.value
     (notes_absent c.self.inside.days c.self.inside.notes c.self.inside.jobs c.self.inside.periods c.args.self.now c.args.additions c.in_ok-notes.notes.items c.self.view_is
-    (c.requires.new tt) c.in_ok-notes.ensures)
+    (c.requires.new tt (rw c.self.view_is at c.self.invariant.lawful)) c.in_ok-notes.ensures)
 
 pub put_jobs-requires-clause-lawful : goal.put_jobs-requires-clause-lawful
 put_jobs-requires-clause-lawful c =

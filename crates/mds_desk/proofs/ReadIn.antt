@@ -1,0 +1,61 @@
+-- How the import of what was read goes.
+use Rattle.std.specs.Prelude.{◌≡◌, ℕ, List, true, Ok, Err}
+use Rattle.std.proofs.Common.{inl, inr, refl, sym, subst}
+use Rattle.mds_records.specs.declared.file.FileFault.{FileFault}
+use Rattle.mds_records.specs.declared.file.FileKind.TheVariants.{Nem12}
+use Rattle.mds_statements.specs.Delivered.{delivery_statements}
+use Rattle.mds_statements.specs.declared.delivery.Delivery.{Delivery}
+use Rattle.mds_walk.specs.declared.fault.ReadFault.{ReadFault}
+use Rattle.mds_walk.specs.declared.fault.ReadFault.TheVariants as unread
+use Rattle.mds_world.specs.World.{World}
+use Rattle.mds_keeper.specs.Kept.{Kept}
+use Rattle.mds_messages.specs.Answers.{has_list}
+use Rattle.mds_messages.specs.declared.answer.Answer.{Answer}
+use Rattle.mds_messages.specs.declared.answer.Answer.TheVariants as told
+use Rattle.mds_nem12.specs.Answers.{IsReadOf}
+use Rattle.mds_service.specs.Crashes.{GoesBy}
+use Rattle.mds_service.specs.Machine.{ImportStep, TakesIn}
+use Rattle.mds_service.proofs.Deliveries.{as_import}
+use Rattle.mds_service.proofs.Steps.{unasked}
+use Rattle.mds_desk.specs.Performed.{IsToldAs}
+
+module _ (text : List ℕ) where
+  -- an import isn't answered with a list
+  no_list : (w v : World) (answer : Answer) → has_list answer ≡ true → ImportStep w Nem12 text answer v → ⊥
+  no_list w v (told.Imported added known) list h = cc
+  no_list w v (told.Substituted count) list h = h
+  no_list w v (told.Known count) list h = h
+  no_list w v (told.HolidaysAdded added known) list h = h
+  no_list w v (told.Day answer) list h = h
+  no_list w v (told.Versions answer) list h = h
+  no_list w v (told.Period answer) list h = h
+  no_list w v (told.Streams answers) list h = h
+  no_list w v (told.Gaps it) list h = h
+  no_list w v (told.Finals it) list h = h
+  no_list w v (told.Exported it) list h = h
+  no_list w v (told.File fault) list h = cc
+  no_list w v (told.Refused refusal) list h = cc
+  no_list w v told.Unavailable list h = cc
+
+  module _ {a b : Kept} where
+    -- so it is told as it is
+    pub told_so : (answer other : Answer) → IsToldAs answer other → GoesBy a b (λ w. ImportStep w Nem12 text) answer
+        → GoesBy a b (λ w. ImportStep w Nem12 text) other
+    told_so answer other (inl same) goes = subst (GoesBy a b (λ w. ImportStep w Nem12 text)) (sym same) goes
+    told_so answer other (inr wanting) goes = record {
+      outside = goes.outside;
+      before = goes.before;
+      step = λ honest w lawful shows.
+          let it = goes.step honest w lawful shows in absurd (no_list w it.0 answer wanting.0 it.2);
+    }
+
+    -- what a text states is taken in
+    pub delivered : (delivery : Delivery) (answer : Answer) → IsReadOf text (Ok delivery)
+        → GoesBy a b (λ w. TakesIn w (delivery_statements delivery)) answer → GoesBy a b (λ w. ImportStep w Nem12 text) answer
+    delivered delivery answer read goes = as_import Nem12 text read.0 (delivery_statements delivery) read.1 goes
+
+  -- a text with a fault is answered with it
+  pub faulted : {a : Kept} (fault : ReadFault) (found : FileFault) → fault ≡ unread.File found → IsReadOf text (Err fault)
+      → GoesBy a a (λ w. ImportStep w Nem12 text) (told.File found)
+  faulted fault found is read =
+      let known : IsReadOf text (Err (unread.File found)) = subst (λ it. IsReadOf text (Err it)) is read in unasked (λ w. (known, refl))

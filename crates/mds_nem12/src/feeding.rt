@@ -1,0 +1,85 @@
+//! A NEM12 file that is fed in pieces.
+
+ghost use Rattle.std.specs.Prelude.{◌≡◌, ℕ, List, [], ◌++◌, None, Some, Err, IfSome, IfOk, IfErr, MatchResult};
+ghost use Rattle.mds_walk.specs.SoFar.{fault_so_far};
+ghost use Rattle.mds_walk.specs.Answers.{IsRefusal};
+ghost use Rattle.mds_statements.specs.Delivered.{delivery_statements};
+ghost use Rattle.mds_nem12.specs.Faults.{fault_of, nem12};
+ghost use Rattle.mds_nem12.specs.Statements.{statements_of};
+
+use crate::delivery::DeliveryBuilder;
+use crate::file_reader::FileReader;
+use mds_statements::Delivery;
+use mds_walk::{LineFeeder, TakeFault};
+use std::alloc::{AllocError, Global};
+use std::marker::Model;
+
+/// A NEM12 file that comes in pieces, as far as it was fed. It holds the line that isn't whole yet, and the delivery so far.
+#[derive(Drop)]
+pub struct Reader {
+    feeder: LineFeeder<FileReader<DeliveryBuilder>>,
+}
+
+impl Model for Reader {
+    ghost use Rattle.std.specs.Prelude.{List, ℕ};
+    ghost use Rattle.mds_walk.specs.declared.feeder.LineFeeder.{LineFeeder as AFeeder};
+    ghost use Rattle.mds_nem12.specs.Reader.{HasRead};
+    ghost use Rattle.mds_nem12.specs.declared.delivery.DeliveryBuilder.{DeliveryBuilder as ABuilder};
+    ghost use Rattle.mds_nem12.specs.declared.file_reader.FileReader.{FileReader as AReader};
+
+    ghost Value = { AFeeder (AReader ABuilder) };
+
+    ghost view = { λ r. r.feeder };
+
+    // It was fed some text.
+    ghost invariant = { λ r. (text : List ℕ) × HasRead text r.feeder };
+}
+
+impl Reader {
+    ghost use Rattle.mds_nem12.specs.Reader.{HasRead, reader_fault};
+
+    /// Before the first piece of a file. It takes the memory for a day's values.
+    pub fn new(alloc: Global) -> Result<Reader, AllocError>
+        ensures read { IfOk result (HasRead []) }
+        ensures fresh { IfOk result (λ reader. reader_fault reader ≡ None) }
+    {
+        let file = FileReader::new(alloc, DeliveryBuilder::new(alloc))?;
+        Ok(Reader {
+            feeder: LineFeeder::new(alloc, file),
+        })
+    }
+
+    /// Takes the next piece, or answers the fault that the file so far has, whatever follows. Pieces may end anywhere, also
+    /// inside a line. After a fault, or want of memory, it answers the same.
+    pub fn feed(&mut self, piece: &[u8]) -> Result<(), TakeFault>
+        ensures fed { (text : List ℕ) → HasRead text self.old → HasRead (text ++ piece.now) self.new }
+        ensures answer { (text : List ℕ) → HasRead text self.old
+            → MatchResult result (λ _. fault_so_far nem12 (text ++ piece.now) ≡ None)
+            (IsRefusal (fault_so_far nem12 (text ++ piece.now))) }
+        ensures stays { (text : List ℕ) → HasRead text self.old
+            → IfOk result (λ _. reader_fault self.new ≡ None) }
+        ensures again { IfSome (reader_fault self.old) (λ fault. (result ≡ Err fault)
+            × (reader_fault self.new ≡ Some fault)) }
+        ensures kept { IfErr result (λ fault. reader_fault self.new ≡ Some fault) }
+    {
+        self.feeder.feed(piece)
+    }
+
+    /// Ends the file: what it states, or its first fault. What stands behind the last line feed is a line, if it isn't empty.
+    /// After a fault it answers the same.
+    pub fn finish(self) -> Result<Delivery, TakeFault>
+        ensures ended { (text : List ℕ) → HasRead text self
+            → MatchResult result
+            (λ delivery. (fault_of text ≡ None) × (delivery_statements delivery ≡ statements_of text))
+            (IsRefusal (fault_of text)) }
+        ensures again { IfSome (reader_fault self) (λ fault. result ≡ Err fault) }
+    {
+        match self.feeder.finish() {
+            Ok(builder) => match builder.into_delivery() {
+                Some(delivery) => Ok(delivery),
+                None => unreachable!(),
+            },
+            Err(fault) => Err(fault),
+        }
+    }
+}

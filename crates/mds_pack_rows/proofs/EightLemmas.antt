@@ -1,0 +1,167 @@
+-- Eight new days whose rows one statement puts.
+use Rattle.std.proofs.Common.{◌≡◌, ◌≤◌, ◌<◌, ◌+◌, ◌/◌, ◌++◌, ℕ, Bool, List, [], ◌∷◌, get_or, length, map, take, IsTrue, IfOk, Ok, Err, None, Some, Option, Result, refl, sym, ap, subst, ◌∙◌, arith}
+use Rattle.std.proofs.lemmas.Grind.{flat_map-append}
+use Rattle.std.proofs.lemmas.List.{append-nil, map-append, take_more}
+use Rattle.std.specs.List.{flat_map}
+use Rattle.sqlite.specs.Command.TheVariants.{Insert}
+use Rattle.sqlite.specs.Does.{Does}
+use Rattle.sqlite.specs.Effect.{Database, value_rows}
+use Rattle.sqlite.specs.Listing.{understood}
+use Rattle.sqlite.specs.Source.TheVariants.{Values}
+use Rattle.sqlite.specs.State.{ExecutesInside, HasCleanDisk, State, mode_of}
+use Rattle.sqlite.specs.declared.types.Value.TheVariants.{Null}
+use Rattle.sqlite.proofs.Callers.{runs_as, statement_of}
+use Rattle.sqlite_catalog.specs.Listing.{IsSound}
+use Rattle.sqlite_schema.specs.declared.schema.Keys.TheVariants.{Enforced}
+use Rattle.sqlite_trees.specs.View.{doubt}
+use Rattle.sqlite_value.specs.Order.{Row}
+use Rattle.mds_names.specs.declared.stream.Stream.{Stream}
+use Rattle.mds_marks.specs.Reading.{ReadingValue}
+use Rattle.mds_world.specs.FactOrder.{exact, total}
+use Rattle.mds_world.specs.Facts.{Fact}
+use Rattle.mds_world.proofs.Sets.{list_append, union_empty}
+use Rattle.mds_world.specs.World.{union}
+use Rattle.mds_keeper.specs.Content.{day_versions, version_at, version_fact, versions_of}
+use Rattle.mds_keeper.specs.declared.additions.DayVersions.{DayVersions}
+use Rattle.mds_keeper.specs.declared.day_book.Version.{Version}
+use Rattle.mds_tables.specs.Stores.{Gains}
+use Rattle.mds_inserts.specs.Writing.{KeepsOthers, StaysAs}
+use Rattle.mds_inserts.proofs.EightCells.{eight_got}
+use Rattle.mds_inserts.proofs.EightDays.{flat}
+use Rattle.mds_inserts.proofs.RowByRow.{sources}
+use Rattle.mds_inserts.proofs.RowLemmas.{of}
+use Rattle.mds_pack_rows.specs.Eights.{SayDays, SaysDay, columns_of, said_by}
+use Rattle.mds_pack_rows.specs.PackFacts.{body_facts, pack_facts, pack_versions, readings_in}
+use Rattle.mds_pack_rows.specs.PackTables.{pack_table, pack_tree, schema_2, tables_2}
+use Rattle.mds_pack_rows.specs.PacksLayout.{idle_packs}
+use Rattle.mds_pack_rows.specs.Putting.{ChangesPacks, NamesMore, PutsFacts, SayRows}
+use Rattle.mds_pack_rows.specs.declared.statements.PackRow.{PackRow}
+use Rattle.mds_pack_rows.proofs.ManyLemmas.{AddsAll, AreFit, adds_all}
+use Rattle.mds_pack_rows.proofs.PackTexts.{eight_terms, insert_packs, insert_packs_is, insert_packs_plain, pack_place}
+use Rattle.mds_pack_rows.proofs.PutLemmas.{as_rows, fits, puts_as, puts_then, ran_on, same_others, says_day}
+use Rattle.mds_pack_rows.proofs.SwapLemmas.{gained_all, pack_bare}
+
+-- ---- eight rows that are put
+
+fit_all : (rows : List PackRow) → AreFit pack_table (map columns_of rows)
+fit_all [] = tt
+fit_all (r ∷ rs) = (fits r.stream r.day r.update r.body.items, fit_all rs)
+
+say_all : (rows : List PackRow) → flat_map (λ cells. pack_facts (Null ∷ cells)) (map columns_of rows) ≡ flat_map said_by rows
+say_all [] = refl
+say_all (r ∷ rs) = ap (λ facts. said_by r ++ facts) (say_all rs)
+
+-- what the text puts are these rows
+text_rows : (rows : List PackRow) → length rows ≡ 8
+    → value_rows (flat_map columns_of rows ++ []) 6 (length eight_terms / 6) eight_terms ≡ sources (map columns_of rows)
+text_rows [] eight = absurd (omega arith)
+text_rows (r ∷ rs) eight =
+    subst (λ rows. value_rows (flat_map columns_of rows ++ []) 6 (length eight_terms / 6) eight_terms ≡ sources (map columns_of rows))
+    (sym (eight_got (r ∷ rs) eight r r r r r r r r)) refl
+
+module _ (rows : List PackRow) (eight : length rows ≡ 8) (count : ℕ) (old new : State) where
+  abbrev cells : Row
+  cells = flat_map columns_of rows
+
+  abbrev Puts : Type 0
+  Puts = ChangesPacks old new × Gains pack_tree (map columns_of rows) old.now.trees new.now.trees
+
+  puts : old.now.schema ≡ schema_2 → ExecutesInside 0 insert_packs cells old new (Ok count) → Puts
+  puts has ran =
+      let db = old.now.trees in
+      let w = runs_as insert_packs cells old new schema_2 has _ insert_packs_is insert_packs_plain count ran.0 in
+      let stated = statement_of insert_packs (understood schema_2 insert_packs) in
+      let does = subst (λ s. Does old.step_limit (mode_of old) cells (record old.now { schema = s }) stated None
+      (Insert pack_place (Values eight_terms 6)) (Ok (w.tally, new.now))) has w.changed in
+      let it = adds_all old.step_limit Enforced schema_2 pack_table cells db (map columns_of rows) (fit_all rows) eight_terms 6 (text_rows rows eight)
+      (idle_packs pack_tree []) (mode_of old) stated pack_place w.tally new.now refl refl does in
+      let put : AddsAll schema_2 db new.now.trees pack_table (map columns_of rows) = it.1 in (
+        record {
+          is_open = ran.1.is_open;
+          schema = it.0;
+          others = put.others;
+          committed = ran.1.committed_is;
+          sound = subst (λ s. IsSound s new.now.trees) it.0 w.sound;
+        },
+        put.rows,
+      )
+
+  pub eight_there : (HasCleanDisk new → ExecutesInside 0 insert_packs cells old new (Ok count)) → PutsFacts old new (flat_map said_by rows)
+  eight_there runs = (
+    ran_on insert_packs cells count old new runs,
+    λ there.
+        let it = puts there.schema (runs there.clean) in (
+          it.0,
+          subst (NamesMore old.now.trees new.now.trees) (say_all rows)
+              (gained_all pack_facts pack_bare pack_tree (map columns_of rows) old.now.trees new.now.trees it.1),
+        ),
+  )
+
+-- ---- a statement that the tables refuse
+
+pub none_there : (old new : State) → (HasCleanDisk new → StaysAs old new) → PutsFacts old new []
+none_there old new stays = (
+  record {
+    was_open = λ clean. (stays clean).was_open;
+    is_open = λ clean. (stays clean).is_open;
+    inside = λ clean inside. subst IsTrue (sym (stays clean).inside) inside;
+  },
+  λ there.
+      let it = stays there.clean in
+      let now : new.now ≡ old.now = it.now_is there.is_open in (
+        record {
+          is_open = it.is_open there.is_open;
+          schema = ap (λ (d : Database). d.schema) now ∙ there.schema;
+          others = subst (λ (d : Database). KeepsOthers pack_tree old.now.trees d.trees tables_2) (sym now) (same_others old.now.trees tables_2);
+          committed = it.committed_is there.is_open;
+          sound = subst (λ (d : Database). IsSound schema_2 d.trees) (sym now) there.sound;
+        },
+        subst (λ (d : Database). NamesMore old.now.trees d.trees []) (sym now) (sym (union_empty total exact (of (pack_versions old.now.trees)))),
+      ),
+)
+
+-- the same facts in other words, where they were put
+pub put_as : {E : Type 0} (r : Result Bool E) (old new : State) (xs ys : List Fact) → of xs ≡ of ys
+    → IfOk r (λ put. IsTrue put → PutsFacts old new xs) → IfOk r (λ put. IsTrue put → PutsFacts old new ys)
+put_as (Ok put) old new xs ys same puts = λ is. puts_as old new xs ys same (puts is)
+put_as (Err e) old new xs ys same puts = tt
+
+-- ---- the rows of days
+
+-- those of two lists of days
+pub facts_both : (xs ys : List DayVersions)
+    → map version_fact (versions_of (xs ++ ys)) ≡ map version_fact (versions_of xs) ++ map version_fact (versions_of ys)
+facts_both xs ys = ap (map version_fact) (flat_map-append day_versions xs ys) ∙ map-append version_fact (versions_of xs) (versions_of ys)
+
+-- what the row of a day says, whose readings say its versions
+pub packed_says : (s : Stream) (day update : ℕ) (body : List ℕ) (readings : List (Option ReadingValue)) (rows : List (ℕ × Version))
+    → readings_in body ≡ Some readings → SayRows update readings rows
+    → of (body_facts s day update body) ≡ of (map version_fact (map (version_at s day) rows))
+packed_says s day update body readings rows is says =
+    ap of (says_day s day update body readings is) ∙ says s day ∙ ap of (as_rows s day rows)
+
+-- the rows of the first days, and that of the next
+pub say_more : (rows : List PackRow) (days : List DayVersions) (k : ℕ) (row : PackRow) (day : DayVersions) → k < length days
+    → day ≡ get_or days k day → SayDays rows (take k days) → SaysDay row day → SayDays (rows ++ row ∷ []) (take (k + 1) days)
+say_more rows days k row day low is before one =
+    let front : take (k + 1) days ≡ take k days ++ day ∷ [] = take_more days k day low ∙ ap (λ x. take k days ++ x ∷ []) (sym is) in
+    ap of (flat_map-append said_by rows (row ∷ [])) ∙ list_append total exact (flat_map said_by rows) (said_by row ++ [])
+    ∙ (λ i. union (before i) ((ap of (append-nil (said_by row)) ∙ one) i))
+    ∙ sym (ap (λ ds. of (map version_fact (versions_of ds))) front ∙ ap of (facts_both (take k days) (day ∷ []))
+    ∙ ap (λ vs. of (map version_fact (versions_of (take k days)) ++ map version_fact vs)) (append-nil (day_versions day))
+    ∙ list_append total exact (map version_fact (versions_of (take k days))) (map version_fact (day_versions day)))
+
+-- some days were put, and then others are
+pub puts_both : (a b c : State) → doubt b.is_clean ≤ doubt c.is_clean → (xs ys : List DayVersions)
+    → PutsFacts a b (map version_fact (versions_of xs)) → PutsFacts b c (map version_fact (versions_of ys))
+    → PutsFacts a c (map version_fact (versions_of (xs ++ ys)))
+puts_both a b c later xs ys p q =
+    subst (PutsFacts a c) (sym (facts_both xs ys)) (puts_then a b c later (map version_fact (versions_of xs)) (map version_fact (versions_of ys)) p q)
+
+-- the arrays up to a place, and the next
+pub flat_more : {X : Type 0} (xss : List (List X)) (at : ℕ) (xs : List X) → at < length xss → xs ≡ get_or xss at xs
+    → flat (take at xss) ++ xs ≡ flat (take (at + 1) xss)
+flat_more xss at xs low is =
+    sym (ap flat (take_more xss at xs low ∙ ap (λ y. take at xss ++ y ∷ []) (sym is))
+    ∙ flat_map-append (λ ys. ys) (take at xss) (xs ∷ [])
+    ∙ ap (λ l. flat (take at xss) ++ l) (append-nil xs))

@@ -1,0 +1,24 @@
+use Rattle.std.proofs.Common.{◌≡◌, IfSome, ap, length, subst, ◌∙◌}
+use Rattle.std.specs.List.{flat_map}
+use Rattle.sqlite.specs.Held.{state}
+use Rattle.mds_inserts.proofs.RowLemmas.{of}
+use Rattle.mds_pack_rows.specs.Eights.{SayDays, said_by}
+use Rattle.mds_pack_rows.proofs.EightLemmas.{put_as}
+use Rattle.mds_pack_rows.proofs.PutLemmas.{puts_none}
+use Rattle.mds_pack_rows.proofs.eights.put_new_days.Goals as goal
+
+pub returns-in_default-clause-none : goal.returns-in_default-clause-none
+returns-in_default-clause-none g c _ = puts_none (state g.S.Store c.args.tx.now.conn.now)
+
+pub insert_eight-requires : goal.insert_eight-requires
+insert_eight-requires g c =
+    ap length c.as_slice.ensures.value
+    ∙ subst (λ o. IfSome o (λ rows. length rows.items ≡ length c.args.days.now)) c.in-Some.is c.in_ok-rows.ensures.len
+    ∙ c.type_inv.days
+
+pub returns-clause-put : goal.returns-clause-put
+returns-clause-put g c =
+    let say : SayDays c.in-Some.rows.items c.args.days.now =
+    subst (λ o. IfSome o (λ rows. SayDays rows.items c.args.days.now)) c.in-Some.is c.in_ok-rows.ensures.says in
+    put_as c.insert_eight.result (state g.S.Store c.args.tx.now.conn.now) (state g.S.Store c.insert_eight.new.tx.conn.now) _ _
+    (ap (λ rows. of (flat_map said_by rows)) c.as_slice.ensures.value ∙ say) c.insert_eight.ensures.put

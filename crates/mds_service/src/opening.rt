@@ -1,0 +1,205 @@
+//! The merges of days, opened before a line claims anything of them.
+//!
+//! A keeper answers for many days at once nearly as fast as for one. So days that follow one another in a block are asked
+//! for at once, and their merges opened. A claim then finds the merge of its day, and asks nobody. A merge says nothing
+//! until a line claims something of its day, so to open one changes no fact.
+
+ghost use Rattle.std.specs.Prelude.{◌≡◌, ◌≤◌, IfErr, IfSome, OnOk};
+ghost use Rattle.std.specs.FinSet as set;
+ghost use Rattle.mds_calendar.specs.Calendar.{last_day};
+ghost use Rattle.mds_world.specs.World.{IsLawful, World};
+ghost use Rattle.mds_keeper.specs.Books.{IsDay, book_world};
+ghost use Rattle.mds_keeper.specs.Kept.{OfKept, Stays};
+ghost use Rattle.mds_keeper.specs.Queries.{AreDaysOf};
+ghost use Rattle.mds_keeper.specs.declared.day_merge.Stop.TheVariants.{Memory};
+ghost use Rattle.mds_service.specs.Imports.{AreMerges};
+ghost use Rattle.mds_service.specs.OpeningSteps.{AreUnknown};
+
+use mds_keeper::{DayBook, DayMerge, Keeper, Stop, StreamDay};
+use mds_statements::DeliveredDay;
+use mds_terms::{Day, Stream};
+use std::alloc::{AllocError, Global};
+use std::collections::BTreeMap;
+
+/// A keeper is asked for at most so many days at once, as its rows of all of them are in memory while it answers.
+const MOST_AHEAD: i64 = 64;
+
+/// Days that follow one another, first to last, both included.
+#[derive(Clone, Copy)]
+pub(crate) struct Stretch {
+    first: Day,
+    last: Day,
+}
+
+/// The stretches of a block's days, in their order: a plan of what to ask at once. Each has only dates that the block
+/// has, so that no day is read that the file doesn't state.
+pub(crate) fn stretches(alloc: Global, days: &[DeliveredDay]) -> Result<Vec<Stretch>, AllocError> {
+    let mut found: Vec<Stretch> = Vec::new(alloc);
+    for day in days {
+        if !goes_on(&mut found, day.date) {
+            found.push(Stretch {
+                first: day.date,
+                last: day.date,
+            })?;
+        }
+    }
+    Ok(found)
+}
+
+/// Takes a date into the last of these stretches, where it is its last day or the one after. Says whether it did.
+fn goes_on(found: &mut Vec<Stretch>, date: Day) -> bool {
+    let Some(stretch) = found.last_mut() else {
+        return false;
+    };
+    let first = stretch.first.number();
+    let last = stretch.last.number();
+    let number = date.number();
+    if number == last {
+        return true;
+    }
+    if number != last + 1 || number - first >= MOST_AHEAD {
+        return false;
+    }
+    stretch.last = date;
+    true
+}
+
+/// Opens the merges of the next stretch, where it begins at this date.
+pub(crate) fn open_ahead<K: Keeper>(
+    alloc: Global,
+    keeper: &mut K,
+    merges: &mut BTreeMap<StreamDay, DayMerge>,
+    stream: &Stream,
+    ahead: &[Stretch],
+    next: &mut usize,
+    date: Day,
+) -> Result<(), Stop>
+    ensures stays { Stays (K.kept keeper.old) (K.kept keeper.new) }
+    ensures opened { OfKept (K.kept keeper.old) (K.kept keeper.new)
+        (λ w. IsLawful w → OnOk result ((facts : World) → AreMerges ⟦<StreamDay as Ord>⟧.cmp w facts merges.old
+        → AreMerges ⟦<StreamDay as Ord>⟧.cmp w facts merges.new)) }
+    ensures memory { IfErr result (λ stop. stop ≡ Memory) }
+{
+    let Some(stretch) = ahead.get(*next) else {
+        return Ok(());
+    };
+    if stretch.first != date {
+        return Ok(());
+    }
+    *next += 1;
+    open_stretch(alloc, keeper, merges, stream, stretch.first, stretch.last)
+}
+
+/// Opens the merges of the days of a stream from a first to a last one that have none yet. A day by itself is left to
+/// its claim.
+fn open_stretch<K: Keeper>(
+    alloc: Global,
+    keeper: &mut K,
+    merges: &mut BTreeMap<StreamDay, DayMerge>,
+    stream: &Stream,
+    first: Day,
+    last: Day,
+) -> Result<(), Stop>
+    ensures stays { Stays (K.kept keeper.old) (K.kept keeper.new) }
+
+    // Whatever facts the merges hold so far, they hold just those.
+    ensures opened { OfKept (K.kept keeper.old) (K.kept keeper.new)
+        (λ w. IsLawful w → OnOk result ((facts : World) → AreMerges ⟦<StreamDay as Ord>⟧.cmp w facts merges.old
+        → AreMerges ⟦<StreamDay as Ord>⟧.cmp w facts merges.new)) }
+    ensures memory { IfErr result (λ stop. stop ≡ Memory) }
+{
+    if first == last {
+        return Ok(());
+    }
+    let Ok(books) = keeper.days(*stream, first, last) else {
+        return Err(Stop::Memory);
+    };
+    open_days(alloc, merges, stream, first, last, books)?;
+    Ok(())
+}
+
+/// Opens the merges of the days of a range that have none yet. These are the books of its known days.
+fn open_days(
+    alloc: Global,
+    merges: &mut BTreeMap<StreamDay, DayMerge>,
+    stream: &Stream,
+    first: Day,
+    last: Day,
+    books: Vec<DayBook>,
+) -> Result<(), AllocError>
+    ensures { OnOk result ((w facts : World) → IsLawful w → AreDaysOf w stream.now first last books.items
+        → AreMerges ⟦<StreamDay as Ord>⟧.cmp w facts merges.old
+        → AreMerges ⟦<StreamDay as Ord>⟧.cmp w facts merges.new) }
+{
+    let mut from = number_of(first);
+    for book in books {
+        let day = number_of(book.day());
+        open_unknown(alloc, merges, stream, from, day)?;
+        open_day(alloc, merges, book)?;
+        from = day + 1;
+    }
+    open_unknown(alloc, merges, stream, from, number_of(last) + 1)?;
+    Ok(())
+}
+
+/// Opens the merges of the days from a first one on that are before an end, where there is none yet. Nothing is known
+/// of these days.
+fn open_unknown(
+    alloc: Global,
+    merges: &mut BTreeMap<StreamDay, DayMerge>,
+    stream: &Stream,
+    first: u32,
+    end: u32,
+) -> Result<(), AllocError>
+    ensures { OnOk result ((w facts : World) → AreUnknown w stream.now first end
+        → AreMerges ⟦<StreamDay as Ord>⟧.cmp w facts merges.old
+        → AreMerges ⟦<StreamDay as Ord>⟧.cmp w facts merges.new) }
+{
+    for number in first..end {
+        let Some(book) = unknown_day(alloc, stream, number) else {
+            continue;
+        };
+        open_day(alloc, merges, book)?;
+    }
+    Ok(())
+}
+
+/// Opens the merge of a book's day, where there is none yet.
+fn open_day(
+    alloc: Global,
+    merges: &mut BTreeMap<StreamDay, DayMerge>,
+    book: DayBook,
+) -> Result<(), AllocError>
+    ensures { OnOk result ((w facts : World) → IsDay w book
+        → AreMerges ⟦<StreamDay as Ord>⟧.cmp w facts merges.old
+        → AreMerges ⟦<StreamDay as Ord>⟧.cmp w facts merges.new) }
+{
+    let key = StreamDay {
+        stream: book.stream(),
+        day: book.day(),
+    };
+    if merges.contains_key(&key) {
+        return Ok(());
+    }
+    // For the proof: what a book says is a lawful World.
+    book.is_lawful();
+    merges.insert(key, DayMerge::new(alloc, book))?;
+    Ok(())
+}
+
+/// The book of the day of a number, of which nothing is known. `None` where there is no such day.
+fn unknown_day(alloc: Global, stream: &Stream, number: u32) -> Option<DayBook>
+    ensures { IfSome result (λ book. (book.stream ≡ stream.now) × (book.day ≡ number)
+        × (book_world book ≡ set.empty)) }
+{
+    let day = Day::from_number(i64::from(number))?;
+    DayBook::new(*stream, day, None, Vec::new(alloc))
+}
+
+/// The number of a day.
+fn number_of(day: Day) -> u32
+    ensures value { result ≡ day }
+    ensures last { day ≤ last_day }
+{
+    day.number() as u32
+}

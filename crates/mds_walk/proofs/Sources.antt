@@ -1,0 +1,118 @@
+-- A source that is fed, block by block.
+use Rattle.std.proofs.Common.{◌≡◌, ℕ, ◌+◌, ◌*◌, ◌≤◌, List, [], ◌∷◌, ◌++◌, length, take, Option, Some, None, IfSome, refl, sym, ◌∙◌, ap, subst, arith, length-append, append_assoc}
+use Rattle.std.specs.Io.KnownBytes.{Consumes}
+use Rattle.std.proofs.lemmas.List.{append-nil, length-take-le}
+use Rattle.std.proofs.lemmas.List.Folds.{concat-append}
+use Rattle.std.specs.List.{concat}
+use Rattle.mds_lines.specs.Lines.{longest_line, most_lines}
+use Rattle.mds_lines.specs.Reads.{Reads, block}
+use Rattle.mds_lines.proofs.StreamSteps.{consumes_both}
+use Rattle.mds_records.specs.declared.file.FileFault.{FileFault}
+use Rattle.mds_walk.specs.Answers.{IsRefusal}
+use Rattle.mds_walk.specs.Faults.{Judge, fault_of}
+use Rattle.mds_walk.specs.declared.fault.ReadFault.TheVariants as read
+use Rattle.mds_walk.specs.declared.fault.TakeFault.{TakeFault}
+use Rattle.mds_walk.specs.declared.fault.TakeFault.TheVariants.{File, Memory}
+use Rattle.mds_walk.specs.Feeding.{WasFed}
+use Rattle.mds_walk.specs.SoFar.{fault_so_far}
+use Rattle.mds_walk.specs.FileSteps.{read_fault_of}
+use Rattle.mds_walk.specs.declared.feeder.LineFeeder.{LineFeeder}
+use Rattle.mds_walk.proofs.Bounds.{so_far_few}
+use Rattle.mds_walk.proofs.Stops.{fault_of_all}
+
+-- reads brought these bytes, and may go on
+pub record HasGiven {S : Type 0} (gives : S → List ℕ → S → Type 0) (begin now : S) (bytes : List ℕ) : Type 0 where
+  pub given : List (List ℕ)
+  pub reads : (more : List (List ℕ)) (last : S) → Reads gives now more last → Reads gives begin (given ++ more) last
+  pub all : concat given ≡ bytes
+
+given_size : (given : List (List ℕ)) (more : List ℕ) → length (concat (given ++ more ∷ [])) ≡ length (concat given) + length more
+given_size given more =
+    ap length (concat-append given (more ∷ []) ∙ ap (λ t. concat given ++ t) (append-nil more)) ∙ length-append (concat given) more
+
+-- so much was read, and fed, and has no fault
+pub record IsReading {T : Type 0} {S : Type 0} (gives : S → List ℕ → S → Type 0) (begin here : S) (judge : Judge) (taken : T → List (List ℕ) → Type 0) (first now : Option (List ℕ)) (count : ℕ) (feeder : LineFeeder T) : Type 0 where
+  pub fed : List ℕ
+  pub many : count ≡ length fed
+  pub few : count ≤ 16_385_016_384
+  pub none : fault_so_far judge fed ≡ None
+  pub was : WasFed judge taken fed feeder
+  pub consumed : Consumes first now fed
+  pub given : HasGiven gives begin here fed
+
+consumes_none : (o : Option (List ℕ)) → Consumes o o []
+consumes_none None = tt
+consumes_none (Some xs) = refl
+
+module _ {T : Type 0} {S : Type 0} {gives : S → List ℕ → S → Type 0} {begin : S} {judge : Judge} {taken : T → List (List ℕ) → Type 0} {first : Option (List ℕ)} where
+  pub reading_none : (feeder : LineFeeder T) → fault_so_far judge [] ≡ None → WasFed judge taken [] feeder
+      → IsReading gives begin begin judge taken first first 0 feeder
+  reading_none feeder none was = record {
+    fed = [];
+    many = refl;
+    few = omega arith;
+    none = none;
+    was = was;
+    consumed = consumes_none first;
+    given = record { given = []; reads = λ more last r. r; all = refl };
+  }
+
+  -- one read more, that brought a piece
+  pub reading_more : {here next : S} {b c : Option (List ℕ)} {count size : ℕ} {piece : List ℕ} {old new : LineFeeder T}
+      → IsReading gives begin here judge taken first b count old → size ≡ length piece → Consumes b c piece → gives here piece next
+      → ((text : List ℕ) → WasFed judge taken text old → WasFed judge taken (text ++ piece) new)
+      → ((text : List ℕ) → WasFed judge taken text old → fault_so_far judge (text ++ piece) ≡ None)
+      → IsReading gives begin next judge taken first c (count + size) new
+  reading_more {here = here} {next = next} {b = b} {c = c} {count = count} {size = size} {piece = piece} i e consumed gave fed none =
+      let found = none i.fed i.was in
+      let all = length-append i.fed piece in
+      let bound = so_far_few judge (i.fed ++ piece) found in
+      let many : count + size ≡ length (i.fed ++ piece) = omega (arith, i.many) in
+      record {
+        fed = i.fed ++ piece;
+        many = many;
+        few = omega arith;
+        none = found;
+        was = fed i.fed i.was;
+        consumed = consumes_both first b c i.fed piece i.consumed consumed;
+        given = record {
+          given = i.given.given ++ piece ∷ [];
+          reads = λ more last r. subst (λ (t : List (List ℕ)). Reads gives begin t last) (sym (append_assoc i.given.given (piece ∷ []) more))
+              (i.given.reads (piece ∷ more) last (next, gave, r));
+          all = concat-append i.given.given (piece ∷ []) ∙ ap (λ t. concat i.given.given ++ t) (append-nil piece) ∙ ap (λ t. t ++ piece) i.given.all;
+        };
+      }
+
+  -- a refused piece
+  pub reading_stops : {here : S} {b : Option (List ℕ)} {count : ℕ} {old : LineFeeder T} (c : Option (List ℕ)) (piece : List ℕ) (answer : TakeFault) (fault : FileFault)
+      → IsReading gives begin here judge taken first b count old → Consumes b c piece
+      → ((text : List ℕ) → WasFed judge taken text old → IsRefusal (fault_so_far judge (text ++ piece)) answer)
+      → read_fault_of answer ≡ read.File fault → IfSome first (λ text. fault_of judge text ≡ Some fault)
+  reading_stops c piece Memory fault i consumed refused e = absurd (cc)
+  reading_stops {b = b} c piece (File found) fault i consumed refused e = at first c (consumes_both first b c i.fed piece i.consumed consumed) where
+    at : (first last : Option (List ℕ)) → Consumes first last (i.fed ++ piece) → IfSome first (λ text. fault_of judge text ≡ Some fault)
+    at None last h = tt
+    at (Some xs) None h = absurd h
+    at (Some xs) (Some ys) h =
+        let same : found ≡ fault = cc in
+        ap (fault_of judge) h ∙ fault_of_all judge (i.fed ++ piece) ys found (refused i.fed i.was) ∙ ap Some same
+
+  -- however it ends, few bytes were read
+  pub bounded : {here last : S} {b : Option (List ℕ)} {count : ℕ} {old : LineFeeder T} (more : List ℕ) → IsReading gives begin here judge taken first b count old
+      → gives here more last → length more ≤ 114_688
+      → (given : List (List ℕ)) × Reads gives begin given last × (length (concat given) ≤ most_lines * (longest_line + 1) + block)
+  bounded {last = last} more i gave short =
+      let all = given_size i.given.given more in
+      let size = ap length i.given.all in
+      let bound : length (concat (i.given.given ++ more ∷ [])) ≤ 16_385_131_072 = omega (arith, i.many, i.few) in
+      (i.given.given ++ more ∷ [], i.given.reads (more ∷ []) last (last, gave, refl), bound)
+
+-- a piece as it lies in the buffer
+pub same_piece : (a b : Option (List ℕ)) (size : ℕ) (xs ys : List ℕ) → xs ≡ ys → Consumes a b (take size ys) → Consumes a b (take size xs)
+same_piece a b size xs ys e h = subst (λ (t : List ℕ). Consumes a b (take size t)) (sym e) h
+
+pub gave_piece : {S : Type 0} (gives : S → List ℕ → S → Type 0) (a b : S) (size : ℕ) (xs ys : List ℕ) → xs ≡ ys → gives a (take size ys) b → gives a (take size xs) b
+gave_piece gives a b size xs ys e h = subst (λ (t : List ℕ). gives a (take size t) b) (sym e) h
+
+pub piece_short : (size : ℕ) (buffer : List ℕ) → size ≤ length buffer → length buffer ≡ 114_688 → length (take size buffer) ≤ 114_688
+piece_short size buffer within room = omega (arith, length-take-le size buffer within)

@@ -1,0 +1,14 @@
+use Rattle.std.proofs.Common.{rules, [], ◌≢◌, sym, ◌∙◌, refl}
+use Rattle.std.proofs.lemmas.List.{append-nil}
+use Rattle.std.proofs.lemmas.List.Elements.{All-nil}
+use Rattle.mds_walk.proofs.Steps.{line_taken, line_refused}
+use Rattle.mds_walk.proofs.feeder.LineFeeder.take_rest.Goals as goal
+
+pub returns-in-Ok-clause-taken : goal.returns-in-Ok-clause-taken
+returns-in-Ok-clause-taken g c = λ text h.
+    line_taken c.args.self.now _ text [] _ c.in-Ok.ensures.taken (search rules) refl h (All-nil (λ x. x ≢ 10))
+    (c.deref.ensures.value ∙ h.rest ∙ sym (append-nil _))
+
+pub returns-in-Err-clause-taken : goal.returns-in-Err-clause-taken
+returns-in-Err-clause-taken g c = λ text h.
+    line_refused c.args.self.now text [] _ _ c.in-Err.ensures.taken h (All-nil (λ x. x ≢ 10)) (c.deref.ensures.value ∙ h.rest ∙ sym (append-nil _))

@@ -1,0 +1,25 @@
+-- What a feeder of lines has done (profile).
+use Rattle.std.specs.Prelude.{◌≡◌, ℕ, List, length, map, Option, None, MatchOption}
+use Rattle.mds_lines.specs.Lines.{line_text}
+use Rattle.mds_walk.specs.Answers.{HasWalked, IsRefusal}
+use Rattle.mds_walk.specs.Faults.{Judge}
+use Rattle.mds_walk.specs.SoFar.{fault_so_far, open_piece, whole_pieces}
+use Rattle.mds_walk.specs.declared.fault.TakeFault.{TakeFault}
+use Rattle.mds_walk.specs.declared.feeder.LineFeeder.{LineFeeder}
+
+-- the fault that a feeder has answered, if it has answered one
+abbrev pub fault_answered : {T : Type 0} → LineFeeder T → Option TakeFault
+fault_answered feeder = feeder.walk.fault
+
+-- A feeder was fed a text, in whatever pieces, and met no fault: its walk has taken the lines that are whole, and what stands
+-- behind them is in hand.
+pub record HasFed {T : Type 0} (judge : Judge) (taken : T → List (List ℕ) → Type 0) (text : List ℕ) (feeder : LineFeeder T) : Type 0 where
+  pub none : fault_so_far judge text ≡ None
+  pub walked : HasWalked taken feeder.walk (map line_text (whole_pieces text))
+  pub rest : feeder.rest.items ≡ open_piece text
+  pub lines : feeder.lines ≡ length (whole_pieces text)
+
+-- A feeder was fed a text, in whatever pieces: where it has answered a fault, it is the one that the text has so far.
+abbrev pub WasFed : {T : Type 0} → Judge → (T → List (List ℕ) → Type 0) → List ℕ → LineFeeder T → Type 0
+WasFed judge taken text feeder =
+    MatchOption feeder.walk.fault (HasFed judge taken text feeder) (IsRefusal (fault_so_far judge text))
