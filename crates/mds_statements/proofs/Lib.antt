@@ -1,4 +1,5 @@
 pub mod BodyLemmas
+pub mod Copied
 pub mod DaysDelivered
 pub mod OneText
 pub mod OrderlyTests

@@ -4,6 +4,7 @@
 
 mod blocks;
 mod bodies;
+mod copies;
 mod delivery;
 mod periods;
 mod selected;

@@ -1,0 +1,113 @@
+//! Copies of a delivery and of its parts.
+
+ghost use Rattle.std.specs.Prelude.{◌≡◌, ℕ, IfOk};
+ghost use Rattle.std.specs.List.{flat_map};
+ghost use Rattle.mds_statements.specs.Delivered.{block_statements, day_statements, delivery_statements};
+ghost use Rattle.mds_statements.specs.declared.blocks.Block.{Block as ABlock};
+
+use crate::blocks::{Block, DeliveredDay, Header};
+use crate::delivery::Delivery;
+use mds_marks::Reading;
+use mds_terms::Event;
+use std::alloc::{AllocError, Global};
+
+impl Delivery {
+    /// A copy of the delivery: it states the same. It fails only where memory is refused.
+    pub fn try_clone(&self) -> Result<Delivery, AllocError>
+        ensures { IfOk result (λ delivery. delivery_statements delivery ≡ delivery_statements self.now) }
+    {
+        let header = self.header.try_clone()?;
+        let blocks = copy_blocks(*self.blocks.allocator(), &self.blocks)?;
+        Ok(Delivery { header, blocks })
+    }
+}
+
+impl Header {
+    /// A copy of the header. It fails only where memory is refused.
+    pub fn try_clone(&self) -> Result<Header, AllocError>
+        ensures { IfOk result (λ header. header ≡ self.now) }
+    {
+        Ok(Header {
+            moment: self.moment,
+            sender: self.sender.try_clone()?,
+            receiver: self.receiver.try_clone()?,
+        })
+    }
+}
+
+impl Block {
+    /// A copy of the block with its days. It fails only where memory is refused.
+    pub fn try_clone(&self) -> Result<Block, AllocError>
+        ensures { IfOk result (λ block. (moment : ℕ) → block_statements moment block ≡ block_statements moment self.now) }
+    {
+        Ok(Block {
+            line: self.line,
+            stream: self.stream,
+            details: self.details.try_clone()?,
+            length: self.length,
+            unit: self.unit,
+            days: copy_days(*self.days.allocator(), &self.days)?,
+        })
+    }
+}
+
+impl DeliveredDay {
+    /// A copy of the day with its readings and events. It fails only where memory is refused.
+    pub fn try_clone(&self) -> Result<DeliveredDay, AllocError>
+        ensures { IfOk result (λ day. (block : ABlock) → day_statements block day ≡ day_statements block self.now) }
+    {
+        Ok(DeliveredDay {
+            line: self.line,
+            date: self.date,
+            update: self.update,
+            readings: copy_readings(*self.readings.allocator(), &self.readings)?,
+            events: copy_events(*self.events.allocator(), &self.events)?,
+        })
+    }
+}
+
+/// Copies of blocks, in the same order.
+fn copy_blocks(alloc: Global, blocks: &[Block]) -> Result<Vec<Block>, AllocError>
+    ensures { IfOk result (λ copies. (moment : ℕ)
+        → flat_map (block_statements moment) copies.items ≡ flat_map (block_statements moment) blocks.now) }
+{
+    let mut copies = Vec::with_capacity(alloc, blocks.len())?;
+    for block in blocks {
+        copies.push(block.try_clone()?)?;
+    }
+    Ok(copies)
+}
+
+/// Copies of days, in the same order.
+fn copy_days(alloc: Global, days: &[DeliveredDay]) -> Result<Vec<DeliveredDay>, AllocError>
+    ensures { IfOk result (λ copies. (block : ABlock)
+        → flat_map (day_statements block) copies.items ≡ flat_map (day_statements block) days.now) }
+{
+    let mut copies = Vec::with_capacity(alloc, days.len())?;
+    for day in days {
+        copies.push(day.try_clone()?)?;
+    }
+    Ok(copies)
+}
+
+/// Copies of readings, in the same order.
+fn copy_readings(alloc: Global, readings: &[Reading]) -> Result<Vec<Reading>, AllocError>
+    ensures { IfOk result (λ copies. copies.items ≡ readings.now) }
+{
+    let mut copies = Vec::with_capacity(alloc, readings.len())?;
+    for reading in readings {
+        copies.push(reading.try_clone()?)?;
+    }
+    Ok(copies)
+}
+
+/// Copies of events, in the same order.
+fn copy_events(alloc: Global, events: &[Event]) -> Result<Vec<Event>, AllocError>
+    ensures { IfOk result (λ copies. copies.items ≡ events.now) }
+{
+    let mut copies = Vec::with_capacity(alloc, events.len())?;
+    for event in events {
+        copies.push(event.try_clone()?)?;
+    }
+    Ok(copies)
+}
