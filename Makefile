@@ -23,6 +23,7 @@ test:
 	tests/keepers crates/mdstore/out/mdstore crates/mds_trials/out/mds_trials
 	tests/text crates/mdstore/out/mdstore
 	tests/migration crates/mdstore/out/mdstore
+	tests/pieces crates/mdstore/out/mdstore crates/mds_trials/out/mds_trials
 
 bench: bin/mdstore
 	bench/run

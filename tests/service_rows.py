@@ -100,6 +100,15 @@ BODIES = [
     ("POST /v1/holidays HTTP/1.1\r\nHost: x\r\nContent-Length: 1\r\n\r\na", refused(UNPROCESSABLE, error="H1", line=1)),
 ]
 
+# How a file begins whose first line has a fault, and what is answered, whatever else it holds.
+EARLY_FAULTS = [
+    ("a line that is no record", "x\n", refused(UNPROCESSABLE, error="L2", line=1)),
+    ("a line that is no text", "\udcff\n", refused(UNPROCESSABLE, error="L1", line=1)),
+    ("the header of another file", EMPTY_PERIODS, refused(UNPROCESSABLE, error="L11", line=1)),
+    ("a header with a fault", HEADER.replace("202401030000", "2024"), refused(UNPROCESSABLE, error="L5", field=3, line=1)),
+    ("a line that is too long", 16_385 * "x", refused(UNPROCESSABLE, error="L10", line=1)),
+]
+
 # Routes and their methods. The length of a GET isn't read.
 ROUTES = [
     ("GET /v1/streams HTTP/1.1\r\nHost: x\r\n\r\n", told(streams=[])),

@@ -1,7 +1,12 @@
 -- The answers of `check` (profile).
-use Rattle.std.specs.Prelude.{Bool, true, false, Result, Ok, Err}
+use Rattle.std.specs.Prelude.{◌⊎◌, ◌<◌, ℕ, Bool, true, false, List, ◌++◌, length, take, Result, Ok, Err}
+use Rattle.std.specs.List.{concat}
+use Rattle.mds_records.specs.declared.file.FileFault.{FileFault}
+use Rattle.mds_records.specs.declared.file.FileKind.{FileKind}
+use Rattle.mds_nem12.specs.Answers.{MeetsEnd}
+use Rattle.mds_check.specs.Report.{IsFaultOf, IsReportOf}
 use Rattle.mds_check.specs.declared.checking.CheckFault.{CheckFault}
-use Rattle.mds_check.specs.declared.checking.CheckFault.TheVariants.{Read, Write}
+use Rattle.mds_check.specs.declared.checking.CheckFault.TheVariants.{File, Read, Write}
 
 -- it answers that the reader failed, and that the writer did
 abbrev pub is_read_fault : {T : Type 0} → Result T CheckFault → Bool
@@ -13,3 +18,23 @@ abbrev pub is_write_fault : {T : Type 0} → Result T CheckFault → Bool
 is_write_fault (Ok done) = false
 is_write_fault (Err Write) = true
 is_write_fault (Err fault) = false
+
+-- The fault is of all that the reader's calls brought, up to the end. Or it is that of every text that begins with what they brought.
+abbrev pub IsFaultRead : FileKind → List (List ℕ) → FileFault → Type 0
+IsFaultRead kind given fault =
+    (MeetsEnd given × IsFaultOf kind (concat given) fault) ⊎ ((more : List ℕ) → IsFaultOf kind (concat given ++ more) fault)
+
+-- What is to be printed is of all that the reader's calls brought, up to the end. Else the fault is of what they brought. Where the
+-- reader failed, or memory was wanting, nothing is said.
+abbrev pub IsReportRead : {T : Type 0} → FileKind → (T → List ℕ) → List (List ℕ) → Result T CheckFault → Type 0
+IsReportRead kind text_of given (Ok out) = MeetsEnd given × IsReportOf kind (concat given) (text_of out)
+IsReportRead kind text_of given (Err (File fault)) = IsFaultRead kind given fault
+IsReportRead kind text_of given (Err reason) = Unit {0}
+
+-- Such a report was written, or a part of it where the writer failed.
+abbrev pub IsCheckOf : {T : Type 0} → FileKind → List (List ℕ) → (List ℕ → Type 0) → Result T CheckFault → Type 0
+IsCheckOf kind given Writes (Ok done) = MeetsEnd given × (report : List ℕ) × IsReportOf kind (concat given) report × Writes report
+IsCheckOf kind given Writes (Err (File fault)) = IsFaultRead kind given fault
+IsCheckOf kind given Writes (Err Write) =
+    MeetsEnd given × (report : List ℕ) × (n : ℕ) × IsReportOf kind (concat given) report × (n < length report) × Writes (take n report)
+IsCheckOf kind given Writes (Err reason) = Unit {0}

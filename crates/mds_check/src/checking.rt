@@ -6,7 +6,7 @@ ghost use Rattle.mds_records.specs.declared.file.FileFault.{FileFault};
 ghost use Rattle.std.specs.List.{concat};
 ghost use Rattle.mds_lines.specs.Lines.{longest_line, most_lines};
 ghost use Rattle.mds_lines.specs.Reads.{Reads, block};
-ghost use Rattle.mds_check.specs.Answer.{is_read_fault, is_write_fault};
+ghost use Rattle.mds_check.specs.Answer.{IsCheckOf, IsReportRead, is_read_fault, is_write_fault};
 ghost use Rattle.mds_check.specs.Report.{IsFaultOf, IsReportOf};
 
 use crate::period_report::report_of_periods;
@@ -68,9 +68,11 @@ pub fn check<R: Source, W: Sink>(
     ensures reader { R.failures reader.new ≡ R.failures reader.old + (if is_read_fault result then 1 else 0) }
     ensures writer { W.failures writer.new ≡ W.failures writer.old + (if is_write_fault result then 1 else 0) }
 
-    // It reads at most the lines that a file may have, and a block, whatever the reader gives.
-    ensures bounded { (given : List (List ℕ)) × Reads R.gives reader.old given reader.new
-        × (length (concat given) ≤ most_lines * (longest_line + 1) + block) }
+    // What was written, or answered, is of what the reader's calls brought, whatever that is. They brought no more than the lines
+    // that a file may have, and a block.
+    ensures given { (given : List (List ℕ)) × Reads R.gives reader.old given reader.new
+        × (length (concat given) ≤ most_lines * (longest_line + 1) + block)
+        × IsCheckOf kind given (AppendsKnown (W.contents writer.old) (W.contents writer.new)) result }
 {
     let text = report(alloc, kind, reader)?;
     match write_whole(text.as_bytes(), writer) {
@@ -86,8 +88,9 @@ fn report<R: Source>(alloc: Global, kind: FileKind, reader: &mut R) -> Result<St
     ensures fault { (fault : FileFault) → result ≡ Err (CheckFault.File fault)
         → IfSome (R.remaining reader.old) (λ text. IsFaultOf kind text fault) }
     ensures reader { R.failures reader.new ≡ R.failures reader.old + (if is_read_fault result then 1 else 0) }
-    ensures bounded { (given : List (List ℕ)) × Reads R.gives reader.old given reader.new
-        × (length (concat given) ≤ most_lines * (longest_line + 1) + block) }
+    ensures given { (given : List (List ℕ)) × Reads R.gives reader.old given reader.new
+        × (length (concat given) ≤ most_lines * (longest_line + 1) + block)
+        × IsReportRead kind string_bytes given result }
     ensures nothing { is_write_fault result ≡ false }
 {
     match kind {

@@ -89,7 +89,7 @@ ghost use Rattle.mds_lines.specs.Lines.{longest_line, most_lines};
 ghost use Rattle.mds_lines.specs.Reads.{Reads, block};
 ghost use Rattle.mds_records.specs.declared.file.FileFault.{FileFault};
 ghost use Rattle.mds_records.specs.declared.file.FileKind.{FileKind};
-ghost use Rattle.mds_check.specs.Answer.{is_read_fault, is_write_fault};
+ghost use Rattle.mds_check.specs.Answer.{IsReportRead, is_read_fault, is_write_fault};
 ghost use Rattle.mds_check.specs.Report.{IsFaultOf, IsReportOf};
 
 /// What is to be printed of a NEM13 file.
@@ -103,8 +103,9 @@ pub(crate) fn report_of_periods<R: Source>(
     ensures fault { (fault : FileFault) → result ≡ Err (CheckFault.File fault)
         → IfSome (R.remaining reader.old) (λ text. IsFaultOf FileKind.Nem13 text fault) }
     ensures reader { R.failures reader.new ≡ R.failures reader.old + (if is_read_fault result then 1 else 0) }
-    ensures bounded { (given : List (List ℕ)) × Reads R.gives reader.old given reader.new
-        × (length (concat given) ≤ most_lines * (longest_line + 1) + block) }
+    ensures given { (given : List (List ℕ)) × Reads R.gives reader.old given reader.new
+        × (length (concat given) ≤ most_lines * (longest_line + 1) + block)
+        × IsReportRead FileKind.Nem13 string_bytes given result }
     ensures nothing { is_write_fault result ≡ false }
 {
     match read_lines(alloc, reader, PeriodReport::new(alloc)) {

@@ -1,10 +1,12 @@
 -- How the import of what was read goes.
-use Rattle.std.specs.Prelude.{◌≡◌, ℕ, List, true, Ok, Err}
+use Rattle.std.specs.Prelude.{◌≡◌, ℕ, List, ◌++◌, true, Option, Some, None, IfSome, Result, Ok, Err}
+use Rattle.std.specs.List.{concat}
 use Rattle.std.proofs.Common.{inl, inr, refl, sym, subst}
 use Rattle.mds_records.specs.declared.file.FileFault.{FileFault}
 use Rattle.mds_records.specs.declared.file.FileKind.TheVariants.{Nem12}
 use Rattle.mds_statements.specs.Delivered.{delivery_statements}
 use Rattle.mds_statements.specs.declared.delivery.Delivery.{Delivery}
+use Rattle.mds_walk.specs.Given.{IsOfGiven}
 use Rattle.mds_walk.specs.declared.fault.ReadFault.{ReadFault}
 use Rattle.mds_walk.specs.declared.fault.ReadFault.TheVariants as unread
 use Rattle.mds_world.specs.World.{World}
@@ -13,10 +15,13 @@ use Rattle.mds_messages.specs.Answers.{has_list}
 use Rattle.mds_messages.specs.declared.answer.Answer.{Answer}
 use Rattle.mds_messages.specs.declared.answer.Answer.TheVariants as told
 use Rattle.mds_nem12.specs.Answers.{IsReadOf}
+use Rattle.mds_nem12.specs.Faults.{fault_of}
+use Rattle.mds_nem12.specs.Statements.{statements_of}
 use Rattle.mds_service.specs.Crashes.{GoesBy}
 use Rattle.mds_service.specs.Machine.{ImportStep, TakesIn}
 use Rattle.mds_service.proofs.Deliveries.{as_import}
 use Rattle.mds_service.proofs.Steps.{unasked}
+use Rattle.mds_desk.specs.Imported.{GoesByText, IsImportOf}
 use Rattle.mds_desk.specs.Performed.{IsToldAs}
 
 module _ (text : List ℕ) where
@@ -59,3 +64,21 @@ module _ (text : List ℕ) where
       → GoesBy a a (λ w. ImportStep w Nem12 text) (told.File found)
   faulted fault found is read =
       let known : IsReadOf text (Err (unread.File found)) = subst (λ it. IsReadOf text (Err it)) is read in unasked (λ w. (known, refl))
+
+-- What is said of whatever text was read is said of what a reader gave.
+module _ {a b : Kept} {answer : Answer} (read : Result Delivery ReadFault) (goes : (text : List ℕ) → IsReadOf text read → GoesByText a b answer text) where
+  -- that is known
+  pub of_known : (known : Option (List ℕ)) → IfSome known (λ text. IsReadOf text read) → IfSome known (GoesByText a b answer)
+  of_known None h = tt
+  of_known (Some text) h = goes text h
+
+  -- it is what the calls brought
+  pub of_given : (given : List (List ℕ)) → IsOfGiven (λ delivery text. delivery_statements delivery ≡ statements_of text) fault_of given read → IsImportOf a b answer given
+  of_given given h = at read h goes where
+    at : (it : Result Delivery ReadFault) → IsOfGiven (λ delivery text. delivery_statements delivery ≡ statements_of text) fault_of given it
+        → ((text : List ℕ) → IsReadOf text it → GoesByText a b answer text) → IsImportOf a b answer given
+    at (Ok delivery) h goes = inl (h.0, goes (concat given) (h.1, h.2))
+    at (Err (unread.File fault)) (inl h) goes = inl (h.0, goes (concat given) h.1)
+    at (Err (unread.File fault)) (inr h) goes = inr (λ more. goes (concat given ++ more) (h more))
+    at (Err unread.Read) h goes = inr (λ more. goes (concat given ++ more) tt)
+    at (Err unread.Memory) h goes = inr (λ more. goes (concat given ++ more) tt)

@@ -1,5 +1,13 @@
 -- What came of the import of a file that a reader gives (profile).
-use Rattle.std.specs.Prelude.{◌≡◌, ◌≢◌, Bool, true, false, Result, Ok, Err}
+use Rattle.std.specs.Prelude.{◌≡◌, ◌≢◌, ◌⊎◌, ℕ, Bool, true, false, List, ◌++◌, Option, IfSome, Result, Ok, Err}
+use Rattle.std.specs.List.{concat}
+use Rattle.mds_lines.specs.Reads.{Reads}
+use Rattle.mds_records.specs.declared.file.FileKind.TheVariants.{Nem12}
+use Rattle.mds_keeper.specs.Kept.{Kept}
+use Rattle.mds_messages.specs.declared.answer.Answer.{Answer}
+use Rattle.mds_service.specs.Crashes.{GoesBy}
+use Rattle.mds_service.specs.Machine.{ImportStep}
+use Rattle.mds_walk.specs.Given.{MeetsEnd}
 use Rattle.mds_walk.specs.declared.fault.ReadFault.{ReadFault}
 use Rattle.mds_walk.specs.declared.fault.ReadFault.TheVariants as unread
 use Rattle.mds_desk.specs.declared.importing.ImportFault.{ImportFault}
@@ -24,3 +32,20 @@ abbrev pub IsUnread : {T : Type 0} → ReadFault → Result T ImportFault → Ty
 IsUnread unread.Read result Unwritten = (result ≡ Err Read) × Unwritten
 IsUnread unread.Memory result Unwritten = (result ≡ Err Memory) × Unwritten
 IsUnread fault result Unwritten = (result ≢ Err Read) × (result ≢ Err Memory)
+
+-- the step of an import of a text
+abbrev pub GoesByText : Kept → Kept → Answer → List ℕ → Type 0
+GoesByText old new answer text = GoesBy old new (λ w. ImportStep w Nem12 text) answer
+
+-- The step of an import of all that the calls brought, up to the end; or that of every text that begins so, where they stopped
+-- before.
+abbrev pub IsImportOf : Kept → Kept → Answer → List (List ℕ) → Type 0
+IsImportOf old new answer given =
+    (MeetsEnd given × GoesByText old new answer (concat given))
+    ⊎ ((more : List ℕ) → GoesByText old new answer (concat given ++ more))
+
+-- The step of an import of what a source had, where that is known. Whatever it gives, it is that of what its calls brought.
+abbrev pub IsImportFrom : {S : Type 0} → (S → Option (List ℕ)) → (S → List ℕ → S → Type 0) → S → S → Kept → Kept → Answer → Type 0
+IsImportFrom remaining gives begin end old new answer =
+    IfSome (remaining begin) (GoesByText old new answer)
+    × ((given : List (List ℕ)) × Reads gives begin given end × IsImportOf old new answer given)

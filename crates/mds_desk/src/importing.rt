@@ -1,6 +1,6 @@
 //! A NEM12 file, taken in as it is read. No more of it is held than a line and what it states.
 
-ghost use Rattle.std.specs.Prelude.{◌≡◌, ◌+◌, ◌-◌, ◌*◌, ◌<◌, ◌≤◌, ◌^◌, ◌≢◌, ℕ, List, Err, IfErr, IfOk, IfSome, MatchResult, if◌then◌else◌, is_ok, length, take};
+ghost use Rattle.std.specs.Prelude.{◌≡◌, ◌+◌, ◌-◌, ◌*◌, ◌<◌, ◌≤◌, ◌^◌, ◌≢◌, ℕ, List, Err, IfErr, IfOk, MatchResult, if◌then◌else◌, is_ok, length, take};
 ghost use Rattle.std.specs.Io.KnownBytes.{Appends as AppendsKnown, Keeps};
 ghost use Rattle.std.specs.List.{concat};
 ghost use Rattle.mds_lines.specs.Lines.{longest_line, most_lines};
@@ -8,10 +8,7 @@ ghost use Rattle.mds_lines.specs.Reads.{Reads, block};
 ghost use Rattle.mds_messages.specs.declared.answer.Answer.{Answer as AnAnswer};
 ghost use Rattle.mds_nem12.specs.Answers.{IsReadOf};
 ghost use Rattle.mds_records.specs.declared.file.FileFault.{FileFault};
-ghost use Rattle.mds_records.specs.declared.file.FileKind.TheVariants.{Nem12};
-ghost use Rattle.mds_service.specs.Crashes.{GoesBy};
-ghost use Rattle.mds_service.specs.Machine.{ImportStep};
-ghost use Rattle.mds_desk.specs.Imported.{IsUnread, is_read_failure, is_write_failure};
+ghost use Rattle.mds_desk.specs.Imported.{GoesByText, IsImportFrom, IsUnread, is_read_failure, is_write_failure};
 ghost use Rattle.mds_desk.specs.Performed.{IsAnswerText, IsToldAs, answer_status};
 
 use crate::outcome::Status;
@@ -45,15 +42,15 @@ pub fn import_file<K: Keeper, R: Source, W: Sink>(
     requires reader { R.failures reader.old < 2 ^ 64 - 1 }
     requires writer { W.failures writer.old < 2 ^ 64 - 1 }
 
-    // The step of an import of what the reader gave was done, and its answer printed, whole and nothing else.
+    // The step of an import of what the reader gave was done, whatever that is, and its answer printed, whole and nothing else.
     ensures done { IfOk result (λ status. (answer : AnAnswer)
-        × IfSome (R.remaining reader.old) (λ text. GoesBy (K.kept keeper.old) (K.kept keeper.new) (λ w. ImportStep w Nem12 text) answer)
+        × IsImportFrom R.remaining R.gives reader.old reader.new (K.kept keeper.old) (K.kept keeper.new) answer
         × (status ≡ answer_status answer) × (text : List ℕ) × IsAnswerText answer text
         × AppendsKnown (W.contents writer.old) (W.contents writer.new) text) }
 
     // Where the writer fails the step was done all the same, and a part of its answer was printed.
     ensures part { result ≡ Err ImportFault.Write → (answer : AnAnswer)
-        × IfSome (R.remaining reader.old) (λ text. GoesBy (K.kept keeper.old) (K.kept keeper.new) (λ w. ImportStep w Nem12 text) answer)
+        × IsImportFrom R.remaining R.gives reader.old reader.new (K.kept keeper.old) (K.kept keeper.new) answer
         × (text : List ℕ) × IsAnswerText answer text × (n : ℕ) × (n < length text)
         × AppendsKnown (W.contents writer.old) (W.contents writer.new) (take n text) }
 
@@ -82,13 +79,11 @@ pub fn import_read<K: Keeper, W: Sink>(
 ) -> Result<Status, ImportFault>
     requires { W.failures writer.old < 2 ^ 64 - 1 }
     ensures done { IfOk result (λ status. (answer : AnAnswer)
-        × ((text : List ℕ) → IsReadOf text read
-        → GoesBy (K.kept keeper.old) (K.kept keeper.new) (λ w. ImportStep w Nem12 text) answer)
+        × ((text : List ℕ) → IsReadOf text read → GoesByText (K.kept keeper.old) (K.kept keeper.new) answer text)
         × (status ≡ answer_status answer) × (text : List ℕ) × IsAnswerText answer text
         × AppendsKnown (W.contents writer.old) (W.contents writer.new) text) }
     ensures part { result ≡ Err ImportFault.Write → (answer : AnAnswer)
-        × ((text : List ℕ) → IsReadOf text read
-        → GoesBy (K.kept keeper.old) (K.kept keeper.new) (λ w. ImportStep w Nem12 text) answer)
+        × ((text : List ℕ) → IsReadOf text read → GoesByText (K.kept keeper.old) (K.kept keeper.new) answer text)
         × (text : List ℕ) × IsAnswerText answer text × (n : ℕ) × (n < length text)
         × AppendsKnown (W.contents writer.old) (W.contents writer.new) (take n text) }
 

@@ -1,2 +1,3 @@
+pub mod Fed
 pub mod Runs
 pub mod Served

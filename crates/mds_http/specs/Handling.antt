@@ -68,6 +68,10 @@ Handled route target body status kind text is_same goes =
 
 -- A step of a store over HTTP, by its keeper before and after: the request is done by a step of the machine.
 module _ {K : Type 0} (kept : K → Kept) where
+  abbrev pub HandlesBy : StepOf K
+  HandlesBy old route target body status kind text new =
+      Handled route target body status kind text (new ≡ old) (Goes (kept old) (kept new))
+
   abbrev pub Handles : StepOf (StoreHandler K)
   Handles old route target body status kind text new =
       Handled route target body status kind text (new ≡ old) (Goes (kept old.keeper) (kept new.keeper))

@@ -1,3 +1,4 @@
+pub mod Bodies
 pub mod Connections
 pub mod Handling
 pub mod Laws

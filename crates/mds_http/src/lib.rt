@@ -2,6 +2,7 @@
 //! 127.0.0.1, and takes its connections one after the other, each with one request.
 #![tactic(auto)]
 
+mod body;
 mod connections;
 mod handling;
 mod laws;
@@ -9,6 +10,7 @@ mod serving;
 mod telling;
 mod timely;
 
+pub use body::Body;
 pub use connections::{listen, serve_connections};
 pub use handling::StoreHandler;
 pub use laws::laws_of;

@@ -1,6 +1,7 @@
 //! A NEM12 file that is fed in pieces.
 
-ghost use Rattle.std.specs.Prelude.{◌≡◌, ℕ, List, [], ◌++◌, None, Some, Err, IfSome, IfOk, IfErr, MatchResult};
+ghost use Rattle.std.specs.Prelude.{◌≡◌, ℕ, List, [], ◌++◌, map, None, Some, Err, IfSome, IfOk, IfErr, MatchResult};
+ghost use Rattle.std.specs.List.{concat};
 ghost use Rattle.mds_walk.specs.SoFar.{fault_so_far};
 ghost use Rattle.mds_walk.specs.Answers.{IsRefusal};
 ghost use Rattle.mds_statements.specs.Delivered.{delivery_statements};
@@ -10,7 +11,7 @@ ghost use Rattle.mds_nem12.specs.Statements.{statements_of};
 use crate::delivery::DeliveryBuilder;
 use crate::file_reader::FileReader;
 use mds_statements::Delivery;
-use mds_walk::{LineFeeder, TakeFault};
+use mds_walk::{LineFeeder, TakeFault, feed_all};
 use std::alloc::{AllocError, Global};
 use std::marker::Model;
 
@@ -65,6 +66,16 @@ impl Reader {
         self.feeder.feed(piece)
     }
 
+    /// Takes pieces one after the other, as far as there is no fault.
+    fn feed_pieces(&mut self, pieces: &[&[u8]]) -> Result<(), TakeFault>
+        ensures fed { (text : List ℕ) → HasRead text self.old → HasRead (text ++ concat (map (λ piece. piece.now) pieces.now)) self.new }
+        ensures answer { (text : List ℕ) → HasRead text self.old → fault_so_far nem12 text ≡ None
+            → MatchResult result (λ _. fault_so_far nem12 (text ++ concat (map (λ piece. piece.now) pieces.now)) ≡ None)
+            (IsRefusal (fault_so_far nem12 (text ++ concat (map (λ piece. piece.now) pieces.now)))) }
+    {
+        feed_all(&mut self.feeder, pieces)
+    }
+
     /// Ends the file: what it states, or its first fault. What stands behind the last line feed is a line, if it isn't empty.
     /// After a fault it answers the same.
     pub fn finish(self) -> Result<Delivery, TakeFault>
@@ -81,5 +92,22 @@ impl Reader {
             },
             Err(fault) => Err(fault),
         }
+    }
+}
+
+/// Reads a NEM12 file that lies in pieces, one behind the other: what it states, or its first fault. How it is cut changes
+/// nothing.
+pub fn read_pieces(alloc: Global, pieces: &[&[u8]]) -> Result<Delivery, TakeFault>
+    ensures { MatchResult result
+        (λ delivery. (fault_of (concat (map (λ piece. piece.now) pieces.now)) ≡ None)
+        × (delivery_statements delivery ≡ statements_of (concat (map (λ piece. piece.now) pieces.now))))
+        (IsRefusal (fault_of (concat (map (λ piece. piece.now) pieces.now)))) }
+{
+    let Ok(mut reader) = Reader::new(alloc) else {
+        return Err(TakeFault::Memory);
+    };
+    match reader.feed_pieces(pieces) {
+        Ok(()) => reader.finish(),
+        Err(fault) => Err(fault),
     }
 }

@@ -5,6 +5,7 @@ ghost use Rattle.std.specs.List.{concat};
 ghost use Rattle.mds_lines.specs.Lines.{longest_line, most_lines};
 ghost use Rattle.mds_lines.specs.Reads.{Reads, block};
 ghost use Rattle.mds_records.specs.declared.file.FileFault.{FileFault};
+ghost use Rattle.mds_walk.specs.Given.{IsOfGiven};
 ghost use Rattle.mds_nem12.specs.Answers.{IsReadOf, is_read_fault};
 ghost use Rattle.mds_statements.specs.Delivered.{delivery_statements};
 ghost use Rattle.mds_nem12.specs.Faults.{fault_of};
@@ -35,9 +36,6 @@ pub fn read_lines<R: Source, T: StatementSink + Drop>(
     ensures done { IfOk result (λ out. IfSome (R.remaining source.old) (λ text. (fault_of text ≡ None)
         × T.told out (statements_of text) × (is_headed (statements_of text) ≡ true))) }
 
-    // It was told what some text states, also where nobody knows what the source gives.
-    ensures some { IfOk result (λ out. (text : List ℕ) × T.told out (statements_of text) × (is_headed (statements_of text) ≡ true)) }
-
     // The fault is that of the text.
     ensures fault { (fault : FileFault) → result ≡ Err (ReadFault.File fault)
         → IfSome (R.remaining source.old) (λ text. fault_of text ≡ Some fault) }
@@ -45,9 +43,11 @@ pub fn read_lines<R: Source, T: StatementSink + Drop>(
     // `Read` is answered just where the source failed, once.
     ensures counted { R.failures source.new ≡ R.failures source.old + (if is_read_fault result then 1 else 0) }
 
-    // It reads no more of the source, whatever that gives, than the lines that a file may have, and a block.
-    ensures bounded { (given : List (List ℕ)) × Reads R.gives source.old given source.new
-        × (length (concat given) ≤ most_lines * (longest_line + 1) + block) }
+    // What it made is of what the source's calls brought, whatever that is. They brought no more than the lines that a file may
+    // have, and a block.
+    ensures given { (given : List (List ℕ)) × Reads R.gives source.old given source.new
+        × (length (concat given) ≤ most_lines * (longest_line + 1) + block)
+        × IsOfGiven (λ out text. T.told out (statements_of text) × (is_headed (statements_of text) ≡ true)) fault_of given result }
 {
     let Ok(file) = FileReader::new(alloc, sink) else {
         return Err(ReadFault::Memory);
@@ -65,9 +65,11 @@ pub fn read_delivery<R: Source>(alloc: Global, source: &mut R) -> Result<Deliver
     // `Read` is answered just where the source failed, once.
     ensures counted { R.failures source.new ≡ R.failures source.old + (if is_read_fault result then 1 else 0) }
 
-    // It reads no more of the source, whatever that gives, than the lines that a file may have, and a block.
-    ensures bounded { (given : List (List ℕ)) × Reads R.gives source.old given source.new
-        × (length (concat given) ≤ most_lines * (longest_line + 1) + block) }
+    // What is read is of what the source's calls brought, whatever that is. They brought no more than the lines that a file may
+    // have, and a block.
+    ensures given { (given : List (List ℕ)) × Reads R.gives source.old given source.new
+        × (length (concat given) ≤ most_lines * (longest_line + 1) + block)
+        × IsOfGiven (λ delivery text. delivery_statements delivery ≡ statements_of text) fault_of given result }
 {
     match read_lines(alloc, source, DeliveryBuilder::new(alloc)) {
         Ok(builder) => match builder.into_delivery() {

@@ -9,7 +9,7 @@ mod files;
 mod laws;
 mod sink;
 
-pub use feeding::Reader;
+pub use feeding::{Reader, read_pieces};
 pub use file_reader::FileReader;
 pub use files::{read_delivery, read_lines, read_nem12};
 pub use laws::{days_are_orderly, fault_is_fed, fault_is_of_every_longer_text, one_run_of_a_day};

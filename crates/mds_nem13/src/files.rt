@@ -6,6 +6,7 @@ ghost use Rattle.mds_lines.specs.Lines.{longest_line, most_lines};
 ghost use Rattle.mds_lines.specs.Reads.{Reads, block};
 ghost use Rattle.mds_records.specs.declared.file.FileFault.{FileFault};
 ghost use Rattle.mds_walk.specs.Answers.{is_read_fault};
+ghost use Rattle.mds_walk.specs.Given.{IsOfGiven};
 ghost use Rattle.mds_walk.specs.Said.{is_headed};
 ghost use Rattle.mds_nem13.specs.Accumulations.{AreStatedBy};
 ghost use Rattle.mds_nem13.specs.Faults.{fault_of};
@@ -41,9 +42,11 @@ pub fn read_lines<R: Source, T: PeriodSink + Drop>(
     // `Read` is answered just where the source failed, once.
     ensures counted { R.failures source.new ≡ R.failures source.old + (if is_read_fault result then 1 else 0) }
 
-    // It reads no more of the source, whatever that gives, than the lines that a file may have, and a block.
-    ensures bounded { (given : List (List ℕ)) × Reads R.gives source.old given source.new
-        × (length (concat given) ≤ most_lines * (longest_line + 1) + block) }
+    // What it made is of what the source's calls brought, whatever that is. They brought no more than the lines that a file may
+    // have, and a block.
+    ensures given { (given : List (List ℕ)) × Reads R.gives source.old given source.new
+        × (length (concat given) ≤ most_lines * (longest_line + 1) + block)
+        × IsOfGiven (λ out text. T.told out (statements_of text) × (is_headed (statements_of text) ≡ true)) fault_of given result }
 {
     read_file(alloc, source, FileReader::new(sink))
 }

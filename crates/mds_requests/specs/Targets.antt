@@ -55,11 +55,14 @@ SaysExport pairs nmi from to moment sender receiver =
     × Says pairs (codes "to") to × Says pairs (codes "moment") moment × Says pairs (codes "sender") sender
     × Says pairs (codes "receiver") receiver
 
+-- the kind of file whose import a query asks for
+abbrev pub kind_asked : List (List ℕ × List ℕ) → Option FileKind
+kind_asked pairs = if has_only import_names pairs then kind_named (values_named (codes "kind") pairs) else None
+
 -- The request that a query asks for: with a body, for an import of the kind that it names,
 abbrev pub AskForImportBy : List (List ℕ × List ℕ) → (body : List ℕ) → Request → Type 0
 AskForImportBy pairs body request =
-    (has_only import_names pairs ≡ true) × (kind : FileKind)
-    × (kind_named (values_named (codes "kind") pairs) ≡ Some kind) × Asks (command.Import kind) body request
+    (kind : FileKind) × (kind_asked pairs ≡ Some kind) × Asks (command.Import kind) body request
 
 -- for the gaps of a range,
 abbrev pub AskForGapsBy : List (List ℕ × List ℕ) → Request → Type 0
@@ -128,6 +131,10 @@ IsFaultBy route path pairs body reason = AsksNothing (TakesMemory route pairs) (
 -- what a target and a body ask for
 abbrev pub AsksAt : Route → (target body : List ℕ) → Request → Type 0
 AsksAt route target body request = AsksBy route (path_of target) (pairs_of (query_of target)) body request
+
+-- a target asks for an import of interval data, whatever its body is
+abbrev pub ImportsIntervalData : Route → (target : List ℕ) → Type 0
+ImportsIntervalData route target = (route ≡ Imports) × (kind_asked (pairs_of (query_of target)) ≡ Some Nem12)
 
 -- and why they ask for nothing
 abbrev pub IsFaultAt : Route → (target body : List ℕ) → TargetFault → Type 0

@@ -1,17 +1,20 @@
 //! What a body asks for.
 
-ghost use Rattle.std.specs.Prelude.{◌≡◌, ◌≢◌, [], ◌∷◌, map, MatchResult};
+ghost use Rattle.std.specs.Prelude.{◌≡◌, ◌≢◌, ◌↔◌, [], ◌∷◌, map, IfOk, IsTrue, MatchResult, OnErr};
 ghost use Rattle.mds_requests.specs.Asking.{Asks};
 ghost use Rattle.mds_requests.specs.QuerySteps.{texts_of};
-ghost use Rattle.mds_requests.specs.Targets.{AskForImportBy, AsksNothing, kind_named};
+ghost use Rattle.mds_requests.specs.Queries.{pairs_of};
+ghost use Rattle.mds_requests.specs.Targets.{AskForImportBy, AsksNothing, ImportsIntervalData, kind_asked, kind_named};
 ghost use Rattle.mds_requests.specs.TargetSteps.{IsFileFault};
+ghost use Rattle.mds_wire.specs.Judging.{query_of};
 
 use crate::files::{FileCommand, request_in};
 use crate::query::Query;
 use crate::targets::TargetFault;
 use mds_messages::Request;
 use mds_records::FileKind;
-use std::alloc::Global;
+use mds_wire::{Route, query_of};
+use std::alloc::{AllocError, Global};
 
 /// The request for an import of the kind that a query names.
 pub(crate) fn import_asked(
@@ -22,16 +25,37 @@ pub(crate) fn import_asked(
     ensures { MatchResult result (AskForImportBy (texts_of query.now) body.items)
         (AsksNothing (texts_of query.now ≢ []) (AskForImportBy (texts_of query.now) body.items)) }
 {
+    match kind_asked(alloc, query) {
+        Ok(Some(kind)) => file_asked(alloc, FileCommand::Import(kind), body),
+        Ok(None) => Err(TargetFault::Bad),
+        Err(_) => Err(TargetFault::Memory),
+    }
+}
+
+/// Whether a target asks for an import of interval data, whatever the body is. Such a body may be read as it comes. It fails only
+/// where memory is refused, and never without a query.
+pub fn imports_interval_data(alloc: Global, route: Route, target: &[u8]) -> Result<bool, AllocError>
+    ensures ok { IfOk result (λ is. IsTrue is ↔ ImportsIntervalData route target.now) }
+    ensures err { OnErr result (pairs_of (query_of target.now) ≢ []) }
+{
+    if !matches!(route, Route::Imports) {
+        return Ok(false);
+    }
+    let query = Query::read(alloc, query_of(target))?;
+    let kind = kind_asked(alloc, &query)?;
+    Ok(matches!(kind, Some(FileKind::Nem12)))
+}
+
+/// The kind of file whose import a query asks for. `None` where it asks for none.
+fn kind_asked(alloc: Global, query: &Query<'_>) -> Result<Option<FileKind>, AllocError>
+    ensures ok { IfOk result (λ kind. kind ≡ kind_asked (texts_of query.now)) }
+    ensures err { OnErr result (texts_of query.now ≢ []) }
+{
     if !query.has_only(&["kind"]) {
-        return Err(TargetFault::Bad);
+        return Ok(None);
     }
-    let Ok(kinds) = query.values(alloc, "kind") else {
-        return Err(TargetFault::Memory);
-    };
-    match kind_named(&kinds) {
-        Some(kind) => file_asked(alloc, FileCommand::Import(kind), body),
-        None => Err(TargetFault::Bad),
-    }
+    let kinds = query.values(alloc, "kind")?;
+    Ok(kind_named(&kinds))
 }
 
 /// The kind of file that names mean: interval data where there is none.

@@ -13,5 +13,6 @@ mod query;
 mod ranges;
 mod targets;
 
+pub use bodies::imports_interval_data;
 pub use files::{FileCommand, RequestFault, request_in};
 pub use targets::{TargetFault, request_at};

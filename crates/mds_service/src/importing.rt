@@ -1,5 +1,7 @@
 //! The request to take in a file.
 
+ghost use Rattle.std.specs.Prelude.{ℕ, List};
+ghost use Rattle.mds_nem12.specs.Reader.{HasRead};
 ghost use Rattle.mds_records.specs.declared.file.FileKind.TheVariants as kinds;
 ghost use Rattle.mds_statements.specs.Delivered.{delivery_statements};
 ghost use Rattle.mds_service.specs.Crashes.{GoesBy};
@@ -11,7 +13,7 @@ use crate::news::new_notes;
 use crate::settling::settle;
 use mds_keeper::{Keeper, MergeCounts, Stop};
 use mds_messages::Answer;
-use mds_nem12::{Nem12Fault, read_nem12};
+use mds_nem12::{Nem12Fault, Reader, read_nem12};
 use mds_records::FileKind;
 use mds_statements::Delivery;
 use std::alloc::Global;
@@ -44,8 +46,33 @@ fn import_nem12<K: Keeper>(alloc: Global, keeper: &mut K, text: &[u8]) -> Answer
     }
 }
 
+/// Ends a NEM12 file that a reader was fed, and takes in what it states: all of it by one commit, or nothing. It is the step of an
+/// import of the text, in whatever pieces it came.
+pub fn import_fed<K: Keeper>(alloc: Global, keeper: &mut K, reader: Reader) -> Answer
+    ensures { (text : List ℕ) → HasRead text reader
+        → GoesBy (K.kept keeper.old) (K.kept keeper.new) (λ w. ImportStep w kinds.Nem12 text) result }
+{
+    match reader.finish() {
+        Ok(delivery) => import_delivery(alloc, keeper, delivery),
+        Err(Nem12Fault::File(fault)) => Answer::File(fault),
+        Err(Nem12Fault::Memory) => Answer::Unavailable,
+    }
+}
+
 /// Takes in a delivery: all that it states by one commit, or nothing. Whoever reads a NEM12 file in pieces has one in the
-/// end. The answer is that of an import of any file with these statements.
+/// end. The answer is that of an import of any file with these statements. The delivery stays, so its readings are copied.
+/// Whoever needs it no more hands it to `import_delivery`.
+pub fn apply_delivery<K: Keeper>(alloc: Global, keeper: &mut K, delivery: &Delivery) -> Answer
+    ensures { GoesBy (K.kept keeper.old) (K.kept keeper.new) (λ w. TakesIn w (delivery_statements delivery.now)) result }
+{
+    let copy = match delivery.try_clone() {
+        Ok(copy) => copy,
+        Err(_) => return Answer::Unavailable,
+    };
+    import_delivery(alloc, keeper, copy)
+}
+
+/// Takes in a delivery as `apply_delivery` does, and moves its readings.
 pub fn import_delivery<K: Keeper>(alloc: Global, keeper: &mut K, delivery: Delivery) -> Answer
     ensures { GoesBy (K.kept keeper.old) (K.kept keeper.new) (λ w. TakesIn w (delivery_statements delivery)) result }
 {

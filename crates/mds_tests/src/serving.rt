@@ -28,6 +28,13 @@ const ADDED: &[u8] =
     b"HTTP/1.1 200 OK\r\nContent-Type: application/json\r\nContent-Length: 21\r\nConnection: close\r\n\r\n\
     {\"added\":1,\"known\":0}";
 
+/// The same request, but for one holiday more.
+const LONGER: &[u8] =
+    b"POST /v1/holidays HTTP/1.1\r\nHost: x\r\nContent-Length: 23\r\n\r\ndate\n20240126\n20240127\n";
+
+/// The body of an answer that says that memory, or what is kept, was unavailable.
+const UNAVAILABLE: &[u8] = b"{\"error\":\"U1\"}";
+
 /// A handler that counts how often it is asked to take the list, which is all that it takes.
 #[derive(Drop)]
 struct Asked {
@@ -37,11 +44,29 @@ struct Asked {
 impl Handler for Asked {
     ghost use Rattle.std.specs.Prelude.{◌≡◌, ⊤};
 
+    type Body = Vec<u8>;
+
     ghost step = { λ _ _ _ _ _ _ _ _. ⊤ };
 
     ghost same = { λ old new. new ≡ old };
 
     ghost takes_memory = { λ _ _ _. ⊤ };
+
+    ghost holds = { λ body _ _ bytes. body.items ≡ bytes };
+
+    fn begin(&self, alloc: Global, _: Route, _: &[u8], _: usize) -> Result<Vec<u8>, Unavailable> {
+        Ok(Vec::new(alloc))
+    }
+
+    fn feed(body: &mut Vec<u8>, piece: &[u8]) -> Result<(), Unavailable> {
+        if body.len().saturating_add(piece.len()) > BODY.len() {
+            return Err(Unavailable);
+        }
+        match body.extend_from_slice(piece) {
+            Ok(()) => Ok(()),
+            Err(_) => Err(Unavailable),
+        }
+    }
 
     fn handle(
         &mut self,
@@ -142,5 +167,24 @@ fn writers_are_full(rt: HostRuntime) -> Result<(), Fail> {
         let told = served(rt.alloc(), &routes, &mut handler, LIST, slots);
         assert_eq!(rt; told, (Err(WireFault::Write), 0, 1), "of {room} bytes");
     }
+    Ok(())
+}
+
+/// A piece that the handler doesn't take is answered 503, and the handler isn't asked. No call is made after the one that brought
+/// it.
+#[test]
+fn pieces_are_refused(rt: HostRuntime) -> Result<(), Fail> {
+    let routes = Routes::new(rt.alloc())?;
+    let mut handler = Asked { times: 0 };
+    let mut out = Vec::new(rt.alloc());
+    let reader = Failing {
+        inner: LONGER,
+        step: 1,
+        calls: LIST_SIZE + 1,
+    };
+    let told = served(rt.alloc(), &routes, &mut handler, reader, &mut out);
+    assert_eq!(rt; told, (Ok(Status::Unavailable), 0, 0));
+    assert!(rt; out.as_slice().ends_with(UNAVAILABLE));
+    assert_eq!(rt; handler.times, 0);
     Ok(())
 }

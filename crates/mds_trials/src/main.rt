@@ -5,8 +5,16 @@
 //! the same from a store of rows (schema 1). The other words measure, over the keeper in memory. `mds_trials deliver PATH` reads all
 //! that a NEM12 file states. `mds_trials imports PATH` takes the file into an empty keeper, and then again.
 //! `mds_trials exports PATH FROM TO` takes it in and exports each of its streams in that range.
+//!
+//! Two words hold NEM12 files in pieces against the same files in one. A list of files stands in `PATH`, each behind its length in four
+//! bytes. `mds_trials cuts PATH` cuts each in two, at each of its bytes in turn. `mds_trials pieces PATH SEED` cuts each once, in
+//! pieces that seem random.
 #![tactic(auto)]
 
+mod outcomes;
+mod pieces;
+
+use crate::pieces::{Cutter, hold_files};
 use mds_answers::{list_json, short_json};
 use mds_arguments::{ExportArguments, export_request};
 use mds_http::{StoreHandler, listen, serve_connections};
@@ -33,13 +41,17 @@ fn main(rt: HostRuntime) -> ExitCode {
     }
 }
 
-/// Does what the words say, and answers whether it understood them.
+/// Does what the words say. Answers whether it understood them, and found nothing that differs.
 fn run_words(rt: &HostRuntime) -> io::Result<bool> {
     let words: Vec<String> = env::args(rt)?.skip(1).collect(rt.alloc())?;
     match words.as_slice() {
         [] => call_of_the_readme(rt),
         [what, path] if what.as_str() == "deliver" => time_delivery(rt, path.as_str()),
         [what, path] if what.as_str() == "imports" => time_imports(rt, path.as_str()),
+        [what, path] if what.as_str() == "cuts" => hold_files(rt, path.as_str(), Cutter::InTwo),
+        [what, path, seed] if what.as_str() == "pieces" => {
+            hold_made_pieces(rt, path.as_str(), seed.as_str())
+        }
         [what, port, count] if what.as_str() == "serve" => serve(rt, port.as_str(), count.as_str()),
         [what, port, count] if what.as_str() == "serve-rows" => {
             serve_rows(rt, port.as_str(), count.as_str())
@@ -53,7 +65,7 @@ fn run_words(rt: &HostRuntime) -> io::Result<bool> {
 
 fn usage(rt: &HostRuntime) -> io::Result<bool> {
     println!(rt;
-        "usage: mds_trials [serve PORT COUNT | serve-rows PORT COUNT | deliver PATH | imports PATH | exports PATH FROM TO]"
+        "usage: mds_trials [serve PORT COUNT | serve-rows PORT COUNT | deliver PATH | imports PATH | exports PATH FROM TO | cuts PATH | pieces PATH SEED]"
     )?;
     Ok(false)
 }
@@ -272,5 +284,13 @@ fn size_of_export(answer: &Answer) -> u128 {
     match answer {
         Answer::Exported(text) => text.len() as u128,
         _ => 0,
+    }
+}
+
+/// Holds the files of a list, in made pieces, against the same files in one piece.
+fn hold_made_pieces(rt: &HostRuntime, path: &str, seed: &str) -> io::Result<bool> {
+    match seed.parse::<u64>() {
+        Ok(seed) => hold_files(rt, path, Cutter::Made(seed)),
+        Err(_) => usage(rt),
     }
 }

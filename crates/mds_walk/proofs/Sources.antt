@@ -1,5 +1,5 @@
 -- A source that is fed, block by block.
-use Rattle.std.proofs.Common.{◌≡◌, ℕ, ◌+◌, ◌*◌, ◌≤◌, List, [], ◌∷◌, ◌++◌, length, take, Option, Some, None, IfSome, refl, sym, ◌∙◌, ap, subst, arith, length-append, append_assoc}
+use Rattle.std.proofs.Common.{◌≡◌, ℕ, ◌+◌, ◌*◌, ◌≤◌, inl, inr, List, [], ◌∷◌, ◌++◌, length, take, Option, Some, None, IfSome, Result, Ok, Err, refl, sym, ◌∙◌, ap, subst, arith, length-append, append_assoc}
 use Rattle.std.specs.Io.KnownBytes.{Consumes}
 use Rattle.std.proofs.lemmas.List.{append-nil, length-take-le}
 use Rattle.std.proofs.lemmas.List.Folds.{concat-append}
@@ -10,12 +10,14 @@ use Rattle.mds_lines.proofs.StreamSteps.{consumes_both}
 use Rattle.mds_records.specs.declared.file.FileFault.{FileFault}
 use Rattle.mds_walk.specs.Answers.{IsRefusal}
 use Rattle.mds_walk.specs.Faults.{Judge, fault_of}
+use Rattle.mds_walk.specs.declared.fault.ReadFault.{ReadFault}
 use Rattle.mds_walk.specs.declared.fault.ReadFault.TheVariants as read
 use Rattle.mds_walk.specs.declared.fault.TakeFault.{TakeFault}
 use Rattle.mds_walk.specs.declared.fault.TakeFault.TheVariants.{File, Memory}
 use Rattle.mds_walk.specs.Feeding.{WasFed}
 use Rattle.mds_walk.specs.SoFar.{fault_so_far}
 use Rattle.mds_walk.specs.FileSteps.{read_fault_of}
+use Rattle.mds_walk.specs.Given.{IsOfGiven}
 use Rattle.mds_walk.specs.declared.feeder.LineFeeder.{LineFeeder}
 use Rattle.mds_walk.proofs.Bounds.{so_far_few}
 use Rattle.mds_walk.proofs.Stops.{fault_of_all}
@@ -97,15 +99,44 @@ module _ {T : Type 0} {S : Type 0} {gives : S → List ℕ → S → Type 0} {be
         let same : found ≡ fault = cc in
         ap (fault_of judge) h ∙ fault_of_all judge (i.fed ++ piece) ys found (refused i.fed i.was) ∙ ap Some same
 
-  -- however it ends, few bytes were read
-  pub bounded : {here last : S} {b : Option (List ℕ)} {count : ℕ} {old : LineFeeder T} (more : List ℕ) → IsReading gives begin here judge taken first b count old
-      → gives here more last → length more ≤ 114_688
-      → (given : List (List ℕ)) × Reads gives begin given last × (length (concat given) ≤ most_lines * (longest_line + 1) + block)
-  bounded {last = last} more i gave short =
-      let all = given_size i.given.given more in
+  -- however it ends, few bytes were read, and all that was brought is what was fed and this
+  pub brought : {here last : S} {b : Option (List ℕ)} {count : ℕ} {old : LineFeeder T} (more : List ℕ) (Says : List (List ℕ) → Type 0)
+      (i : IsReading gives begin here judge taken first b count old) → gives here more last → length more ≤ 114_688
+      → ((before : List (List ℕ)) → concat (before ++ more ∷ []) ≡ i.fed ++ more → Says (before ++ more ∷ []))
+      → (given : List (List ℕ)) × Reads gives begin given last × (length (concat given) ≤ most_lines * (longest_line + 1) + block) × Says given
+  brought {last = last} more Says i gave short says =
+      let before = i.given.given in
+      let all : concat (before ++ more ∷ []) ≡ i.fed ++ more =
+      concat-append before (more ∷ []) ∙ ap (λ t. concat before ++ t) (append-nil more) ∙ ap (λ t. t ++ more) i.given.all in
       let size = ap length i.given.all in
-      let bound : length (concat (i.given.given ++ more ∷ [])) ≤ 16_385_131_072 = omega (arith, i.many, i.few) in
-      (i.given.given ++ more ∷ [], i.given.reads (more ∷ []) last (last, gave, refl), bound)
+      let sum = given_size before more in
+      let bound : length (concat (before ++ more ∷ [])) ≤ 16_385_131_072 = omega (arith, i.many, i.few) in
+      (before ++ more ∷ [], i.given.reads (more ∷ []) last (last, gave, refl), bound, says before all)
+
+-- what a whole text ends in
+abbrev pub IsEndOf : {U : Type 0} → (U → List ℕ → Type 0) → Judge → List ℕ → Result U ReadFault → Type 0
+IsEndOf Makes judge text (Ok out) = (fault_of judge text ≡ None) × Makes out text
+IsEndOf Makes judge text (Err (read.File fault)) = fault_of judge text ≡ Some fault
+IsEndOf Makes judge text (Err reason) = Unit {0}
+
+module _ {U : Type 0} (Makes : U → List ℕ → Type 0) (judge : Judge) where
+  pub end_refused : (text : List ℕ) (answer : TakeFault) → IsRefusal (fault_of judge text) answer → IsEndOf Makes judge text (Err (read_fault_of answer))
+  end_refused text (File fault) h = h
+  end_refused text Memory h = tt
+
+  -- the last call met the end
+  pub of_whole : (before : List (List ℕ)) (text : List ℕ) (r : Result U ReadFault) → concat (before ++ [] ∷ []) ≡ text → IsEndOf Makes judge text r
+      → IsOfGiven Makes (fault_of judge) (before ++ [] ∷ []) r
+  of_whole before text (Ok out) all h = ((before, refl), ap (fault_of judge) all ∙ h.0, subst (Makes out) (sym all) h.1)
+  of_whole before text (Err (read.File fault)) all h = inl ((before, refl), ap (fault_of judge) all ∙ h)
+  of_whole before text (Err read.Read) all h = tt
+  of_whole before text (Err read.Memory) all h = tt
+
+  -- what the last call brought was refused
+  pub of_front : (given : List (List ℕ)) (text : List ℕ) (answer : TakeFault) → concat given ≡ text → IsRefusal (fault_so_far judge text) answer
+      → IsOfGiven Makes (fault_of judge) given (Err (read_fault_of answer))
+  of_front given text (File fault) all h = inr (λ more. ap (λ t. fault_of judge (t ++ more)) all ∙ fault_of_all judge text more fault h)
+  of_front given text Memory all h = tt
 
 -- a piece as it lies in the buffer
 pub same_piece : (a b : Option (List ℕ)) (size : ℕ) (xs ys : List ℕ) → xs ≡ ys → Consumes a b (take size ys) → Consumes a b (take size xs)

@@ -8,6 +8,7 @@ ghost use Rattle.mds_records.specs.declared.file.FileFault.{FileFault};
 ghost use Rattle.mds_walk.specs.Answers.{is_read_fault};
 ghost use Rattle.mds_walk.specs.Faults.{fault_of, lines_of};
 ghost use Rattle.mds_walk.specs.FileSteps.{read_fault_of};
+ghost use Rattle.mds_walk.specs.Given.{IsOfGiven};
 
 use crate::fault::{ReadFault, TakeFault};
 use crate::feeder::LineFeeder;
@@ -32,9 +33,6 @@ pub fn read_file<R: Source, T: RecordSink + Drop>(
     ensures done { IfOk result (λ out. IfSome (R.remaining source.old) (λ text. (fault_of T.judge text ≡ None)
         × T.made out (lines_of text))) }
 
-    // It is that of some text, also where nobody knows what the source gives.
-    ensures some { IfOk result (λ out. (text : List ℕ) × (fault_of T.judge text ≡ None) × T.made out (lines_of text)) }
-
     // The fault is that of the text.
     ensures fault { (fault : FileFault) → result ≡ Err (ReadFault.File fault)
         → IfSome (R.remaining source.old) (λ text. fault_of T.judge text ≡ Some fault) }
@@ -42,9 +40,11 @@ pub fn read_file<R: Source, T: RecordSink + Drop>(
     // `Read` is answered just where the source failed, once.
     ensures counted { R.failures source.new ≡ R.failures source.old + (if is_read_fault result then 1 else 0) }
 
-    // It reads no more of the source, whatever that gives, than the lines that a file may have, and a block.
-    ensures bounded { (given : List (List ℕ)) × Reads R.gives source.old given source.new
-        × (length (concat given) ≤ most_lines * (longest_line + 1) + block) }
+    // What it made is of what the source's calls brought, whatever that is. They brought no more than the lines that a file may
+    // have, and a block.
+    ensures given { (given : List (List ℕ)) × Reads R.gives source.old given source.new
+        × (length (concat given) ≤ most_lines * (longest_line + 1) + block)
+        × IsOfGiven (λ out text. T.made out (lines_of text)) (fault_of T.judge) given result }
 {
     let Ok(mut buffer) = room(alloc) else {
         return Err(ReadFault::Memory);

@@ -1,49 +1,88 @@
--- A body's bytes in the memory that they are read into.
-use Rattle.std.proofs.Common.{◌≡◌, ℕ, ◌+◌, ◌-◌, ◌<◌, ◌≤◌, Bool, true, false, eqb, List, [], ◌++◌, length, take, Option, sym, ◌∙◌, ap, subst, arith, append_assoc, length-append}
+-- A body that is fed what is read, call by call.
+use Rattle.std.proofs.Common.{◌≡◌, ℕ, ◌+◌, ◌-◌, ◌<◌, ◌≤◌, Bool, true, false, eqb, List, [], ◌++◌, length, Option, Ok, Err, sym, ap, subst, arith, append_assoc, length-append}
 use Rattle.std.specs.Io.KnownBytes.{Consumes}
 use Rattle.std.proofs.lemmas.List.{append-nil}
-use Rattle.mds_lines.specs.Streams.{ReadsBehind}
 use Rattle.mds_wire.specs.Calls.{HasRead}
-use Rattle.mds_wire.specs.BodySteps.{WantsBody}
+use Rattle.mds_wire.specs.declared.body.BodyFault.{BodyFault}
+use Rattle.mds_wire.specs.declared.body.BodyFault.TheVariants.{Read, Closed, Unavailable}
+use Rattle.mds_wire.specs.declared.route.Route.{Route}
+use Rattle.mds_wire.specs.BodySteps.{WantsBody, IsFed, FeedsNext, FeedsBody}
 use Rattle.mds_wire.proofs.CallSteps.{read_none, read_next, read_last}
 use Rattle.mds_wire.proofs.HeadReads.{not_none}
 
--- what was read so far stands behind the front
-pub record HasFilled {S : Type 0} (front : List ℕ) (size : ℕ) (gives : S → List ℕ → S → Type 0) (old new : S) (old_left new_left : Option (List ℕ))
-    (items : List ℕ) (filled : ℕ) (is_ended : Bool) : Type 0 where
-  pub bytes : List ℕ
-  pub many : filled ≡ length front + length bytes
-  pub text : take filled items ≡ front ++ bytes
-  pub read : HasRead (WantsBody front size) gives old new old_left new_left bytes is_ended
+module _ {B : Type 0} (Holds : B → Route → List ℕ → List ℕ → Type 0) where
+  -- two pieces, one behind the other
+  fed_both : (a b c : B) (xs ys : List ℕ) → IsFed Holds a b xs → IsFed Holds b c ys → IsFed Holds a c (xs ++ ys)
+  fed_both a b c xs ys first next route target before holds few =
+      let is = append_assoc before xs ys in
+      let long : length ((before ++ xs) ++ ys) ≡ length (before ++ (xs ++ ys)) = ap length is in
+      let sum = length-append (before ++ xs) ys in
+      subst (λ (t : List ℕ). Holds c route target t) is
+      (next route target (before ++ xs) (first route target before holds (omega (arith, few, long, sum))) (omega (arith, few, long)))
 
-pub filled_none : {S : Type 0} (front : List ℕ) (size : ℕ) (gives : S → List ℕ → S → Type 0) (a : S) (left : Option (List ℕ)) (items : List ℕ)
-    → take (length front) items ≡ front → HasFilled front size gives a a left left items (length front) false
-filled_none front size gives a left items e = record {
-  bytes = [];
-  many = omega arith;
-  text = e ∙ sym (append-nil front);
-  read = read_none (WantsBody front size) gives a left;
-}
+  -- What was read so far was fed behind the front. So many bytes are left.
+  pub record IsFeeding {S : Type 0} (first now : B) (front : List ℕ) (size : ℕ) (gives : S → List ℕ → S → Type 0) (old new : S)
+      (old_left new_left : Option (List ℕ)) (left : ℕ) : Type 0 where
+    pub bytes : List ℕ
+    pub many : length front + length bytes + left ≡ size
+    pub fed : IsFed Holds first now (front ++ bytes)
+    pub read : HasRead (WantsBody front size) gives old new old_left new_left bytes false
 
-module _ {S : Type 0} (front : List ℕ) (size : ℕ) (gives : S → List ℕ → S → Type 0) (a b c : S) (left next later : Option (List ℕ)) (items : List ℕ) (filled : ℕ)
-    (f : HasFilled front size gives a b left next items filled false) (room : filled < size) where
-  -- a call that brought bytes
-  pub filled_more : (read_to : List ℕ) (count : ℕ) → ¬ (count ≡ 0) → filled + count ≤ size → ReadsBehind gives b c next later (take filled items) read_to count
-      → HasFilled front size gives a c left later read_to (filled + count) false
-  filled_more read_to count some within more =
-      let brought : eqb (length more.bytes) 0 ≡ false = ap (λ n. eqb n 0) more.many ∙ not_none count some in
-      let held : length (take filled items) ≡ filled = ap length f.text ∙ length-append front f.bytes ∙ sym f.many in
-      let came = read_next (WantsBody front size) gives a b c left next later f.bytes more.bytes (size - filled) f.read
-      (omega (arith, f.many, room)) (omega (arith, room)) (omega (arith, more.many, within)) more.gave more.consumed in
-      record {
-        bytes = f.bytes ++ more.bytes;
-        many = omega (arith, f.many, more.many, length-append f.bytes more.bytes);
-        text = ap (λ n. take (n + count) read_to) (sym held) ∙ more.placed ∙ ap (λ t. t ++ more.bytes) f.text ∙ append_assoc front f.bytes more.bytes;
-        read = subst (λ (e : Bool). HasRead (WantsBody front size) gives a c left later (f.bytes ++ more.bytes) e) brought came;
-      }
+  -- the front alone
+  pub feeding_none : {S : Type 0} (a b : B) (front : List ℕ) (size : ℕ) (gives : S → List ℕ → S → Type 0) (s : S) (remaining : Option (List ℕ)) (left : ℕ)
+      → length front + left ≡ size → IsFed Holds a b front → IsFeeding a b front size gives s s remaining remaining left
+  feeding_none a b front size gives s remaining left many fed = record {
+    bytes = [];
+    many = omega (arith, many);
+    fed = subst (λ (t : List ℕ). IsFed Holds a b t) (sym (append-nil front)) fed;
+    read = read_none (WantsBody front size) gives s remaining;
+  }
 
-  -- a call that brought none
-  pub filled_last : gives b [] c → Consumes next later [] → HasRead (WantsBody front size) gives a c left later f.bytes true
-  filled_last gave consumed =
-      read_last (WantsBody front size) gives a b c left next later f.bytes (size - filled) f.read
-      (omega (arith, f.many, room)) (omega (arith, room)) gave consumed
+  module _ {S : Type 0} (first now : B) (front : List ℕ) (size : ℕ) (gives : S → List ℕ → S → Type 0) (a b c : S) (old next later : Option (List ℕ)) (left : ℕ)
+      (f : IsFeeding first now front size gives a b old next left) where
+    -- bytes that a call brought
+    read_more : (bytes : List ℕ) → 0 < length bytes → length bytes ≤ left → gives b bytes c → Consumes next later bytes
+        → HasRead (WantsBody front size) gives a c old later (f.bytes ++ bytes) false
+    read_more bytes some few gave consumed =
+        let brought : eqb (length bytes) 0 ≡ false = not_none (length bytes) (λ e. omega (arith, e, some)) in
+        subst (λ (e : Bool). HasRead (WantsBody front size) gives a c old later (f.bytes ++ bytes) e) brought
+        (read_next (WantsBody front size) gives a b c old next later f.bytes bytes left f.read f.many (omega (arith, some, few)) few gave consumed)
+
+    -- none that a call brought
+    read_nothing : (bytes : List ℕ) → bytes ≡ [] → 0 < left → gives b bytes c → Consumes next later bytes
+        → HasRead (WantsBody front size) gives a c old later f.bytes true
+    read_nothing bytes none some gave consumed =
+        read_last (WantsBody front size) gives a b c old next later f.bytes left f.read f.many some
+        (subst (λ (t : List ℕ). gives b t c) none gave) (subst (λ (t : List ℕ). Consumes next later t) none consumed)
+
+    -- a call whose bytes were fed
+    pub feeding_more : (new : B) (block count : ℕ) → block ≤ left → FeedsNext Holds now new block gives b c next later (Ok count)
+        → IsFeeding first new front size gives a c old later (left - count)
+    feeding_more new block count within n = record {
+      bytes = f.bytes ++ n.bytes;
+      many = omega (arith, f.many, n.is.0, n.few, within, length-append f.bytes n.bytes);
+      fed = subst (λ (t : List ℕ). IsFed Holds first new t) (append_assoc front f.bytes n.bytes) (fed_both first now new (front ++ f.bytes) n.bytes f.fed n.is.2);
+      read = read_more n.bytes (omega (arith, n.is.0, n.is.1)) (omega (arith, n.few, within)) n.gave n.consumed;
+    }
+
+    -- a call that brought nothing, or whose bytes weren't taken
+    pub feeding_stops : (new : B) (block : ℕ) (fault : BodyFault) → block ≤ left → 0 < left → FeedsNext Holds now new block gives b c next later (Err fault)
+        → FeedsBody Holds {A = Unit {0}} first new front size gives a c old later (Err fault)
+    feeding_stops new block Unavailable within some n = record {
+      bytes = f.bytes ++ n.bytes;
+      few = omega (arith, f.many, n.few, within, length-append f.bytes n.bytes);
+      read = read_more n.bytes n.is (omega (arith, n.few, within)) n.gave n.consumed;
+      is = tt;
+    }
+    feeding_stops new block Read within some n = record {
+      bytes = f.bytes;
+      few = omega (arith, f.many);
+      read = read_nothing n.bytes n.is some n.gave n.consumed;
+      is = tt;
+    }
+    feeding_stops new block Closed within some n = record {
+      bytes = f.bytes;
+      few = omega (arith, f.many);
+      read = read_nothing n.bytes n.is.0 some n.gave n.consumed;
+      is = (n.is.1, omega (arith, f.many, some));
+    }

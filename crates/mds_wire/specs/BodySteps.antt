@@ -1,32 +1,57 @@
--- What a call that reads a body does: of its bytes those at the front came with the head, and the others are read.
-use Rattle.std.specs.Prelude.{◌≡◌, ℕ, ◌+◌, ◌<◌, ◌≤◌, Bool, true, false, List, [], ◌++◌, length, Result, Ok, Err, ⊤, Option, Vec}
-use Rattle.std.specs.Io.KnownBytes.{IsAtEnd}
+-- What calls do that feed a body: of its bytes those at the front came with the head, and the others are read.
+use Rattle.std.specs.Prelude.{◌≡◌, ℕ, ◌+◌, ◌<◌, ◌≤◌, Bool, true, false, List, [], ◌++◌, length, Result, Ok, Err, ⊤, Option}
+use Rattle.std.specs.Io.KnownBytes.{Consumes, IsAtEnd}
 use Rattle.mds_wire.specs.declared.body.BodyFault.{BodyFault}
-use Rattle.mds_wire.specs.declared.body.BodyFault.TheVariants.{Read, Closed, Memory}
+use Rattle.mds_wire.specs.declared.body.BodyFault.TheVariants.{Read, Closed, Unavailable}
+use Rattle.mds_wire.specs.declared.route.Route.{Route}
 use Rattle.mds_wire.specs.Calls.{HasRead}
+use Rattle.mds_wire.specs.Judging.{longest_body}
 
 -- what is left of the body is wanted
 abbrev pub WantsBody : List ℕ → ℕ → List ℕ → ℕ → Type 0
 WantsBody front size bytes count = length front + length bytes + count ≡ size
 
--- what the bytes that were read are, by the answer
-abbrev pub BodyAnswer : {A : Type 0} → List ℕ → ℕ → Option (List ℕ) → List ℕ → Result (Vec ℕ A) BodyFault → Type 0
-BodyAnswer front size left bytes (Ok body) = (body.items ≡ front ++ bytes) × (length front + length bytes ≡ size)
-BodyAnswer front size left bytes (Err Read) = ⊤
-BodyAnswer front size left bytes (Err Closed) = IsAtEnd left × (length front + length bytes < size)
-BodyAnswer front size left bytes (Err Memory) = bytes ≡ []
-
 -- whether the last call brought no bytes
-abbrev pub is_body_cut : {A : Type 0} → Result (Vec ℕ A) BodyFault → Bool
-is_body_cut (Ok body) = false
+abbrev pub is_body_cut : {A : Type 0} → Result A BodyFault → Bool
+is_body_cut (Ok done) = false
 is_body_cut (Err Read) = true
 is_body_cut (Err Closed) = true
-is_body_cut (Err Memory) = false
+is_body_cut (Err Unavailable) = false
 
--- these bytes were read, no more than the body needs, and the answer is theirs
-pub record ReadsBody {A : Type 0} {S : Type 0} (front : List ℕ) (size : ℕ)
-    (gives : S → List ℕ → S → Type 0) (old new : S) (old_left new_left : Option (List ℕ)) (answer : Result (Vec ℕ A) BodyFault) : Type 0 where
-  pub bytes : List ℕ
-  pub few : length front + length bytes ≤ size
-  pub read : HasRead (WantsBody front size) gives old new old_left new_left bytes (is_body_cut answer)
-  pub is : BodyAnswer front size new_left bytes answer
+-- `Holds` says for what a body was begun, and what it was fed.
+module _ {B : Type 0} (Holds : B → Route → List ℕ → List ℕ → Type 0) where
+  -- A body was fed these bytes, behind any that it had been fed. Together they are no more than a body has.
+  abbrev pub IsFed : B → B → List ℕ → Type 0
+  IsFed old new bytes = (route : Route) (target before : List ℕ) → Holds old route target before
+      → length (before ++ bytes) ≤ longest_body → Holds new route target (before ++ bytes)
+
+  -- what the bytes that one call brought are, by the answer
+  abbrev pub NextAnswer : B → B → Option (List ℕ) → List ℕ → Result ℕ BodyFault → Type 0
+  NextAnswer old new left bytes (Ok count) = (length bytes ≡ count) × (0 < count) × IsFed old new bytes
+  NextAnswer old new left bytes (Err Read) = bytes ≡ []
+  NextAnswer old new left bytes (Err Closed) = (bytes ≡ []) × IsAtEnd left
+  NextAnswer old new left bytes (Err Unavailable) = 0 < length bytes
+
+  -- one call brought these bytes, no more than a block has, and the answer is theirs
+  pub record FeedsNext {S : Type 0} (old_body new_body : B) (block : ℕ) (gives : S → List ℕ → S → Type 0) (old new : S)
+      (old_left new_left : Option (List ℕ)) (answer : Result ℕ BodyFault) : Type 0 where
+    pub bytes : List ℕ
+    pub few : length bytes ≤ block
+    pub gave : gives old bytes new
+    pub consumed : Consumes old_left new_left bytes
+    pub is : NextAnswer old_body new_body new_left bytes answer
+
+  -- what the bytes that were read are, by the answer
+  abbrev pub BodyAnswer : {A : Type 0} → B → B → List ℕ → ℕ → Option (List ℕ) → List ℕ → Result A BodyFault → Type 0
+  BodyAnswer old new front size left bytes (Ok done) = IsFed old new (front ++ bytes) × (length front + length bytes ≡ size)
+  BodyAnswer old new front size left bytes (Err Read) = ⊤
+  BodyAnswer old new front size left bytes (Err Closed) = IsAtEnd left × (length front + length bytes < size)
+  BodyAnswer old new front size left bytes (Err Unavailable) = ⊤
+
+  -- these bytes were read, no more than the body needs, and the answer is theirs
+  pub record FeedsBody {A : Type 0} {S : Type 0} (old_body new_body : B) (front : List ℕ) (size : ℕ)
+      (gives : S → List ℕ → S → Type 0) (old new : S) (old_left new_left : Option (List ℕ)) (answer : Result A BodyFault) : Type 0 where
+    pub bytes : List ℕ
+    pub few : length front + length bytes ≤ size
+    pub read : HasRead (WantsBody front size) gives old new old_left new_left bytes (is_body_cut answer)
+    pub is : BodyAnswer old_body new_body front size new_left bytes answer

@@ -1,58 +1,74 @@
-//! The body of a request, read from a source.
+//! The body of a request, fed to a handler as it comes from a source.
 
-ghost use Rattle.std.specs.Prelude.{◌≡◌, ◌≢◌, ◌+◌, ◌-◌, ◌^◌, ◌<◌, ◌≤◌, length, Err, IfOk, vec_len, take};
-ghost use Rattle.mds_wire.specs.BodySteps.{ReadsBody};
+ghost use Rattle.std.specs.Prelude.{◌≡◌, ◌≢◌, ◌+◌, ◌-◌, ◌^◌, ◌<◌, ◌≤◌, length, Err};
+ghost use Rattle.mds_wire.specs.BodySteps.{FeedsBody, FeedsNext};
 
-use mds_lines::{Source, read_more};
-use std::alloc::{AllocError, Global};
+use crate::serve::Handler;
+use mds_lines::Source;
 
-/// Why there is no body.
+/// Why a body isn't whole.
 #[derive(Clone, Copy)]
 pub(crate) enum BodyFault {
     /// The source failed.
     Read,
     /// The source ended first.
     Closed,
-    /// There was no memory. Nothing was read.
-    Memory,
+    /// The handler didn't take a piece. Nothing more was read.
+    Unavailable,
 }
 
-/// Room for so many bytes. It begins with the bytes of the front.
-fn room(alloc: Global, front: &[u8], size: usize) -> Result<Vec<u8>, AllocError>
-    requires { length front.now ≤ size }
-    ensures len { IfOk result (λ body. vec_len body ≡ size) }
-    ensures front { IfOk result (λ body. take (length front.now) body.items ≡ front.now) }
-{
-    let mut body = Vec::with_capacity(alloc, size)?;
-    body.extend_from_slice(front)?;
-    body.resize(size, 0)?;
-    Ok(body)
-}
+/// The most bytes that are read at a time.
+const BLOCK: usize = 16_384;
 
-/// Reads a body of so many bytes, the first of which came with the head. All its memory is taken before the first read.
-pub(crate) fn read_body<R: Source>(
-    alloc: Global,
-    front: &[u8],
-    size: usize,
+/// Reads once, at most as many bytes as a block has, and feeds what came. It says how many bytes came.
+fn feed_next<H: Handler, R: Source>(
+    body: &mut H::Body,
+    block: &mut [u8],
     source: &mut R,
-) -> Result<Vec<u8>, BodyFault>
+) -> Result<usize, BodyFault>
     requires failures { R.failures source.old < 2 ^ 64 - 1 }
-    requires front { length front.now ≤ size }
-    ensures read { ReadsBody front.now size R.gives source.old source.new
+    requires room { 0 < length block.old }
+    ensures feeds { FeedsNext H.holds body.old body.new (length block.old) R.gives source.old source.new
         (R.remaining source.old) (R.remaining source.new) result }
     ensures counted { (result ≡ Err BodyFault.Read → R.failures source.new ≡ R.failures source.old + 1)
         × (result ≢ Err BodyFault.Read → R.failures source.new ≡ R.failures source.old) }
 {
-    let Ok(mut body) = room(alloc, front, size) else {
-        return Err(BodyFault::Memory);
+    match source.read(block) {
+        Ok(0) => Err(BodyFault::Closed),
+        Ok(count) => match H::feed(body, &block[..count]) {
+            Ok(()) => Ok(count),
+            Err(_) => Err(BodyFault::Unavailable),
+        },
+        Err(_) => Err(BodyFault::Read),
+    }
+}
+
+/// Feeds a body of so many bytes. The first of them came with the head. The others are read, and each piece is fed as it
+/// comes.
+pub(crate) fn feed_body<H: Handler, R: Source>(
+    body: &mut H::Body,
+    front: &[u8],
+    size: usize,
+    source: &mut R,
+) -> Result<(), BodyFault>
+    requires failures { R.failures source.old < 2 ^ 64 - 1 }
+    requires front { length front.now ≤ size }
+    ensures feeds { FeedsBody H.holds body.old body.new front.now size R.gives source.old source.new
+        (R.remaining source.old) (R.remaining source.new) result }
+    ensures counted { (result ≡ Err BodyFault.Read → R.failures source.new ≡ R.failures source.old + 1)
+        × (result ≢ Err BodyFault.Read → R.failures source.new ≡ R.failures source.old) }
+{
+    let Ok(()) = H::feed(body, front) else {
+        return Err(BodyFault::Unavailable);
     };
-    let mut filled = front.len();
-    while filled < size {
-        match read_more(&mut body, filled, source) {
-            Ok(0) => return Err(BodyFault::Closed),
-            Ok(count) => filled += count,
-            Err(_) => return Err(BodyFault::Read),
+    let mut block = [0; BLOCK];
+    let mut left = size - front.len();
+    while left > 0 {
+        let wanted = left.min(BLOCK);
+        match feed_next::<H, R>(body, &mut block[..wanted], source) {
+            Ok(count) => left -= count,
+            Err(fault) => return Err(fault),
         }
     }
-    Ok(body)
+    Ok(())
 }

@@ -1,5 +1,5 @@
-//! One HTTP request over any reader, writer and handler. Its head and its body are read and judged. Then it is handled,
-//! and its answer is written.
+//! One HTTP request over any reader, writer and handler. Its head is read and judged, and the handler is fed its body as
+//! it comes. Then it is handled, and its answer is written.
 #![tactic(auto)]
 
 mod answer;

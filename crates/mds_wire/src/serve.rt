@@ -4,11 +4,12 @@ ghost use Rattle.std.specs.Prelude.{◌≡◌, ◌≢◌, ◌+◌, ◌-◌, ◌^
 ghost use Rattle.std.specs.Io.KnownBytes.{Appends};
 ghost use Rattle.mds_wire.specs.Answers.{longest_answer_head};
 ghost use Rattle.mds_wire.specs.Heads.{longest_head, most_fields, IsWhole};
+ghost use Rattle.mds_wire.specs.Judging.{longest_body};
 ghost use Rattle.mds_wire.specs.Serving.{Serves, short_answer, text_of};
 ghost use Rattle.mds_wire.specs.ServeSteps.{Understands, Performs, answer_of, status_of, kind_of, body_of, ends_early};
 
 use crate::answer::{Kind, Status, write_head};
-use crate::body::{BodyFault, read_body};
+use crate::body::{BodyFault, feed_body};
 use crate::head::{HeadFault, HeadRead, read_head};
 use crate::judge::{Judged, judge_head};
 use crate::route::{Route, RouteFinder};
@@ -28,6 +29,9 @@ pub trait Handler {
     ghost use Rattle.mds_wire.specs.declared.answer.Kind.{Kind};
     ghost use Rattle.mds_wire.specs.declared.route.Route.{Route};
 
+    /// What is made of a body while it comes.
+    type Body: Drop;
+
     /// A step: the state before, the route, the target, the body, then the answer's status, type and body, and the
     /// state after.
     ghost step: { Self → Route → List ℕ → List ℕ → Status → Kind → List ℕ → Self → Type 0 };
@@ -38,22 +42,43 @@ pub trait Handler {
     /// What a route, a target and a body ask for takes memory to read.
     ghost takes_memory: { Route → List ℕ → List ℕ → Type 0 };
 
-    /// Makes a step, and writes the answer's body. There is room for 768 bytes of it. Where memory or what is kept is
-    /// unavailable, nothing has changed. Whatever was written then counts for nothing, and the answer is 503.
+    /// It was begun for a route and a target, and was fed these bytes.
+    ghost holds: { Self.Body → Route → List ℕ → List ℕ → Type 0 };
+
+    /// Begins a body of so many bytes, of which nothing has come.
+    fn begin(
+        &self,
+        alloc: Global,
+        route: Route,
+        target: &[u8],
+        size: usize,
+    ) -> Result<Self::Body, Unavailable>
+        ensures { IfOk result (λ body. holds body route target.now []) };
+
+    /// Takes more of a body. All that it is fed has at most 8,388,608 bytes.
+    fn feed(body: &mut Self::Body, piece: &[u8]) -> Result<(), Unavailable>
+        ensures { (route : Route) (target bytes : List ℕ) → holds body.old route target bytes
+            → length (bytes ++ piece.now) ≤ longest_body
+            → IfOk result (λ _. holds body.new route target (bytes ++ piece.now)) };
+
+    /// Makes a step with a body that is whole, and writes the answer's body. There is room for 768 bytes of it. Where
+    /// memory or what is kept is unavailable, nothing has changed. Whatever was written then counts for nothing, and
+    /// the answer is 503.
     fn handle(
         &mut self,
         alloc: Global,
         route: Route,
         target: &[u8],
-        body: Vec<u8>,
+        body: Self::Body,
         answer: &mut Vec<u8>,
     ) -> Result<(Status, Kind), Unavailable>
         requires empty { answer.old.items ≡ [] }
         requires room { short_answer ≤ vec_capacity answer.old }
-        ensures step { IfOk result (λ told.
-            step self.old route target.now body.items told.0 told.1 answer.new.items self.new) }
+        ensures step { (bytes : List ℕ) → holds body route target.now bytes → IfOk result (λ told.
+            step self.old route target.now bytes told.0 told.1 answer.new.items self.new) }
         ensures same { OnErr result (same self.old self.new) }
-        ensures only { OnErr result (takes_memory route target.now body.items) };
+        ensures only { (bytes : List ℕ) → holds body route target.now bytes
+            → OnErr result (takes_memory route target.now bytes) };
 }
 
 /// What is answered. It is a refusal, and whether the request's method is `HEAD`, or what the handler tells.
@@ -144,7 +169,7 @@ fn is_head(method: &[u8]) -> bool
     method == b"HEAD".as_slice()
 }
 
-/// Reads the body of a request whose head is whole, and does what it asks.
+/// Feeds the body of a request whose head is whole to the handler, and does what it asks.
 fn perform<F: RouteFinder, H: Handler, R: Source>(
     alloc: Global,
     routes: &F,
@@ -169,15 +194,17 @@ fn perform<F: RouteFinder, H: Handler, R: Source>(
     match judge_head(routes, bytes, fields, &spans) {
         Judged::Refused(status) => Ok(Reply::Refused(status, is_head)),
         Judged::Wanted(route, size) => {
+            let target = spans.path.of(bytes);
+            let Ok(mut body) = handler.begin(alloc, route, target, size) else {
+                return Ok(Reply::Refused(Status::Unavailable, false));
+            };
             let front = front_of(&bytes[spans.len..], size);
-            match read_body(alloc, front, size, reader) {
-                Ok(body) => {
-                    match handler.handle(alloc, route, spans.path.of(bytes), body, answer) {
-                        Ok((status, kind)) => Ok(Reply::Told(status, kind)),
-                        Err(_) => Ok(Reply::Refused(Status::Unavailable, false)),
-                    }
-                }
-                Err(BodyFault::Memory) => Ok(Reply::Refused(Status::Unavailable, false)),
+            match feed_body::<H, R>(&mut body, front, size, reader) {
+                Ok(()) => match handler.handle(alloc, route, target, body, answer) {
+                    Ok((status, kind)) => Ok(Reply::Told(status, kind)),
+                    Err(_) => Ok(Reply::Refused(Status::Unavailable, false)),
+                },
+                Err(BodyFault::Unavailable) => Ok(Reply::Refused(Status::Unavailable, false)),
                 Err(BodyFault::Closed) => Err(Unread::Closed),
                 Err(BodyFault::Read) => Err(Unread::Read),
             }
@@ -280,8 +307,8 @@ fn room_of_head(alloc: Global) -> Result<Vec<u8>, AllocError>
 }
 
 /// Reads one request, handles it, and writes its answer, whose status it says. At most 16,384 bytes are read for the
-/// head, with whatever comes behind it. No byte beyond the body is read. All the memory that a refusal needs is taken
-/// before the first read.
+/// head, with whatever comes behind it. The handler is fed the body as it comes, and no byte beyond it is read. All the
+/// memory that a refusal needs is taken before the first read.
 ///
 /// # Errors
 ///

@@ -1,5 +1,6 @@
 use Rattle.std.specs.Prelude.{◌≡◌, ℕ, List, Option, None, Some, Err, IfSome, refl}
 use Rattle.std.proofs.Common.{ap}
+use Rattle.std.specs.List.{concat}
 use Rattle.std.proofs.lemmas.Bool.{false≢true}
 use Rattle.mds_records.specs.declared.file.FileFault.{FileFault}
 use Rattle.mds_walk.specs.declared.fault.ReadFault.{ReadFault}
@@ -12,8 +13,9 @@ use Rattle.mds_nem12.proofs.files.read_delivery.Goals as goal
 
 pub unreachable-requires : goal.unreachable-requires
 unreachable-requires g c =
-    let told = c.in-Ok.ensures.some in
-    absurd (false≢true (c.in-None.ensures.some (statements_of told.0) told.1 told.2 (days_ascend told.0) (days_whole told.0)))
+    let text = concat c.in-Ok.ensures.given.0 in
+    let made = c.in-Ok.ensures.given.3 in
+    absurd (false≢true (c.in-None.ensures.some (statements_of text) made.2.0 made.2.1 (days_ascend text) (days_whole text)))
 
 -- the fault of a text that is known
 refused : (known : Option (List ℕ)) (fault : ReadFault)

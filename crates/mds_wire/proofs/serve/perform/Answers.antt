@@ -1,5 +1,8 @@
-use Rattle.std.proofs.Common.{◌≡◌, ◌+◌, ◌++◌, [], List, ℕ, take, length, ap, sym, ◌∙◌, subst, arith, refl, inl, inr, bytes_eq, codes}
+use Rattle.std.proofs.Common.{◌≡◌, ◌+◌, ◌≤◌, ◌++◌, [], List, ℕ, take, length, ap, sym, ◌∙◌, subst, arith, refl, inl, inr, bytes_eq, codes, length-append}
 use Rattle.std.proofs.lemmas.List.{take_rest}
+use Rattle.mds_wire.specs.Judging.{longest_body}
+use Rattle.mds_wire.specs.ServeSteps.{answer_of}
+use Rattle.mds_wire.specs.declared.serve.Reply.TheVariants.{Told}
 use Rattle.mds_wire.proofs.CallSteps.{read_none, read_for}
 use Rattle.mds_wire.proofs.Meant.{means_refused, means_unavailable, means_step, awaits_body, unfinished_body}
 use Rattle.mds_wire.proofs.serve.perform.Goals as goal
@@ -13,70 +16,81 @@ returns-in-Refused-clause-does g c = record {
       (sym c.in-Refused.is ∙ c.judge_head.ensures.value) (c.is_head-is_head.ensures ∙ ap (λ m. bytes_eq m (codes "HEAD")) c.of.ensures);
 }
 
+pub returns-in_default-clause-does : goal.returns-in_default-clause-does
+returns-in_default-clause-does g c = record {
+  more = [];
+  few = omega arith;
+  read = read_none _ _ _ _;
+  is = means_unavailable g.H.Handler.step g.H.Handler.same c.args.bytes.now [] c.args.fields.now c.args.read.spans c.requires.whole c.in-Wanted.route c.in-Wanted.size c.args.handler.now c.args.handler.now
+      (sym c.in-Wanted.is ∙ c.judge_head.ensures.value) (inl refl);
+}
+
 pub returns-in-Ok-handle-clause-does : goal.returns-in-Ok-handle-clause-does
 returns-in-Ok-handle-clause-does g c =
-    let r = c.in-Ok.ensures.read in
+    let r = c.in-Ok-feed_body.ensures.feeds in
     let judged = sym c.in-Wanted.is ∙ c.judge_head.ensures.value in
     let front = c.front_of-front.ensures.value ∙ ap (take c.in-Wanted.size) (take_rest c.args.bytes.now c.args.read.spans.len) in
+    let size : length (c.front_of-front.result.now ++ r.bytes) ≤ longest_body = omega (arith, length-append c.front_of-front.result.now r.bytes, r.few, c.judge_head.ensures.few _ _ c.in-Wanted.is) in
+    let whole = r.is.0 c.in-Wanted.route c.of-target.result.now [] c.in-Ok.ensures size in
     record {
       more = r.bytes;
       few = omega (arith, r.few, c.judge_head.ensures.few _ _ c.in-Wanted.is);
-      read = read_for _ _ _ _ _ _ _ _ _ (awaits_body c.args.bytes.now c.args.fields.now c.args.read.spans c.requires.whole c.in-Wanted.route c.in-Wanted.size _ judged front) r.read;
-      is = means_step g.H.Handler.step g.H.Handler.same c.args.bytes.now r.bytes c.args.fields.now c.args.read.spans c.requires.whole c.in-Wanted.route c.in-Wanted.size c.args.handler.now _ _ _ _
+      read = read_for _ _ _ _ _ _ _ _ _ (awaits_body c.args.bytes.now c.args.fields.now c.args.read.spans c.requires.whole c.in-Wanted.route c.in-Wanted.size c.front_of-front.result.now judged front) r.read;
+      is = means_step g.H.Handler.step g.H.Handler.same c.args.bytes.now r.bytes c.args.fields.now c.args.read.spans c.requires.whole c.in-Wanted.route c.in-Wanted.size c.args.handler.now c.handle.new.self c.of-target.result.now (c.front_of-front.result.now ++ r.bytes) (answer_of (Told c.in-Ok-handle.status c.in-Ok-handle.kind) c.handle.new.answer.items)
           judged
           (subst (λ (xs : List ℕ). length xs + length r.bytes ≡ c.in-Wanted.size) front r.is.1)
-          c.of-in-Ok.ensures
-          (r.is.0 ∙ ap (λ xs. xs ++ r.bytes) front)
+          c.of-target.ensures
+          (ap (λ xs. xs ++ r.bytes) front)
           refl
-          c.in-Ok-handle.ensures.step;
+          (c.in-Ok-handle.ensures.step (c.front_of-front.result.now ++ r.bytes) whole);
     }
 
-pub returns-in-Err-clause-does : goal.returns-in-Err-clause-does
-returns-in-Err-clause-does g c =
-    let r = c.in-Ok.ensures.read in
+pub returns-in-Ok-feed_body-clause-does : goal.returns-in-Ok-feed_body-clause-does
+returns-in-Ok-feed_body-clause-does g c =
+    let r = c.in-Ok-feed_body.ensures.feeds in
     let judged = sym c.in-Wanted.is ∙ c.judge_head.ensures.value in
     let front = c.front_of-front.ensures.value ∙ ap (take c.in-Wanted.size) (take_rest c.args.bytes.now c.args.read.spans.len) in
     record {
       more = r.bytes;
       few = omega (arith, r.few, c.judge_head.ensures.few _ _ c.in-Wanted.is);
-      read = read_for _ _ _ _ _ _ _ _ _ (awaits_body c.args.bytes.now c.args.fields.now c.args.read.spans c.requires.whole c.in-Wanted.route c.in-Wanted.size _ judged front) r.read;
-      is = means_unavailable g.H.Handler.step g.H.Handler.same c.args.bytes.now r.bytes c.args.fields.now c.args.read.spans c.requires.whole c.in-Wanted.route c.in-Wanted.size c.args.handler.now _
+      read = read_for _ _ _ _ _ _ _ _ _ (awaits_body c.args.bytes.now c.args.fields.now c.args.read.spans c.requires.whole c.in-Wanted.route c.in-Wanted.size c.front_of-front.result.now judged front) r.read;
+      is = means_unavailable g.H.Handler.step g.H.Handler.same c.args.bytes.now r.bytes c.args.fields.now c.args.read.spans c.requires.whole c.in-Wanted.route c.in-Wanted.size c.args.handler.now c.handle.new.self
           judged (inr c.in-Err.ensures.same);
     }
 
-pub returns-in-Err-Memory-clause-does : goal.returns-in-Err-Memory-clause-does
-returns-in-Err-Memory-clause-does g c =
-    let r = rw c.in-Err-Memory.field-0-is at c.in-Err-Memory.ensures.read in
+pub returns-in-Err-Unavailable-clause-does : goal.returns-in-Err-Unavailable-clause-does
+returns-in-Err-Unavailable-clause-does g c =
+    let r = rw c.in-Err-Unavailable.field-0-is at c.in-Err-Unavailable.ensures.feeds in
     let judged = sym c.in-Wanted.is ∙ c.judge_head.ensures.value in
     let front = c.front_of-front.ensures.value ∙ ap (take c.in-Wanted.size) (take_rest c.args.bytes.now c.args.read.spans.len) in
     record {
       more = r.bytes;
       few = omega (arith, r.few, c.judge_head.ensures.few _ _ c.in-Wanted.is);
-      read = read_for _ _ _ _ _ _ _ _ _ (awaits_body c.args.bytes.now c.args.fields.now c.args.read.spans c.requires.whole c.in-Wanted.route c.in-Wanted.size _ judged front) r.read;
+      read = read_for _ _ _ _ _ _ _ _ _ (awaits_body c.args.bytes.now c.args.fields.now c.args.read.spans c.requires.whole c.in-Wanted.route c.in-Wanted.size c.front_of-front.result.now judged front) r.read;
       is = means_unavailable g.H.Handler.step g.H.Handler.same c.args.bytes.now r.bytes c.args.fields.now c.args.read.spans c.requires.whole c.in-Wanted.route c.in-Wanted.size c.args.handler.now c.args.handler.now
           judged (inl refl);
     }
 
 pub returns-in-Err-Closed-clause-does : goal.returns-in-Err-Closed-clause-does
 returns-in-Err-Closed-clause-does g c =
-    let r = rw c.in-Err-Closed.field-0-is at c.in-Err-Closed.ensures.read in
+    let r = rw c.in-Err-Closed.field-0-is at c.in-Err-Closed.ensures.feeds in
     let judged = sym c.in-Wanted.is ∙ c.judge_head.ensures.value in
     let front = c.front_of-front.ensures.value ∙ ap (take c.in-Wanted.size) (take_rest c.args.bytes.now c.args.read.spans.len) in
     record {
       more = r.bytes;
       few = omega (arith, r.few, c.judge_head.ensures.few _ _ c.in-Wanted.is);
-      read = read_for _ _ _ _ _ _ _ _ _ (awaits_body c.args.bytes.now c.args.fields.now c.args.read.spans c.requires.whole c.in-Wanted.route c.in-Wanted.size _ judged front) r.read;
-      is = (refl, r.is.0, unfinished_body c.args.bytes.now c.args.fields.now c.args.read.spans c.requires.whole c.in-Wanted.route c.in-Wanted.size _ judged front r.bytes r.is.1);
+      read = read_for _ _ _ _ _ _ _ _ _ (awaits_body c.args.bytes.now c.args.fields.now c.args.read.spans c.requires.whole c.in-Wanted.route c.in-Wanted.size c.front_of-front.result.now judged front) r.read;
+      is = (refl, r.is.0, unfinished_body c.args.bytes.now c.args.fields.now c.args.read.spans c.requires.whole c.in-Wanted.route c.in-Wanted.size c.front_of-front.result.now judged front r.bytes r.is.1);
     }
 
-pub returns-in-Err-Read-clause-does : goal.returns-in-Err-Read-clause-does
-returns-in-Err-Read-clause-does g c =
-    let r = rw c.in-Err-Read.field-0-is at c.in-Err-Read.ensures.read in
+pub returns-clause-does : goal.returns-clause-does
+returns-clause-does g c =
+    let r = rw c.in-Err-Read.field-0-is at c.in-Err-Read.ensures.feeds in
     let judged = sym c.in-Wanted.is ∙ c.judge_head.ensures.value in
     let front = c.front_of-front.ensures.value ∙ ap (take c.in-Wanted.size) (take_rest c.args.bytes.now c.args.read.spans.len) in
     record {
       more = r.bytes;
       few = omega (arith, r.few, c.judge_head.ensures.few _ _ c.in-Wanted.is);
-      read = read_for _ _ _ _ _ _ _ _ _ (awaits_body c.args.bytes.now c.args.fields.now c.args.read.spans c.requires.whole c.in-Wanted.route c.in-Wanted.size _ judged front) r.read;
+      read = read_for _ _ _ _ _ _ _ _ _ (awaits_body c.args.bytes.now c.args.fields.now c.args.read.spans c.requires.whole c.in-Wanted.route c.in-Wanted.size c.front_of-front.result.now judged front) r.read;
       is = refl;
     }

@@ -1,0 +1,208 @@
+//! NEM12 files that are fed in pieces, each held against the same file in one piece.
+
+use crate::outcomes::outcome_of;
+use mds_nem12::{Nem12Fault, Reader, read_nem12};
+use std::alloc::{AllocError, Global};
+use std::{fs, io};
+
+/// How files are cut.
+#[derive(Drop)]
+pub enum Cutter {
+    /// In two pieces, in turn behind each number of bytes, from none to all.
+    InTwo,
+    /// Once, in pieces of lengths that seem random. At first the state is the seed of their numbers.
+    Made(u64),
+}
+
+/// The most bytes of a made piece. It may have none.
+const LONGEST_PIECE: u64 = 40;
+
+impl Cutter {
+    /// In how many ways a file of so many bytes is cut.
+    fn count(&self, length: usize) -> usize {
+        match self {
+            Cutter::InTwo => length.saturating_add(1),
+            Cutter::Made(_) => 1,
+        }
+    }
+
+    /// The pieces of a file that is cut in the way of this number, from 0.
+    fn pieces<'a>(
+        &mut self,
+        alloc: Global,
+        file: &'a [u8],
+        number: usize,
+    ) -> Result<Vec<&'a [u8]>, AllocError> {
+        match self {
+            Cutter::InTwo => two_pieces(alloc, file, number),
+            Cutter::Made(state) => made_pieces(alloc, file, state),
+        }
+    }
+}
+
+/// A file cut in two, behind so many bytes.
+fn two_pieces<'a>(alloc: Global, file: &'a [u8], size: usize) -> Result<Vec<&'a [u8]>, AllocError> {
+    let (front, behind) = file.split_at(size.min(file.len()));
+    let mut pieces = Vec::with_capacity(alloc, 2)?;
+    pieces.push(front)?;
+    pieces.push(behind)?;
+    Ok(pieces)
+}
+
+/// A file cut in pieces of lengths that seem random.
+fn made_pieces<'a>(
+    alloc: Global,
+    file: &'a [u8],
+    state: &mut u64,
+) -> Result<Vec<&'a [u8]>, AllocError> {
+    let mut pieces = Vec::new(alloc);
+    let mut left = file;
+    for _ in 0..u64::MAX {
+        if left.is_empty() {
+            break;
+        }
+        let (piece, behind) = left.split_at(made_length(state).min(left.len()));
+        pieces.push(piece)?;
+        left = behind;
+    }
+    Ok(pieces)
+}
+
+/// The next length that seems random, the same on every machine.
+fn made_length(state: &mut u64) -> usize {
+    *state = state
+        .wrapping_mul(6364136223846793005)
+        .wrapping_add(1442695040888963407);
+    ((*state >> 33) % (LONGEST_PIECE + 1)) as usize
+}
+
+/// What was held so far.
+#[derive(Drop)]
+struct Tally {
+    files: u64,
+    /// In how many ways they were cut, one file after the other.
+    ways: u64,
+    /// How many of the files have a fault.
+    faults: u64,
+}
+
+/// Holds the files of a list, cut in pieces, against the same files in one piece. In the list four bytes before each file say its
+/// length, the highest first. Prints how many were held, and answers whether all came to the same. It stops at the first that doesn't.
+pub fn hold_files(rt: &HostRuntime, path: &str, mut cutter: Cutter) -> io::Result<bool> {
+    let list = fs::read(rt, path)?;
+    let mut tally = Tally {
+        files: 0,
+        ways: 0,
+        faults: 0,
+    };
+    let mut left = list.as_slice();
+    for _ in 0..u64::MAX {
+        let Some((file, others)) = next_file(left) else {
+            break;
+        };
+        if !hold_file(rt, file, &mut cutter, &mut tally)? {
+            return Ok(false);
+        }
+        left = others;
+    }
+    if !left.is_empty() {
+        println!(rt; "the list ends in a file")?;
+        return Ok(false);
+    }
+    println!(rt;
+        "{} files cut in {} ways, {} files with a fault",
+        tally.files, tally.ways, tally.faults
+    )?;
+    Ok(true)
+}
+
+/// The first file of a list, and the files behind it. `None` where there is no whole one.
+fn next_file(list: &[u8]) -> Option<(&[u8], &[u8])> {
+    let [a, b, c, d, behind @ ..] = list else {
+        return None;
+    };
+    behind.split_at_checked(u32::from_be_bytes([*a, *b, *c, *d]) as usize)
+}
+
+/// Holds a file, cut in each way, against the file in one piece.
+fn hold_file(
+    rt: &HostRuntime,
+    file: &[u8],
+    cutter: &mut Cutter,
+    tally: &mut Tally,
+) -> io::Result<bool> {
+    let whole = outcome_of(rt.alloc(), read_nem12(rt.alloc(), file));
+    for number in 0..cutter.count(file.len()) {
+        let pieces = cutter.pieces(rt.alloc(), file, number)?;
+        if !come_to(rt.alloc(), &pieces, &whole)? {
+            print_difference(rt, tally.files, &pieces)?;
+            return Ok(false);
+        }
+        tally.ways = tally.ways.wrapping_add(1);
+    }
+    tally.files = tally.files.wrapping_add(1);
+    tally.faults = tally.faults.wrapping_add(u64::from(whole.is_err()));
+    Ok(true)
+}
+
+/// Prints the number of a file, from 0, and the lengths of the pieces that come to something else.
+fn print_difference(rt: &HostRuntime, number: u64, pieces: &[&[u8]]) -> io::Result<()> {
+    print!(rt; "something else comes of file {number} in pieces of")?;
+    for piece in pieces {
+        print!(rt; " {}", piece.len())?;
+    }
+    println!(rt; " bytes")
+}
+
+/// Whether the pieces of a file come to what the whole comes to. A fault has to be told with the end of its line, if not before, and
+/// again with each further piece.
+fn come_to(
+    alloc: Global,
+    pieces: &[&[u8]],
+    whole: &Result<String, Nem12Fault>,
+) -> Result<bool, AllocError> {
+    let mut reader = Reader::new(alloc)?;
+    let mut lines = 0u64;
+    let mut is_told = false;
+    for piece in pieces {
+        lines = lines.wrapping_add(line_feeds(piece));
+        let answer = reader.feed(piece);
+        if !goes_with(answer, is_told || is_due(whole, lines), whole) {
+            return Ok(false);
+        }
+        is_told = answer.is_err();
+    }
+    Ok(outcome_of(alloc, reader.finish()) == *whole)
+}
+
+/// How many line feeds a piece has.
+fn line_feeds(piece: &[u8]) -> u64 {
+    let mut count = 0u64;
+    for byte in piece {
+        if *byte == b'\n' {
+            count = count.wrapping_add(1);
+        }
+    }
+    count
+}
+
+/// Whether a fault has to be told once so many lines have ended.
+fn is_due(whole: &Result<String, Nem12Fault>, lines: u64) -> bool {
+    match whole {
+        Err(Nem12Fault::File(fault)) => fault.line <= lines,
+        _ => false,
+    }
+}
+
+/// Whether the answer to a piece goes with what the whole file comes to. Its fault has to be told by now, or may not be known yet.
+fn goes_with(
+    answer: Result<(), Nem12Fault>,
+    has_to_tell: bool,
+    whole: &Result<String, Nem12Fault>,
+) -> bool {
+    match (answer, whole) {
+        (Err(told), Err(fault)) => told == *fault,
+        (Err(_), Ok(_)) => false,
+        (Ok(()), _) => !has_to_tell,
+    }
+}

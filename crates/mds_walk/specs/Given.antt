@@ -1,0 +1,22 @@
+-- What was made of the calls that read a source (profile).
+use Rattle.std.specs.Prelude.{◌≡◌, ◌⊎◌, ℕ, List, [], ◌∷◌, ◌++◌, Option, Some, None, Result, Ok, Err}
+use Rattle.std.specs.List.{concat}
+use Rattle.mds_records.specs.declared.file.FileFault.{FileFault}
+use Rattle.mds_walk.specs.declared.fault.ReadFault.{ReadFault}
+use Rattle.mds_walk.specs.declared.fault.ReadFault.TheVariants as read
+
+-- the last of the calls brought nothing: it met the end
+abbrev pub MeetsEnd : List (List ℕ) → Type 0
+MeetsEnd given = (before : List (List ℕ)) × (given ≡ before ++ [] ∷ [])
+
+-- The fault is of all that the calls brought, up to the end. Or it is that of every text that begins with what they brought.
+abbrev pub IsFaultOfGiven : (List ℕ → Option FileFault) → List (List ℕ) → FileFault → Type 0
+IsFaultOfGiven found given fault =
+    (MeetsEnd given × (found (concat given) ≡ Some fault)) ⊎ ((more : List ℕ) → found (concat given ++ more) ≡ Some fault)
+
+-- What was made is of all that the calls brought, up to the end, and that has no fault. Else the fault is of what they brought.
+-- Where the source failed, or memory was wanting, nothing is said.
+abbrev pub IsOfGiven : {T : Type 0} → (T → List ℕ → Type 0) → (List ℕ → Option FileFault) → List (List ℕ) → Result T ReadFault → Type 0
+IsOfGiven Makes found given (Ok out) = MeetsEnd given × (found (concat given) ≡ None) × Makes out (concat given)
+IsOfGiven Makes found given (Err (read.File fault)) = IsFaultOfGiven found given fault
+IsOfGiven Makes found given (Err reason) = Unit {0}
