@@ -6,8 +6,10 @@
 //! that a NEM12 file states. `mds_trials imports PATH` takes the file into an empty keeper, and then again.
 //! `mds_trials exports PATH FROM TO` takes it in and exports each of its streams in that range.
 //!
+//! `mds_trials applies PATH` reads a NEM12 file once and applies what it states twice. Then it takes the file itself in.
+//!
 //! Two words hold NEM12 files in pieces against the same files in one. A list of files stands in `PATH`, each behind its length in four
-//! bytes. `mds_trials cuts PATH` cuts each in two, at each of its bytes in turn. `mds_trials pieces PATH SEED` cuts each once, in
+//! bytes. `mds_trials cuts PATH` cuts each in two, at each of its bytes in turn, and then at all of them. `mds_trials pieces PATH SEED` cuts each once, in
 //! pieces that seem random.
 #![tactic(auto)]
 
@@ -22,7 +24,7 @@ use mds_keeper::Keeper;
 use mds_memory::MemoryKeeper;
 use mds_nem12::read_nem12;
 use mds_records::FileKind;
-use mds_service::{Answer, Request, apply, run};
+use mds_service::{Answer, Request, apply, apply_delivery, run};
 use mds_store::create;
 use mds_terms::{Day, Stream};
 use mds_wire::Routes;
@@ -48,7 +50,8 @@ fn run_words(rt: &HostRuntime) -> io::Result<bool> {
         [] => call_of_the_readme(rt),
         [what, path] if what.as_str() == "deliver" => time_delivery(rt, path.as_str()),
         [what, path] if what.as_str() == "imports" => time_imports(rt, path.as_str()),
-        [what, path] if what.as_str() == "cuts" => hold_files(rt, path.as_str(), Cutter::InTwo),
+        [what, path] if what.as_str() == "applies" => apply_twice(rt, path.as_str()),
+        [what, path] if what.as_str() == "cuts" => hold_files(rt, path.as_str(), Cutter::AtBytes),
         [what, path, seed] if what.as_str() == "pieces" => {
             hold_made_pieces(rt, path.as_str(), seed.as_str())
         }
@@ -65,7 +68,7 @@ fn run_words(rt: &HostRuntime) -> io::Result<bool> {
 
 fn usage(rt: &HostRuntime) -> io::Result<bool> {
     println!(rt;
-        "usage: mds_trials [serve PORT COUNT | serve-rows PORT COUNT | deliver PATH | imports PATH | exports PATH FROM TO | cuts PATH | pieces PATH SEED]"
+        "usage: mds_trials [serve PORT COUNT | serve-rows PORT COUNT | deliver PATH | imports PATH | exports PATH FROM TO | applies PATH | cuts PATH | pieces PATH SEED]"
     )?;
     Ok(false)
 }
@@ -125,6 +128,24 @@ fn print_answer(rt: &HostRuntime, answer: &Answer) -> io::Result<()> {
     }
     text.push(b'\n')?;
     io::writer(rt).write_all(&text)
+}
+
+/// Applies what a NEM12 file states to an empty keeper, and once more. Then it takes the file itself in. Prints the three answers.
+fn apply_twice(rt: &HostRuntime, path: &str) -> io::Result<bool> {
+    let bytes = fs::read(rt, path)?;
+    let Ok(delivery) = read_nem12(rt.alloc(), &bytes) else {
+        return Ok(false);
+    };
+    let mut keeper = MemoryKeeper::new(rt.alloc());
+    for _ in 0..2 {
+        print_answer(rt, &apply_delivery(rt.alloc(), &mut keeper, &delivery))?;
+    }
+    let request = Request::Import {
+        kind: FileKind::Nem12,
+        bytes,
+    };
+    print_answer(rt, &apply(rt.alloc(), &mut keeper, &request))?;
+    Ok(true)
 }
 
 /// Serves so many connections to a port, one after the other, from an empty keeper in memory.

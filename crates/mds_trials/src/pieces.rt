@@ -8,8 +8,8 @@ use std::{fs, io};
 /// How files are cut.
 #[derive(Drop)]
 pub enum Cutter {
-    /// In two pieces, in turn behind each number of bytes, from none to all.
-    InTwo,
+    /// In two pieces, in turn behind each number of bytes, from none to all. Then, once more, at each byte.
+    AtBytes,
     /// Once, in pieces of lengths that seem random. At first the state is the seed of their numbers.
     Made(u64),
 }
@@ -21,7 +21,7 @@ impl Cutter {
     /// In how many ways a file of so many bytes is cut.
     fn count(&self, length: usize) -> usize {
         match self {
-            Cutter::InTwo => length.saturating_add(1),
+            Cutter::AtBytes => length.saturating_add(2),
             Cutter::Made(_) => 1,
         }
     }
@@ -34,7 +34,8 @@ impl Cutter {
         number: usize,
     ) -> Result<Vec<&'a [u8]>, AllocError> {
         match self {
-            Cutter::InTwo => two_pieces(alloc, file, number),
+            Cutter::AtBytes if number > file.len() => single_bytes(alloc, file),
+            Cutter::AtBytes => two_pieces(alloc, file, number),
             Cutter::Made(state) => made_pieces(alloc, file, state),
         }
     }
@@ -46,6 +47,15 @@ fn two_pieces<'a>(alloc: Global, file: &'a [u8], size: usize) -> Result<Vec<&'a 
     let mut pieces = Vec::with_capacity(alloc, 2)?;
     pieces.push(front)?;
     pieces.push(behind)?;
+    Ok(pieces)
+}
+
+/// A file cut at each byte.
+fn single_bytes(alloc: Global, file: &[u8]) -> Result<Vec<&[u8]>, AllocError> {
+    let mut pieces = Vec::with_capacity(alloc, file.len())?;
+    for place in 0..file.len() {
+        pieces.push(&file[place..place + 1])?;
+    }
     Ok(pieces)
 }
 
