@@ -24,6 +24,9 @@ test:
 	tests/text crates/mdstore/out/mdstore
 	tests/migration crates/mdstore/out/mdstore
 	tests/pieces crates/mdstore/out/mdstore crates/mds_trials/out/mds_trials
+	tests/faults crates/mdstore/out/mdstore
+	tests/power_cuts crates/mdstore/out/mdstore
+	tests/changed_bytes crates/mdstore/out/mdstore
 
 bench: bin/mdstore
 	bench/run

@@ -1,0 +1,187 @@
+/* Loaded before the C library, it disturbs one of the calls that a run makes on files: that of the number in FAIL_CALL, counted from 1.
+   FAIL_HOW tells how. A number is that of the error that the call fails with. At `half` the call moves half of its bytes. At `before`,
+   `after` and `torn` the run is killed before the call, after it, or after half of its bytes. The call is told to the file that FAIL_TOLD
+   names, in a line: what it is called, and the file that it is on. Where the number is 0 no call is disturbed, and all are told, a `pwrite`
+   with its place and its bytes, and an `ftruncate` with its size. */
+#define _GNU_SOURCE
+#include <dlfcn.h>
+#include <errno.h>
+#include <fcntl.h>
+#include <limits.h>
+#include <signal.h>
+#include <stdarg.h>
+#include <stdio.h>
+#include <stdlib.h>
+#include <string.h>
+#include <sys/stat.h>
+#include <sys/syscall.h>
+#include <sys/types.h>
+#include <sys/uio.h>
+#include <unistd.h>
+
+static const char *how(void) {
+    const char *text = getenv("FAIL_HOW");
+    return text ? text : "";
+}
+
+static int is_how(const char *word) { return strcmp(how(), word) == 0; }
+
+static void put(long told, const char *text, long size) { syscall(SYS_write, told, text, size); }
+
+/* Tells bytes as digits, two for each. */
+static void put_bytes(long told, const unsigned char *bytes, long count) {
+    char digits[4096];
+    for (long done = 0, size = 0; done < count; done++) {
+        size += sprintf(digits + size, "%02x", bytes[done]);
+        if (size > (long)sizeof digits - 4 || done + 1 == count) put(told, digits, size), size = 0;
+    }
+}
+
+struct call {
+    const char *name, *path;
+    long number, arguments[5];
+};
+
+/* The file is that of the path or, without one, that of the descriptor. */
+static void tell(const struct call *call, int is_whole) {
+    char link[40], at[PATH_MAX] = "", line[PATH_MAX + 80];
+    const char *path = call->path;
+    if (!path) {
+        snprintf(link, sizeof link, "/proc/self/fd/%ld", call->arguments[0]);
+        syscall(SYS_readlinkat, AT_FDCWD, link, at, sizeof at - 1);
+        path = at;
+    }
+    long told = syscall(SYS_openat, AT_FDCWD, getenv("FAIL_TOLD"), O_WRONLY | O_CREAT | O_APPEND | O_CLOEXEC, 0600);
+    put(told, line, snprintf(line, sizeof line, "%s %s", call->name, path));
+    if (is_whole && call->number == SYS_ftruncate) put(told, line, snprintf(line, sizeof line, " %ld", call->arguments[1]));
+    if (is_whole && call->number == SYS_pwrite64) {
+        put(told, line, snprintf(line, sizeof line, " %ld ", call->arguments[3]));
+        put_bytes(told, (const unsigned char *)call->arguments[1], call->arguments[2]);
+    }
+    put(told, "\n", 1);
+    syscall(SYS_close, told);
+}
+
+static void die(void) {
+    for (;;) kill(getpid(), SIGKILL);
+}
+
+/* Counts a call, and says whether it is the one to disturb. */
+static int is_chosen(const struct call *call) {
+    static long count, chosen = -1;
+    if (chosen < 0) {
+        const char *number = getenv("FAIL_CALL");
+        chosen = number ? atol(number) : LONG_MAX;
+    }
+    count++;
+    if (chosen == 0 || count == chosen) tell(call, chosen == 0);
+    return count == chosen;
+}
+
+/* Whether a chosen call has to fail. */
+static int fails(void) {
+    if (is_how("before")) die();
+    if (how()[0] < '0' || how()[0] > '9') return 0;
+    errno = atoi(how());
+    return 1;
+}
+
+/* A call of the system on the file of a path or a descriptor. Where it moves bytes the third argument says how many. */
+static long make(const char *name, const char *path, long number, long a, long b, long c, long d, long e) {
+    struct call call = {name, path, number, {a, b, c, d, e}};
+    if (!is_chosen(&call)) return syscall(number, a, b, c, d, e);
+    if (fails()) {
+        int error = errno;
+        /* A descriptor is given up even where `close` fails. */
+        if (number == SYS_close) syscall(number, a);
+        errno = error;
+        return -1;
+    }
+    long answer = syscall(number, a, b, is_how("half") || is_how("torn") ? (c + 1) / 2 : c, d, e);
+    if (is_how("after") || is_how("torn")) die();
+    return answer;
+}
+
+static long on(const char *name, long number, long descriptor, long b, long c, long d) {
+    return make(name, NULL, number, descriptor, b, c, d, 0);
+}
+
+static long at(const char *name, const char *path, long number, long a, long b, long c, long d, long e) {
+    return make(name, path, number, a, b, c, d, e);
+}
+
+/* The mode is there where the call may make the file. */
+#define MODE(mode, flags) \
+    if ((flags) & O_CREAT) { \
+        va_list rest; \
+        va_start(rest, flags); \
+        mode = va_arg(rest, int); \
+        va_end(rest); \
+    }
+
+int open(const char *path, int flags, ...) {
+    int mode = 0;
+    MODE(mode, flags);
+    return at(flags & O_CREAT ? "create" : "open", path, SYS_openat, AT_FDCWD, (long)path, flags, mode, 0);
+}
+
+int openat(int folder, const char *path, int flags, ...) {
+    int mode = 0;
+    MODE(mode, flags);
+    return at(flags & O_CREAT ? "create" : "open", path, SYS_openat, folder, (long)path, flags, mode, 0);
+}
+
+int statx(int folder, const char *restrict path, int flags, unsigned mask, struct statx *restrict found) {
+    return at("statx", path[0] ? path : NULL, SYS_statx, folder, (long)path, flags, mask, (long)found);
+}
+
+int unlink(const char *path) { return at("unlink", path, SYS_unlinkat, AT_FDCWD, (long)path, 0, 0, 0); }
+int unlinkat(int folder, const char *path, int flags) { return at("unlink", path, SYS_unlinkat, folder, (long)path, flags, 0, 0); }
+ssize_t read(int file, void *bytes, size_t count) { return on("read", SYS_read, file, (long)bytes, count, 0); }
+ssize_t write(int file, const void *bytes, size_t count) { return on("write", SYS_write, file, (long)bytes, count, 0); }
+ssize_t writev(int file, const struct iovec *parts, int count) { return on("writev", SYS_writev, file, (long)parts, count, 0); }
+ssize_t pread(int file, void *bytes, size_t count, off_t place) { return on("pread", SYS_pread64, file, (long)bytes, count, place); }
+ssize_t pwrite(int file, const void *bytes, size_t count, off_t place) {
+    return on("pwrite", SYS_pwrite64, file, (long)bytes, count, place);
+}
+off_t lseek(int file, off_t offset, int whence) { return on("lseek", SYS_lseek, file, offset, whence, 0); }
+int fsync(int file) { return on("fsync", SYS_fsync, file, 0, 0, 0); }
+int fdatasync(int file) { return on("fdatasync", SYS_fdatasync, file, 0, 0, 0); }
+int ftruncate(int file, off_t size) { return on("ftruncate", SYS_ftruncate, file, size, 0, 0); }
+int fchmod(int file, mode_t mode) { return on("fchmod", SYS_fchmod, file, mode, 0, 0); }
+int fchown(int file, uid_t owner, gid_t group) { return on("fchown", SYS_fchown, file, owner, group, 0); }
+int close(int file) { return on("close", SYS_close, file, 0, 0, 0); }
+
+int fcntl(int file, int command, ...) {
+    va_list rest;
+    va_start(rest, command);
+    long argument = va_arg(rest, long);
+    va_end(rest);
+    return on("fcntl", SYS_fcntl, file, command, argument, 0);
+}
+
+/* It answers the number of the error. */
+int posix_fadvise(int file, off_t start, off_t size, int advice) {
+    return on("fadvise", SYS_fadvise64, file, start, size, advice) < 0 ? errno : 0;
+}
+
+/* The C library makes several calls of the system for this one. */
+char *realpath(const char *restrict path, char *restrict resolved) {
+    char *(*real)(const char *, char *) = (char *(*)(const char *, char *))dlsym(RTLD_NEXT, "realpath");
+    struct call call = {.name = "realpath", .path = path};
+    if (!is_chosen(&call)) return real(path, resolved);
+    if (fails()) return NULL;
+    char *found = real(path, resolved);
+    if (is_how("after")) die();
+    return found;
+}
+
+/* The same under other names that the C library has for them. */
+int open64(const char *, int, ...) __attribute__((alias("open")));
+int openat64(int, const char *, int, ...) __attribute__((alias("openat")));
+int fcntl64(int, int, ...) __attribute__((alias("fcntl")));
+ssize_t pread64(int, void *, size_t, off_t) __attribute__((alias("pread")));
+ssize_t pwrite64(int, const void *, size_t, off_t) __attribute__((alias("pwrite")));
+int ftruncate64(int, off_t) __attribute__((alias("ftruncate")));
+int posix_fadvise64(int, off_t, off_t, int) __attribute__((alias("posix_fadvise")));
+off_t lseek64(int, off_t, int) __attribute__((alias("lseek")));
