@@ -7,7 +7,7 @@ use Rattle.sqlite_trees.specs.Tree.{Trees}
 use Rattle.sqlite_value.specs.Order.{Row}
 use Rattle.mds_names.specs.declared.stream.Stream.{Stream}
 use Rattle.mds_marks.specs.Reading.{ReadingValue}
-use Rattle.mds_packs.specs.Unpacked.{number_at, unpacked}
+use Rattle.mds_packs.specs.Unpacked.{◌>>=◌, number_at, unpacked}
 use Rattle.mds_world.specs.Facts.{Fact, key_at}
 use Rattle.mds_world.specs.Facts.Fact.{VersionIs}
 use Rattle.mds_tables.specs.RowFacts.{natural_at, stream_in, text_at}
