@@ -4,7 +4,7 @@ use Rattle.std.specs.Bool.{MatchBool}
 use Rattle.mds_quantity.specs.declared.unit.Unit.{Unit as MeasureUnit}
 use Rattle.mds_names.specs.declared.stream.Stream.{Stream}
 use Rattle.mds_marks.specs.Reading.{ReadingValue}
-use Rattle.mds_world.specs.Facts.{JobContent}
+use Rattle.mds_world.specs.Facts.{JobContent, head_at, key_at}
 use Rattle.mds_world.specs.Facts.Fact.{HeadIs, VersionIs}
 use Rattle.mds_world.specs.Sets.{◌∈◌}
 use Rattle.mds_world.specs.World.{IsCurrent, IsLawful, World}
@@ -46,8 +46,8 @@ one_current w s d i u v a b lawful here other =
     let up = here.greatest v b other.held in
     let down = other.greatest u a here.held in
     let same : v ≡ u = omega arith in
-    lawful.agrees.one_reading (record { stream = s; day = d; interval = i; update = u }) a b here.held
-    (subst (λ n. VersionIs (record { stream = s; day = d; interval = i; update = n }) b ∈ w) same other.held)
+    lawful.agrees.one_reading (key_at s d i u) a b here.held
+    (subst (λ n. VersionIs (key_at s d i n) b ∈ w) same other.held)
 
 -- the current reading of the book is that of the World
 same_current : (w : World) (s : Stream) (d : ℕ) (book : BookValue) (i u v : ℕ) (a b : ReadingValue) → IsBookOf w s d book
@@ -77,7 +77,7 @@ pub other_form : (w : World) (job : JobContent) (d : ℕ) (book : BookValue) (i 
     → (◌≡◌ {A = Option (ℕ × MeasureUnit)} book.head (Some (job.length, job.unit)) → ⊥)
     → (value : ℤ) → IsUsable w job d i value → ⊥
 other_form w job d book i is other value usable =
-    let known = back (λ t n. HeadIs (record { stream = t; day = n; length = job.length; unit = job.unit }) ∈ w)
+    let known = back (λ t n. HeadIs (head_at t n job.length job.unit) ∈ w)
     w job.stream d book is usable.known in
     other (head_of_book book _ (is.facts.whole _ (refl, refl) known)).2
 
@@ -98,7 +98,7 @@ pub usable_is : (w : World) (job : JobContent) (d : ℕ) (book : BookValue) (i :
     → IsCurrent (book_world book) book.stream book.day i version.update version.reading
     → IsActualOrFinal version.reading.mark.quality.flag → value ≡ version.reading.value → Finds (IsUsable w job d i) value
 usable_is w job d book i version (Some value) is lawful form current flag e = record {
-  known = at (λ t n. HeadIs (record { stream = t; day = n; length = job.length; unit = job.unit }) ∈ w) w job.stream d book is
+  known = at (λ t n. HeadIs (head_at t n job.length job.unit) ∈ w) w job.stream d book is
       (is.facts.only _ (head_in_book book (job.length, job.unit) form));
   update = version.update;
   reading = version.reading;

@@ -7,8 +7,9 @@ use Rattle.mds_names.specs.declared.stream.Stream.{Stream}
 use Rattle.mds_quantity.specs.Rounding.{IsRounded, line_times_steps}
 use Rattle.mds_marks.specs.Quality.{actual, final}
 use Rattle.mds_marks.specs.Reading.{ReadingValue}
-use Rattle.mds_world.specs.Facts.{JobContent}
-use Rattle.mds_world.specs.Facts.Fact.{HeadIs, VersionIs, HolidayIs}
+use Rattle.mds_world.specs.Current.{IsFormOf}
+use Rattle.mds_world.specs.Facts.{JobContent, key_at}
+use Rattle.mds_world.specs.Facts.Fact.{VersionIs, HolidayIs}
 use Rattle.mds_world.specs.Sets.{◌∈◌}
 use Rattle.mds_world.specs.World.{IsCurrent, World}
 use Rattle.mds_keeper.specs.Books.{BookValue, IsDay}
@@ -31,7 +32,7 @@ IsActualOrFinal flag = (flag ≡ actual) ⊎ (flag ≡ final)
 
 -- A value that may stand in: that of a current reading A or F of a day with the job's length and unit.
 pub record IsUsable (w : World) (job : JobContent) (day interval : ℕ) (value : ℤ) : Type 0 where
-  pub known : HeadIs (record { stream = job.stream; day = day; length = job.length; unit = job.unit }) ∈ w
+  pub known : IsFormOf w job.stream day job.length job.unit
   pub update : ℕ
   pub reading : ReadingValue
   pub current : IsCurrent w job.stream day interval update reading
@@ -49,7 +50,7 @@ pub record IsProtected (w : World) (stream : Stream) (day interval : ℕ) : Type
 pub record IsStale (w : World) (stream : Stream) (day interval than : ℕ) : Type 0 where
   pub update : ℕ
   pub reading : ReadingValue
-  pub held : VersionIs (record { stream = stream; day = day; interval = interval; update = update }) reading ∈ w
+  pub held : VersionIs (key_at stream day interval update) reading ∈ w
   pub late : than ≤ update
 
 abbrev pub IsProtectedTarget : World → JobContent → ℕ → Type 0

@@ -1,6 +1,6 @@
 -- How what calls do to a keeper goes together.
 use Rattle.std.specs.Prelude.{Ok, Result}
-use Rattle.std.proofs.Common.{◌≡◌, ◌∙◌, refl, subst, IfOk}
+use Rattle.std.proofs.Common.{◌∙◌, refl, subst, IfOk}
 use Rattle.mds_world.specs.World.{World}
 use Rattle.mds_keeper.specs.Kept.{Asks, Kept, Stays}
 

@@ -7,8 +7,9 @@ use Rattle.mds_names.specs.declared.stream.Stream.{Stream}
 use Rattle.mds_marks.specs.Reading.{ReadingValue}
 use Rattle.mds_world.specs.declared.facts.Head.{Head}
 use Rattle.mds_world.specs.declared.facts.Key.{Key}
-use Rattle.mds_world.specs.Facts.{Fact}
+use Rattle.mds_world.specs.Facts.{Fact, head_at, key_at}
 use Rattle.mds_world.specs.Facts.Fact.{HeadIs, VersionIs}
+use Rattle.mds_world.proofs.Lawful.{agrees_within}
 use Rattle.mds_world.proofs.Lists.{member_append, append_left, append_right, in_map, map_in}
 use Rattle.mds_world.specs.Lists.{Member}
 use Rattle.mds_world.proofs.Members.{in_list, list_in, same_by}
@@ -38,15 +39,15 @@ row_in_book book row m =
     (map_in (row_fact book.stream book.day) book.rows row m))
 
 head_member : (stream : Stream) (day : ℕ) (head : Option (ℕ × MeasureUnit)) (form : ℕ × MeasureUnit) → head ≡ Some form
-    → Member (HeadIs (record { stream = stream; day = day; length = form.0; unit = form.1 })) (head_facts stream day head)
+    → Member (HeadIs (head_at stream day form.0 form.1)) (head_facts stream day head)
 head_member stream day None form e = absurd cc
 head_member stream day (Some other) form e =
     let same : form ≡ other = cc in
-    inl (ap (λ (f : ℕ × MeasureUnit). HeadIs (record { stream = stream; day = day; length = f.0; unit = f.1 })) same)
+    inl (ap (λ (f : ℕ × MeasureUnit). HeadIs (head_at stream day f.0 f.1)) same)
 
 -- its head is a fact of the book
 pub head_in_book : (book : BookValue) (form : ℕ × MeasureUnit) → book.head ≡ Some form
-    → HeadIs (record { stream = book.stream; day = book.day; length = form.0; unit = form.1 }) ∈ book_world book
+    → HeadIs (head_at book.stream book.day form.0 form.1) ∈ book_world book
 head_in_book book form e =
     list_in (book_facts book) _
     (append_left _ (head_facts book.stream book.day book.head) (map (row_fact book.stream book.day) book.rows)
@@ -55,7 +56,7 @@ head_in_book book form e =
 member_head : (stream : Stream) (day : ℕ) (head : Option (ℕ × MeasureUnit)) (f : Fact)
     → Member f (head_facts stream day head)
     → (form : ℕ × MeasureUnit) × (head ≡ Some form)
-    × (f ≡ HeadIs (record { stream = stream; day = day; length = form.0; unit = form.1 }))
+    × (f ≡ HeadIs (head_at stream day form.0 form.1))
 member_head stream day None f m = absurd m
 member_head stream day (Some form) f (inl e) = (form, refl, e)
 member_head stream day (Some form) f (inr m) = absurd m
@@ -65,7 +66,7 @@ row_of_version : (stream : Stream) (day : ℕ) (key : Key) (reading : ReadingVal
     → (key.stream ≡ stream) × (key.day ≡ day)
     × (row ≡ (key.interval, record { update = key.update; reading = reading }))
 row_of_version stream day key reading row e =
-    let own : Key = record { stream = stream; day = day; interval = row.0; update = row.1.update } in
+    let own : Key = key_at stream day row.0 row.1.update in
     let same : own ≡ key = cc in
     let read : row.1.reading ≡ reading = cc in (
       ap (λ (k : Key). k.stream) (sym same),
@@ -101,10 +102,10 @@ head_of_book book head h = elim (from_book book (HeadIs head) h) [
 ]
   where
     parts : (stream : Stream) (day : ℕ) (known : Option (ℕ × MeasureUnit)) (head : Head) (form : ℕ × MeasureUnit)
-        → known ≡ Some form → HeadIs head ≡ HeadIs (record { stream = stream; day = day; length = form.0; unit = form.1 })
+        → known ≡ Some form → HeadIs head ≡ HeadIs (head_at stream day form.0 form.1)
         → (head.stream ≡ stream) × (head.day ≡ day) × (known ≡ Some (head.length, head.unit))
     parts stream day known head form e f =
-        let same : head ≡ record { stream = stream; day = day; length = form.0; unit = form.1 } = cc in (
+        let same : head ≡ head_at stream day form.0 form.1 = cc in (
           ap (λ (h : Head). h.stream) same,
           ap (λ (h : Head). h.day) same,
           e ∙ sym (ap (λ (h : Head). Some (h.length, h.unit)) same),
@@ -115,7 +116,7 @@ head_of_book book head h = elim (from_book book (HeadIs head) h) [
 
 -- the versions of the book's own day are its rows
 pub row_of_book : (book : BookValue) (interval update : ℕ) (reading : ReadingValue)
-    → VersionIs (record { stream = book.stream; day = book.day; interval = interval; update = update }) reading
+    → VersionIs (key_at book.stream book.day interval update) reading
     ∈ book_world book
     → Member (interval, record { update = update; reading = reading }) book.rows
 row_of_book book interval update reading h = (version_of_book book _ reading h).2
@@ -169,7 +170,7 @@ same_rows a b s d e there back = same_by (book_world a) (book_world b)
 pub one_reading : (book : BookValue) → IsLawful (book_world book) → (a b : ℕ × Version) → Member a book.rows
     → Member b book.rows → a.0 ≡ b.0 → a.1.update ≡ b.1.update → a ≡ b
 one_reading book lawful a b m n e f =
-    let key : Key = record { stream = book.stream; day = book.day; interval = b.0; update = b.1.update } in
+    let key : Key = key_at book.stream book.day b.0 b.1.update in
     let at_b : a ≡ (b.0, record { update = b.1.update; reading = a.1.reading }) =
     ap (λ i. (i, a.1)) e ∙ ap (λ u. (b.0, record { update = u; reading = a.1.reading })) f in
     let here = subst (λ (row : ℕ × Version). Member row book.rows) at_b m in
@@ -181,7 +182,7 @@ one_reading book lawful a b m n e f =
 pub head_of_row : (book : BookValue) → IsLawful (book_world book) → (row : ℕ × Version) → Member row book.rows
     → (form : ℕ × MeasureUnit) × (book.head ≡ Some form) × (1 ≤ row.0) × (row.0 ≤ count_of form.0)
 head_of_row book lawful row m =
-    let h = lawful.headed _ _ (row_in_book book row m) in
+    let h = lawful.closed.headed _ _ (row_in_book book row m) in
     let k = head_of_book book h.0 h.1 in
     ((h.0.length, h.0.unit), k.2, h.4, h.5)
 
@@ -189,7 +190,7 @@ head_of_row book lawful row m =
 pub row_of_head : (book : BookValue) → IsLawful (book_world book) → (form : ℕ × MeasureUnit) → book.head ≡ Some form
     → (row : ℕ × Version) × Member row book.rows
 row_of_head book lawful form e =
-    let v = lawful.versioned _ (head_in_book book form e) in
+    let v = lawful.closed.versioned _ (head_in_book book form e) in
     let r = version_of_book book v.0 v.1 v.2 in
     ((v.0.interval, record { update = v.0.update; reading = v.1 }), r.2)
 
@@ -197,7 +198,7 @@ same_head : (a b : Head) → a.stream ≡ b.stream → a.day ≡ b.day → ◌�
     → a ≡ b
 same_head a b s d e =
     let form : ◌≡◌ {A = ℕ × MeasureUnit} (a.length, a.unit) (b.length, b.unit) = cc in
-    λ i. record { stream = s i; day = d i; length = (form i).0; unit = (form i).1 }
+    λ i. head_at (s i) (d i) ((form i).0) ((form i).1)
 
 head_for : (head : Option (ℕ × MeasureUnit)) (rows : List (ℕ × Version)) → Fits head rows → (row : ℕ × Version)
     → Member row rows → (form : ℕ × MeasureUnit) × (head ≡ Some form) × (1 ≤ row.0) × (row.0 ≤ count_of form.0)
@@ -224,33 +225,33 @@ lawful_book book each fits = record {
     one_content = λ key a b h k. absurd (on_day book _ h);
   };
   one_job = λ id a b m n h k. absurd (on_day book _ h);
-  headed = λ key reading h.
-      let m = version_of_book book key reading h in
-      let f = head_for book.head book.rows fits _ m.2 in
-      (_, head_in_book book f.0 f.1, sym m.0, sym m.1, f.2, f.3);
-  versioned = λ head h.
-      let m = head_of_book book head h in
-      let r = row_for book.head book.rows fits _ m.2 in
-      (_, r.0.1.reading, row_in_book book r.0 r.1, sym m.0, sym m.1);
+  closed = record {
+    headed = λ key reading h.
+        let m = version_of_book book key reading h in
+        let f = head_for book.head book.rows fits _ m.2 in
+        (_, head_in_book book f.0 f.1, sym m.0, sym m.1, f.2, f.3);
+    versioned = λ head h.
+        let m = head_of_book book head h in
+        let r = row_for book.head book.rows fits _ m.2 in
+        (_, r.0.1.reading, row_in_book book r.0 r.1, sym m.0, sym m.1);
+  };
 }
 
 -- a day of a lawful World is lawful by itself
 pub lawful_day : (w : World) (book : BookValue) → IsLawful w → IsDay w book → IsLawful (book_world book)
 lawful_day w book lawful day = record {
-  agrees = record {
-    one_head = λ a b h k. lawful.agrees.one_head a b (day.only _ h) (day.only _ k);
-    one_reading = λ key a b h k. lawful.agrees.one_reading key a b (day.only _ h) (day.only _ k);
-    one_content = λ key a b h k. lawful.agrees.one_content key a b (day.only _ h) (day.only _ k);
-  };
+  agrees = agrees_within w (book_world book) day.only lawful.agrees;
   one_job = λ id a b m n h k. lawful.one_job id a b m n (day.only _ h) (day.only _ k);
-  headed = λ key reading h.
-      let m = version_of_book book key reading h in
-      let g = lawful.headed key reading (day.only _ h) in
-      (g.0, day.whole (HeadIs g.0) (g.2 ∙ m.0, g.3 ∙ m.1) g.1, g.2, g.3, g.4, g.5);
-  versioned = λ head h.
-      let m = head_of_book book head h in
-      let v = lawful.versioned head (day.only _ h) in
-      (v.0, v.1, day.whole (VersionIs v.0 v.1) (v.3 ∙ m.0, v.4 ∙ m.1) v.2, v.3, v.4);
+  closed = record {
+    headed = λ key reading h.
+        let m = version_of_book book key reading h in
+        let g = lawful.closed.headed key reading (day.only _ h) in
+        (g.0, day.whole (HeadIs g.0) (g.2 ∙ m.0, g.3 ∙ m.1) g.1, g.2, g.3, g.4, g.5);
+    versioned = λ head h.
+        let m = head_of_book book head h in
+        let v = lawful.closed.versioned head (day.only _ h) in
+        (v.0, v.1, day.whole (VersionIs v.0 v.1) (v.3 ∙ m.0, v.4 ∙ m.1) v.2, v.3, v.4);
+  };
 }
 
 misfit : (head : Option (ℕ × MeasureUnit)) (rows : List (ℕ × Version))

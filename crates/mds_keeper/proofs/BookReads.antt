@@ -5,6 +5,7 @@ use Rattle.std.proofs.Common.{sym, ap, ◌∙◌, subst, inl, inr, arith, get_or
 use Rattle.std.proofs.lemmas.Bool.{cases_lt}
 use Rattle.std.proofs.lemmas.List.{get_or-take, length-take, length-take-le, get_or-drop, length-drop}
 use Rattle.mds_world.specs.Current.{HasNoVersion, IsLatest}
+use Rattle.mds_world.specs.Facts.{key_at}
 use Rattle.mds_world.specs.Facts.Fact.{VersionIs}
 use Rattle.mds_world.proofs.Lists.{in_map, map_in}
 use Rattle.mds_world.specs.Lists.{Member}
@@ -55,7 +56,7 @@ current_last book up interval end row ends some is same =
     let m : Member row book.rows =
     subst (λ r. Member r book.rows) (sym l.1) (member_at book.rows (end - 1) row (omega arith)) in
     record {
-      held = subst (λ i. VersionIs (record { stream = book.stream; day = book.day; interval = i; update = row.1.update })
+      held = subst (λ i. VersionIs (key_at book.stream book.day i row.1.update)
           row.1.reading ∈ book_world book) same (row_in_book book row m);
       greatest = λ other of_other h.
           let p = before_end book.rows interval end ends _ (row_of_book book interval other of_other h) (omega arith) in
@@ -113,7 +114,7 @@ latest_is book (Some update) e =
         r.0.0,
         r.0.1.reading,
         record {
-          held = subst (λ u. VersionIs (record { stream = book.stream; day = book.day; interval = r.0.0; update = u })
+          held = subst (λ u. VersionIs (key_at book.stream book.day r.0.0 u)
               r.0.1.reading ∈ book_world book) (sym r.2) (row_in_book book r.0 r.1);
           greatest = λ other of_other h.
               g.1 other (map_in update_of book.rows _ (row_of_book book r.0.0 other of_other h));

@@ -7,6 +7,7 @@ use Rattle.std.proofs.lemmas.Bool.{cases_lt}
 use Rattle.std.specs.Prelude.{MatchBool, not}
 use Rattle.mds_names.specs.declared.stream.Stream.{Stream}
 use Rattle.mds_marks.specs.Reading.{ReadingValue}
+use Rattle.mds_world.specs.Facts.{key_at}
 use Rattle.mds_world.specs.Facts.Fact.{VersionIs}
 use Rattle.mds_world.specs.Lists.{Member}
 use Rattle.mds_world.specs.Sets.{◌∈◌}
@@ -38,7 +39,7 @@ get_below (y ∷ xs) (suc i) x e = let r = get_below xs i x e in omega arith
 -- a row of the right update says its version
 pub row_found : (w : World) (stream : Stream) (day interval : ℕ) (rows : List (ℕ × Version)) → AreVersionsOf w stream day interval rows
     → (i : ℕ) (row : ℕ × Version) → i < length rows → row ≡ get_or rows i row → (update : ℕ) → row.1.update ≡ update
-    → VersionIs (record { stream = stream; day = day; interval = interval; update = update }) row.1.reading ∈ w
+    → VersionIs (key_at stream day interval update) row.1.reading ∈ w
 row_found w stream day interval rows v i row h e update f =
     let number : row.0 ≡ interval = ap (λ r. r.0) e ∙ v.here i row h in
     let is : row ≡ (interval, record { update = update; reading = row.1.reading }) =
@@ -49,7 +50,7 @@ row_found w stream day interval rows v i row h e update f =
 pub no_row : (w : World) (stream : Stream) (day interval : ℕ) (rows : List (ℕ × Version)) → AreVersionsOf w stream day interval rows
     → (n : ℕ) → length rows ≤ n → (update : ℕ)
     → ((k : ℕ) (row : ℕ × Version) → k < n → slice_get rows k ≡ Some row → row.1.update ≢ update)
-    → (reading : ReadingValue) → VersionIs (record { stream = stream; day = day; interval = interval; update = update }) reading ∈ w → ⊥
+    → (reading : ReadingValue) → VersionIs (key_at stream day interval update) reading ∈ w → ⊥
 no_row w stream day interval rows v n le update none reading h =
     let m = member_get rows _ ((v.each update reading).1 h) in
     none m.0 (interval, record { update = update; reading = reading }) (omega arith) m.2 refl

@@ -19,7 +19,7 @@ use Rattle.mds_marks.specs.Reading.{ReadingValue}
 use Rattle.mds_world.specs.declared.facts.Head.{Head}
 use Rattle.mds_world.specs.declared.facts.Key.{Key}
 use Rattle.mds_world.specs.FactOrder.{exact, total}
-use Rattle.mds_world.specs.Facts.{Fact, PeriodContent}
+use Rattle.mds_world.specs.Facts.{Fact, PeriodContent, head_at, key_at}
 use Rattle.mds_statements.specs.declared.periods.PeriodKey.{PeriodKey}
 use Rattle.mds_world.specs.Facts.Fact.{HeadIs, VersionIs, PeriodIs}
 use Rattle.mds_world.proofs.Lists.{member_append, append_left, in_flat, flat_in, in_map, map_in}
@@ -48,7 +48,7 @@ nat_tie a = grind (arith, nat_tests)
 
 -- the head of a book's day
 abbrev pub head_of : BookValue → ℕ × MeasureUnit → Head
-head_of b form = record { stream = b.stream; day = b.day; length = form.0; unit = form.1 }
+head_of b form = head_at b.stream b.day form.0 form.1
 
 same_head : (x y : Head) → HeadIs x ≡ HeadIs y → x ≡ y
 same_head x y e = cc
@@ -59,26 +59,26 @@ same_key x y r q e = (cc, cc)
 -- the versions of a day's readings, by their places
 pub from_versions : (stream : Stream) (day update i : ℕ) (rs : List ReadingValue) (f : Fact) → Member f (versions_from stream day update i rs)
     → (k : ℕ) × (r : ReadingValue) × (slice_get rs k ≡ Some r)
-    × (f ≡ VersionIs (record { stream = stream; day = day; interval = i + k; update = update }) r)
+    × (f ≡ VersionIs (key_at stream day (i + k) update) r)
 from_versions stream day update i [] f m = absurd m
 from_versions stream day update i (r ∷ rs) f (inl e) =
     let z : i ≡ i + 0 = omega arith in
-    (0, r, refl, e ∙ ap (λ n. VersionIs (record { stream = stream; day = day; interval = n; update = update }) r) z)
+    (0, r, refl, e ∙ ap (λ n. VersionIs (key_at stream day n update) r) z)
 from_versions stream day update i (r ∷ rs) f (inr m) =
     let n = from_versions stream day update (i + 1) rs f m in
     let z : i + 1 + n.0 ≡ i + suc n.0 = omega arith in
-    (suc n.0, n.1, n.2, n.3 ∙ ap (λ x. VersionIs (record { stream = stream; day = day; interval = x; update = update }) n.1) z)
+    (suc n.0, n.1, n.2, n.3 ∙ ap (λ x. VersionIs (key_at stream day x update) n.1) z)
 
 pub to_versions : (stream : Stream) (day update i : ℕ) (rs : List ReadingValue) (k : ℕ) (r : ReadingValue) → slice_get rs k ≡ Some r
-    → Member (VersionIs (record { stream = stream; day = day; interval = i + k; update = update }) r) (versions_from stream day update i rs)
+    → Member (VersionIs (key_at stream day (i + k) update) r) (versions_from stream day update i rs)
 to_versions stream day update i [] k r e = cc
 to_versions stream day update i (x ∷ rs) zero r e =
     let z : i + 0 ≡ i = omega arith in
     let s : r ≡ x = cc in
-    inl (λ j. VersionIs (record { stream = stream; day = day; interval = z j; update = update }) (s j))
+    inl (λ j. VersionIs (key_at stream day (z j) update) (s j))
 to_versions stream day update i (x ∷ rs) (suc k) r e =
     let z : i + 1 + k ≡ i + suc k = omega arith in
-    inr (subst (λ n. Member (VersionIs (record { stream = stream; day = day; interval = n; update = update }) r) (versions_from stream day update (i + 1) rs)) z
+    inr (subst (λ n. Member (VersionIs (key_at stream day n update) r) (versions_from stream day update (i + 1) rs)) z
     (to_versions stream day update (i + 1) rs k r e))
 
 -- a fact that a claim of a form under an update states

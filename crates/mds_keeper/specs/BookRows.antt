@@ -5,6 +5,7 @@ use Rattle.mds_calendar.specs.Length.{count_of}
 use Rattle.mds_quantity.specs.declared.unit.Unit.{Unit as MeasureUnit}
 use Rattle.mds_names.specs.declared.stream.Stream.{Stream}
 use Rattle.mds_marks.specs.Reading.{ReadingValue}
+use Rattle.mds_world.specs.Facts.{key_at}
 use Rattle.mds_world.specs.Facts.Fact.{VersionIs}
 use Rattle.mds_world.specs.Lists.{Member}
 use Rattle.mds_world.specs.Sets.{◌∈◌}
@@ -25,7 +26,7 @@ pub record IsBook (book : BookValue) : Type 0 where
 pub record AreVersionsOf (w : World) (stream : Stream) (day interval : ℕ) (rows : List (ℕ × Version)) : Type 0 where
   pub each : (update : ℕ) (reading : ReadingValue)
       → Member (interval, record { update = update; reading = reading }) rows
-      ↔ (VersionIs (record { stream = stream; day = day; interval = interval; update = update }) reading ∈ w)
+      ↔ (VersionIs (key_at stream day interval update) reading ∈ w)
   pub here : All (λ row. row.0 ≡ interval) rows
   pub ascending : AllPairs (λ a b. a.1.update < b.1.update) rows
 

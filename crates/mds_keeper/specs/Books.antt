@@ -3,7 +3,7 @@ use Rattle.std.specs.Prelude.{ℕ, List, [], ◌∷◌, ◌++◌, map, Option, S
 use Rattle.std.specs.FinSet as set
 use Rattle.mds_quantity.specs.declared.unit.Unit.{Unit as MeasureUnit}
 use Rattle.mds_names.specs.declared.stream.Stream.{Stream}
-use Rattle.mds_world.specs.Facts.{Fact}
+use Rattle.mds_world.specs.Facts.{Fact, head_at, key_at}
 use Rattle.mds_world.specs.Facts.Fact.{HeadIs, VersionIs}
 use Rattle.mds_world.specs.Sets.{◌∈◌}
 use Rattle.mds_world.specs.World.{IsOn, World}
@@ -19,11 +19,11 @@ pub record BookValue : Type 0 where
 abbrev pub head_facts : Stream → ℕ → Option (ℕ × MeasureUnit) → List Fact
 head_facts stream day None = []
 head_facts stream day (Some form) =
-    HeadIs (record { stream = stream; day = day; length = form.0; unit = form.1 }) ∷ []
+    HeadIs (head_at stream day form.0 form.1) ∷ []
 
 abbrev pub row_fact : Stream → ℕ → ℕ × Version → Fact
 row_fact stream day row =
-    VersionIs (record { stream = stream; day = day; interval = row.0; update = row.1.update }) row.1.reading
+    VersionIs (key_at stream day row.0 row.1.update) row.1.reading
 
 abbrev pub book_facts : BookValue → List Fact
 book_facts book = head_facts book.stream book.day book.head ++ map (row_fact book.stream book.day) book.rows

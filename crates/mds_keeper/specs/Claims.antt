@@ -7,6 +7,7 @@ use Rattle.mds_names.specs.declared.stream.Stream.{Stream}
 use Rattle.mds_marks.specs.Reading.{ReadingValue}
 use Rattle.mds_world.specs.declared.facts.Head.{Head}
 use Rattle.mds_world.specs.declared.facts.Key.{Key}
+use Rattle.mds_world.specs.Facts.{head_at, key_at}
 use Rattle.mds_world.specs.Facts.Fact.{VersionIs}
 use Rattle.mds_world.specs.Lists.{Member}
 use Rattle.mds_world.specs.Sets.{◌∈◌}
@@ -17,7 +18,7 @@ use Rattle.mds_keeper.specs.declared.refusal.RefusalCode.TheVariants.{LengthConf
 
 -- where a version of a book's day stands
 abbrev pub key_of : BookValue → ℕ → ℕ → Key
-key_of book interval update = record { stream = book.stream; day = book.day; interval = interval; update = update }
+key_of book interval update = key_at book.stream book.day interval update
 
 -- a claim's reading of the interval after so many is that of the World, if it has one under the update
 abbrev pub Suits : World → BookValue → ℕ → List ReadingValue → ℕ → Type 0
@@ -56,7 +57,7 @@ abbrev pub fresh_heads : Stream → ℕ → Option (ℕ × MeasureUnit) → Opti
 fresh_heads stream day (Some known) form = []
 fresh_heads stream day None None = []
 fresh_heads stream day None (Some form) =
-    record { stream = stream; day = day; length = form.0; unit = form.1 } ∷ []
+    head_at stream day form.0 form.1 ∷ []
 
 -- of an update's readings, from an interval on, those that the book doesn't have, with where they stand
 abbrev pub fresh_versions : BookValue → ℕ → ℕ → List ReadingValue → List (Key × ReadingValue)

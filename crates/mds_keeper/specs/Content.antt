@@ -7,7 +7,7 @@ use Rattle.mds_names.specs.declared.stream.Stream.{Stream}
 use Rattle.mds_jobs.specs.Jobs.{content_of}
 use Rattle.mds_jobs.specs.declared.job.Job.{Job}
 use Rattle.mds_world.specs.declared.facts.Key.{Key}
-use Rattle.mds_world.specs.Facts.{Fact}
+use Rattle.mds_world.specs.Facts.{Fact, key_at}
 use Rattle.mds_statements.specs.declared.periods.Period.{Period}
 use Rattle.mds_world.specs.Facts.Fact.{HeadIs, VersionIs, DetailIs, EventIs, PeriodIs, HolidayIs, JobIs}
 use Rattle.mds_world.specs.Lists.{Apart, Member}
@@ -20,7 +20,7 @@ use Rattle.mds_keeper.specs.declared.day_book.Version.{Version}
 -- where a version of a day of a stream stands, and its reading
 abbrev pub version_at : Stream → ℕ → ℕ × Version → Key × ReadingValue
 version_at stream day row =
-    (record { stream = stream; day = day; interval = row.0; update = row.1.update }, row.1.reading)
+    (key_at stream day row.0 row.1.update, row.1.reading)
 
 abbrev pub day_versions : DayVersions → List (Key × ReadingValue)
 day_versions day = map (version_at day.stream day.day) day.rows.items

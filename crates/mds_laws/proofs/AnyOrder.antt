@@ -9,8 +9,8 @@ use Rattle.mds_records.specs.declared.file.FileKind.{FileKind}
 use Rattle.mds_world.specs.Counts.{counted}
 use Rattle.mds_world.specs.FactOrder.{exact, total}
 use Rattle.mds_world.specs.Facts.{Fact}
-use Rattle.mds_world.specs.Facts.Fact.{HeadIs, VersionIs, PeriodIs}
 use Rattle.mds_world.specs.Lists.{Member}
+use Rattle.mds_world.proofs.Lawful.{agrees_within, pairs_agree}
 use Rattle.mds_world.proofs.Members.{in_union, union_left, union_right}
 use Rattle.mds_world.proofs.Sets.{union_assoc}
 use Rattle.mds_world.specs.Sets.{◌∈◌}
@@ -26,7 +26,7 @@ use Rattle.mds_service.specs.Machine.{ImportStep, Run, Step, fault_in, stated_in
 use Rattle.mds_laws.specs.Answered.{IsGiven, answered, given}
 use Rattle.mds_laws.specs.AnyOrder.{AllAgree, EachIsTakenIn, IsImported, IsWellFormed, PartsEndAsTheWhole, SameFactsEndAlike, facts_in, statements_in, together}
 use Rattle.mds_laws.proofs.Answered.{all_given, unanswered_stand_aside}
-use Rattle.mds_laws.proofs.Conflicts.{agrees_within, breaks_none, union_within, upto_within}
+use Rattle.mds_laws.proofs.Conflicts.{breaks_none, union_within, upto_within}
 use Rattle.mds_laws.proofs.Kept.{counts_of_run, step_counts}
 use Rattle.mds_laws.proofs.Members.{none_in}
 use Rattle.mds_laws.proofs.Parts.{in_together, parts_state_the_whole}
@@ -41,20 +41,10 @@ module _ (w : World) (files : List Request) (agree : AllAgree w files) where
   ]
 
   as_a_whole : Agrees (union w (together (map facts_in files)))
-  as_a_whole = record {
-    one_head = λ a b h k s d.
-        let x = whose (HeadIs a) h in
-        let y = whose (HeadIs b) k in
-        (agree x.0 y.0 x.1 y.1).one_head a b (union_left x.0 y.0 _ x.2) (union_right x.0 y.0 _ y.2) s d;
-    one_reading = λ key a b h k.
-        let x = whose (VersionIs key a) h in
-        let y = whose (VersionIs key b) k in
-        (agree x.0 y.0 x.1 y.1).one_reading key a b (union_left x.0 y.0 _ x.2) (union_right x.0 y.0 _ y.2);
-    one_content = λ key a b h k.
-        let x = whose (PeriodIs key a) h in
-        let y = whose (PeriodIs key b) k in
-        (agree x.0 y.0 x.1 y.1).one_content key a b (union_left x.0 y.0 _ x.2) (union_right x.0 y.0 _ y.2);
-  }
+  as_a_whole = pairs_agree (union w (together (map facts_in files))) (λ f g h k.
+      let x = whose f h in
+      let y = whose g k in
+      (union x.0 y.0, agree x.0 y.0 x.1 y.1, union_left x.0 y.0 f x.2, union_right x.0 y.0 g y.2))
 
 pub no_fault : {A : Type 0} (fault : A) (found : _) → found ≡ Some fault → found ≡ None → ⊥
 no_fault fault found e n = cc

@@ -4,7 +4,6 @@ use Rattle.std.specs.List.{filter}
 use Rattle.std.proofs.Common.{ap, inl, inr}
 use Rattle.mds_world.specs.declared.facts.Head.{Head}
 use Rattle.mds_world.specs.Facts.{Fact}
-use Rattle.mds_world.specs.Facts.Fact.{HeadIs, VersionIs, PeriodIs}
 use Rattle.mds_world.specs.Lists.{Member}
 use Rattle.mds_world.proofs.Members.{in_union, union_left, union_right}
 use Rattle.mds_world.specs.Sets.{◌∈◌}
@@ -15,14 +14,6 @@ use Rattle.mds_keeper.specs.Merge.{Breaks, HasTwoLengths, HasTwoReadings, HasTwo
 use Rattle.mds_keeper.specs.declared.refusal.RefusalCode.{RefusalCode}
 use Rattle.mds_keeper.specs.declared.refusal.RefusalCode.TheVariants as code
 use Rattle.mds_laws.proofs.Members.{in_stated, stated_in}
-
--- a World within one that agrees agrees
-pub agrees_within : (w part : World) → ((f : Fact) → f ∈ part → f ∈ w) → Agrees w → Agrees part
-agrees_within w part more agrees = record {
-  one_head = λ a b h k. agrees.one_head a b (more (HeadIs a) h) (more (HeadIs b) k);
-  one_reading = λ key a b h k. agrees.one_reading key a b (more (VersionIs key a) h) (more (VersionIs key b) k);
-  one_content = λ key a b h k. agrees.one_content key a b (more (PeriodIs key a) h) (more (PeriodIs key b) k);
-}
 
 two_lengths : (w : World) → Agrees w → HasTwoLengths w → ⊥
 two_lengths w agrees (a, b, h, k, s, d, other) = other (ap (λ (x : Head). x.length) (agrees.one_head a b h k s d))

@@ -34,6 +34,7 @@ use Rattle.mds_service.specs.Holidays.{HolidaysStep, holidays_world}
 use Rattle.mds_service.specs.Machine.{ImportStep, Run, Step, TellsDay, TellsPeriods, TellsStreams, TellsVersions, stated_in}
 use Rattle.mds_service.specs.RangeAnswers.{TellsExport, TellsFinals, TellsGaps}
 use Rattle.mds_service.specs.Substitution.{SubstituteStep, head_of, job_world}
+use Rattle.mds_service.proofs.ListedWorld.{lawful_with_holidays}
 use Rattle.mds_service.proofs.Substituted.{lawful_with_job}
 use Rattle.mds_laws.specs.Kept.{AreUnaltered, CameBy, ComesBy, IsOfJob, came_in}
 use Rattle.mds_laws.proofs.Lawful.{lawful_with_file}
@@ -89,28 +90,6 @@ holiday_member : (days : List ℕ) (f : Fact) → is_counted f ≡ true → f �
 holiday_member days f c h =
     let r = in_map HolidayIs days f (in_list (map HolidayIs days) f h) in holiday_counts f r.0 r.2 c
 
-law_of_holidays : (old : World) (days : List ℕ) → IsLawful old → IsLawful (union old (holidays_world days))
-law_of_holidays old days lawful = record {
-  agrees = record {
-    one_head = λ a b h k. lawful.agrees.one_head a b (there (HeadIs a) (λ d e. cc) h) (there (HeadIs b) (λ d e. cc) k);
-    one_reading = λ key a b h k. lawful.agrees.one_reading key a b
-        (there (VersionIs key a) (λ d e. cc) h) (there (VersionIs key b) (λ d e. cc) k);
-    one_content = λ key a b h k. lawful.agrees.one_content key a b
-        (there (PeriodIs key a) (λ d e. cc) h) (there (PeriodIs key b) (λ d e. cc) k);
-  };
-  one_job = λ id a b m n h k. lawful.one_job id a b m n (there (JobIs id a m) (λ d e. cc) h) (there (JobIs id b n) (λ d e. cc) k);
-  headed = λ key reading h. let x = lawful.headed key reading (there (VersionIs key reading) (λ d e. cc) h) in
-      (x.0, union_left old (holidays_world days) _ x.1, x.2, x.3, x.4, x.5);
-  versioned = λ head h. let x = lawful.versioned head (there (HeadIs head) (λ d e. cc) h) in
-      (x.0, x.1, union_left old (holidays_world days) _ x.2, x.3, x.4);
-}
-  where
-    there : (f : Fact) → ((day : ℕ) → f ≡ HolidayIs day → ⊥) → f ∈ union old (holidays_world days) → f ∈ old
-    there f other h = elim (in_union old (holidays_world days) f h) [
-      | inl a ↦ a
-      | inr b ↦ let r = in_map HolidayIs days f (in_list (map HolidayIs days) f b) in absurd (other r.0 r.2)
-    ]
-
 grows_holidays : (old : World) (days : Vec ℕ Global) (added known : ℕ) (new : World)
     → HolidaysStep old days.items (told.HolidaysAdded added known) new
     → Grows old (asked.Holidays days) (told.HolidaysAdded added known) new
@@ -119,7 +98,7 @@ grows_holidays old days added known new step = record {
   is = step.0;
   count = none_added old (holidays_world days.items) (holiday_member days.items);
   by = λ f c h. absurd (holiday_member days.items f c h);
-  stays = law_of_holidays old days.items;
+  stays = lawful_with_holidays old days.items;
 }
 
 -- ---- a job

@@ -9,8 +9,9 @@ use Rattle.mds_records.specs.declared.file.FileKind.{FileKind}
 use Rattle.mds_records.specs.declared.file.FileKind.TheVariants.{Nem12, Nem13}
 use Rattle.mds_world.specs.declared.facts.Head.{Head}
 use Rattle.mds_world.specs.declared.facts.Key.{Key}
-use Rattle.mds_world.specs.Facts.{Fact, JobContent}
+use Rattle.mds_world.specs.Facts.{Fact, JobContent, head_at}
 use Rattle.mds_world.specs.Facts.Fact.{HeadIs, VersionIs, JobIs}
+use Rattle.mds_world.proofs.Lawful.{wider_head, wider_version}
 use Rattle.mds_world.proofs.Lists.{flat_in}
 use Rattle.mds_world.specs.Lists.{Member}
 use Rattle.mds_world.proofs.Members.{in_union, union_left, union_right}
@@ -37,7 +38,7 @@ days_are_whole Nem12 text well =
 days_are_whole Nem13 text well = subst (All IsWholeDay) (sym (no_days text)) (All-nil IsWholeDay)
 
 abbrev head_of : DayStatement → Head
-head_of day = record { stream = day.stream; day = day.date; length = day.length; unit = day.unit }
+head_of day = head_at day.stream day.date day.length day.unit
 
 same_head : (x y : Head) → HeadIs x ≡ HeadIs y → x ≡ y
 same_head x y e = cc
@@ -144,14 +145,16 @@ module _ (w : World) (xs : List Statement) (sound : All IsWholeDay (days_of xs))
   lawful_with lawful agrees = record {
     agrees = agrees;
     one_job = λ id a b m n h k. lawful.one_job id a b m n (job_where id a m h) (job_where id b n k);
-    headed = λ key reading h. elim (whence (VersionIs key reading) h) [
-      | inl a ↦ let x = lawful.headed key reading a in (x.0, old _ x.1, x.2, x.3, x.4, x.5)
-      | inr b ↦ headed b.0 key reading b.1 b.2
-    ];
-    versioned = λ head h. elim (whence (HeadIs head) h) [
-      | inl a ↦ let x = lawful.versioned head a in (x.0, x.1, old _ x.2, x.3, x.4)
-      | inr b ↦ versioned b.0 head b.1 b.2
-    ];
+    closed = record {
+      headed = λ key reading h. elim (whence (VersionIs key reading) h) [
+        | inl a ↦ wider_head w whole old key (lawful.closed.headed key reading a)
+        | inr b ↦ headed b.0 key reading b.1 b.2
+      ];
+      versioned = λ head h. elim (whence (HeadIs head) h) [
+        | inl a ↦ wider_version w whole old head (lawful.closed.versioned head a)
+        | inr b ↦ versioned b.0 head b.1 b.2
+      ];
+    };
   }
 
 pub lawful_with_file : (w : World) (kind : FileKind) (text : List ℕ) → fault_in kind text ≡ None → IsLawful w

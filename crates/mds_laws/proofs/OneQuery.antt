@@ -49,7 +49,7 @@ module _ (w : World) (agrees : Agrees w) (s : Stream) (d : ℕ) where
   -- a day has one length and unit, one list of events, and one answer with them
   one_head : (a b : DayAnswer) → IsDayAnswer w s d a → IsDayAnswer w s d b → (a.length ≡ b.length) × (a.unit ≡ b.unit)
   one_head a b x y =
-      let same = agrees.one_head _ _ x.head y.head refl refl in
+      let same = agrees.one_head _ _ x.form y.form refl refl in
       (ap (λ (h : Head). h.length) same, ap (λ (h : Head). h.unit) same)
 
   one_events : (a b : DayAnswer) → IsDayAnswer w s d a → IsDayAnswer w s d b → a.events.items ≡ b.events.items
@@ -73,7 +73,7 @@ module _ (w : World) (agrees : Agrees w) (s : Stream) (d : ℕ) where
       }
 
   is_known : (a : DayAnswer) → IsDayAnswer w s d a → IsKnownDay w s d
-  is_known a x = (_, x.head, refl, refl)
+  is_known a x = (_, x.form, refl, refl)
 
   abbrev DayTold : Answer → Type 0
   DayTold answer =

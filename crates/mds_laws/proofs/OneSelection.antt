@@ -54,7 +54,7 @@ module _ (w : World) (agrees : Agrees w) where
   day_at : (s t : Stream) (a b : SelectedDay) → s ≡ t → a.date ≡ b.date → IsSelectedDay w s a → IsSelectedDay w t b
       → IsSameDay a b
   day_at s t a b same date x y =
-      let head = agrees.one_head _ _ x.head y.head same date in
+      let head = agrees.one_head _ _ x.form y.form same date in
       let length : a.length ≡ b.length = ap (λ (h : Head). h.length) head in record {
         date = date;
         length = length;

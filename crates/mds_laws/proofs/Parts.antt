@@ -12,7 +12,7 @@ use Rattle.mds_world.proofs.Sets.{not_in_empty}
 use Rattle.mds_world.specs.Sets.{◌∈◌}
 use Rattle.mds_world.specs.Stated.{facts_of, stated}
 use Rattle.mds_world.specs.World.{World}
-use Rattle.mds_laws.specs.AnyOrder.{AreParts, IsAmong, IsHeader, together, unplaced}
+use Rattle.mds_laws.specs.AnyOrder.{AreParts, IsAmong, together, unplaced}
 use Rattle.mds_laws.proofs.Members.{in_stated, stated_in}
 
 -- several Worlds together have just the members of each
@@ -42,13 +42,6 @@ among_states xs s f among m =
     let same : facts_of s ≡ facts_of r.0 = sym (without_line s) ∙ ap facts_of r.2 ∙ without_line r.0 in
     stated_in xs f r.0 r.1 (subst (λ facts. Member f facts) same m)
 
-no_facts : (s : Statement) (f : Fact) → IsHeader s → Member f (facts_of s) → ⊥
-no_facts (HeaderOf header) f is m = m
-no_facts (DetailsOf details) f is m = is
-no_facts (DayOf day) f is m = is
-no_facts (EventOf event) f is m = is
-no_facts (PeriodOf period) f is m = is
-
 pub parts_state_the_whole : (whole : List Statement) (parts : List (List Statement)) → AreParts whole parts
     → together (map stated parts) ≡ stated whole
 parts_state_the_whole whole parts are = same_by _ _
@@ -60,7 +53,7 @@ parts_state_the_whole whole parts are = same_by _ _
     (λ f h.
     let s = in_stated whole f h in
     elim (are.all s.0 s.1) [
-      | inl header ↦ absurd (no_facts s.0 f header s.2)
+      | inl none ↦ absurd (subst (λ facts. Member f facts) none s.2)
       | inr part ↦ together_in (map stated parts) f (stated part.0) (map_in stated parts part.0 part.1)
           (among_states part.0 s.0 f part.2 s.2)
     ])

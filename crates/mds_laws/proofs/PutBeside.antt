@@ -11,6 +11,7 @@ use Rattle.mds_world.specs.Facts.{Fact, PeriodContent}
 use Rattle.mds_statements.specs.declared.periods.PeriodKey.{PeriodKey}
 use Rattle.mds_world.specs.Facts.Fact.{HeadIs, VersionIs, PeriodIs, JobIs}
 use Rattle.mds_world.specs.Lists.{Member}
+use Rattle.mds_world.proofs.Lawful.{agrees_within}
 use Rattle.mds_world.proofs.Members.{in_list, in_union, same_by, union_left, union_right}
 use Rattle.mds_world.proofs.Sets.{difference_in, in_difference, in_intersection, in_retain, intersection_in, retain_in}
 use Rattle.mds_world.specs.Sets.{◌∈◌}
@@ -24,7 +25,6 @@ use Rattle.mds_keeper.specs.declared.refusal.RefusalCode.TheVariants as code
 use Rattle.mds_keeper.proofs.Taken.{from_versions}
 use Rattle.mds_fill.specs.Fills.{AreSubstitutes}
 use Rattle.mds_service.specs.Substitution.{SuitsDay, head_of, job_world}
-use Rattle.mds_laws.proofs.Conflicts.{agrees_within}
 use Rattle.mds_laws.proofs.Kept.{target, version_of_job}
 use Rattle.mds_laws.proofs.Members.{same_key}
 

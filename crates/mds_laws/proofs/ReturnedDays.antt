@@ -11,6 +11,7 @@ use Rattle.mds_world.specs.declared.facts.Detail.{Detail}
 use Rattle.mds_world.specs.declared.facts.Head.{Head}
 use Rattle.mds_world.specs.declared.facts.Key.{Key}
 use Rattle.mds_world.specs.Current.{HasNoVersion, IsCurrentDetails, IsLatest, IsReading, no_reading}
+use Rattle.mds_world.specs.Facts.{head_at, key_at}
 use Rattle.mds_world.specs.Facts.Fact.{HeadIs, VersionIs}
 use Rattle.mds_world.proofs.Lists.{in_map, map_in}
 use Rattle.mds_world.specs.Lists.{Member}
@@ -25,7 +26,7 @@ use Rattle.mds_ranges.specs.Selections.{IsSelectedDay, IsSelectedStream, IsSelec
 use Rattle.mds_laws.proofs.ReturnedCounts.{intervals_counted}
 use Rattle.mds_laws.proofs.ReturnedDetails.{details_alone, same_details, same_details_home}
 use Rattle.mds_laws.proofs.ReturnedFacts.{IsChosen, detail_stated, detail_whence, head_of, head_stated, head_whence, key_of, no_period, version_stated, version_whence}
-use Rattle.mds_laws.proofs.ReturnedReadings.{ComesFrom, agrees_alone, agrees_home, current_alone, key_at, same_day_home, same_readings}
+use Rattle.mds_laws.proofs.ReturnedReadings.{ComesFrom, agrees_alone, agrees_home, current_alone, same_day_home, same_readings}
 use Rattle.mds_laws.specs.Returns.{HasSameDetails, IsAskedFor, IsSameDay}
 use Rattle.mds_laws.proofs.ReturnedWorlds.{ComesBackAlone, ComesBackHome}
 
@@ -67,7 +68,7 @@ module _ (w : World) (nmi : List ℕ) (suffixes : List (List ℕ)) (first last :
   comes_from = record {
     heads = λ head h.
         let v = head_whence header streams head h in
-        subst (λ x. HeadIs x ∈ w) (sym v.3) (day_is v.0 v.1 v.2).head;
+        subst (λ x. HeadIs x ∈ w) (sym v.3) (day_is v.0 v.1 v.2).form;
     latest = λ key reading h.
         let v = version_whence header streams key reading h in
         subst (λ (x : Key). IsLatest w x.stream x.day x.update) (sym v.5) (day_is v.0 v.1 v.3).update;
@@ -130,10 +131,10 @@ module _ (w : World) (nmi : List ℕ) (suffixes : List (List ℕ)) (first last :
       → (1 ≤ interval) × (interval ≤ length day.readings.items)
   within selected day chosen interval update reading h =
       let key : Key = key_at selected.stream day.date interval update in
-      let headed = lawful.headed key reading h in
+      let headed = lawful.closed.headed key reading h in
       let d = day_is selected day chosen in
       let same : headed.0 ≡ head_of selected day =
-      lawful.agrees.one_head headed.0 (head_of selected day) headed.1 d.head headed.2 headed.3 in
+      lawful.agrees.one_head headed.0 (head_of selected day) headed.1 d.form headed.2 headed.3 in
       let size = d.readings.count_is in
       let most : count_of headed.0.length ≡ count_of day.length = ap (λ (x : Head). count_of x.length) same in
       let low = headed.4 in
@@ -156,7 +157,7 @@ module _ (w : World) (nmi : List ℕ) (suffixes : List (List ℕ)) (first last :
       let headed = headed key r h in
       let d = day_is selected day chosen in
       let same : headed.0 ≡ head_of selected day =
-      lawful.agrees.one_head headed.0 (head_of selected day) (comes_from.heads headed.0 headed.1) d.head headed.2 headed.3 in
+      lawful.agrees.one_head headed.0 (head_of selected day) (comes_from.heads headed.0 headed.1) d.form headed.2 headed.3 in
       let size = d.readings.count_is in
       let most : count_of headed.0.length ≡ count_of day.length = ap (λ (x : Head). count_of x.length) same in
       let low = headed.4 in
@@ -194,12 +195,13 @@ module _ (w : World) (nmi : List ℕ) (suffixes : List (List ℕ)) (first last :
   day_alone : (selected : SelectedStream) (day : SelectedDay) → IsChosen streams selected day
       → IsSameDay w (stated (selection_stated header streams)) selected.stream day.date
   day_alone selected day chosen = record {
-    head = λ head s d. (
-      (λ h. subst (λ x. HeadIs x ∈ stated (selection_stated header streams))
-          (sym (lawful.agrees.one_head head (head_of selected day) h (day_is selected day chosen).head s d))
-          (head_stated header streams selected day chosen)),
-      comes_from.heads head,
-    );
+    form = λ size unit.
+        let head : Head = head_at selected.stream day.date size unit in (
+          (λ h. subst (λ x. HeadIs x ∈ stated (selection_stated header streams))
+              (sym (lawful.agrees.one_head head (head_of selected day) h (day_is selected day chosen).form refl refl))
+              (head_stated header streams selected day chosen)),
+          comes_from.heads head,
+        );
     readings = λ interval r.
         let q = reading_both selected day chosen interval in
         same_readings w (stated (selection_stated header streams)) selected.stream day.date interval q.0 lawful.agrees

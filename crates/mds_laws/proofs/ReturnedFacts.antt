@@ -12,7 +12,7 @@ use Rattle.mds_nem12.specs.Statements.{statements_of}
 use Rattle.mds_world.specs.declared.facts.Detail.{Detail}
 use Rattle.mds_world.specs.declared.facts.Head.{Head}
 use Rattle.mds_world.specs.declared.facts.Key.{Key}
-use Rattle.mds_world.specs.Facts.{Fact}
+use Rattle.mds_world.specs.Facts.{Fact, head_at, key_at}
 use Rattle.mds_world.specs.Facts.Fact.{HeadIs, VersionIs, DetailIs, PeriodIs}
 use Rattle.mds_world.proofs.Lists.{append_left, append_right, flat_in, in_flat, member_append}
 use Rattle.mds_world.specs.Lists.{Member}
@@ -108,12 +108,12 @@ detail_of header selected =
 -- the head of a selected day
 abbrev pub head_of : SelectedStream → SelectedDay → Head
 head_of selected day =
-    record { stream = selected.stream; day = day.date; length = day.length; unit = day.unit }
+    head_at selected.stream day.date day.length day.unit
 
 -- where a reading of a selected day stands
 abbrev pub key_of : SelectedStream → SelectedDay → ℕ → Key
 key_of selected day interval =
-    record { stream = selected.stream; day = day.date; interval = interval; update = day.update }
+    key_at selected.stream day.date interval day.update
 
 -- the facts of a selected day
 abbrev pub facts_of_day : SelectedStream → SelectedDay → List Fact

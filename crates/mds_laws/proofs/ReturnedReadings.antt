@@ -14,7 +14,7 @@ use Rattle.mds_world.specs.declared.facts.Head.{Head}
 use Rattle.mds_world.specs.declared.facts.Key.{Key}
 use Rattle.mds_world.specs.Current.{HasNoVersion, IsCurrentDetails, IsLatest, IsReading, no_reading}
 use Rattle.mds_world.specs.FactOrder.{exact, fact_cmp, total}
-use Rattle.mds_world.specs.Facts.{Fact}
+use Rattle.mds_world.specs.Facts.{Fact, head_at, key_at}
 use Rattle.mds_world.specs.Facts.Fact.{HeadIs, VersionIs, DetailIs, EventIs, PeriodIs, HolidayIs, JobIs}
 use Rattle.mds_world.specs.Lists.{Member}
 use Rattle.mds_world.proofs.Members.{in_list, in_union, list_in, union_left, union_right}
@@ -23,10 +23,6 @@ use Rattle.mds_world.specs.Sets.{◌∈◌}
 use Rattle.mds_world.specs.World.{Agrees, HasHead, IsLawful, World, union}
 use Rattle.mds_world.proofs.Worlds.{one_reading}
 use Rattle.mds_laws.specs.Returns.{IsSameDay}
-
--- where a version stands
-abbrev pub key_at : Stream → ℕ → ℕ → ℕ → Key
-key_at stream day interval update = record { stream = stream; day = day; interval = interval; update = update }
 
 -- Facts that come back to a World: heads that it has, current readings under the latest update of their day, and current
 -- details, all under one moment.
@@ -272,13 +268,14 @@ module _ (w back : World) (moment : ℕ) (lawful : IsLawful w) (from : ComesFrom
   kept_out stream day interval r none (inr (never, e)) =
       inr ((λ u q h. never u q (union_left w back (VersionIs (key_at stream day interval u) q) h)), e)
 
-  -- each day keeps its head and its readings
+  -- each day keeps its form and its readings
   pub same_day_home : (stream : Stream) (day : ℕ) → IsSameDay w (union w back) stream day
   same_day_home stream day = record {
-    head = λ head s d. (
-      union_left w back (HeadIs head),
-      (λ h. elim (in_union w back (HeadIs head) h) [ inl a ↦ a | inr b ↦ from.heads head b ]),
-    );
+    form = λ size unit.
+        let head : Head = head_at stream day size unit in (
+          union_left w back (HeadIs head),
+          (λ h. elim (in_union w back (HeadIs head) h) [ inl a ↦ a | inr b ↦ from.heads head b ]),
+        );
     readings = λ interval r. elim (version_or_none back stream day interval) [
       | inl v ↦
           let key : Key = key_at stream day interval v.0.0 in

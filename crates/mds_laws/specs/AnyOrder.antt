@@ -5,7 +5,7 @@ use Rattle.std.specs.List.{All, sum_by}
 use Rattle.mds_statements.specs.Statements.{Statement}
 use Rattle.mds_statements.specs.Statements.Statement.{HeaderOf, DetailsOf, DayOf, EventOf, PeriodOf}
 use Rattle.mds_world.specs.Lists.{Member}
-use Rattle.mds_world.specs.Stated.{stated}
+use Rattle.mds_world.specs.Stated.{facts_of, stated}
 use Rattle.mds_world.specs.World.{Agrees, World, union}
 use Rattle.mds_messages.specs.declared.request.Request.{Request}
 use Rattle.mds_messages.specs.declared.request.Request.TheVariants as asked
@@ -73,17 +73,12 @@ unplaced (PeriodOf period) = PeriodOf (record period { line = 0 })
 abbrev pub IsAmong : List Statement → Statement → Type 0
 IsAmong statements it = Member (unplaced it) (map unplaced statements)
 
--- it is the statement of a 100, which states no fact
-abbrev pub IsHeader : Statement → Type 0
-IsHeader (HeaderOf header) = Unit {0}
-IsHeader statement = ⊥
-
 -- The parts of a file. What they state the file states, with days whole and under the same header and details. Each of its
--- statements but the header is in one of them.
+-- statements that states a fact is in one of them: all but the header.
 pub record AreParts (whole : List Statement) (parts : List (List Statement)) : Type 0 where
   pub just : (part : List Statement) (it : Statement) → Member part parts → Member it part → IsAmong whole it
   pub all : (it : Statement) → Member it whole
-      → IsHeader it ⊎ ((part : List Statement) × Member part parts × IsAmong part it)
+      → (facts_of it ≡ []) ⊎ ((part : List Statement) × Member part parts × IsAmong part it)
 
 -- The parts of a file together state what it does.
 abbrev pub PartsStateTheWhole : Type 0

@@ -5,17 +5,15 @@ use Rattle.std.specs.FinSet as set
 use Rattle.std.specs.List.{sum_by}
 use Rattle.std.specs.declared.alloc.Global.{Global}
 use Rattle.std.specs.declared.vec.Vec.{Vec}
+use Rattle.mds_quantity.specs.declared.unit.Unit.{Unit as MeasureUnit}
 use Rattle.mds_names.specs.declared.stream.Stream.{Stream}
 use Rattle.mds_marks.specs.Reading.{ReadingValue}
 use Rattle.mds_terms.specs.Details.{DetailsValue}
 use Rattle.mds_records.specs.declared.file.FileKind.TheVariants.{Nem12}
 use Rattle.mds_statements.specs.Statements.{Statement, days_of}
 use Rattle.mds_statements.specs.declared.blocks.Header.{Header}
-use Rattle.mds_world.specs.declared.facts.Head.{Head}
-use Rattle.mds_world.specs.Current.{IsCurrentDetails, IsReading}
-use Rattle.mds_world.specs.Facts.Fact.{HeadIs}
+use Rattle.mds_world.specs.Current.{IsCurrentDetails, IsDayReading, IsFormOf}
 use Rattle.mds_world.specs.Lists.{Member}
-use Rattle.mds_world.specs.Sets.{◌∈◌}
 use Rattle.mds_world.specs.World.{IsKnownDay, IsLawful, World}
 use Rattle.mds_messages.specs.declared.request.Request.TheVariants as asked
 use Rattle.mds_messages.specs.declared.answer.Answer.{Answer}
@@ -29,11 +27,11 @@ abbrev pub IsAskedFor : World → List ℕ → List (List ℕ) → ℕ → ℕ �
 IsAskedFor w nmi suffixes first last stream day =
     (stream.nmi ≡ nmi) × Member stream.suffix suffixes × (first ≤ day) × (day ≤ last) × IsKnownDay w stream day
 
--- A day has the same head in both, and each of its intervals the same current reading.
+-- A day has the same form in both, and each of its intervals the same current reading.
 pub record IsSameDay (a b : World) (stream : Stream) (day : ℕ) : Type 0 where
-  pub head : (head : Head) → head.stream ≡ stream → head.day ≡ day → (HeadIs head ∈ a) ↔ (HeadIs head ∈ b)
+  pub form : (length : ℕ) (unit : MeasureUnit) → IsFormOf a stream day length unit ↔ IsFormOf b stream day length unit
   pub readings : (interval : ℕ) (reading : ReadingValue)
-      → IsReading a stream day interval reading ↔ IsReading b stream day interval reading
+      → IsDayReading a stream day interval reading ↔ IsDayReading b stream day interval reading
 
 -- a stream has the same current details in both
 abbrev pub HasSameDetails : World → World → Stream → Type 0

@@ -15,6 +15,7 @@ use Rattle.mds_world.specs.Current.{IsCurrentDetails}
 use Rattle.mds_world.specs.FactOrder.{exact, total}
 use Rattle.mds_world.specs.Facts.{Fact, JobContent, PeriodContent}
 use Rattle.mds_world.specs.Facts.Fact.{HeadIs, VersionIs, DetailIs, EventIs, PeriodIs, HolidayIs, JobIs}
+use Rattle.mds_world.proofs.Lawful.{agrees_within}
 use Rattle.mds_world.proofs.Lists.{append_left, append_right, in_map, map_in, member_append}
 use Rattle.mds_world.specs.Lists.{Apart, Member}
 use Rattle.mds_world.proofs.Members.{in_list, in_union, list_in, same_by, union_left, union_right}
@@ -364,23 +365,18 @@ other_not_on more stream day f m on =
       | inr a ↦ let r = in_map HolidayIs more.holidays.items f a in subst (IsOn stream day) r.2 on
     ]
 
-agrees_part : (w part : World) → ((f : Fact) → f ∈ part → f ∈ w) → Agrees w → Agrees part
-agrees_part w part sub law = record {
-  one_head = λ a b x y i j. law.one_head a b (sub _ x) (sub _ y) i j;
-  one_reading = λ key a b x y. law.one_reading key a b (sub _ x) (sub _ y);
-  one_content = λ key a b x y. law.one_content key a b (sub _ x) (sub _ y);
-}
-
 -- a part that has all heads and versions is lawful where the whole is
 lawful_part : (w part : World) → ((f : Fact) → f ∈ part → f ∈ w)
     → ((stream : Stream) (day : ℕ) (f : Fact) → IsOn stream day f → f ∈ w → f ∈ part) → IsLawful w → IsLawful part
 lawful_part w part sub back law = record {
-  agrees = agrees_part w part sub law.agrees;
+  agrees = agrees_within w part sub law.agrees;
   one_job = λ id a b m n x y. law.one_job id a b m n (sub _ x) (sub _ y);
-  headed = λ key reading x. let h = law.headed key reading (sub _ x) in
-      (h.0, back h.0.stream h.0.day (HeadIs h.0) (refl, refl) h.1, h.2, h.3, h.4, h.5);
-  versioned = λ head x. let v = law.versioned head (sub _ x) in
-      (v.0, v.1, back v.0.stream v.0.day (VersionIs v.0 v.1) (refl, refl) v.2, v.3, v.4);
+  closed = record {
+    headed = λ key reading x. let h = law.closed.headed key reading (sub _ x) in
+        (h.0, back h.0.stream h.0.day (HeadIs h.0) (refl, refl) h.1, h.2, h.3, h.4, h.5);
+    versioned = λ head x. let v = law.closed.versioned head (sub _ x) in
+        (v.0, v.1, back v.0.stream v.0.day (VersionIs v.0 v.1) (refl, refl) v.2, v.3, v.4);
+  };
 }
 
 -- the days will be lawful where all will be
@@ -413,12 +409,14 @@ lawful_days days notes jobs periods more law =
 lawful_jobs_alone : (w part : World) → ((f : Fact) → f ∈ part → f ∈ w)
     → ((f : Fact) → f ∈ part → (job : Job × ℕ) × (f ≡ job_fact job)) → IsLawful w → IsLawful part
 lawful_jobs_alone w part sub alone law = record {
-  agrees = agrees_part w part sub law.agrees;
+  agrees = agrees_within w part sub law.agrees;
   one_job = λ id a b m n x y. law.one_job id a b m n (sub _ x) (sub _ y);
-  headed = λ key reading x. let r = alone _ x in
-      absurd (job_not_on key.stream key.day (VersionIs key reading) r.0 r.1 (refl, refl));
-  versioned = λ head x. let r = alone _ x in
-      absurd (job_not_on head.stream head.day (HeadIs head) r.0 r.1 (refl, refl));
+  closed = record {
+    headed = λ key reading x. let r = alone _ x in
+        absurd (job_not_on key.stream key.day (VersionIs key reading) r.0 r.1 (refl, refl));
+    versioned = λ head x. let r = alone _ x in
+        absurd (job_not_on head.stream head.day (HeadIs head) r.0 r.1 (refl, refl));
+  };
 }
 
 -- so the jobs will be lawful where all will be
@@ -442,7 +440,7 @@ pub periods_agree : (days : Kept) (notes : BTreeSet Note) (jobs : Jobs) (periods
     → IsLawful (union (stored_world days notes jobs periods) (content more))
     → Agrees (union (periods_world periods) (set.from_list (map period_fact more.periods.items)))
 periods_agree days notes jobs periods more law =
-    agrees_part (union (stored_world days notes jobs periods) (content more))
+    agrees_within (union (stored_world days notes jobs periods) (content more))
     (union (periods_world periods) (set.from_list (period_facts more)))
     (λ f h. elim (in_union (periods_world periods) _ f h) [
       | inl a ↦ union_left (stored_world days notes jobs periods) _ f (periods_in_whole days notes jobs periods f a)

@@ -169,8 +169,10 @@ nothing_lawful = record {
     one_content = λ key a b x y. absurd (not_in_empty total exact (PeriodIs key a) x);
   };
   one_job = λ id a b m n x y. absurd (not_in_empty total exact (JobIs id a m) x);
-  headed = λ key reading x. absurd (not_in_empty total exact (VersionIs key reading) x);
-  versioned = λ head x. absurd (not_in_empty total exact (HeadIs head) x);
+  closed = record {
+    headed = λ key reading x. absurd (not_in_empty total exact (VersionIs key reading) x);
+    versioned = λ head x. absurd (not_in_empty total exact (HeadIs head) x);
+  };
 }
 
 abbrev pub bare : Stream → ℕ → List (ℕ × Version) → BookValue

@@ -13,7 +13,7 @@ use Rattle.mds_quantity.specs.declared.unit.Unit.{Unit as MeasureUnit}
 use Rattle.mds_names.specs.declared.stream.Stream.{Stream}
 use Rattle.mds_world.specs.declared.facts.Head.{Head}
 use Rattle.mds_world.specs.declared.facts.StreamDay.{StreamDay}
-use Rattle.mds_world.specs.Facts.{Fact, PeriodContent}
+use Rattle.mds_world.specs.Facts.{Fact, PeriodContent, head_at}
 use Rattle.mds_statements.specs.declared.periods.PeriodKey.{PeriodKey}
 use Rattle.mds_world.specs.Facts.Fact.{HeadIs}
 use Rattle.mds_world.proofs.Lists.{append_left, append_right, in_map, member_append}
@@ -189,7 +189,7 @@ pub head_there : (stream : Stream) (day : ℕ) (head : Option (ℕ × MeasureUni
     → (h : Head) × Member (HeadIs h) (head_facts stream day head) × (h.stream ≡ stream)
 head_there stream day None e = cc
 head_there stream day (Some form) e =
-    (record { stream = stream; day = day; length = form.0; unit = form.1 }, inl refl, refl)
+    (head_at stream day form.0 form.1, inl refl, refl)
 
 some_head : (stream : Stream) (day : ℕ) (head : Option (ℕ × MeasureUnit)) (f : Fact)
     → Member f (head_facts stream day head) → is_some head ≡ true

@@ -4,7 +4,7 @@ use Rattle.std.proofs.lemmas.List.{map-append, take_more}
 use Rattle.mds_names.specs.declared.stream.Stream.{Stream}
 use Rattle.mds_marks.specs.Reading.{ReadingValue}
 use Rattle.mds_world.specs.FactOrder.{exact, total}
-use Rattle.mds_world.specs.Facts.{Fact}
+use Rattle.mds_world.specs.Facts.{Fact, key_at}
 use Rattle.mds_world.specs.Facts.Fact.{VersionIs}
 use Rattle.mds_world.specs.World.{union}
 use Rattle.mds_world.proofs.Sets.{list_append, union_assoc, union_comm}
@@ -20,7 +20,7 @@ Held = Option ReadingValue
 module _ (s : Stream) (day update : ℕ) where
   -- the version of an interval
   abbrev pub version_of : ℕ → ReadingValue → Fact
-  version_of interval r = VersionIs (record { stream = s; day = day; interval = interval; update = update }) r
+  version_of interval r = VersionIs (key_at s day interval update) r
 
   -- intervals without a reading say nothing
   pub none_said : (count interval : ℕ) → facts_from s day update interval (replicate count None) ≡ []
@@ -57,7 +57,7 @@ pub set_said : (readings : List Held) (k update : ℕ) (row : ℕ × Version) (r
     → 1 + k ≡ row.0 → update ≡ row.1.update → r ≡ row.1.reading → SayMore update readings (slice_set readings k (Some r)) row
 set_said readings k update row r low free at when same s day =
     interval_said s day update readings k 1 r low free
-    ∙ (λ i. union (of (facts_from s day update 1 readings)) (of (VersionIs (record { stream = s; day = day; interval = at i; update = when i }) (same i) ∷ [])))
+    ∙ (λ i. union (of (facts_from s day update 1 readings)) (of (VersionIs (key_at s day (at i) (when i)) (same i) ∷ [])))
 
 -- the loop over the versions
 pub start_said : (update count : ℕ) (readings : List Held) → readings ≡ replicate count None → SayRows update readings []

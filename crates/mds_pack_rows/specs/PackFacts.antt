@@ -8,7 +8,7 @@ use Rattle.sqlite_value.specs.Order.{Row}
 use Rattle.mds_names.specs.declared.stream.Stream.{Stream}
 use Rattle.mds_marks.specs.Reading.{ReadingValue}
 use Rattle.mds_packs.specs.Unpacked.{◌>>=◌, number_at, unpacked}
-use Rattle.mds_world.specs.Facts.{Fact}
+use Rattle.mds_world.specs.Facts.{Fact, key_at}
 use Rattle.mds_world.specs.Facts.Fact.{VersionIs}
 use Rattle.mds_tables.specs.RowFacts.{natural_at, stream_in, text_at}
 use Rattle.mds_pack_rows.specs.PackTables.{pack_tree}
@@ -18,7 +18,7 @@ abbrev pub facts_from : Stream → ℕ → ℕ → ℕ → List (Option ReadingV
 facts_from s day update interval [] = []
 facts_from s day update interval (None ∷ readings) = facts_from s day update (interval + 1) readings
 facts_from s day update interval (Some r ∷ readings) =
-    VersionIs (record { stream = s; day = day; interval = interval; update = update }) r
+    VersionIs (key_at s day interval update) r
     ∷ facts_from s day update (interval + 1) readings
 
 -- those of a whole day

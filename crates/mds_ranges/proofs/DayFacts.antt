@@ -8,9 +8,8 @@ use Rattle.mds_calendar.specs.Length.{count_of}
 use Rattle.mds_quantity.specs.declared.unit.Unit.{Unit as MeasureUnit}
 use Rattle.mds_names.specs.declared.stream.Stream.{Stream}
 use Rattle.mds_marks.specs.Reading.{ReadingValue}
-use Rattle.mds_world.specs.Current.{HasNoVersion, IsLatest, IsReading}
+use Rattle.mds_world.specs.Current.{HasNoVersion, IsFormOf, IsLatest, IsReading}
 use Rattle.mds_world.specs.Facts.Fact.{HeadIs}
-use Rattle.mds_world.specs.Sets.{◌∈◌}
 use Rattle.mds_world.specs.World.{IsCurrent, IsKnownDay, IsLawful, World}
 use Rattle.mds_keeper.specs.Books.{BookValue, IsDay, book_world}
 use Rattle.mds_keeper.proofs.BookFacts.{head_in_book, head_of_book, row_in_book, row_of_head}
@@ -90,7 +89,7 @@ pub selected_of : (w : World) (book : BookValue) (day : SelectedDay) → IsDay w
     → book.head ≡ Some (day.length, day.unit) → IsLatest (book_world book) book.stream book.day day.update
     → AreReadings w book.stream book.day (count_of day.length) day.readings.items → IsSelectedDay w book.stream day
 selected_of w book day is at some latest readings = record {
-  head = subst (λ n. HeadIs (record { stream = book.stream; day = n; length = day.length; unit = day.unit }) ∈ w) (sym at)
+  form = subst (λ n. IsFormOf w book.stream n day.length day.unit) (sym at)
       (is.only _ (head_in_book book (day.length, day.unit) some));
   update = subst (λ n. IsLatest w book.stream n day.update) (sym at) (latest_in w book day.update is latest);
   readings = subst (λ n. AreReadings w book.stream n (count_of day.length) day.readings.items) (sym at) readings;

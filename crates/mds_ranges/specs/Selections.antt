@@ -6,10 +6,8 @@ use Rattle.std.specs.Ordering.{nat_cmp}
 use Rattle.std.specs.declared.cmp.Ordering.TheVariants.{Less}
 use Rattle.mds_calendar.specs.Length.{count_of}
 use Rattle.mds_names.specs.declared.stream.Stream.{Stream}
-use Rattle.mds_world.specs.Current.{IsCurrentDetails, IsLatest}
-use Rattle.mds_world.specs.Facts.Fact.{HeadIs}
+use Rattle.mds_world.specs.Current.{IsCurrentDetails, IsFormOf, IsLatest}
 use Rattle.mds_world.specs.Lists.{Apart, Member}
-use Rattle.mds_world.specs.Sets.{◌∈◌}
 use Rattle.mds_world.specs.World.{IsKnownDay, World}
 use Rattle.mds_statements.specs.Selected.{stream_cmp}
 use Rattle.mds_statements.specs.declared.selected.SelectedDay.{SelectedDay}
@@ -34,7 +32,7 @@ pub record AreDistinct (suffixes distinct : List (List ℕ)) : Type 0 where
 -- A known day, with the length and the unit of its head, the greatest update among its current readings, and these: the
 -- reading of each interval.
 pub record IsSelectedDay (w : World) (stream : Stream) (day : SelectedDay) : Type 0 where
-  pub head : HeadIs (record { stream = stream; day = day.date; length = day.length; unit = day.unit }) ∈ w
+  pub form : IsFormOf w stream day.date day.length day.unit
   pub update : IsLatest w stream day.date day.update
   pub readings : AreReadings w stream day.date (count_of day.length) day.readings.items
 

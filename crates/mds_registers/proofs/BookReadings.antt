@@ -8,6 +8,7 @@ use Rattle.mds_marks.specs.Quality.{final, null}
 use Rattle.mds_marks.specs.Reading.{ReadingValue}
 use Rattle.mds_marks.specs.declared.mark.Mark.{Mark}
 use Rattle.mds_world.specs.Current.{HasNoVersion, IsReading, no_reading}
+use Rattle.mds_world.specs.Facts.{key_at}
 use Rattle.mds_world.specs.Facts.Fact.{HeadIs, VersionIs}
 use Rattle.mds_world.specs.Sets.{◌∈◌}
 use Rattle.mds_world.specs.World.{IsCurrent, IsKnownDay, IsLawful, World}
@@ -38,10 +39,10 @@ one_reading w book i a b is lawful (inl x) (inl y) =
     let up = x.1.greatest y.0 b y.1.held in
     let down = y.1.greatest x.0 a x.1.held in
     let same : y.0 ≡ x.0 = omega arith in
-    lawful.agrees.one_reading (record { stream = book.stream; day = book.day; interval = i; update = x.0 }) a b
+    lawful.agrees.one_reading (key_at book.stream book.day i x.0) a b
     (is.whole _ (refl, refl) x.1.held)
     (is.whole _ (refl, refl)
-    (subst (λ n. VersionIs (record { stream = book.stream; day = book.day; interval = i; update = n }) b ∈ w) same y.1.held))
+    (subst (λ n. VersionIs (key_at book.stream book.day i n) b ∈ w) same y.1.held))
 one_reading w book i a b is lawful (inl x) (inr y) = absurd (y.0 x.0 a x.1.held)
 one_reading w book i a b is lawful (inr x) (inl y) = absurd (x.0 y.0 b y.1.held)
 one_reading w book i a b is lawful (inr x) (inr y) = x.1 ∙ sym y.1

@@ -7,7 +7,7 @@ use Rattle.mds_names.specs.declared.stream.Stream.{Stream}
 use Rattle.mds_marks.specs.Quality.{final, null}
 use Rattle.mds_marks.specs.Reading.{ReadingValue}
 use Rattle.mds_marks.specs.declared.mark.Mark.{Mark}
-use Rattle.mds_world.specs.Current.{IsReading}
+use Rattle.mds_world.specs.Current.{IsDayReading}
 use Rattle.mds_world.specs.Facts.Fact.{HeadIs}
 use Rattle.mds_world.specs.Lists.{Member}
 use Rattle.mds_world.specs.Sets.{◌∈◌}
@@ -29,12 +29,12 @@ pub record IsStretch (IsSuch : ℕ → Type 0) (count first last : ℕ) : Type 0
 -- the flag of an interval's current reading is N
 abbrev pub IsNull : World → Stream → ℕ → ℕ → Type 0
 IsNull w stream day interval =
-    (reading : ReadingValue) × IsReading w stream day interval reading × (reading.mark.quality.flag ≡ null)
+    (reading : ReadingValue) × IsDayReading w stream day interval reading × (reading.mark.quality.flag ≡ null)
 
 -- that flag is F, and this mark is the reading's: the method, and the reason's code and text
 abbrev pub IsFinalWith : World → Stream → ℕ → Mark → ℕ → Type 0
 IsFinalWith w stream day mark interval =
-    (reading : ReadingValue) × IsReading w stream day interval reading × (reading.mark.quality.flag ≡ final)
+    (reading : ReadingValue) × IsDayReading w stream day interval reading × (reading.mark.quality.flag ≡ final)
     × (reading.mark ≡ mark)
 
 -- the day is known, and has so many intervals

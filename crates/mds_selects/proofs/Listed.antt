@@ -14,7 +14,7 @@ use Rattle.mds_names.specs.declared.stream.Stream.{Stream}
 use Rattle.mds_terms.specs.Event.{EventValue}
 use Rattle.mds_world.specs.declared.facts.Detail.{Detail}
 use Rattle.mds_world.specs.declared.facts.Head.{Head}
-use Rattle.mds_world.specs.Facts.{Fact, PeriodContent}
+use Rattle.mds_world.specs.Facts.{Fact, PeriodContent, head_at, key_at}
 use Rattle.mds_statements.specs.declared.periods.PeriodKey.{PeriodKey}
 use Rattle.mds_world.specs.Facts.Fact.{DetailIs, EventIs, HeadIs, HolidayIs, JobIs, PeriodIs, VersionIs}
 use Rattle.mds_world.specs.Lists.{Apart, Member}
@@ -132,8 +132,8 @@ module _ (layout : Layout) (s : Stream) (day : ℕ) (low : day < 2 ^ 63) (trees 
       let t = told head_fact 2 _ (1 ∷ 2 ∷ 3 ∷ 4 ∷ 5 ∷ []) trees rows sel (λ r. refl) (IsOn s day) head_on (HeadIs one.0)
       (one.1, subst (Member one.1) (sym one.2) (inl refl), one.3) in
       let on : (one.0.stream ≡ s) × (one.0.day ≡ day) = t.1 in
-      let same : one.0 ≡ record { stream = s; day = day; length = form.0; unit = form.1 } =
-      λ i. record { stream = on.0 i; day = on.1 i; length = one.4 i; unit = one.5 i } in (
+      let same : one.0 ≡ head_at s day form.0 form.1 =
+      λ i. head_at (on.0 i) (on.1 i) (one.4 i) (one.5 i) in (
         (λ p.
             let u = tells head_fact 2 _ (1 ∷ 2 ∷ 3 ∷ 4 ∷ 5 ∷ []) trees rows sel (λ r. refl) (IsOn s day) head_on (HeadIs head)
             ((of_head layout trees head).0 p.0) (p.1, p.2) in
@@ -156,7 +156,7 @@ module _ (layout : Layout) (s : Stream) (day : ℕ) (low : day < 2 ^ 63) (trees 
   version_is row v says on =
       let o : (says.0.stream ≡ s) × (says.0.day ≡ day) = subst (IsOn s day) says.1 on in
       says.1 ∙ ap (λ k. VersionIs k v.1.reading)
-      (λ i. record { stream = o.0 i; day = o.1 i; interval = says.2 i; update = says.3 i })
+      (λ i. key_at (o.0 i) (o.1 i) (says.2 i) (says.3 i))
 
   -- the versions of rows of a day are those that the rows tell
   pub listed : (rows : List Row) (vs : List (ℕ × Version)) → AreVersionsIn rows vs
@@ -255,8 +255,8 @@ event_at r = record {
   reading = text_at r 7;
 }
 
-abbrev head_at : Row → Head
-head_at r = record { stream = stream_in r; day = natural_at r 3; length = natural_at r 4; unit = unit_named (text_at r 5) }
+abbrev head_in : Row → Head
+head_in r = head_at (stream_in r) (natural_at r 3) (natural_at r 4) (unit_named (text_at r 5))
 
 detail_is : (r : Row) (d : Detail) → detail_fact r ≡ DetailIs d → detail_at r ≡ d
 detail_is r d e = cc
@@ -264,7 +264,7 @@ detail_is r d e = cc
 event_is : (r : Row) (v : EventValue) → event_fact r ≡ EventIs v → event_at r ≡ v
 event_is r v e = cc
 
-head_is : (r : Row) (h : Head) → head_fact r ≡ HeadIs h → head_at r ≡ h
+head_is : (r : Row) (h : Head) → head_fact r ≡ HeadIs h → head_in r ≡ h
 head_is r h e = cc
 
 -- the stream of a period's fact
@@ -455,7 +455,7 @@ module _ (layout : Layout) (trees : Trees) (sound : IsSound (schema_with layout.
     head_streams sel = (
       (λ t.
           let f = (sel t.0).0 t.1 in
-          (head_at f.0, (of_head layout trees (head_at f.0)).1 (f.0, f.1, refl), names_stream f.0 t.0 s f.3 t.2 t.3)),
+          (head_in f.0, (of_head layout trees (head_in f.0)).1 (f.0, f.1, refl), names_stream f.0 t.0 s f.3 t.2 t.3)),
       (λ p.
           let n = (of_head layout trees p.0).0 p.1 in
           let same = head_is n.0 p.0 n.2 in

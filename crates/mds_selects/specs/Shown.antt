@@ -14,6 +14,7 @@ use Rattle.mds_world.specs.Current.{no_details}
 use Rattle.mds_world.specs.declared.facts.Detail.{Detail}
 use Rattle.mds_world.specs.declared.facts.Head.{Head}
 use Rattle.mds_world.specs.declared.facts.Key.{Key}
+use Rattle.mds_world.specs.Facts.{key_at}
 use Rattle.mds_world.specs.Facts.Fact.{DetailIs, EventIs, HeadIs, VersionIs}
 use Rattle.mds_world.specs.Lists.{Member}
 use Rattle.mds_keeper.specs.declared.day_book.Version.{Version}
@@ -22,7 +23,7 @@ use Rattle.mds_tables.specs.RowFacts.{detail_fact, event_fact, head_fact, int_at
 -- where a version stands
 abbrev pub shown_key : Row → Key
 shown_key row =
-    record { stream = stream_in (Null ∷ row); day = natural_at row 2; interval = natural_at row 3; update = natural_at row 4 }
+    key_at (stream_in (Null ∷ row)) (natural_at row 2) (natural_at row 3) (natural_at row 4)
 
 -- its reading
 abbrev pub shown_reading : Row → ReadingValue

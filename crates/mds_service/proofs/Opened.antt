@@ -74,7 +74,7 @@ empty_is_day w s first end day book of low high unknown = record {
 known_on : (w : World) (s : Stream) (day : ℕ) → IsLawful w → (f : Fact) → IsOn s day f → f ∈ w → IsKnownDay w s day
 known_on w s day lawful (HeadIs head) on h = (head, h, on.0, on.1)
 known_on w s day lawful (VersionIs key reading) on h =
-    let its = lawful.headed key reading h in (its.0, its.1, its.2 ∙ on.0, its.3 ∙ on.1)
+    let its = lawful.closed.headed key reading h in (its.0, its.1, its.2 ∙ on.0, its.3 ∙ on.1)
 known_on w s day lawful (DetailIs detail) on h = absurd on
 known_on w s day lawful (EventIs event) on h = absurd on
 known_on w s day lawful (PeriodIs key content) on h = absurd on

@@ -16,7 +16,7 @@ use Rattle.mds_names.specs.declared.stream.Stream.{Stream}
 use Rattle.mds_marks.specs.Reading.{ReadingValue}
 use Rattle.mds_world.specs.declared.facts.Head.{Head}
 use Rattle.mds_world.specs.declared.facts.Key.{Key}
-use Rattle.mds_world.specs.Facts.{Fact}
+use Rattle.mds_world.specs.Facts.{Fact, head_at}
 use Rattle.mds_world.specs.Facts.Fact.{DetailIs, EventIs, HeadIs, HolidayIs, JobIs, PeriodIs, VersionIs}
 use Rattle.mds_world.proofs.Lists.{append_left, append_right, in_map, map_in, member_append}
 use Rattle.mds_world.specs.Lists.{Member}
@@ -307,10 +307,10 @@ module _ (layout : Layout) (s : Stream) (first last : ℕ) (small : last < 2 ^ 6
   }
 
   abbrev head_in : Head → Head
-  head_in head = record { stream = s; day = head.day; length = head.length; unit = head.unit }
+  head_in head = head_at s head.day head.length head.unit
 
   is_head_in : (head : Head) → head.stream ≡ s → head ≡ head_in head
-  is_head_in head e = λ i. record { stream = e i; day = head.day; length = head.length; unit = head.unit }
+  is_head_in head e = λ i. head_at (e i) head.day head.length head.unit
 
   mine_listed : (book : BookValue) (cut : Cut book) (f : Fact) → IsSaid cut.mine f ↔ Member f (map (row_fact s cut.head.day) cut.made.versions)
   mine_listed book cut =

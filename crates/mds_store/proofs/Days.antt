@@ -6,7 +6,7 @@ use Rattle.mds_quantity.specs.declared.unit.Unit.{Unit as MeasureUnit}
 use Rattle.mds_names.specs.declared.stream.Stream.{Stream}
 use Rattle.mds_world.specs.declared.facts.Head.{Head}
 use Rattle.mds_world.specs.declared.facts.Key.{Key}
-use Rattle.mds_world.specs.Facts.{Fact}
+use Rattle.mds_world.specs.Facts.{Fact, head_at, key_at}
 use Rattle.mds_world.specs.Facts.Fact.{DetailIs, EventIs, HeadIs, HolidayIs, JobIs, PeriodIs, VersionIs}
 use Rattle.mds_world.proofs.Lists.{append_left, append_right, map_in}
 use Rattle.mds_world.specs.Lists.{Member}
@@ -23,7 +23,7 @@ head_there : (w : World) (stream : Stream) (day : ℕ) (known : Option (ℕ × M
     → (f : Fact) → Member f (head_facts stream day known) → f ∈ w
 head_there w stream day None heads f m = absurd m
 head_there w stream day (Some form) heads f (inl e) =
-    let head : Head = record { stream = stream; day = day; length = form.0; unit = form.1 } in
+    let head : Head = head_at stream day form.0 form.1 in
     subst (λ g. g ∈ w) (sym e) ((heads head).1 (inl refl)).0
 head_there w stream day (Some form) heads f (inr m) = absurd m
 
@@ -48,7 +48,7 @@ module _ (w : World) (book : BookValue) (heads : IsHeadOf w book.stream book.day
   of_day f h = elim (from_book book f h) [
     | inl a ↦ head_there w book.stream book.day book.head heads f a
     | inr b ↦
-        let key : Key = record { stream = book.stream; day = book.day; interval = b.0.0; update = b.0.1.update } in
+        let key : Key = key_at book.stream book.day b.0.0 b.0.1.update in
         subst (λ g. g ∈ w) (sym b.2)
         ((rows key b.0.1.reading).1 (map_in (row_fact book.stream book.day) book.rows b.0 b.1)).0
   ]

@@ -12,6 +12,7 @@ use Rattle.mds_terms.specs.Event.{EventValue}
 use Rattle.mds_world.specs.declared.facts.Detail.{Detail}
 use Rattle.mds_world.specs.declared.facts.Head.{Head}
 use Rattle.mds_world.specs.declared.facts.Key.{Key}
+use Rattle.mds_world.specs.Facts.{head_at}
 use Rattle.mds_world.specs.Facts.Fact.{DetailIs, EventIs, HeadIs, VersionIs}
 use Rattle.mds_world.proofs.Sets.{split_and}
 use Rattle.mds_tables.specs.Cells.{detail_cells, event_cells, head_cells, letter_text, optional_cell, version_cells}
@@ -29,7 +30,7 @@ pub head_back : (id : Value) (h : Head) → unit_of (unit_text h.unit) ≡ Some 
     → head_fact (id ∷ head_cells h) ≡ HeadIs h
 head_back id h reads =
     let unit : unit_named (unit_text h.unit) ≡ h.unit = ap (λ o. unwrap_or o MWh) reads in
-    λ i. HeadIs (record { stream = h.stream; day = h.day; length = h.length; unit = unit i })
+    λ i. HeadIs (head_at h.stream h.day h.length (unit i))
 
 pub detail_back : (id : Value) (d : Detail) → detail_fact (id ∷ detail_cells d) ≡ DetailIs d
 detail_back id d =

@@ -12,7 +12,7 @@ use Rattle.mds_marks.specs.Reading.{ReadingValue}
 use Rattle.mds_jobs.specs.Bodies.{job_in, parts_of}
 pub use Rattle.mds_jobs.specs.Bodies.{unit_named}
 use Rattle.mds_statements.specs.Bodies.{content_of_body}
-use Rattle.mds_world.specs.Facts.{Fact}
+use Rattle.mds_world.specs.Facts.{Fact, head_at, key_at}
 use Rattle.mds_world.specs.Facts.Fact.{DetailIs, EventIs, HeadIs, HolidayIs, JobIs, PeriodIs, VersionIs}
 use Rattle.mds_world.specs.World.{World}
 use Rattle.mds_tables.specs.Tables.{detail_tree, event_tree, head_tree, holiday_tree, job_tree, period_tree, version_tree}
@@ -46,7 +46,7 @@ stream_in row = record { nmi = text_at row 1; suffix = text_at row 2 }
 
 abbrev pub head_fact : Row → Fact
 head_fact row =
-    HeadIs (record { stream = stream_in row; day = natural_at row 3; length = natural_at row 4; unit = unit_named (text_at row 5) })
+    HeadIs (head_at (stream_in row) (natural_at row 3) (natural_at row 4) (unit_named (text_at row 5)))
 
 -- The quality of a text. A text that is none, which the store never writes, is taken as bare N.
 abbrev pub quality_named : List ℕ → QualityValue
@@ -61,7 +61,7 @@ reading_in quality code text amount = record {
 
 abbrev pub version_fact : Row → Fact
 version_fact row =
-    VersionIs (record { stream = stream_in row; day = natural_at row 3; interval = natural_at row 4; update = natural_at row 5 })
+    VersionIs (key_at (stream_in row) (natural_at row 3) (natural_at row 4) (natural_at row 5))
     (reading_in (quality_named (text_at row 6)) (optional_at row 7) (text_at row 8) (int_at row 9))
 
 abbrev pub detail_fact : Row → Fact

@@ -1,3 +1,4 @@
+pub mod Lawful
 pub mod Lists
 pub mod Members
 pub mod Sets

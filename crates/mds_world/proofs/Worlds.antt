@@ -9,7 +9,7 @@ use Rattle.mds_marks.specs.Reading.{ReadingValue}
 use Rattle.mds_statements.specs.Statements.{Statement}
 use Rattle.mds_world.specs.Counts.{added_by, countable, counted, is_counted, known_by}
 use Rattle.mds_world.specs.FactOrder.{exact, fact_cmp, total}
-use Rattle.mds_world.specs.Facts.{Fact}
+use Rattle.mds_world.specs.Facts.{Fact, key_at}
 use Rattle.mds_world.specs.Facts.Fact.{VersionIs}
 use Rattle.mds_world.proofs.Sets.{difference_none, in_retain, len_parts, len_union, list_append, retain_in, retain_union, union_absorbs, union_assoc, union_comm, union_right}
 use Rattle.mds_world.specs.Sets.{◌∈◌}
@@ -42,8 +42,8 @@ pub one_reading : (w : World) (stream : Stream) (day interval update other : ℕ
 one_reading w stream day interval update other reading another agrees current too =
     let same : update ≡ other =
     le_antisymm (too.greatest update reading current.held) (current.greatest other another too.held) in
-    let held : VersionIs (record { stream = stream; day = day; interval = interval; update = other }) reading ∈ w =
-    subst (λ u. VersionIs (record { stream = stream; day = day; interval = interval; update = u }) reading ∈ w) same
+    let held : VersionIs (key_at stream day interval other) reading ∈ w =
+    subst (λ u. VersionIs (key_at stream day interval u) reading ∈ w) same
     current.held in
     (same, agrees.one_reading _ reading another held too.held)
 

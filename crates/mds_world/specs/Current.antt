@@ -2,11 +2,13 @@
 -- they came.
 use Rattle.std.specs.Prelude.{◌≡◌, ◌⊎◌, ◌≤◌, ℕ, [], None, true}
 use Rattle.std.specs.Ordering.{is_le, nat_cmp, ordering_then}
+use Rattle.mds_quantity.specs.declared.unit.Unit.{Unit as MeasureUnit}
 use Rattle.mds_names.specs.declared.stream.Stream.{Stream}
 use Rattle.mds_marks.specs.Mark.{bare_null}
 use Rattle.mds_marks.specs.Reading.{ReadingValue}
 use Rattle.mds_terms.specs.Details.{DetailsValue, details_cmp}
-use Rattle.mds_world.specs.Facts.Fact.{DetailIs, VersionIs}
+use Rattle.mds_world.specs.Facts.{head_at, key_at}
+use Rattle.mds_world.specs.Facts.Fact.{DetailIs, HeadIs, VersionIs}
 use Rattle.mds_world.specs.Sets.{◌∈◌}
 use Rattle.mds_world.specs.World.{IsCurrent, World}
 
@@ -14,7 +16,7 @@ use Rattle.mds_world.specs.World.{IsCurrent, World}
 abbrev pub HasNoVersion : World → Stream → ℕ → ℕ → Type 0
 HasNoVersion w stream day interval =
     (update : ℕ) (reading : ReadingValue)
-    → VersionIs (record { stream = stream; day = day; interval = interval; update = update }) reading ∈ w → ⊥
+    → VersionIs (key_at stream day interval update) reading ∈ w → ⊥
 
 -- bare N, without a value
 abbrev pub no_reading : ReadingValue
@@ -28,6 +30,14 @@ abbrev pub IsReading : World → Stream → ℕ → ℕ → ReadingValue → Typ
 IsReading w stream day interval reading =
     ((update : ℕ) × IsCurrent w stream day interval update reading)
     ⊎ (HasNoVersion w stream day interval × (reading ≡ no_reading))
+
+-- The form of a known day: the length of its intervals, and its unit.
+abbrev pub IsFormOf : World → Stream → ℕ → ℕ → MeasureUnit → Type 0
+IsFormOf w stream day length unit = HeadIs (head_at stream day length unit) ∈ w
+
+-- The reading that a day shows of an interval.
+abbrev pub IsDayReading : World → Stream → ℕ → ℕ → ReadingValue → Type 0
+IsDayReading w stream day interval reading = IsReading w stream day interval reading
 
 -- The greatest update among a day's current readings.
 pub record IsLatest (w : World) (stream : Stream) (day update : ℕ) : Type 0 where

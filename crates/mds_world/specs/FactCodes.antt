@@ -14,7 +14,7 @@ use Rattle.mds_terms.specs.Event.{EventValue}
 use Rattle.mds_world.specs.declared.facts.Key.{Key}
 use Rattle.mds_world.specs.declared.facts.Head.{Head}
 use Rattle.mds_world.specs.declared.facts.Detail.{Detail}
-use Rattle.mds_world.specs.Facts.{Fact, PeriodContent, JobContent}
+use Rattle.mds_world.specs.Facts.{Fact, PeriodContent, JobContent, head_at, key_at}
 use Rattle.mds_statements.specs.declared.periods.PeriodKey.{PeriodKey}
 use Rattle.mds_world.specs.Facts.Fact.{HeadIs, VersionIs, DetailIs, EventIs, PeriodIs, HolidayIs, JobIs}
 
@@ -157,14 +157,14 @@ coded_head : Coded Head
 coded_head =
     code_by _ (coded× coded_stream (coded× coded_ℕ (coded× coded_ℕ coded_measure)))
     (λ h. (h.stream, (h.day, (h.length, h.unit))))
-    (λ p. record { stream = p.0; day = p.1.0; length = p.1.1.0; unit = p.1.1.1 })
+    (λ p. head_at p.0 p.1.0 p.1.1.0 p.1.1.1)
     (λ _. refl)
 
 coded_key : Coded Key
 coded_key =
     code_by _ (coded× coded_stream (coded× coded_ℕ (coded× coded_ℕ coded_ℕ)))
     (λ k. (k.stream, (k.day, (k.interval, k.update))))
-    (λ p. record { stream = p.0; day = p.1.0; interval = p.1.1.0; update = p.1.1.1 })
+    (λ p. key_at p.0 p.1.0 p.1.1.0 p.1.1.1)
     (λ _. refl)
 
 coded_detail : Coded Detail

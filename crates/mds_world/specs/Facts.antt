@@ -11,6 +11,14 @@ use Rattle.mds_world.specs.declared.facts.Detail.{Detail}
 use Rattle.mds_world.specs.declared.facts.Head.{Head}
 use Rattle.mds_world.specs.declared.facts.Key.{Key}
 
+-- where a version stands: an interval of a day of a stream, under an update
+abbrev pub key_at : Stream → ℕ → ℕ → ℕ → Key
+key_at stream day interval update = record { stream = stream; day = day; interval = interval; update = update }
+
+-- the head of a day of a stream, with the length of its intervals and its unit
+abbrev pub head_at : Stream → ℕ → ℕ → MeasureUnit → Head
+head_at stream day length unit = record { stream = stream; day = day; length = length; unit = unit }
+
 -- a substitution job: its whole content
 pub record JobContent : Type 0 where
   pub stream : Stream

@@ -8,7 +8,7 @@ use Rattle.mds_names.specs.declared.stream.Stream.{Stream}
 use Rattle.mds_marks.specs.Reading.{ReadingValue}
 use Rattle.mds_statements.specs.Statements.{Statement}
 use Rattle.mds_statements.specs.Statements.Statement.{HeaderOf, DetailsOf, DayOf, EventOf, PeriodOf}
-use Rattle.mds_world.specs.Facts.{Fact}
+use Rattle.mds_world.specs.Facts.{Fact, head_at, key_at}
 use Rattle.mds_world.specs.Facts.Fact.{HeadIs, VersionIs, DetailIs, EventIs, PeriodIs}
 use Rattle.mds_world.specs.World.{World}
 
@@ -16,13 +16,13 @@ use Rattle.mds_world.specs.World.{World}
 abbrev pub versions_from : Stream → ℕ → ℕ → ℕ → List ReadingValue → List Fact
 versions_from stream day update interval [] = []
 versions_from stream day update interval (reading ∷ rest) =
-    VersionIs (record { stream = stream; day = day; interval = interval; update = update }) reading
+    VersionIs (key_at stream day interval update) reading
     ∷ versions_from stream day update (interval + 1) rest
 
 -- the head of a day, and a version of each interval from 1 on under one update
 abbrev pub day_facts : Stream → ℕ → ℕ → MeasureUnit → ℕ → List ReadingValue → List Fact
 day_facts stream day length unit update readings =
-    HeadIs (record { stream = stream; day = day; length = length; unit = unit })
+    HeadIs (head_at stream day length unit)
     ∷ versions_from stream day update 1 readings
 
 -- A header states no fact of its own: its moment stands in what it governs.

@@ -10,7 +10,7 @@ use Rattle.mds_terms.specs.Event.{EventValue}
 use Rattle.mds_world.specs.declared.facts.Detail.{Detail}
 use Rattle.mds_world.specs.declared.facts.Head.{Head}
 use Rattle.mds_world.specs.declared.facts.Key.{Key}
-use Rattle.mds_world.specs.Facts.{Fact, PeriodContent, JobContent}
+use Rattle.mds_world.specs.Facts.{Fact, JobContent, PeriodContent, key_at}
 use Rattle.mds_statements.specs.declared.periods.PeriodKey.{PeriodKey}
 use Rattle.mds_world.specs.Facts.Fact.{HeadIs, VersionIs, DetailIs, EventIs, PeriodIs, HolidayIs, JobIs}
 use Rattle.mds_world.specs.FactOrder.{fact_cmp}
@@ -41,18 +41,22 @@ HasVersion w head =
     (key : Key) × (reading : ReadingValue) × (VersionIs key reading ∈ w)
     × (key.stream ≡ head.stream) × (key.day ≡ head.day)
 
--- It agrees, a job has one content and one count, each version has its head, and each head a version.
-pub record IsLawful (w : World) : Type 0 where
-  pub agrees : Agrees w
-  pub one_job : (id : List ℕ) (a b : JobContent) (m n : ℕ) → JobIs id a m ∈ w → JobIs id b n ∈ w → (a ≡ b) × (m ≡ n)
+-- What each fact needs is there: a version has its head, and a head has a version.
+pub record IsClosed (w : World) : Type 0 where
   pub headed : (key : Key) (reading : ReadingValue) → VersionIs key reading ∈ w → HasHead w key
   pub versioned : (head : Head) → HeadIs head ∈ w → HasVersion w head
 
+-- It agrees, a job has one content and one count, and it is closed.
+pub record IsLawful (w : World) : Type 0 where
+  pub agrees : Agrees w
+  pub one_job : (id : List ℕ) (a b : JobContent) (m n : ℕ) → JobIs id a m ∈ w → JobIs id b n ∈ w → (a ≡ b) × (m ≡ n)
+  pub closed : IsClosed w
+
 -- The current reading of an interval: that of the version with the greatest update.
 pub record IsCurrent (w : World) (stream : Stream) (day interval update : ℕ) (reading : ReadingValue) : Type 0 where
-  pub held : VersionIs (record { stream = stream; day = day; interval = interval; update = update }) reading ∈ w
+  pub held : VersionIs (key_at stream day interval update) reading ∈ w
   pub greatest : (other : ℕ) (of_other : ReadingValue)
-      → VersionIs (record { stream = stream; day = day; interval = interval; update = other }) of_other ∈ w
+      → VersionIs (key_at stream day interval other) of_other ∈ w
       → other ≤ update
 
 -- the fact is the head, or a version, of a day
