@@ -1,5 +1,5 @@
 -- What the matches of a command ask for.
-use Rattle.std.specs.Prelude.{◌≡◌, ◌&&◌, ◌^◌, ℕ, List, [], ◌∷◌, Option, Some, None, map, codes, unwrap_or, bytes_eq, if◌then◌else◌, nat_lt}
+use Rattle.std.specs.Prelude.{◌≡◌, ◌&&◌, ◌^◌, Bool, ℕ, List, [], ◌∷◌, Option, Some, None, map, codes, unwrap_or, bytes_eq, if◌then◌else◌, nat_lt}
 use Rattle.std.specs.Option.{option_map_or}
 use Rattle.std.specs.Str.Parse.{digits_value, without_leading_plus}
 use Rattle.clap.specs.ValueTests.{is_numeral}
@@ -31,6 +31,10 @@ value_of id rows = unwrap_or (first_of id rows) []
 abbrev pub values_of : Text → List Row → List Text
 values_of id rows = unwrap_or (all_of id rows) []
 
+-- whether a flag is there: clap gives it a value, `true` where it is and `false` where it isn't
+abbrev pub has_flag : Text → List Row → Bool
+has_flag id rows = bytes_eq (value_of id rows) (codes "true")
+
 -- the kind of file that a name names
 abbrev pub kind_of_name : Text → FileKind
 kind_of_name name = if bytes_eq name (codes "nem13") then Nem13 else Nem12
@@ -51,8 +55,9 @@ Asks None asked = ⊥
 Asks (Some (name, rows)) (Check kind input) = (name ≡ codes "check")
     × (kind ≡ kind_of_name (value_of (codes "kind") rows))
     × (input_value input ≡ input_of (value_of (codes "file") rows))
-Asks (Some (name, rows)) (Init store) = (name ≡ codes "init")
+Asks (Some (name, rows)) (Init store has_sums) = (name ≡ codes "init")
     × (store.now ≡ value_of (codes "store") rows)
+    × (has_sums ≡ has_flag (codes "sums") rows)
 Asks (Some (name, rows)) (Migrate store) = (name ≡ codes "migrate")
     × (store.now ≡ value_of (codes "store") rows)
 Asks (Some (name, rows)) (Import store kind inputs) = (name ≡ codes "import")

@@ -5,6 +5,7 @@ use Rattle.clap.specs.Lexer.{usize_max}
 use Rattle.clap.specs.Walk.{texts}
 use Rattle.clap.specs.Simple.{new_shape}
 use Rattle.clap.specs.Words.{App, Rule, Shape, Text, new_rule}
+use Rattle.clap.specs.declared.builder.action.ArgAction.TheVariants.{SetTrue}
 use Rattle.clap.specs.declared.builder.value_parser.ValueParser.TheVariants.{Names, Signed}
 use Rattle.mds_words.specs.declared.names.Name.{Name}
 use Rattle.mds_words.specs.declared.names.Name.TheVariants as name
@@ -47,6 +48,10 @@ flagged id = record (new_rule id) { value_names = 1; long = Some id }
 abbrev pub store : Rule
 store = record (flagged (codes "store")) { required = true }
 
+-- a flag without a value
+abbrev pub sums : Rule
+sums = record (flagged (codes "sums")) { action = Some SetTrue }
+
 -- the names of the kinds of files, wherever they lie
 abbrev pub AreKinds : Bor (List (Bor Text)) → Type 0
 AreKinds kinds = texts kinds.now ≡ codes "nem12" ∷ codes "nem13" ∷ []
@@ -72,6 +77,7 @@ count = record (flagged (codes "count")) {
 -- the id of a word's argument
 abbrev pub id_of : Word → Text
 id_of word.Store = codes "store"
+id_of word.Sums = codes "sums"
 id_of word.Kind = codes "kind"
 id_of word.File = codes "file"
 id_of word.Files = codes "file"
@@ -94,6 +100,7 @@ id_of word.Code = codes "code"
 -- the argument of a word
 abbrev pub rule_of_word : Bor (List (Bor Text)) → Word → Rule
 rule_of_word kinds word.Store = store
+rule_of_word kinds word.Sums = sums
 rule_of_word kinds word.Kind = kind kinds
 rule_of_word kinds word.Files = several (codes "file")
 rule_of_word kinds word.Suffixes = several (codes "suffixes")
@@ -113,7 +120,7 @@ abbrev pub check_command : Bor (List (Bor Text)) → Shape
 check_command kinds = command_of (codes "check") (kind kinds ∷ placed (codes "file") ∷ [])
 
 abbrev pub init_command : Shape
-init_command = command_of (codes "init") (store ∷ [])
+init_command = command_of (codes "init") (store ∷ sums ∷ [])
 
 abbrev pub migrate_command : Shape
 migrate_command = command_of (codes "migrate") (store ∷ [])
@@ -204,7 +211,7 @@ name_text name.Explain = codes "explain"
 -- the words that a command takes
 abbrev pub words_of : Name → List Word
 words_of name.Check = word.Kind ∷ word.File ∷ []
-words_of name.Init = word.Store ∷ []
+words_of name.Init = word.Store ∷ word.Sums ∷ []
 words_of name.Migrate = word.Store ∷ []
 words_of name.Import = word.Store ∷ word.Kind ∷ word.Files ∷ []
 words_of name.Substitute = word.Store ∷ word.Job ∷ []

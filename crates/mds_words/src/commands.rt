@@ -3,10 +3,10 @@
 ghost use Rattle.std.specs.Prelude.{◌≡◌, map, IfOk};
 ghost use Rattle.std.specs.List.{AllZip};
 ghost use Rattle.mds_words.specs.Commands.{HasRule, IsApp, IsLeaf};
-ghost use Rattle.mds_words.specs.Grammar.{AreKinds, all_names, code, count, flagged, id_of, kind, mdstore_app, named, placed, port, rule_of_word, shape_of, store};
+ghost use Rattle.mds_words.specs.Grammar.{AreKinds, all_names, code, count, flagged, id_of, kind, mdstore_app, named, placed, port, rule_of_word, shape_of, store, sums};
 
 use crate::names::{Name, Word};
-use clap::{Arg, Command, value_parser};
+use clap::{Arg, ArgAction, Command, value_parser};
 use std::alloc::{AllocError, Global};
 
 /// The version of the program, and that of the schema of its stores.
@@ -83,6 +83,7 @@ fn argument<'a>(alloc: Global, kinds: KindNames<'a>, word: Word) -> Arg<'a>
 {
     match word {
         Word::Store => store(alloc),
+        Word::Sums => sums(alloc),
         Word::Kind => kind(alloc, kinds.names),
         Word::Port => port(alloc),
         Word::Count => count(alloc),
@@ -96,6 +97,12 @@ fn store<'a>(alloc: Global) -> Arg<'a>
     ensures { HasRule store result }
 {
     flagged(alloc, Word::Store).required(true)
+}
+
+fn sums<'a>(alloc: Global) -> Arg<'a>
+    ensures { HasRule sums result }
+{
+    flagged(alloc, Word::Sums).action(ArgAction::SetTrue)
 }
 
 fn kind<'a>(alloc: Global, kinds: &'a [&'a str]) -> Arg<'a>

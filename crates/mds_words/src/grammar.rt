@@ -6,7 +6,7 @@ ghost use Rattle.std.specs.Borrow.{Bor};
 ghost use Rattle.clap.specs.Walk.{texts};
 ghost use Rattle.clap.specs.Words.{App, HasKind, Row, Text, fault_of, found_of, kind_of, rows_of, takes};
 ghost use Rattle.mds_arguments.specs.Words.{AreFound};
-ghost use Rattle.mds_words.specs.Asked.{Asks, IsAskedBy, input_of, input_value, kind_of_name, number_of, value_of, values_of};
+ghost use Rattle.mds_words.specs.Asked.{Asks, IsAskedBy, has_flag, input_of, input_value, kind_of_name, number_of, value_of, values_of};
 ghost use Rattle.mds_words.specs.Commands.{has_command};
 ghost use Rattle.mds_words.specs.Refused.{IsRefusedAs, IsRefusedBy};
 ghost use Rattle.mds_words.specs.Grammar.{IsMdstore, mdstore_app, check_command, init_command, substitute_command, holidays_command, streams_command};
@@ -103,7 +103,10 @@ fn asked_without_memory<'a>(name: &str, found: &ArgMatches<'a>, store: &'a str) 
             kind: kind(found),
             input: input(found),
         },
-        "init" => Words::Init { store },
+        "init" => Words::Init {
+            store,
+            has_sums: has_flag(found, "sums"),
+        },
         "migrate" => Words::Migrate { store },
         "substitute" => Words::Substitute {
             store,
@@ -233,6 +236,13 @@ fn inputs<'a>(alloc: Global, found: &ArgMatches<'a>) -> Result<Vec<Input<'a>>, A
         inputs.push(Input::new(*name))?;
     }
     Ok(inputs)
+}
+
+/// Whether a flag is there. `clap` keeps it as a word.
+fn has_flag(found: &ArgMatches<'_>, id: &str) -> bool
+    ensures { result ≡ has_flag id.now (rows_of (found_of found.now)) }
+{
+    word(found, id) == "true"
 }
 
 /// The kind of file that is named.

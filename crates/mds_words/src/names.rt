@@ -27,6 +27,7 @@ pub(crate) enum Name {
 #[derive(Clone, Copy)]
 pub(crate) enum Word {
     Store,
+    Sums,
     Kind,
     File,
     Files,
@@ -127,7 +128,8 @@ impl Name {
     {
         match self {
             Name::Check => &[Word::Kind, Word::File],
-            Name::Init | Name::Migrate | Name::Streams => &[Word::Store],
+            Name::Init => &[Word::Store, Word::Sums],
+            Name::Migrate | Name::Streams => &[Word::Store],
             Name::Import => &[Word::Store, Word::Kind, Word::Files],
             Name::Substitute => &[Word::Store, Word::Job],
             Name::Holidays => &[Word::Store, Word::List],
@@ -170,6 +172,7 @@ impl Word {
     {
         match self {
             Word::Store => "store",
+            Word::Sums => "sums",
             Word::Kind => "kind",
             Word::File | Word::Files | Word::Job | Word::List => "file",
             Word::Nmi => "nmi",
@@ -192,6 +195,7 @@ impl Word {
     pub(crate) fn value_name(self) -> &'static str {
         match self {
             Word::Store => "PATH",
+            Word::Sums => "SUMS",
             Word::Kind => "KIND",
             Word::File | Word::Files | Word::Job | Word::List => "FILE",
             Word::Nmi => "NMI",
@@ -213,6 +217,7 @@ impl Word {
     pub(crate) fn help(self) -> &'static str {
         match self {
             Word::Store => "The file of the store",
+            Word::Sums => "Gives each page of the file a sum, so that changed bytes are found",
             Word::Kind => "The kind of file: interval data, or accumulations",
             Word::File | Word::Files => {
                 "A file of the Meter Data File Format; - is standard input"

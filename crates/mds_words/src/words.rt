@@ -26,9 +26,10 @@ pub enum Words<'a> {
         kind: FileKind,
         input: Input<'a>,
     },
-    /// A store is made in the file of a name.
+    /// A store is made in the file of a name, with a sum in each page if that is asked for.
     Init {
         store: &'a str,
+        has_sums: bool,
     },
     /// The store of schema 1 in the file of a name is taken to packed days.
     Migrate {

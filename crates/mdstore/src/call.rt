@@ -50,7 +50,7 @@ fn outcome_of_call(rt: &HostRuntime) -> Outcome {
 fn outcome_of_words(rt: &HostRuntime, words: Words<'_>) -> Outcome {
     match words {
         Words::Check { kind, input } => check_input(rt, kind, input),
-        Words::Init { store } => make_store(rt, store),
+        Words::Init { store, has_sums } => make_store(rt, store, has_sums),
         Words::Migrate { store } => migrate_store(rt, store),
         Words::Import {
             store,

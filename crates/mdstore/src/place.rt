@@ -2,7 +2,7 @@
 
 use crate::store_file::LockedFiles;
 use std::fs::OpenOptions;
-use std::io::ErrorKind;
+use std::io::{ErrorKind, Read};
 use std::os::unix::fs::OpenOptionsExt;
 use std::path::PathBuf;
 use std::{fs, io};
@@ -12,6 +12,12 @@ const SHORTEST_DATABASE: u64 = 512;
 
 /// The fewest bytes of a log that holds a page: its header, and the least page behind a header of its own.
 const SHORTEST_LOG: u64 = 32 + 24 + SHORTEST_DATABASE;
+
+/// Where the header of a database says how many bytes at the end of each page are no part of it.
+const RESERVED: usize = 20;
+
+/// How many these are where each page ends in a sum.
+const SUM_BYTES: u8 = 8;
 
 /// The file of a store and its log, as a call found them.
 #[derive(Drop)]
@@ -95,6 +101,13 @@ impl Place {
             Some(bytes) if bytes < SHORTEST_DATABASE => Standing::NoDatabase,
             Some(_) => Standing::Files,
         }
+    }
+
+    /// Whether the pages of the database end in sums. It is open, so that its header is in the file.
+    pub(crate) fn has_sums(&self, rt: &HostRuntime) -> io::Result<bool> {
+        let mut header = [0; RESERVED + 1];
+        fs::open(rt, self.file.as_str())?.read_exact(&mut header)?;
+        Ok(header[RESERVED] == SUM_BYTES)
     }
 
     /// Removes the log, which is empty or all of which is in the file. While the files are locked nobody else uses it.

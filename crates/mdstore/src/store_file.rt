@@ -20,13 +20,20 @@ pub(crate) trait Task {
 /// The file of a database and its log, which are locked until they are dropped.
 pub(crate) type LockedFiles = Files<FileFrom<Wary>>;
 
-/// Makes a store where nothing is, or in a file that has no bytes or is an empty database.
-pub(crate) fn make_store(rt: &HostRuntime, path: &str) -> Outcome {
+/// Makes a store where nothing is, or in a file that has no bytes or is an empty database. Where sums are asked for, such a database has to
+/// have them: pages that were made without sums get none.
+pub(crate) fn make_store(rt: &HostRuntime, path: &str, has_sums: bool) -> Outcome {
     let Ok(place) = Place::to_make(rt, path) else {
         return Outcome::Unavailable;
     };
     match place.standing() {
-        Standing::Nothing | Standing::Files => in_database(rt, path, &place, Make),
+        Standing::Nothing | Standing::Files => {
+            let task = Make {
+                place: &place,
+                has_sums,
+            };
+            in_database(rt, path, &place, has_sums, task)
+        }
         Standing::LogAlone => {
             place.take_away_file(rt);
             Outcome::OtherSchema
@@ -51,7 +58,7 @@ fn in_file<T: DatabaseTask + Drop>(rt: &HostRuntime, path: &str, task: T) -> Out
         return Outcome::Unavailable;
     };
     match place.standing() {
-        Standing::Files => in_database(rt, path, &place, task),
+        Standing::Files => in_database(rt, path, &place, false, task),
         Standing::Nothing | Standing::LogAlone => Outcome::OtherSchema,
         Standing::NoDatabase => Outcome::Unavailable,
     }
@@ -63,12 +70,32 @@ trait DatabaseTask {
     fn run<S: Alter>(self, rt: &HostRuntime, conn: Connection<S>) -> (Connection<S>, Outcome);
 }
 
-/// To make a store in it.
+/// To make a store in it, whose pages have sums if that is asked for.
 #[derive(Drop)]
-struct Make;
+struct Make<'a> {
+    place: &'a Place,
+    has_sums: bool,
+}
 
-impl DatabaseTask for Make {
+impl<'a> Make<'a> {
+    /// What the run comes to where no store is to be made in the open database.
+    fn refusal(&self, rt: &HostRuntime) -> Option<Outcome> {
+        if !self.has_sums {
+            return None;
+        }
+        match self.place.has_sums(rt) {
+            Ok(true) => None,
+            Ok(false) => Some(Outcome::OtherSchema),
+            Err(_) => Some(Outcome::Unavailable),
+        }
+    }
+}
+
+impl<'a> DatabaseTask for Make<'a> {
     fn run<S: Alter>(self, rt: &HostRuntime, conn: Connection<S>) -> (Connection<S>, Outcome) {
+        if let Some(outcome) = self.refusal(rt) {
+            return (conn, outcome);
+        }
         match create(rt.alloc(), conn) {
             Ok(keeper) => (keeper.into_connection(), Outcome::Created),
             Err((fault, conn)) => (conn, of_store(fault)),
@@ -129,15 +156,17 @@ fn of_store(fault: StoreFault) -> Outcome
     }
 }
 
-/// Opens the database of a path, does something with it, and closes it. Where it can't be opened, what that made is taken away. A torn
-/// write may leave anything on the disk, so each commit syncs twice.
+/// Opens the database of a path, does something with it, and closes it. A new one gets sums if that is asked for; in any other its header
+/// tells of them. Where it can't be opened, what that made is taken away. A torn write may leave anything on the disk, so each commit syncs
+/// twice.
 fn in_database<T: DatabaseTask + Drop>(
     rt: &HostRuntime,
     path: &str,
     place: &Place,
+    new_has_sums: bool,
     task: T,
 ) -> Outcome {
-    match Connection::open_from(rt, path, false, Wary) {
+    match Connection::open_from(rt, path, new_has_sums, Wary) {
         Ok(conn) => {
             let (conn, outcome) = task.run(rt, conn);
             close(rt, place, conn, outcome)
