@@ -170,6 +170,11 @@ def long_day(size, letters):
     return (HEADER + BLOCK_5 + record + "".join(runs) + END).encode()
 
 
+# A good file whose last line has no end. Each beginning of it has a fault, and that behind its second run is L8.
+UNENDED = (START + day(",V,,,20240102010203,\n") + "400,1,20,F14,76,\n400,21,24,A,,\n400,25,48,S14,76,\n900").encode()
+BEHIND_SECOND_RUN = UNENDED.index(b"400,25"), "L8 line 6\n"
+
+
 TABLES = {"good": GOOD, "runs": RUNS, "places": PLACES, "counts": COUNTS, "fields": FIELDS, "faults": RUN_FAULTS}
 
 

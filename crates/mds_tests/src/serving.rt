@@ -2,20 +2,79 @@
 
 use crate::failing::Failing;
 use mds_lines::Counted;
-use mds_wire::{Handler, Kind, Route, Routes, Status, Unavailable, WireFault, serve_one};
+use mds_wire::{Handler, Kind, Method, Route, Routes, Status, Unavailable, WireFault, serve_one};
 use std::alloc::Global;
 use std::io::{Read, Write};
 use std::test::Fail;
 
-/// A list of holidays, and more behind it.
-const LIST: &[u8] =
-    b"POST /v1/holidays HTTP/1.1\r\nHost: x\r\nContent-Length: 14\r\n\r\ndate\n20240126\n, and more";
+/// A request as a connection brings it.
+#[derive(Clone, Copy)]
+struct Talk {
+    /// The bytes that the reader has: the request, and more behind it.
+    sent: &'static [u8],
+    /// How many bytes of them belong to the request.
+    size: usize,
+    /// The status of its answer.
+    status: Status,
+    /// The whole answer.
+    answer: &'static [u8],
+    /// How the answer ends where the request is made once more.
+    again: &'static [u8],
+}
 
-/// How many bytes of it belong to the request.
-const LIST_SIZE: usize = 73;
+/// A list of holidays.
+const LIST: Talk = Talk {
+    sent: b"POST /v1/holidays HTTP/1.1\r\nHost: x\r\nContent-Length: 14\r\n\r\ndate\n20240126\n, and more",
+    size: 73,
+    status: Status::Success,
+    answer: ADDED,
+    again: LATER,
+};
 
-/// The list itself.
-const BODY: &[u8] = b"date\n20240126\n";
+/// A file to be imported.
+const FILE: Talk = Talk {
+    sent: b"POST /v1/imports HTTP/1.1\r\nHost: x\r\nContent-Length: 41\r\n\r\n\
+        100,NEM12,202401030000,MDP1,RETAILER\n900\n, and more",
+    size: 99,
+    status: Status::Success,
+    answer: ADDED,
+    again: LATER,
+};
+
+/// A path of no route.
+const NO_ROUTE: Talk = Talk {
+    sent: b"GET /v2 HTTP/1.1\r\nHost: x\r\n\r\n, and more",
+    size: 29,
+    status: Status::NotFound,
+    answer: b"HTTP/1.1 404 Not Found\r\nContent-Type: application/json\r\nContent-Length: 15\r\nConnection: close\r\n\r\n\
+        {\"error\":\"404\"}",
+    again: b"{\"error\":\"404\"}",
+};
+
+/// Another method than that of its route.
+const OTHER_METHOD: Talk = Talk {
+    sent: b"GET /v1/imports HTTP/1.1\r\nHost: x\r\n\r\n, and more",
+    size: 37,
+    status: Status::MethodNotAllowed(Method::Post),
+    answer: b"HTTP/1.1 405 Method Not Allowed\r\nContent-Type: application/json\r\nContent-Length: 15\r\n\
+        Connection: close\r\nAllow: POST\r\n\r\n{\"error\":\"405\"}",
+    again: b"{\"error\":\"405\"}",
+};
+
+/// How many talks there are.
+const TALKS: usize = 4;
+
+/// Two reads more than the longest request has bytes.
+const READS: usize = 101;
+
+/// More writes than the longest answer has bytes.
+const WRITES: usize = 150;
+
+/// The bodies that the handler takes: that of the list, and that of the file.
+const HOLIDAYS: &[u8] = b"date\n20240126\n";
+
+/// The longer one of the two.
+const NO_DAYS: &[u8] = b"100,NEM12,202401030000,MDP1,RETAILER\n900\n";
 
 /// What the handler answers where it is asked for the first time.
 const FIRST: &[u8] = b"{\"added\":1,\"known\":0}";
@@ -28,14 +87,17 @@ const ADDED: &[u8] =
     b"HTTP/1.1 200 OK\r\nContent-Type: application/json\r\nContent-Length: 21\r\nConnection: close\r\n\r\n\
     {\"added\":1,\"known\":0}";
 
-/// The same request, but for one holiday more.
-const LONGER: &[u8] =
-    b"POST /v1/holidays HTTP/1.1\r\nHost: x\r\nContent-Length: 23\r\n\r\ndate\n20240126\n20240127\n";
+/// A request whose body has two bytes more than the handler takes.
+const LONGER: &[u8] = b"POST /v1/imports HTTP/1.1\r\nHost: x\r\nContent-Length: 43\r\n\r\n\
+    100,NEM12,202401030000,MDP1,RETAILER\n900\n\n\n";
+
+/// How many of its bytes come until one isn't taken.
+const LONGER_SIZE: usize = 100;
 
 /// The body of an answer that says that memory, or what is kept, was unavailable.
 const UNAVAILABLE: &[u8] = b"{\"error\":\"U1\"}";
 
-/// A handler that counts how often it is asked to take the list, which is all that it takes.
+/// A handler that counts how often it is asked to take one of the two bodies, which are all that it takes.
 #[derive(Drop)]
 struct Asked {
     times: u64,
@@ -59,7 +121,7 @@ impl Handler for Asked {
     }
 
     fn feed(body: &mut Vec<u8>, piece: &[u8]) -> Result<(), Unavailable> {
-        if body.len().saturating_add(piece.len()) > BODY.len() {
+        if body.len().saturating_add(piece.len()) > NO_DAYS.len() {
             return Err(Unavailable);
         }
         match body.extend_from_slice(piece) {
@@ -76,7 +138,7 @@ impl Handler for Asked {
         body: Vec<u8>,
         answer: &mut Vec<u8>,
     ) -> Result<(Status, Kind), Unavailable> {
-        if body.as_slice() != BODY {
+        if body.as_slice() != HOLIDAYS && body.as_slice() != NO_DAYS {
             return Err(Unavailable);
         }
         let text = if self.times == 0 { FIRST } else { LATER };
@@ -102,29 +164,41 @@ fn served<R: Read + Drop, W: Write + Drop>(
     (answer, reader.failures(), writer.failures())
 }
 
+/// One talk after the other, again and again.
+fn talk_of(place: usize) -> Talk {
+    match place % TALKS {
+        0 => LIST,
+        1 => FILE,
+        2 => NO_ROUTE,
+        _ => OTHER_METHOD,
+    }
+}
+
 /// Each call of the reader fails in turn, and the handler isn't asked. Asked after that, it answers as for the first time. No
 /// call is made once the request is whole, though more bytes are there.
 #[test]
 fn readers_fail(rt: HostRuntime) -> Result<(), Fail> {
     let routes = Routes::new(rt.alloc())?;
-    for calls in 0..LIST_SIZE + 2 {
+    for place in 0..TALKS * READS {
+        let talk = talk_of(place);
+        let calls = place / TALKS;
         let mut handler = Asked { times: 0 };
         let mut out = Vec::new(rt.alloc());
         let reader = Failing {
-            inner: LIST,
+            inner: talk.sent,
             step: 1,
             calls,
         };
         let told = served(rt.alloc(), &routes, &mut handler, reader, &mut out);
-        if calls < LIST_SIZE {
+        if calls < talk.size {
             assert_eq!(rt; told, (Err(WireFault::Read), 1, 0), "after {calls} calls");
             assert!(rt; out.is_empty(), "after {calls} calls");
-            let told = served(rt.alloc(), &routes, &mut handler, LIST, &mut out);
-            assert_eq!(rt; told, (Ok(Status::Success), 0, 0));
+            let told = served(rt.alloc(), &routes, &mut handler, talk.sent, &mut out);
+            assert_eq!(rt; told, (Ok(talk.status), 0, 0));
         } else {
-            assert_eq!(rt; told, (Ok(Status::Success), 0, 0), "after {calls} calls");
+            assert_eq!(rt; told, (Ok(talk.status), 0, 0), "after {calls} calls");
         }
-        assert_eq!(rt; out.as_slice(), ADDED, "after {calls} calls");
+        assert_eq!(rt; out.as_slice(), talk.answer, "after {calls} calls");
     }
     assert_eq!(rt; Status::NotFound.number(), 404);
     Ok(())
@@ -134,7 +208,9 @@ fn readers_fail(rt: HostRuntime) -> Result<(), Fail> {
 #[test]
 fn writers_fail(rt: HostRuntime) -> Result<(), Fail> {
     let routes = Routes::new(rt.alloc())?;
-    for calls in 0..ADDED.len() + 1 {
+    for place in 0..TALKS * WRITES {
+        let talk = talk_of(place);
+        let calls = place / TALKS;
         let mut handler = Asked { times: 0 };
         let mut out = Vec::new(rt.alloc());
         let writer = Failing {
@@ -142,30 +218,37 @@ fn writers_fail(rt: HostRuntime) -> Result<(), Fail> {
             step: 1,
             calls,
         };
-        let told = served(rt.alloc(), &routes, &mut handler, LIST, writer);
-        let wanted = if calls < ADDED.len() {
-            (Err(WireFault::Write), 0, 1)
-        } else {
-            (Ok(Status::Success), 0, 0)
-        };
-        assert_eq!(rt; told, wanted, "after {calls} calls");
-        assert_eq!(rt; out.as_slice(), &ADDED[..calls]);
-        let _ = served(rt.alloc(), &routes, &mut handler, LIST, &mut out);
-        assert!(rt; out.as_slice().ends_with(LATER), "after {calls} calls");
+        let told = served(rt.alloc(), &routes, &mut handler, talk.sent, writer);
+        let written = calls.min(talk.answer.len());
+        assert_eq!(rt; told, written_of(talk, calls), "after {calls} calls");
+        assert_eq!(rt; out.as_slice(), &talk.answer[..written]);
+        let _ = served(rt.alloc(), &routes, &mut handler, talk.sent, &mut out);
+        assert!(rt; out.as_slice().ends_with(talk.again), "after {calls} calls");
     }
     Ok(())
+}
+
+/// What serving a talk comes to where the writer takes so many bytes of its answer, and no call of the reader fails.
+fn written_of(talk: Talk, most: usize) -> (Result<Status, WireFault>, u64, u64) {
+    if most < talk.answer.len() {
+        (Err(WireFault::Write), 0, 1)
+    } else {
+        (Ok(talk.status), 0, 0)
+    }
 }
 
 /// A writer that takes no byte more has failed as well.
 #[test]
 fn writers_are_full(rt: HostRuntime) -> Result<(), Fail> {
     let routes = Routes::new(rt.alloc())?;
-    for room in 0..ADDED.len() {
+    for place in 0..TALKS * WRITES {
+        let talk = talk_of(place);
+        let room = place / TALKS;
         let mut handler = Asked { times: 0 };
         let mut slots = vec![in rt.alloc(); 0; room]?;
         let slots: &mut [u8] = &mut slots;
-        let told = served(rt.alloc(), &routes, &mut handler, LIST, slots);
-        assert_eq!(rt; told, (Err(WireFault::Write), 0, 1), "of {room} bytes");
+        let told = served(rt.alloc(), &routes, &mut handler, talk.sent, slots);
+        assert_eq!(rt; told, written_of(talk, room), "of {room} bytes");
     }
     Ok(())
 }
@@ -180,7 +263,7 @@ fn pieces_are_refused(rt: HostRuntime) -> Result<(), Fail> {
     let reader = Failing {
         inner: LONGER,
         step: 1,
-        calls: LIST_SIZE + 1,
+        calls: LONGER_SIZE,
     };
     let told = served(rt.alloc(), &routes, &mut handler, reader, &mut out);
     assert_eq!(rt; told, (Ok(Status::Unavailable), 0, 0));

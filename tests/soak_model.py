@@ -1,0 +1,243 @@
+"""What a store has to keep of a meter, and what it has to answer of it, by docs/MODEL.md: for tests/soak. A meter belongs to one peer, so its
+answers follow from what that peer was answered before. Days are numbers from 1 January 1970, updates are seconds, values are millionths."""
+
+import datetime
+import functools
+import itertools
+
+import packed_days
+import service_rows as rows
+
+EPOCH = datetime.datetime(1970, 1, 1)
+HEADER_MOMENT = 1_704_240_000
+HEADER = "100,NEM12,202401030000,MDP1,RETAILER\n"
+COUNT = 48
+WEEK = 7
+
+# A reading is its quality, the code and the text of its reason, and its value. A mark is a reading without its value.
+NULL = "N", "", "", None
+
+
+@functools.lru_cache(maxsize=100_000)
+def date_text(number):
+    return (EPOCH + datetime.timedelta(number)).strftime("%Y%m%d")
+
+
+def moment_text(seconds):
+    return (EPOCH + datetime.timedelta(seconds=seconds)).strftime("%Y%m%d%H%M%S")
+
+
+@functools.lru_cache(maxsize=100_000)
+def value_text(value):
+    """The one written form of a value. One that isn't there has none."""
+    if value is None:
+        return ""
+    whole, part = divmod(abs(value), 1_000_000)
+    return "-" * (value < 0) + f"{whole}.{part:06}".rstrip("0").rstrip(".")
+
+
+def reading_told(reading):
+    quality, code, text, value = reading
+    return [quality, code, text, value_text(value)]
+
+
+def stretches(marks):
+    """The longest stretches of equal marks: of each the first and the last interval, and the mark."""
+    place = 1
+    for mark, run in itertools.groupby(marks):
+        last = place + len(list(run)) - 1
+        yield place, last, mark
+        place = last + 1
+
+
+def day_records(number, update, readings, absent=""):
+    """The records that state these readings of a day, and the text of a value that isn't there."""
+    runs = list(stretches(it[:3] for it in readings))
+    is_one = len(runs) == 1
+    mark = runs[0][2] if is_one else ("V", "", "")
+    values = [value_text(it[3]) or absent for it in readings]
+    text = ",".join(["300", date_text(number), *values, *mark, moment_text(update), ""]) + "\n"
+    return text if is_one else text + "".join(f"400,{first},{last},{','.join(it)}\n" for first, last, it in runs)
+
+
+def row_body(readings):
+    """The body of a row of mds_pack, with these readings."""
+    return packed_days.body_of([it and (it[0], int(it[1] or "-1"), it[2], it[3]) for it in readings])
+
+
+class Day:
+    """The readings of a day by update, each a list of one for each interval, or of none. A day without an update isn't known."""
+
+    def __init__(self, updates=()):
+        self.updates = dict(updates)
+
+    def with_readings(self, update, readings):
+        """The same day with more readings of an update."""
+        held = self.updates.get(update, readings)
+        return Day({**self.updates, update: [new or old for new, old in zip(readings, held)]})
+
+    def current(self):
+        """The current update and reading of each interval, or none."""
+        found = [None] * COUNT
+        for update, readings in sorted(self.updates.items()):
+            found = [(update, new) if new else old for old, new in zip(found, readings)]
+        return found
+
+    def readings(self):
+        """The current readings, null where there is none."""
+        return [it[1] if it else NULL for it in self.current()]
+
+    def update(self):
+        """The greatest update of the current readings."""
+        return max(it[0] for it in self.current() if it)
+
+
+UNKNOWN = Day()
+
+
+class Meter:
+    """The days of an interval meter, of one stream."""
+
+    def __init__(self, nmi):
+        self.nmi, self.days = nmi, {}
+        self.block = f"200,{nmi},E1,1,E1,N1,{nmi[-5:]},kWh,30,\n"
+
+    def day(self, number):
+        return self.days.get(number, UNKNOWN)
+
+    def target(self, number, interval=None):
+        """The target of a day, or of the versions of one of its intervals."""
+        kind, end = ("days", "") if interval is None else ("versions", f"/{interval}")
+        return f"/v1/{kind}/{self.nmi}/E1/{date_text(number)}{end}"
+
+    def told_day(self, number):
+        day = self.day(number)
+        if not day.updates:
+            return rows.UNKNOWN_DAY
+        return rows.told(date=date_text(number), events=[], length=30, nmi=self.nmi, readings=[reading_told(it) for it in day.readings()],
+                         suffix="E1", unit="kWh", update=moment_text(day.update()))
+
+    def told_versions(self, number, interval, day=None):
+        """The answer of the versions of an interval of a day, as it is or as another one."""
+        day = day or self.day(number)
+        if not day.updates:
+            return rows.UNKNOWN_DAY
+        versions = [[moment_text(update), *reading_told(readings[interval - 1])]
+                    for update, readings in sorted(day.updates.items()) if readings[interval - 1]]
+        return rows.told(date=date_text(number), interval=interval, nmi=self.nmi, suffix="E1", versions=versions)
+
+    def told_gaps(self, first, last):
+        text = "nmi,suffix,date,first,last\n"
+        for number in range(first, last + 1):
+            is_known = self.day(number).updates
+            found = stretches(it[0] for it in self.day(number).readings()) if is_known else [(0, 0, "N")]
+            text += "".join(f"{self.nmi},E1,{date_text(number)},{begin},{end}\n" for begin, end, flag in found if flag == "N")
+        return rows.answer(rows.OK, text)
+
+    def told_finals(self, first, last):
+        text = "nmi,suffix,date,first,last,method,code,text\n"
+        for number in range(first, last + 1):
+            for begin, end, (quality, code, note) in stretches(it[:3] for it in self.day(number).readings()):
+                if quality[0] == "F":
+                    text += f"{self.nmi},E1,{date_text(number)},{begin},{end},{quality[1:]},{code},{note}\n"
+        return rows.answer(rows.OK, text)
+
+    def told_export(self, first, last):
+        known = [number for number in range(first, last + 1) if self.day(number).updates]
+        text = HEADER + (self.block if known else "")
+        for number in known:
+            text += self.exported(number)
+        return rows.answer(rows.OK, (text + "900\n").replace("\n", "\r\n"))
+
+    def exported(self, number):
+        """The records of a day, of the current readings. A value that isn't there is 0."""
+        day = self.day(number)
+        return day_records(number, day.update(), day.readings(), "0")
+
+    def heads(self):
+        return {(self.nmi, "E1", number, 30, "kWh") for number in self.days}
+
+    def packs(self):
+        return {(self.nmi, "E1", number, update): row_body(readings) for number, day in self.days.items()
+                for update, readings in day.updates.items()}
+
+
+class Job:
+    """A substitution job of some intervals of a day of a meter, of method 19 (zero) or 14 (like day)."""
+
+    def __init__(self, name, meter, number, first, last, method, flag, update):
+        self.name, self.meter, self.number, self.first, self.last, self.method, self.flag = name, meter, number, first, last, method, flag
+        self.update = update
+
+    def members(self):
+        """What it says, in the order of the row that keeps it."""
+        return {"nmi": self.meter.nmi, "suffix": "E1", "date": date_text(self.number), "first": self.first, "last": self.last, "length": 30,
+                "unit": "kWh", "method": self.method, "flag": self.flag, "code": "76", "text": "", "update": moment_text(self.update)}
+
+    def row(self):
+        """The row that keeps it."""
+        return self.name, ",".join(str(it) for it in self.members().values()), self.count()
+
+    def count(self):
+        return self.last + 1 - self.first
+
+    def places(self):
+        return range(self.first - 1, self.last)
+
+    def refusal(self):
+        """Why it can't be done, or nothing: M5, M6 and M7 in this order."""
+        day = self.meter.day(self.number)
+        current = day.current()
+        for place in self.places():
+            if current[place] and current[place][1][0][0] in "AF":
+                return rows.refused(rows.CONFLICT, error="M5", interval=place + 1)
+        for place in self.places():
+            if current[place] and current[place][0] >= self.update:
+                return rows.refused(rows.CONFLICT, error="M6", interval=place + 1)
+        return None if self.values() else rows.refused(rows.UNPROCESSABLE, error="M7")
+
+    def values(self):
+        """The values that it fills in, or none."""
+        if self.method == 19:
+            return [0] * self.count()
+        for weeks in [1, 2, 3, 4]:
+            readings = self.meter.day(self.number - WEEK * weeks).readings()
+            if all(readings[place][0][0] in "AF" for place in self.places()):
+                return [readings[place][3] for place in self.places()]
+        return None
+
+    def readings(self):
+        """The readings that it fills in, each at its place."""
+        found = [None] * COUNT
+        for place, value in zip(self.places(), self.values()):
+            found[place] = (f"{self.flag}{self.method}", "76", "", value)
+        return found
+
+
+class Register:
+    """The accumulations of a register of a meter, each the texts of its fields: from month to month."""
+
+    FIRST, MONTH = 1_600_000_000, 30 * 86_400
+
+    def __init__(self, nmi):
+        self.nmi, self.periods = nmi, []
+
+    def new_fields(self, quantity, update):
+        """The fields of the next accumulation, with its update behind them."""
+        start = self.FIRST + self.MONTH * len(self.periods)
+        return ["1141", "01", "11", "11", "METSER66", "E", "000021.2", moment_text(start), "A", "", "", "000534.5",
+                moment_text(start + self.MONTH), "E64", "77", "", value_text(quantity), "kWh", "20240509", moment_text(update)]
+
+    def file(self, fields):
+        return f"{HEADER.replace('NEM12', 'NEM13')}250,{self.nmi},{','.join(fields)},\n900\n"
+
+    def told(self, periods):
+        """The answer of the accumulations, where these are kept."""
+        return rows.told(nmi=self.nmi, periods=[{"fields": fields, "notes": []} for fields in periods], suffix="11")
+
+    def rows(self):
+        """The rows of the accumulations."""
+        for place, fields in enumerate(self.periods):
+            start = self.FIRST + self.MONTH * place
+            update = datetime.datetime.strptime(fields[-1], "%Y%m%d%H%M%S") - EPOCH
+            yield self.nmi, "11", "01", start, start + self.MONTH, int(update.total_seconds()), ",".join(fields)
