@@ -6,18 +6,23 @@ import contextlib
 import os
 import shutil
 import sqlite3
-import subprocess
 import sys
 import tempfile
 
 import checks
 from checks import MDSTORE, SCRIPT, limited, mdstore
 from file_parts import block, day, file_of, period
+from many_runs import ManyRuns, Shared, built, shared_numbers
 from schema_1 import PERIOD_HEADER, build, job, run
 
 # What is written in memory is synced at once.
 DIR = tempfile.mkdtemp(dir="/dev/shm" if os.path.isdir("/dev/shm") else None)
-LIBRARY = os.path.join(DIR, "fail_call.so")
+
+# The libraries that runs load, by the names of their sources.
+LIBRARIES = {}
+
+# Whether nothing is left out for the time that it takes.
+TRIES_ALL = "--all" in sys.argv
 
 # A run takes some hundredths of a second. One that takes so many seconds doesn't end.
 LONGEST = 60
@@ -27,13 +32,12 @@ def check(what, got, wanted):
     checks.check(what, got, wanted, most=1000)
 
 
-def has_library():
-    """Makes the library of tests/fail_call.c, and says whether it is there."""
-    words = ["cc", "-shared", "-fPIC", "-o", LIBRARY, "tests/fail_call.c"]
-    if shutil.which("cc") is None or subprocess.run(words).returncode != 0:
+def has_libraries(name):
+    """Makes those with which runs are disturbed in a way, and says whether they are there."""
+    LIBRARIES.update(built(DIR, "many_runs", name))
+    if not LIBRARIES:
         print(f"{SCRIPT}: no C compiler here, so nothing was disturbed", file=sys.stderr)
-        return False
-    return True
+    return bool(LIBRARIES)
 
 
 def clear():
@@ -113,11 +117,20 @@ def store_with_log():
                     most=file_size)
 
 
-def old_store():
-    """A store of schema 1."""
+def old_store(*statements):
+    """A store of schema 1, changed by these statements."""
     with folder_of({}) as folder:
-        build(os.path.join(folder, "store.db"))
+        store = os.path.join(folder, "store.db")
+        build(store)
+        with contextlib.closing(sqlite3.connect(store, isolation_level=None)) as database:
+            for statement in statements:
+                database.execute(statement)
         return files_of(folder)
+
+
+# What leaves a store of schema 1 one day, which has versions of three updates.
+OTHER_DAYS = "(nmi, suffix, day) != ('NEM1201009', 'E1', 19725)"
+ONE_DAY = [f"DELETE FROM mds_version WHERE {OTHER_DAYS}", f"DELETE FROM mds_head WHERE {OTHER_DAYS}", "VACUUM"]
 
 
 def commands():
@@ -139,38 +152,85 @@ def commands():
         "holidays": Command(["holidays", "INPUT"], HOLIDAYS, days, "added 2 known 0\n", "added 0 known 2\n"),
         "holidays beside a log": Command(["holidays", "INPUT"], HOLIDAYS, with_log, "added 2 known 0\n", "added 0 known 2\n"),
         "export": Command(EXPORT, "", days, exported, exported),
-        "migrate": Command(["migrate"], "", old_store(), "migrated\n", "already current\n"),
+        "migrate": Command(["migrate"], "", old_store(*ONE_DAY), "migrated\n", "already current\n"),
+        "migrate of many days": Command(["migrate"], "", old_store(), "migrated\n", "already current\n"),
     }
 
 
 # Its runs.
 
+class Place:
+    """A folder in which a command runs many times, each time on files that are put there. It loads a library, for which variables name
+    files of the folder. One of these has so many numbers."""
+
+    def __init__(self, words, given, library, count, variables):
+        self.folder = tempfile.mkdtemp(dir=DIR)
+        self.write("input", given)
+        self.words, self.library, self.found = words, library, {name: self.path(file) for name, file in variables.items()}
+        self.numbers = shared_numbers(self.path("numbers"), count)
+        self.runs = self.many_runs()
+
+    def many_runs(self, is_apart=False):
+        return ManyRuns(self.words(self.folder), self.path("input"), self.path("output"), [LIBRARIES["many_runs"], LIBRARIES[self.library]],
+                        LONGEST, is_apart, self.found)
+
+    def path(self, name):
+        return os.path.join(self.folder, name)
+
+    def write(self, name, data):
+        with open(self.path(name), "wb") as file:
+            file.write(data)
+
+    def put(self, files):
+        """Has these files, and no others, be those of the store."""
+        for name in files_of(self.folder).keys() - files.keys():
+            os.remove(self.path(name))
+        for name, data in files.items():
+            self.write(name, data)
+
+    def end(self):
+        self.runs.end()
+        shutil.rmtree(self.folder)
+
+
+# How a call is disturbed (tests/fail_call.c), where it doesn't fail with an error.
+HALF, BEFORE, AFTER, TORN = -1, -2, -3, -4
+KILLS = BEFORE, AFTER, TORN
+
+# Where no call is disturbed, and where all calls are told as well.
+NONE, TELL = -1, 0
+
 Ran = collections.namedtuple("Ran", "status text told left")
 
 
-def run_of(command, number, how=""):
-    """A run of a command whose call of a number is disturbed, or none at 0: its status, what it printed, the calls that were told, and the
-    files that it left. A status of None is that of a run that doesn't end."""
-    with folder_of({**command.found, "input": command.given}) as folder:
-        told = os.path.join(folder, "told")
-        environment = {**os.environ, "LD_PRELOAD": LIBRARY, "FAIL_CALL": str(number), "FAIL_HOW": how, "FAIL_TOLD": told}
-        try:
-            ran = subprocess.run([MDSTORE, *words_in(folder, command.words)], env=environment, stdin=subprocess.DEVNULL,
-                                 stdout=subprocess.PIPE, stderr=subprocess.STDOUT, timeout=LONGEST)
-            status, text = ran.returncode, ran.stdout.decode()
-        except subprocess.TimeoutExpired as late:
-            status, text = None, (late.stdout or b"").decode()
-        lines = []
-        if os.path.exists(told):
-            with open(told) as file:
-                lines = [named_call(line, folder) for line in file]
-        return Ran(status, text, lines, files_of(folder))
+class Disturbed(Place):
+    """A place in which calls of the runs are disturbed."""
+
+    def __init__(self, command):
+        super().__init__(lambda folder: [MDSTORE, *words_in(folder, command.words)], command.given, "fail_call", 3,
+                         {"FAIL_NUMBERS": "numbers", "FAIL_TOLD": "told"})
+        self.runs_apart = self.many_runs(True)
+
+    def run(self, files, number=NONE, how=0):
+        """A run on these files, of which the call of a number is disturbed: its status, what it printed, the calls that were told, and the
+        files that it left."""
+        self.put(files)
+        self.write("told", b"")
+        self.numbers[0], self.numbers[1], self.numbers[2] = number, how, 0
+        status, text = (self.runs_apart if how in KILLS else self.runs).run()
+        with open(self.path("told")) as file:
+            told = [named_call(line, self.folder) for line in file]
+        return Ran(status, text, told, files_of(self.folder))
+
+    def end(self):
+        self.runs_apart.end()
+        super().end()
 
 
 def named_call(line, folder):
-    """A call that was told, its file, and what else was told of it. What the program prints goes to a pipe."""
+    """A call that was told, its file, and what else was told of it."""
     call, path, *others = line.replace(" (deleted)", "").split()
-    return " ".join([call, "output" if path.startswith("pipe:") else path.replace(folder, "FOLDER"), *others])
+    return " ".join([call, "output" if path == f"{folder}/output" else path.replace(folder, "FOLDER"), *others])
 
 
 # What a store has.
@@ -191,6 +251,11 @@ def taken_in(files):
     with folder_of(files) as folder:
         mdstore(*words_in(folder, ["streams"]), timeout=LONGEST)
         return files_of(folder)
+
+
+def key_of(files):
+    """A number that files of other names or bytes don't have, as good as surely."""
+    return hash(tuple(files.items()))
 
 
 def rows_of(files, is_new=False):
@@ -222,27 +287,35 @@ class Judge:
     input than these files, so files of the same bytes are looked at once."""
 
     def __init__(self, command):
-        self.command, self.seen = command, {}
+        self.command, self.states, self.seen = command, {}, {}
         self.is_new = not command.found.get("store.db")
         self.before = rows_of(command.found)
-        text, status, left = self.once_more(command.found)
-        check(f"{command.words} undisturbed", (text, status, list(left)), (command.done, 0, ["store.db"]))
-        self.after = rows_of(left)
+        self.places = Shared(Disturbed(command) for _ in range(os.cpu_count()))
+        undisturbed = self.run(command.found)
+        check(f"{command.words} undisturbed", (undisturbed.text, undisturbed.status), (command.done, 0))
+        check(f"{command.words} leaves files", list(undisturbed.left), ["store.db"])
+        self.after = rows_of(undisturbed.left)
         check(f"{command.words} changes the store", self.after != self.before, not command.is_query)
 
-    def once_more(self, files):
-        """What the command prints on these files, its status, and the files that it leaves."""
-        with folder_of({**files, "input": self.command.given}) as folder:
-            ran = mdstore(*words_in(folder, self.command.words), timeout=LONGEST)
-            return ran.stdout.decode(), ran.returncode, files_of(folder)
+    def end(self):
+        for place in self.places.things:
+            place.end()
+
+    def run(self, files, *disturbance):
+        """A run of the command on these files, and maybe the number of the call that is disturbed, and how."""
+        with self.places.one() as place:
+            return place.run(files, *disturbance)
 
     def state_of(self, files):
-        rows = rows_of(files, self.is_new)
-        return "after" if rows == self.after else "before" if rows == self.before else f"neither: {rows}"
+        key = key_of(files)
+        if key not in self.states:
+            rows = rows_of(files, self.is_new)
+            self.states[key] = "after" if rows == self.after else "before" if rows == self.before else f"neither: {rows}"
+        return self.states[key]
 
     def see(self, files):
         """The state of the store, and what is wrong with it or with the command once more."""
-        key = tuple(files.items())
+        key = key_of(files)
         if key not in self.seen:
             self.seen[key] = self.look(files)
         return self.seen[key]
@@ -250,13 +323,13 @@ class Judge:
     def look(self, files):
         state = self.state_of(files)
         problems = [] if state in ("before", "after") else [f"the store is {state}"]
-        text, status, left = self.once_more(files)
+        again = self.run(files)
         wanted = (self.command.known, 3 if self.command.known == "U3\n" else 0) if state == "after" else (self.command.done, 0)
-        if (text, status) != wanted:
-            problems.append(f"once more it is {text!r} with {status}")
+        if (again.text, again.status) != wanted:
+            problems.append(f"once more it is {again.text!r} with {again.status}")
         # What is refused leaves the log.
-        if list(left) != ["store.db"] and status == 0:
-            problems.append(f"once more it leaves {list(left)}")
-        if (again := self.state_of(left)) != "after":
-            problems.append(f"once more the store is {again}")
+        if list(again.left) != ["store.db"] and again.status == 0:
+            problems.append(f"once more it leaves {list(again.left)}")
+        if (left := self.state_of(again.left)) != "after":
+            problems.append(f"once more the store is {left}")
         return state, problems

@@ -1,30 +1,27 @@
-/* Loaded before the C library, it disturbs one of the calls that a run makes on files: that of the number in FAIL_CALL, counted from 1.
-   FAIL_HOW tells how. A number is that of the error that the call fails with. At `half` the call moves half of its bytes. At `before`,
-   `after` and `torn` the run is killed before the call, after it, or after half of its bytes. The call is told to the file that FAIL_TOLD
-   names, in a line: what it is called, and the file that it is on. Where the number is 0 no call is disturbed, and all are told, a `pwrite`
-   with its place and its bytes, and an `ftruncate` with its size. */
+/* Loaded before the C library, it disturbs one of the calls that a run makes on files. The file that FAIL_NUMBERS names has three numbers:
+   that of the call to disturb, counted from 1, how it is disturbed, and how many calls there were since a script set it to 0. The second is
+   that of the error that the call fails with, or below 0. At HALF the call moves half of its bytes. At BEFORE, AFTER and TORN the run is
+   killed before the call, after it, or after half of its bytes. The call is told to the file that FAIL_TOLD names, in a line: what it is
+   called, and the file that it is on. Where the first number is 0 none is disturbed, and all are told, a `pwrite` with its place and its
+   bytes, and an `ftruncate` with its size. */
 #define _GNU_SOURCE
 #include <dlfcn.h>
 #include <errno.h>
-#include <fcntl.h>
 #include <limits.h>
 #include <signal.h>
 #include <stdarg.h>
 #include <stdio.h>
-#include <stdlib.h>
-#include <string.h>
 #include <sys/stat.h>
-#include <sys/syscall.h>
 #include <sys/types.h>
 #include <sys/uio.h>
-#include <unistd.h>
+#include "shared_numbers.h"
 
-static const char *how(void) {
-    const char *text = getenv("FAIL_HOW");
-    return text ? text : "";
-}
+enum { CHOSEN, HOW, CALLS, COUNT };
+enum { HALF = -1, BEFORE = -2, AFTER = -3, TORN = -4 };
 
-static int is_how(const char *word) { return strcmp(how(), word) == 0; }
+static volatile long *numbers;
+
+static int is_how(int how) { return numbers[HOW] == how; }
 
 static void put(long told, const char *text, long size) { syscall(SYS_write, told, text, size); }
 
@@ -68,21 +65,17 @@ static void die(void) {
 
 /* Counts a call, and says whether it is the one to disturb. */
 static int is_chosen(const struct call *call) {
-    static long count, chosen = -1;
-    if (chosen < 0) {
-        const char *number = getenv("FAIL_CALL");
-        chosen = number ? atol(number) : LONG_MAX;
-    }
-    count++;
-    if (chosen == 0 || count == chosen) tell(call, chosen == 0);
-    return count == chosen;
+    if (!numbers) numbers = shared_numbers("FAIL_NUMBERS", COUNT);
+    int is_one = ++numbers[CALLS] == numbers[CHOSEN];
+    if (is_one || numbers[CHOSEN] == 0) tell(call, !is_one);
+    return is_one;
 }
 
 /* Whether a chosen call has to fail. */
 static int fails(void) {
-    if (is_how("before")) die();
-    if (how()[0] < '0' || how()[0] > '9') return 0;
-    errno = atoi(how());
+    if (is_how(BEFORE)) die();
+    if (numbers[HOW] < 0) return 0;
+    errno = numbers[HOW];
     return 1;
 }
 
@@ -97,8 +90,8 @@ static long make(const char *name, const char *path, long number, long a, long b
         errno = error;
         return -1;
     }
-    long answer = syscall(number, a, b, is_how("half") || is_how("torn") ? (c + 1) / 2 : c, d, e);
-    if (is_how("after") || is_how("torn")) die();
+    long answer = syscall(number, a, b, is_how(HALF) || is_how(TORN) ? (c + 1) / 2 : c, d, e);
+    if (is_how(AFTER) || is_how(TORN)) die();
     return answer;
 }
 
@@ -172,7 +165,7 @@ char *realpath(const char *restrict path, char *restrict resolved) {
     if (!is_chosen(&call)) return real(path, resolved);
     if (fails()) return NULL;
     char *found = real(path, resolved);
-    if (is_how("after")) die();
+    if (is_how(AFTER)) die();
     return found;
 }
 

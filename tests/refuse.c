@@ -1,36 +1,28 @@
-/* Loaded before the C library, it refuses one allocation of a run: that of the number in REFUSE, counted from 1. Where REFUSE_FILE names
-   a file, each signal USR1 has that of the number in the file refused, counted from the signal on. */
+/* Loaded before the C library, it refuses allocations of a run. The file that REFUSE_NUMBERS names has five numbers: the first allocation
+   that is refused and the last one, how many were asked for since a script set the third to 0, how many of these were refused, and that
+   from which copies of a run go on (tests/many_runs.c), or 0. */
+#define _GNU_SOURCE
 #include <errno.h>
-#include <fcntl.h>
-#include <signal.h>
 #include <stddef.h>
-#include <stdlib.h>
-#include <unistd.h>
+#include "shared_numbers.h"
+
+enum { FIRST, LAST, ASKED, REFUSED, COPIED, COUNT };
 
 void *__libc_malloc(size_t);
 void *__libc_calloc(size_t, size_t);
 void *__libc_realloc(void *, size_t);
-
-static volatile long left = -1;
-
-static void count_from_here(int number) {
-    char text[20] = "";
-    int file = open(getenv("REFUSE_FILE"), O_RDONLY);
-    left = read(file, text, sizeof text - 1) > 0 ? atol(text) : 0;
-    close(file);
-}
-
-__attribute__((constructor)) static void wait_for_signals(void) {
-    struct sigaction action = {.sa_handler = count_from_here, .sa_flags = SA_RESTART};
-    if (getenv("REFUSE_FILE")) sigaction(SIGUSR1, &action, NULL);
-}
+void __libc_free(void *);
+void run_copies(void) __attribute__((weak));
+extern int is_copy __attribute__((weak));
 
 static int is_refused(void) {
-    if (left < 0) {
-        const char *number = getenv("REFUSE");
-        left = number ? atol(number) : 0;
-    }
-    if (left == 0 || --left > 0) return 0;
+    static volatile long *numbers;
+    if (!numbers) numbers = shared_numbers("REFUSE_NUMBERS", COUNT);
+    /* A script may set it at the same time. */
+    long number = __atomic_add_fetch(&numbers[ASKED], 1, __ATOMIC_SEQ_CST);
+    if (number == numbers[COPIED]) run_copies();
+    if (number < numbers[FIRST] || number > numbers[LAST]) return 0;
+    numbers[REFUSED]++;
     errno = ENOMEM;
     return 1;
 }
@@ -38,3 +30,8 @@ static int is_refused(void) {
 void *malloc(size_t size) { return is_refused() ? NULL : __libc_malloc(size); }
 void *calloc(size_t count, size_t size) { return is_refused() ? NULL : __libc_calloc(count, size); }
 void *realloc(void *old, size_t size) { return is_refused() ? NULL : __libc_realloc(old, size); }
+
+/* A copy ends soon. What it frees would have to be copied first. */
+void free(void *old) {
+    if (!&is_copy || !is_copy) __libc_free(old);
+}
