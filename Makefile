@@ -19,11 +19,14 @@ test:
 	tests/commands crates/mdstore/out/mdstore
 	tests/program crates/mdstore/out/mdstore
 	tests/service crates/mdstore/out/mdstore
+	tests/soak crates/mdstore/out/mdstore
 	tests/examples crates/mdstore/out/mdstore crates/mds_trials/out/mds_trials
 	tests/keepers crates/mdstore/out/mdstore crates/mds_trials/out/mds_trials
 	tests/text crates/mdstore/out/mdstore
 	tests/migration crates/mdstore/out/mdstore
 	tests/pieces crates/mdstore/out/mdstore crates/mds_trials/out/mds_trials
+	tests/no_memory crates/mdstore/out/mdstore crates/mds_trials/out/mds_trials
+	tests/stops crates/mds_trials/out/mds_trials
 	tests/faults crates/mdstore/out/mdstore
 	tests/power_cuts crates/mdstore/out/mdstore
 	tests/changed_bytes crates/mdstore/out/mdstore
