@@ -26,7 +26,7 @@ test:
 	tests/migration crates/mdstore/out/mdstore
 	tests/pieces crates/mdstore/out/mdstore crates/mds_trials/out/mds_trials
 	tests/no_memory crates/mdstore/out/mdstore crates/mds_trials/out/mds_trials
-	tests/stops crates/mds_trials/out/mds_trials
+	tests/stops crates/mdstore/out/mdstore crates/mds_trials/out/mds_trials
 	tests/faults crates/mdstore/out/mdstore
 	tests/power_cuts crates/mdstore/out/mdstore
 	tests/changed_bytes crates/mdstore/out/mdstore

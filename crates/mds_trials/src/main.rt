@@ -11,12 +11,19 @@
 //! Two words hold NEM12 files in pieces against the same files in one. A list of files stands in `PATH`, each behind its length in four
 //! bytes. `mds_trials cuts PATH` cuts each in two, at each of its bytes in turn, and then at all of them. `mds_trials pieces PATH SEED` cuts each once, in
 //! pieces that seem random.
+//!
+//! `mds_trials stops PATH FILES MANNER` stops the files of a store in memory, at each of their calls in turn. What is done with the store stands in
+//! `PATH` (tests/stops). `log`, `database` or `both` stop. The manner is `each`, `narrow` for a store that keeps little in memory and in its
+//! log, or `sample` for some calls alone.
 #![tactic(auto)]
 
 mod outcomes;
 mod pieces;
+mod steps;
+mod stops;
 
 use crate::pieces::{Cutter, hold_files};
+use crate::stops::stop_in_turn;
 use mds_answers::{list_json, short_json};
 use mds_arguments::{ExportArguments, export_request};
 use mds_http::{StoreHandler, listen, serve_connections};
@@ -55,6 +62,9 @@ fn run_words(rt: &HostRuntime) -> io::Result<bool> {
         [what, path, seed] if what.as_str() == "pieces" => {
             hold_made_pieces(rt, path.as_str(), seed.as_str())
         }
+        [what, path, files, manner] if what.as_str() == "stops" => {
+            stop_in_turn(rt, path.as_str(), files.as_str(), manner.as_str())
+        }
         [what, port, count] if what.as_str() == "serve" => serve(rt, port.as_str(), count.as_str()),
         [what, port, count] if what.as_str() == "serve-rows" => {
             serve_rows(rt, port.as_str(), count.as_str())
@@ -68,7 +78,7 @@ fn run_words(rt: &HostRuntime) -> io::Result<bool> {
 
 fn usage(rt: &HostRuntime) -> io::Result<bool> {
     println!(rt;
-        "usage: mds_trials [serve PORT COUNT | serve-rows PORT COUNT | deliver PATH | imports PATH | exports PATH FROM TO | applies PATH | cuts PATH | pieces PATH SEED]"
+        "usage: mds_trials [serve PORT COUNT | serve-rows PORT COUNT | deliver PATH | imports PATH | exports PATH FROM TO | applies PATH | cuts PATH | pieces PATH SEED | stops PATH FILES MANNER]"
     )?;
     Ok(false)
 }

@@ -127,7 +127,7 @@ pub fn hold_files(rt: &HostRuntime, path: &str, mut cutter: Cutter) -> io::Resul
 }
 
 /// The first file of a list, and the files behind it. `None` where there is no whole one.
-fn next_file(list: &[u8]) -> Option<(&[u8], &[u8])> {
+pub fn next_file(list: &[u8]) -> Option<(&[u8], &[u8])> {
     let [a, b, c, d, behind @ ..] = list else {
         return None;
     };
