@@ -16,6 +16,9 @@ def program(number, otherwise):
 
 
 SCRIPT = "tests/" + os.path.basename(sys.argv[0])
+
+# How many programs run beside each other. Where two threads share a core, one for each core takes less of a processor and is as quick.
+WORKERS = max(1, (os.cpu_count() or 1) // 2)
 MDSTORE = program(1, "bin/mdstore")
 failed = []
 
