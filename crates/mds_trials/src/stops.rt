@@ -75,9 +75,9 @@ fn calls_of(stops: bool, calls: u64) -> u64 {
     if stops { calls } else { u64::MAX }
 }
 
-/// Does what a plan says with files that stop at their first call, then with files that stop at their second one, and so on, until a run
-/// ends before they stop. A plan has three lists of steps: what is done before files stop, what is done while they do, and what is done
-/// with all that they may leave. All outcomes are printed.
+/// Does what a plan says with files that stop at their first call, then at their second one, and so on, until a run ends before they
+/// stop. A plan has three lists of steps. They are done before files stop, while they do, and with all that they may leave. All
+/// outcomes are printed.
 pub fn stop_in_turn(
     rt: &HostRuntime,
     path: &str,
