@@ -75,7 +75,7 @@ fn calls_of(stops: bool, calls: u64) -> u64 {
     if stops { calls } else { u64::MAX }
 }
 
-/// Does what a plan says with files that stop at their first call, then at their second one, and so on, until a run ends before they
+/// Does what a plan says with files that stop at their first call, then at their second one, and so on. The last run ends before they
 /// stop. A plan has three lists of steps. They are done before files stop, while they do, and with all that they may leave. All
 /// outcomes are printed.
 pub fn stop_in_turn(
