@@ -1,5 +1,6 @@
 """What the scripts share: the program that they run, the checks of what it does, and their end. They run at the root of the repository."""
 
+import collections
 import os
 import resource
 import signal
@@ -21,6 +22,9 @@ SCRIPT = "tests/" + os.path.basename(sys.argv[0])
 WORKERS = max(1, (os.cpu_count() or 1) // 2)
 MDSTORE = program(1, "bin/mdstore")
 failed = []
+
+# The last ports that were given. Two threads of a script may ask before the first one's service listens.
+GIVEN_PORTS = collections.deque(maxlen=100)
 
 
 def beginning(value, most):
@@ -58,10 +62,14 @@ def limited(most):
 
 
 def free_port():
-    """A port of 127.0.0.1 that nobody has. Another process may take it before it is used."""
-    with socket.socket() as probe:
-        probe.bind(("127.0.0.1", 0))
-        return probe.getsockname()[1]
+    """A port of 127.0.0.1 that nobody has, and that wasn't given of late. Another process may take it before it is used."""
+    while True:
+        with socket.socket() as probe:
+            probe.bind(("127.0.0.1", 0))
+            port = probe.getsockname()[1]
+        if port not in GIVEN_PORTS:
+            GIVEN_PORTS.append(port)
+            return port
 
 
 def is_listening(port):
