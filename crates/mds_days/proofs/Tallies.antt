@@ -38,10 +38,15 @@ values_at values =
     ∙ sym (fill_by_all (λ i. get_or values (i + 1 - 1) None) values (length values) None refl (λ k lt. at_one_less values k))
 
 -- without runs each reading has the day's own mark
-pub own_readings : (own : Mark) (values : List (Option ℤ)) → readings_of (length values) own [] values ≡ map (reading_by own) values
+own_readings : (own : Mark) (values : List (Option ℤ)) → readings_of (length values) own [] values ≡ map (reading_by own) values
 own_readings own values =
     map_map (reading_by own) (λ i. get_or values (i - 1) None) (range_with_len 1 (length values))
     ∙ ap (map (reading_by own)) (values_at values)
+
+-- so all of them at once, behind none, are the readings of the day
+pub pushed_all : (own : Mark) (runs : List Run) (values all : List (Option ℤ)) (old new : List ReadingValue) → runs ≡ [] → all ≡ values → old ≡ [] → new ≡ old ++ map (reading_by own) all → new ≡ readings_of (length values) own runs values
+pushed_all own runs values all old new none same fresh pushed =
+    rw (none, ← same) (pushed ∙ ap (λ (xs : List ReadingValue). xs ++ map (reading_by own) all) fresh ∙ sym (own_readings own all))
 
 amounts_null : (own : Mark) (values : List (Option ℤ)) → (own.quality.flag == null) ≡ true → amounts (map (reading_by own) values) ≡ []
 amounts_null own [] e = refl

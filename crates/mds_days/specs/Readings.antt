@@ -1,16 +1,13 @@
 -- The readings of a day. MDFF Specification, the 300 and 400 records: each interval has the mark of the run that holds it, or
 -- else the mark of the 300. By this project's profile an interval under N has no value, even if a number stands there.
-use Rattle.std.specs.Prelude.{ℕ, ◌-◌, Bool, ◌&&◌, ◌==◌, if◌then◌else◌, List, map, fold, slice_index_or, ℤ, pos, ◌+ℤ◌, Option, None, option_to_list}
+use Rattle.std.specs.Prelude.{ℕ, ◌-◌, Bool, ◌&&◌, ◌==◌, List, map, fold, slice_index_or, ℤ, pos, ◌+ℤ◌, Option, None, option_to_list}
 use Rattle.std.specs.List.{flat_map, range_with_len}
-use Rattle.mds_marks.specs.Quality.{null, variable}
+use Rattle.mds_marks.specs.Quality.{variable}
 use Rattle.mds_marks.specs.Reading.{ReadingValue}
 use Rattle.mds_marks.specs.declared.mark.Mark.{Mark}
+pub use Rattle.mds_runs.specs.Marked.{reading_by}
 use Rattle.mds_runs.specs.Runs.{leaves_out, mark_at}
 use Rattle.mds_runs.specs.declared.cover.Run.{Run}
-
--- the reading of a mark and a value field
-abbrev pub reading_by : Mark → Option ℤ → ReadingValue
-reading_by mark value = record { mark = mark; value = if mark.quality.flag == null then None else value }
 
 -- the readings of a day's n intervals, from the 300's own mark, its runs and its value fields
 abbrev pub readings_of : ℕ → Mark → List Run → List (Option ℤ) → List ReadingValue

@@ -1,6 +1,6 @@
 //! A day in progress: a 300 record, and the runs of the 400 records that have followed it.
 
-ghost use Rattle.std.specs.Prelude.{◌≡◌, ◌++◌, ◌∷◌, [], ℕ, length, None, OnOk, OnErr, IfOk, IsTrue, unsigned_abs, ◌<◌, ◌≤◌, ◌*◌, ◌+◌, ◌^◌, ◌==◌, ◌+ℤ◌, false, fold, option_to_list, is_some, count_by, get_or};
+ghost use Rattle.std.specs.Prelude.{◌≡◌, ◌++◌, ◌∷◌, [], length, None, OnOk, OnErr, IfOk, IsTrue, unsigned_abs, ◌<◌, ◌≤◌, ◌*◌, ◌+◌, ◌^◌, ◌==◌, ◌+ℤ◌, false, fold, option_to_list, is_some, count_by};
 ghost use Rattle.std.specs.List.{flat_map};
 ghost use Rattle.mds_marks.specs.BorrowedMarks.{mark_value};
 ghost use Rattle.mds_marks.specs.Quality.{variable};
@@ -10,11 +10,11 @@ ghost use Rattle.mds_days.specs.Days.{AreValuesOf, IsWhole, run_value};
 ghost use Rattle.mds_days.specs.Readings.{amounts, leaves_gap, reading_by, readings_of, total};
 ghost use Rattle.mds_days.specs.RunFaults.{lacks_value, run_fault};
 
+use mds_marks::Mark;
 use mds_marks::flags::{NULL, VARIABLE};
-use mds_marks::{Mark, Reading};
 use mds_quantity::Quantity;
 use mds_records::{FaultCode, IntervalDataRecord, IntervalEventRecord, IntervalValues};
-use mds_runs::{Cover, Run, RunFault, mark_from};
+use mds_runs::{Cover, DayReadings, Run, RunFault, mark_from};
 use mds_terms::{Day, Moment};
 use std::alloc::{AllocError, Global};
 use std::marker::Model;
@@ -195,21 +195,22 @@ impl DayData {
 
     /// The readings of its intervals, in order. It fails only for want of memory. Where there is no interval it takes
     /// none.
-    pub fn readings(&self) -> Result<Vec<Reading>, AllocError>
+    pub fn readings(&self) -> Result<DayReadings, AllocError>
         requires { IsWhole self.now }
-        ensures value { IfOk result (λ readings. readings.items
+        ensures value { IfOk result (λ readings. readings
             ≡ readings_of (length self.now.values) self.now.mark self.now.runs self.now.values) }
         ensures memory { OnErr result (0 < length self.now.values) }
     {
+        let mut readings = DayReadings::with_capacity(self.alloc, self.count())?;
         let mut runs = self.cover.runs();
         if runs.is_empty() {
-            return own_readings(self.alloc, &self.mark, self.values.as_slice());
+            readings.push_all(&self.mark, self.values.as_slice())?;
+            return Ok(readings);
         }
-        let mut readings = Vec::with_capacity(self.alloc, self.count())?;
         for (k, value) in self.values.as_slice().iter().enumerate() {
             let (mark, rest) = mark_from(runs, &self.mark, k as u16 + 1);
             runs = rest;
-            readings.push(reading(mark, *value)?)?;
+            push_reading(&mut readings, mark, *value)?;
         }
         Ok(readings)
     }
@@ -256,24 +257,6 @@ impl Tally {
     }
 }
 
-/// The readings of a day without runs: each has the day's own mark.
-fn own_readings(
-    alloc: Global,
-    own: &Mark,
-    values: &[Option<Quantity>],
-) -> Result<Vec<Reading>, AllocError>
-    requires { (k : ℕ) → k < length values.now
-        → IsTrue (is_reading own.now.quality.flag (reading_by own.now (get_or values.now k None)).value) }
-    ensures value { IfOk result (λ readings. readings.items ≡ readings_of (length values.now) own.now [] values.now) }
-    ensures memory { OnErr result (0 < length values.now) }
-{
-    let mut readings = Vec::with_capacity(alloc, values.len())?;
-    for value in values {
-        readings.push(reading(own, *value)?)?;
-    }
-    Ok(readings)
-}
-
 /// The tally of a day without runs, made of its own mark, its values and their sum. It looks at no value unless the
 /// quality is variable.
 fn own_tally(own: &Mark, values: &[Option<Quantity>], sum: i128) -> Tally
@@ -314,21 +297,20 @@ fn lacks_value(values: &[Option<Quantity>], first: u16, last: u16) -> bool
     values[first - 1..last].iter().any(|value| value.is_none())
 }
 
-/// The reading of an interval with a mark and a value field, which go together. It takes memory only for the text of a
-/// reason.
-#[inline(always)]
-fn reading(mark: &Mark, value: Option<Quantity>) -> Result<Reading, AllocError>
-    requires { IsTrue (is_reading mark.now.quality.flag (reading_by mark.now value).value) }
-    ensures value { IfOk result (λ reading. reading ≡ reading_by mark.now value) }
-    ensures memory { OnErr result (0 < length mark.now.reason.text) }
+/// Appends the reading of an interval with a mark and a value field, which go together.
+fn push_reading(
+    readings: &mut DayReadings,
+    mark: &Mark,
+    value: Option<Quantity>,
+) -> Result<(), AllocError>
+    requires few { length readings.old + 1 < 2 ^ 16 }
+    requires together { IsTrue (is_reading mark.now.quality.flag (reading_by mark.now value).value) }
+    ensures { OnOk result (readings.new ≡ readings.old ++ reading_by mark.now value ∷ []) }
 {
     let value = if mark.quality.flag() == NULL {
         None
     } else {
         value
     };
-    match Reading::new(mark.try_clone()?, value) {
-        Some(reading) => Ok(reading),
-        None => unreachable!(),
-    }
+    readings.push(mark, value)
 }

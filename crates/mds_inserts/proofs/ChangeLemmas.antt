@@ -1,14 +1,18 @@
 -- Calls that put rows, one after another.
-use Rattle.std.proofs.Common.{◌≡◌, ◌++◌, ℕ, false, List, [], ◌∷◌, IfErr, IsTrue, Ok, Err, Result, sym, ap, subst, ◌∙◌, arith}
+use Rattle.std.proofs.Common.{◌≡◌, ◌++◌, inl, ℕ, false, List, [], ◌∷◌, IfErr, IsTrue, Ok, Err, Result, refl, sym, ap, subst, ◌∙◌, arith}
 use Rattle.std.proofs.lemmas.List.{map-append}
 use Rattle.sqlite.specs.Effect.{Database}
 use Rattle.sqlite.specs.Schema.{Schema}
 use Rattle.sqlite.specs.State.{ExecutesInside, HasCleanDisk, KeepsCommit, State, Survives}
 use Rattle.sqlite.specs.declared.error.Error.{Error}
+use Rattle.sqlite.specs.declared.error.Error.TheVariants.{SqliteFailure}
+use Rattle.sqlite.specs.declared.error.ErrorCode.TheVariants as code
 use Rattle.sqlite.proofs.InsideLemmas.{keeps_then}
 use Rattle.sqlite_catalog.specs.Listing.{IsSound}
+use Rattle.sqlite_trees.specs.declared.error.StoreError.TheVariants.{OutOfMemory}
 use Rattle.sqlite_value.specs.Order.{Row}
 use Rattle.mds_tables.proofs.CallLemmas.{keeps, keeps_same, survives_more, survives_same}
+use Rattle.mds_tables.specs.Causes.{RanOut}
 use Rattle.mds_inserts.specs.Parts.{Part, rows_of}
 use Rattle.mds_inserts.specs.Refusals.{FailsToPut}
 use Rattle.mds_inserts.specs.Writing.{Changes, IsFit, PutsEach, PutsOne, PutsThere, StaysAs}
@@ -54,6 +58,17 @@ none_put {under} {A} {part} a = record {
   cause = λ clean inside has fit. tt;
   kept = λ clean. keeps_same a;
   survives = survives_same a;
+}
+
+-- things are put, and then memory ran out before the next row was tried
+pub memory_lacked : {under : Schema} {A X : Type 0} {part : Part A} {a b : State} {xs all : List A} → PutsEach {X = Unit {0}} under part a b (Ok tt) xs
+    → PutsEach {X = X} under part a b (Err (SqliteFailure code.OutOfMemory)) all
+unfolding RanOut
+memory_lacked front = record {
+  ok = tt;
+  cause = λ clean inside has fit. inl (OutOfMemory, refl, tt);
+  kept = front.kept;
+  survives = front.survives;
 }
 
 -- a row isn't put, and those behind it aren't tried

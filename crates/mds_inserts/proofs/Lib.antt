@@ -8,3 +8,4 @@ pub mod PutLemmas
 pub mod RowByRow
 pub mod RowLemmas
 pub mod ShortRows
+pub mod WholeDays

@@ -10,21 +10,22 @@ ghost use Rattle.mds_marks.specs.Reading.{is_lawful};
 ghost use Rattle.mds_tables.specs.Causes.{StoreFails};
 ghost use Rattle.mds_tables.specs.Cells.{day_and_versions, reading_cells, slot_cells};
 ghost use Rattle.mds_tables.specs.Tables.{More, schema_1, schema_with};
-ghost use Rattle.mds_keeper.specs.Content.{day_versions, version_at, versions_of};
+ghost use Rattle.mds_keeper.specs.Content.{day_versions, version_at, versions_of, whole_rows};
 ghost use Rattle.mds_inserts.specs.Parts.{Part, detail_part, event_part, head_part, holiday_part, job_part, period_part, version_part};
 ghost use Rattle.mds_inserts.specs.Refusals.{is_store_error};
 ghost use Rattle.mds_inserts.specs.Writing.{PutsEach, PutsOne, PutsThere, StaysAs};
 
 use crate::jobs::JobRow;
 use crate::periods::PeriodRow;
-use mds_keeper::{DayVersions, Version};
+use mds_keeper::{DayVersions, Version, VersionRows};
 use mds_marks::{Reading, qualities_read_back};
 use mds_quantity::units_read_back;
+use mds_runs::DayReadings;
 use mds_tables::{
     day_cells, detail_cells, event_cells, head_cells, holiday_cells, job_cells, letter_of,
     period_cells, reading_cells, slot_cells, version_cells,
 };
-use mds_terms::{Day, Event, Stream};
+use mds_terms::{Day, Event, Moment, Stream};
 use mds_world::{Detail, Head, Key};
 use sqlite::types::ValueRef;
 use sqlite::{Alter, Error, ErrorCode, Transaction};
@@ -278,16 +279,61 @@ fn put_rows<S: Alter>(
     Ok(())
 }
 
-/// Puts the rows of a day's versions, eight at a time, and those that are left one by one.
+/// Puts the rows of a day's readings, each of an interval and all under one update.
+fn put_whole<S: Alter>(
+    tx: &mut Transaction<'_, S>,
+    stream: &Stream,
+    day: Day,
+    update: Moment,
+    readings: &DayReadings,
+) -> Result<(), Error>
+    ensures same_reference { tx.new.conn.ghost_name ≡ tx.old.conn.ghost_name }
+    ensures puts { PutsEach schema_1 version_part (state S.Store tx.old.conn.now) (state S.Store tx.new.conn.now) result (map (version_at stream.now day) (whole_rows update 1 readings.now)) }
+{
+    for i in 0..readings.len() {
+        // Only the text of a reason takes memory.
+        let Ok(reading) = readings.reading(i) else {
+            return Err(Error::SqliteFailure(ErrorCode::OutOfMemory));
+        };
+        let key = Key {
+            stream: *stream,
+            day,
+            interval: (i + 1) as u16,
+            update,
+        };
+        put_version(tx, &key, &reading)?;
+    }
+    Ok(())
+}
+
+/// Puts the rows of versions of a day, eight at a time, and those that are left one by one.
+fn put_listed<S: Alter>(
+    tx: &mut Transaction<'_, S>,
+    stream: &Stream,
+    day: Day,
+    rows: &[(u16, Version)],
+) -> Result<(), Error>
+    ensures same_reference { tx.new.conn.ghost_name ≡ tx.old.conn.ghost_name }
+    ensures puts { PutsEach schema_1 version_part (state S.Store tx.old.conn.now) (state S.Store tx.new.conn.now) result (map (version_at stream.now day) rows.now) }
+{
+    let (eights, rest) = rows.as_chunks::<TOGETHER>();
+    for eight in eights {
+        put_eight(tx, stream, day, eight)?;
+    }
+    put_rows(tx, stream, day, rest)
+}
+
+/// Puts the rows of a day's versions.
 fn put_day<S: Alter>(tx: &mut Transaction<'_, S>, added: &DayVersions) -> Result<(), Error>
     ensures same_reference { tx.new.conn.ghost_name ≡ tx.old.conn.ghost_name }
     ensures puts { PutsEach schema_1 version_part (state S.Store tx.old.conn.now) (state S.Store tx.new.conn.now) result (day_versions added.now) }
 {
-    let (eights, rest) = added.rows.as_chunks::<TOGETHER>();
-    for rows in eights {
-        put_eight(tx, &added.stream, added.day, rows)?;
+    match &added.rows {
+        VersionRows::Each(rows) => put_listed(tx, &added.stream, added.day, rows.as_slice()),
+        VersionRows::Whole(update, readings) => {
+            put_whole(tx, &added.stream, added.day, *update, readings)
+        }
     }
-    put_rows(tx, &added.stream, added.day, rest)
 }
 
 /// Puts the rows of the versions of each day.

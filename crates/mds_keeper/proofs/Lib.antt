@@ -4,9 +4,11 @@ pub mod BookPlaces
 pub mod BookReads
 pub mod BookRowsMade
 pub mod BooksMade
+pub mod ClaimedEntries
 pub mod KeptReadings
 pub mod Planned
 pub mod Rows
+pub mod RowsMoved
 pub mod Settled
 pub mod Taken
 pub mod Walks

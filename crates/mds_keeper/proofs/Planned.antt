@@ -121,7 +121,7 @@ module _ (stream : Stream) (day : ℕ) where
 
   -- a claim's copy states what it does
   same_claim : (copy claim : Claim) → (copy.line ≡ claim.line) × (copy.length ≡ claim.length) × (copy.unit ≡ claim.unit)
-      × (copy.update ≡ claim.update) × (copy.readings.items ≡ claim.readings.items) → claim_world stream day copy ≡ claim_world stream day claim
+      × (copy.update ≡ claim.update) × (copy.readings ≡ claim.readings) → claim_world stream day copy ≡ claim_world stream day claim
   same_claim copy claim e = λ i. set.from_list {R = fact_cmp} (day_facts stream day (e.1 i) (e.2 i) (e.3 i) (e.4 i))
 
 -- a book, and the claims so far
@@ -141,7 +141,7 @@ start_planning b claims d copy e same lawful = record {
 module _ (b : BookValue) (claims : List Claim) (i : ℕ) (d : DayMergeValue) (is : IsPlanning b claims i d) (item copy : Claim)
     (below : i < length claims) (at : item ≡ get_or claims i item)
     (same : (copy.line ≡ item.line) × (copy.length ≡ item.length) × (copy.unit ≡ item.unit)
-    × (copy.update ≡ item.update) × (copy.readings.items ≡ item.readings.items)) where
+    × (copy.update ≡ item.update) × (copy.readings ≡ item.readings)) where
   -- the facts so far with those of the claim
   with_claim : union d.said (claim_world d.book.stream d.book.day copy) ≡ claims_world b.stream b.day (take (suc i) claims)
   with_claim =

@@ -1,13 +1,11 @@
 -- What a merge adds to the book, and how much of it is there.
-use Rattle.std.proofs.Common.{◌≡◌, ◌≢◌, ℕ, zero, suc, ◌+◌, ◌≤◌, List, [], ◌∷◌, ◌++◌, length, map, Option, Some, None, refl, sym, ap, ◌∙◌, subst, inl, inr, arith, append_assoc}
-use Rattle.std.specs.Prelude.{Bool, true, false, cond, not}
+use Rattle.std.proofs.Common.{◌≡◌, ◌≢◌, ℕ, zero, suc, ◌+◌, ◌<◌, ◌≤◌, List, [], ◌∷◌, ◌++◌, length, map, Option, Some, None, refl, sym, ap, ◌∙◌, subst, inl, inr, arith, append_assoc, drop, get_or}
+use Rattle.std.specs.Prelude.{Bool, true, false, cond, not, IsNone, is_some}
 use Rattle.std.specs.List.{slice_get}
 use Rattle.std.proofs.lemmas.Grind.{flat_map-append}
-use Rattle.std.proofs.lemmas.List.{append-nil, length-append, length-map, map-append}
+use Rattle.std.proofs.lemmas.List.{append-nil, drop_all, length-append, length-map, map-append, nil_from_length}
 use Rattle.std.proofs.Math.Nat.{div-le_self}
 use Rattle.std.specs.FinSet as set
-use Rattle.std.specs.declared.alloc.Global.{Global}
-use Rattle.std.specs.declared.vec.Vec.{Vec}
 use Rattle.mds_quantity.specs.declared.unit.Unit.{Unit as MeasureUnit}
 use Rattle.mds_marks.specs.Reading.{ReadingValue}
 use Rattle.mds_world.specs.declared.facts.Head.{Head}
@@ -22,86 +20,58 @@ use Rattle.mds_world.proofs.Members.{same_by, in_list, list_in, len_list}
 use Rattle.mds_world.proofs.Sets.{difference_in, in_difference, in_intersection, intersection_in, in_retain, not_true, retain_in, true_not}
 use Rattle.mds_world.specs.Sets.{◌∈◌}
 use Rattle.mds_keeper.specs.Books.{BookValue, book_world}
+use Rattle.mds_keeper.specs.ClaimedUpdates.{entries_of}
 use Rattle.mds_keeper.specs.Claims.{AreShort, fresh_all, fresh_heads, fresh_versions, held_all, held_count, is_held, key_of}
-use Rattle.mds_keeper.specs.Content.{day_versions, version_at, version_fact, versions_of}
+use Rattle.mds_keeper.specs.Content.{day_versions, rows_of, version_at, version_fact, versions_of, whole_rows}
 use Rattle.mds_keeper.specs.DayMerges.{DayMergeValue, Settles}
-use Rattle.mds_keeper.specs.DayMergeSteps.{AreCounts, AreInBook, IsDayMerge, all_claimed, claimed_entries, claimed_entry, claimed_readings, merge_value, readings_under}
+use Rattle.mds_keeper.specs.DayMergeSteps.{AreCounts, IsDayMerge, IsInBook, all_claimed, claimed_entries, claimed_entry, claimed_readings, merge_value, readings_under}
 use Rattle.mds_keeper.specs.declared.additions.Additions.{Additions}
 use Rattle.mds_keeper.specs.declared.additions.DayVersions.{DayVersions}
+use Rattle.mds_keeper.specs.declared.claimed.ClaimedUpdate.{ClaimedUpdate}
 use Rattle.mds_keeper.specs.declared.day_book.Version.{Version}
 use Rattle.mds_keeper.specs.declared.day_merge.MergeCounts.{MergeCounts}
+use Rattle.mds_keeper.proofs.ClaimedEntries.{among_all}
 use Rattle.mds_keeper.proofs.Rows.{same_some}
+use Rattle.mds_keeper.proofs.RowsMoved.{drop_here}
 use Rattle.mds_keeper.proofs.Taken.{head_in_book, head_of, in_book, in_said, said_here}
 
--- of one update: what is done and what is left are all
-pub record IsUpdateSettled (b : BookValue) (update : ℕ) (readings : List ReadingValue) (old now : List (Key × ReadingValue))
-    (interval : ℕ) (rest : List ReadingValue) : Type 0 where
-  pub versions : now ++ fresh_versions b update (interval + 1) rest ≡ old ++ fresh_versions b update 1 readings
-  pub place : interval + length rest ≡ length readings
+-- of one update: what is put and what is left are all
+pub record IsPartPut (b : BookValue) (update : ℕ) (readings : List ReadingValue) (i : ℕ) (now : List (Key × ReadingValue)) : Type 0 where
+  pub versions : now ++ fresh_versions b update (i + 1) (drop i readings) ≡ fresh_versions b update 1 readings
 
-module _ (b : BookValue) (update : ℕ) (readings : List ReadingValue) (old now : List (Key × ReadingValue)) (interval : ℕ)
-    (rest : List ReadingValue) (is : IsUpdateSettled b update readings old now interval rest) where
-  module _ (r : ReadingValue) (later : List ReadingValue) (step : rest ≡ r ∷ later) where
-    pub interval_fits : interval + 1 ≤ length readings
-    interval_fits = omega (arith, is.place, ap length step)
-
-    versions : now ++ cond (is_held b update (interval + 1) r) (fresh_versions b update (interval + 1 + 1) later)
-        ((key_of b (interval + 1) update, r) ∷ fresh_versions b update (interval + 1 + 1) later) ≡ old ++ fresh_versions b update 1 readings
-    versions = ap (λ l. now ++ fresh_versions b update (interval + 1) l) (sym step) ∙ is.versions
-
-    place : interval + 1 + length later ≡ length readings
-    place = omega (arith, is.place, ap length step)
-
-    pub update_held : true ≡ is_held b update (interval + 1) r → IsUpdateSettled b update readings old now (interval + 1) later
-    update_held e = record {
-      versions = ap (λ t. now ++ cond t (fresh_versions b update (interval + 1 + 1) later)
-          ((key_of b (interval + 1) update, r) ∷ fresh_versions b update (interval + 1 + 1) later)) e ∙ versions;
-      place = place;
-    }
-
-    pub update_fresh : (next : List (Key × ReadingValue)) → false ≡ is_held b update (interval + 1) r
-        → next ≡ now ++ (key_of b (interval + 1) update, r) ∷ [] → IsUpdateSettled b update readings old next (interval + 1) later
-    update_fresh next e push = record {
-      versions = ap (λ l. l ++ fresh_versions b update (interval + 1 + 1) later) push
-          ∙ append_assoc now ((key_of b (interval + 1) update, r) ∷ []) (fresh_versions b update (interval + 1 + 1) later)
-          ∙ ap (λ t. now ++ cond t (fresh_versions b update (interval + 1 + 1) later)
-          ((key_of b (interval + 1) update, r) ∷ fresh_versions b update (interval + 1 + 1) later)) e ∙ versions;
-      place = place;
-    }
-
-  pub update_versions : rest ≡ [] → now ≡ old ++ fresh_versions b update 1 readings
-  update_versions e = sym (append-nil now) ∙ ap (λ l. now ++ fresh_versions b update (interval + 1) l) (sym e) ∙ is.versions
-
--- where the book has none of the readings, it has neither the first nor one of the rest
-none_or_more : (t : Bool) (n : ℕ) → cond t 1 0 + n ≡ 0 → (t ≡ false) × (n ≡ 0)
-none_or_more true n e = absurd (omega arith)
-none_or_more false n e = (refl, omega arith)
-
-pub new_first : (b : BookValue) (update interval : ℕ) (readings : List ReadingValue) (r : ReadingValue) (later : List ReadingValue)
-    → readings ≡ r ∷ later → held_count b update interval readings ≡ 0
-    → (is_held b update interval r ≡ false) × (held_count b update (interval + 1) later ≡ 0)
-new_first b update interval readings r later step e =
-    none_or_more (is_held b update interval r) (held_count b update (interval + 1) later)
-    (ap (held_count b update interval) (sym step) ∙ e)
-
-pub new_update : (b : BookValue) (es : List (ℕ × Option (Vec ReadingValue Global))) (update : ℕ) (kept : Option (Vec ReadingValue Global))
-    (later : List (ℕ × Option (Vec ReadingValue Global))) → es ≡ (update, kept) ∷ later → held_all b (claimed_entries b es) ≡ 0
-    → (held_count b update 1 (claimed_readings b update kept) ≡ 0) × (held_all b (claimed_entries b later) ≡ 0)
-new_update b es update kept later step e =
-    let sum : held_count b update 1 (claimed_readings b update kept) + held_all b (claimed_entries b later) ≡ 0 =
-    ap (λ l. held_all b (claimed_entries b l)) (sym step) ∙ e in
-    (omega arith, omega arith)
-
-pub length_none : {X : Type 0} (xs : List X) → length xs ≡ 0 → xs ≡ []
-length_none [] e = refl
-length_none (x ∷ xs) e = absurd (omega arith)
-
-pub start_update : (b : BookValue) (update : ℕ) (readings : List ReadingValue) (old : List (Key × ReadingValue)) (rest : List ReadingValue)
-    → rest ≡ readings → IsUpdateSettled b update readings old old 0 rest
-start_update b update readings old rest e = record {
-  versions = ap (λ l. old ++ fresh_versions b update 1 l) e;
-  place = omega (arith, ap length e);
+pub start_part : (b : BookValue) (update : ℕ) (readings : List ReadingValue) (rows : List (ℕ × Version)) → rows ≡ []
+    → IsPartPut b update readings 0 (map (version_at b.stream b.day) rows)
+start_part b update readings rows e = record {
+  versions = ap (λ l. map (version_at b.stream b.day) l ++ fresh_versions b update 1 readings) e;
 }
+
+module _ (b : BookValue) (update : ℕ) (readings : List ReadingValue) (i : ℕ) (now : List (Key × ReadingValue))
+    (is : IsPartPut b update readings i now) where
+  module _ (within : i < length readings) (r : ReadingValue) (at : (d : ReadingValue) → r ≡ get_or readings i d) where
+    -- the version at the index, if the book doesn't have it, and those behind it
+    abbrev from_here : Bool → List (Key × ReadingValue)
+    from_here t =
+        cond t (fresh_versions b update (i + 1 + 1) (drop (i + 1) readings))
+        ((key_of b (i + 1) update, r) ∷ fresh_versions b update (i + 1 + 1) (drop (i + 1) readings))
+
+    versions : now ++ from_here (is_held b update (i + 1) r) ≡ fresh_versions b update 1 readings
+    versions =
+        ap (λ l. now ++ fresh_versions b update (i + 1) l) (sym (drop_here readings i r within at)) ∙ is.versions
+
+    pub part_held : true ≡ is_held b update (i + 1) r → IsPartPut b update readings (i + 1) now
+    part_held e = record { versions = ap (λ t. now ++ from_here t) e ∙ versions }
+
+    pub part_fresh : (next : List (Key × ReadingValue)) → false ≡ is_held b update (i + 1) r
+        → next ≡ now ++ (key_of b (i + 1) update, r) ∷ [] → IsPartPut b update readings (i + 1) next
+    part_fresh next e push = record {
+      versions = ap (λ l. l ++ fresh_versions b update (i + 1 + 1) (drop (i + 1) readings)) push
+          ∙ append_assoc now ((key_of b (i + 1) update, r) ∷ []) (fresh_versions b update (i + 1 + 1) (drop (i + 1) readings))
+          ∙ ap (λ t. now ++ from_here t) e ∙ versions;
+    }
+
+  pub all_put : length readings ≤ i → now ≡ fresh_versions b update 1 readings
+  all_put h =
+      sym (append-nil now) ∙ ap (λ l. now ++ fresh_versions b update (i + 1) l) (sym (drop_all i readings h)) ∙ is.versions
 
 -- one more row
 pub pushed : (b : BookValue) (now next : List (ℕ × Version)) (interval update : ℕ) (r : ReadingValue)
@@ -112,14 +82,35 @@ pushed b now next interval update r e =
     ∙ map-append (version_at b.stream b.day) now ((interval, record { update = update; reading = r }) ∷ [])
 
 -- one more day
-pub day_pushed : (b : BookValue) (es : List (ℕ × List ReadingValue)) (old new : List DayVersions) (day : DayVersions) (none : List (ℕ × Version))
-    → new ≡ old ++ day ∷ [] → day.stream ≡ b.stream → day.day ≡ b.day → none ≡ []
-    → map (version_at b.stream b.day) day.rows.items ≡ map (version_at b.stream b.day) none ++ fresh_all b es
-    → versions_of new ≡ versions_of old ++ fresh_all b es
-day_pushed b es old new day none push s d empty rows =
+pub day_pushed : (b : BookValue) (added : List (Key × ReadingValue)) (old new : List DayVersions) (day : DayVersions)
+    → new ≡ old ++ day ∷ [] → day.stream ≡ b.stream → day.day ≡ b.day → map (version_at b.stream b.day) (rows_of day.rows) ≡ added
+    → versions_of new ≡ versions_of old ++ added
+day_pushed b added old new day push s d rows =
     ap versions_of push ∙ flat_map-append day_versions old (day ∷ []) ∙ ap (λ l. versions_of old ++ l)
-    (append-nil (day_versions day) ∙ (λ i. map (version_at (s i) (d i)) day.rows.items) ∙ rows
-    ∙ ap (λ l. map (version_at b.stream b.day) l ++ fresh_all b es) empty)
+    (append-nil (day_versions day) ∙ (λ i. map (version_at (s i) (d i)) (rows_of day.rows)) ∙ rows)
+
+-- where the book has none of the readings, it has neither the first nor one of the rest
+none_or_more : (t : Bool) (n : ℕ) → cond t 1 0 + n ≡ 0 → (t ≡ false) × (n ≡ 0)
+none_or_more true n e = absurd (omega arith)
+none_or_more false n e = (refl, omega arith)
+
+-- then all of them are added, as they lie
+pub whole_fresh : (b : BookValue) (update interval : ℕ) (readings : List ReadingValue) → held_count b update interval readings ≡ 0
+    → map (version_at b.stream b.day) (whole_rows update interval readings) ≡ fresh_versions b update interval readings
+whole_fresh b update interval [] e = refl
+whole_fresh b update interval (r ∷ rs) e =
+    let none = none_or_more (is_held b update interval r) (held_count b update (interval + 1) rs) e in
+    ap (λ l. (key_of b interval update, r) ∷ l) (whole_fresh b update (interval + 1) rs none.1)
+    ∙ ap (λ t. cond t (fresh_versions b update (interval + 1) rs) ((key_of b interval update, r) ∷ fresh_versions b update (interval + 1) rs))
+    (sym none.0)
+
+pub new_update : (b : BookValue) (es : List (ℕ × Option (List ReadingValue))) (update : ℕ) (kept : Option (List ReadingValue))
+    (later : List (ℕ × Option (List ReadingValue))) → es ≡ (update, kept) ∷ later → held_all b (claimed_entries b es) ≡ 0
+    → (held_count b update 1 (claimed_readings b update kept) ≡ 0) × (held_all b (claimed_entries b later) ≡ 0)
+new_update b es update kept later step e =
+    let sum : held_count b update 1 (claimed_readings b update kept) + held_all b (claimed_entries b later) ≡ 0 =
+    ap (λ l. held_all b (claimed_entries b l)) (sym step) ∙ e in
+    (omega arith, omega arith)
 
 -- of an update's readings those of which it is wanted that the book has them, or that it doesn't
 abbrev pub picked : (Bool → Bool) → BookValue → ℕ → ℕ → List ReadingValue → List (Key × ReadingValue)
@@ -296,46 +287,43 @@ none_of_book b update interval (r ∷ rs) held =
     ∙ none_of_book b update (interval + 1) rs (λ k x e.
     ap (λ i. is_held b update i x) (let y : interval + 1 + k ≡ interval + suc k = omega arith in y) ∙ held (suc k) x e)
 
--- the loop over the updates
-pub record IsSettled (b : BookValue) (es : List (ℕ × Option (Vec ReadingValue Global))) (old now : List (Key × ReadingValue))
-    (rest : List (ℕ × Option (Vec ReadingValue Global))) : Type 0 where
-  pub versions : now ++ fresh_all b (claimed_entries b rest) ≡ old ++ fresh_all b (claimed_entries b es)
-  pub within : (entry : ℕ × Option (Vec ReadingValue Global)) → Member entry rest → Member entry es
+-- where none are kept of an update the book has them all, and none is added
+pub none_settled : (b : BookValue) (update : ℕ) (kept : Option (List ReadingValue)) (old : List (Key × ReadingValue)) → kept ≡ None
+    → (IsNone kept → IsInBook b update) → old ≡ old ++ fresh_versions b update 1 (claimed_readings b update kept)
+none_settled b update kept old none held =
+    let z : (k : ℕ) → 1 + k ≡ k + 1 = λ k. omega arith in
+    sym (append-nil old) ∙ ap (λ l. old ++ l)
+    (sym (ap (λ o. fresh_versions b update 1 (claimed_readings b update o)) none
+    ∙ none_of_book b update 1 (readings_under update b.rows) (λ k r e.
+    ap (λ n. is_held b update n r) (z k) ∙ held (ap is_some none) k r e)))
 
-pub start_settled : (b : BookValue) (es rest : List (ℕ × Option (Vec ReadingValue Global))) (old : List (Key × ReadingValue)) → rest ≡ es
+-- the loop over the updates
+pub record IsSettled (b : BookValue) (es : List (ℕ × Option (List ReadingValue))) (old now : List (Key × ReadingValue))
+    (rest : List (ℕ × Option (List ReadingValue))) : Type 0 where
+  pub versions : now ++ fresh_all b (claimed_entries b rest) ≡ old ++ fresh_all b (claimed_entries b es)
+  pub within : (entry : ℕ × Option (List ReadingValue)) → Member entry rest → Member entry es
+
+pub start_settled : (b : BookValue) (es rest : List (ℕ × Option (List ReadingValue))) (old : List (Key × ReadingValue)) → rest ≡ es
     → IsSettled b es old old rest
 start_settled b es rest old e = record {
   versions = ap (λ l. old ++ fresh_all b (claimed_entries b l)) e;
   within = λ entry m. subst (λ l. Member entry l) e m;
 }
 
-module _ (b : BookValue) (es : List (ℕ × Option (Vec ReadingValue Global))) (old now : List (Key × ReadingValue))
-    (rest later : List (ℕ × Option (Vec ReadingValue Global))) (update : ℕ) (kept : Option (Vec ReadingValue Global))
+module _ (b : BookValue) (es : List (ℕ × Option (List ReadingValue))) (old now : List (Key × ReadingValue))
+    (rest later : List (ℕ × Option (List ReadingValue))) (update : ℕ) (kept : Option (List ReadingValue))
     (is : IsSettled b es old now rest) (step : rest ≡ (update, kept) ∷ later) where
   pub here_settled : Member (update, kept) es
   here_settled = is.within (update, kept) (subst (λ l. Member (update, kept) l) (sym step) (inl refl))
 
-  later_within : (entry : ℕ × Option (Vec ReadingValue Global)) → Member entry later → Member entry es
+  later_within : (entry : ℕ × Option (List ReadingValue)) → Member entry later → Member entry es
   later_within entry m = is.within entry (subst (λ l. Member entry l) (sym step) (inr m))
 
-  pub one_settled : (readings : List ReadingValue) → claimed_readings b update kept ≡ readings → (next : List (Key × ReadingValue))
-      → next ≡ now ++ fresh_versions b update 1 readings → IsSettled b es old next later
-  one_settled readings same next push = record {
+  pub one_settled : (next : List (Key × ReadingValue)) → next ≡ now ++ fresh_versions b update 1 (claimed_readings b update kept)
+      → IsSettled b es old next later
+  one_settled next push = record {
     versions = ap (λ l. l ++ fresh_all b (claimed_entries b later)) push
-        ∙ append_assoc now (fresh_versions b update 1 readings) (fresh_all b (claimed_entries b later))
-        ∙ ap (λ l. now ++ (fresh_versions b update 1 l ++ fresh_all b (claimed_entries b later))) (sym same)
-        ∙ ap (λ l. now ++ fresh_all b (claimed_entries b l)) (sym step) ∙ is.versions;
-    within = later_within;
-  }
-
-  -- the book has them all
-  pub none_settled : kept ≡ None → AreInBook b es → IsSettled b es old now later
-  none_settled none held = record {
-    versions = ap (λ l. now ++ (l ++ fresh_all b (claimed_entries b later)))
-        (sym (ap (λ o. fresh_versions b update 1 (claimed_readings b update o)) none
-        ∙ none_of_book b update 1 (readings_under update b.rows) (λ k r e.
-        ap (λ n. set.contains (book_world b) (VersionIs (key_of b n update) r)) (let z : 1 + k ≡ k + 1 = omega arith in z)
-        ∙ held update (subst (λ o. Member (update, o) es) none here_settled) k r e)))
+        ∙ append_assoc now (fresh_versions b update 1 (claimed_readings b update kept)) (fresh_all b (claimed_entries b later))
         ∙ ap (λ l. now ++ fresh_all b (claimed_entries b l)) (sym step) ∙ is.versions;
     within = later_within;
   }
@@ -344,17 +332,45 @@ module _ (b : BookValue) (es : List (ℕ × Option (Vec ReadingValue Global))) (
   readings_short short =
       short (update, claimed_readings b update kept) (map_in (claimed_entry b) es (update, kept) here_settled)
 
-pub all_settled : (b : BookValue) (es : List (ℕ × Option (Vec ReadingValue Global))) (old now : List (Key × ReadingValue))
-    (rest : List (ℕ × Option (Vec ReadingValue Global))) → IsSettled b es old now rest → rest ≡ []
-    → now ≡ old ++ fresh_all b (claimed_entries b es)
-all_settled b es old now rest is e =
-    sym (append-nil now) ∙ ap (λ l. now ++ fresh_all b (claimed_entries b l)) (sym e) ∙ is.versions
+-- the first update, and the others
+module _ (b : BookValue) (first : Option ClaimedUpdate) (others all : List (ℕ × Option (List ReadingValue))) (is : entries_of first others ≡ all) where
+  pub others_in : (x : ℕ × Option (List ReadingValue)) → Member x others → Member x all
+  others_in x m = subst (Member x) is (among_all first others x m)
+
+  pub others_short : AreShort (claimed_entries b all) → AreShort (claimed_entries b others)
+  others_short short entry m =
+      let n = in_map (claimed_entry b) others entry m in
+      short entry (subst (λ e. Member e (claimed_entries b all)) (sym n.2) (map_in (claimed_entry b) all n.0 (others_in n.0 n.1)))
+
+  module _ (f : ClaimedUpdate) (one : first ≡ Some f) where
+    pub first_step : all ≡ (f.update, f.readings) ∷ others
+    first_step = sym is ∙ ap (λ o. entries_of o others) one
+
+    pub first_in : Member (f.update, f.readings) all
+    first_in = subst (Member (f.update, f.readings)) (sym first_step) (inl refl)
+
+    pub first_short : AreShort (claimed_entries b all) → length (claimed_readings b f.update f.readings) ≤ 1440
+    first_short short = short _ (map_in (claimed_entry b) all (f.update, f.readings) first_in)
+
+  -- what is added of both
+  module _ (old now next : List (Key × ReadingValue)) (rest : next ≡ now ++ fresh_all b (claimed_entries b others)) where
+    pub settled_none : first ≡ None → now ≡ old → next ≡ old ++ fresh_all b (claimed_entries b all)
+    settled_none none same =
+        rest ∙ ap (λ l. l ++ fresh_all b (claimed_entries b others)) same
+        ∙ ap (λ l. old ++ fresh_all b (claimed_entries b l)) (sym (ap (λ o. entries_of o others) none) ∙ is)
+
+    pub settled_both : (f : ClaimedUpdate) → first ≡ Some f → now ≡ old ++ fresh_versions b f.update 1 (claimed_readings b f.update f.readings)
+        → next ≡ old ++ fresh_all b (claimed_entries b all)
+    settled_both f one more =
+        rest ∙ ap (λ l. l ++ fresh_all b (claimed_entries b others)) more
+        ∙ append_assoc old (fresh_versions b f.update 1 (claimed_readings b f.update f.readings)) (fresh_all b (claimed_entries b others))
+        ∙ ap (λ l. old ++ fresh_all b (claimed_entries b l)) (sym (first_step f one))
 
 -- where none is fresh
 pub none_fresh : (b : BookValue) (es : List (ℕ × List ReadingValue)) (held fresh : ℕ) (old : List (Key × ReadingValue))
     → AreCounts b es held fresh → fresh ≡ 0 → old ≡ old ++ fresh_all b es
 none_fresh b es held fresh old c e =
-    sym (append-nil old) ∙ ap (λ l. old ++ l) (sym (length_none (fresh_all b es) (sym c.fresh_are ∙ e)))
+    sym (append-nil old) ∙ ap (λ l. old ++ l) (sym (nil_from_length (fresh_all b es) (sym c.fresh_are ∙ e)))
 
 pub all_short : (b : BookValue) (form : Option (ℕ × MeasureUnit)) (claimed : List (ℕ × List ReadingValue)) → IsDayMerge b form claimed
     → AreShort claimed

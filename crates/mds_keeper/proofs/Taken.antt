@@ -1,16 +1,9 @@
 -- What a claim does to a merge.
 use Rattle.std.proofs.Common.{◌≡◌, ◌≢◌, ℕ, zero, suc, ◌+◌, ◌<◌, List, [], ◌∷◌, length, map, Option, Some, None, refl, sym, ap, ◌∙◌, subst, inl, inr, arith}
-use Rattle.std.specs.Prelude.{Bool, true, false, cond, ◌⊎◌, IsNone, is_some}
-use Rattle.std.specs.BTreeMap.{insert_entry}
+use Rattle.std.specs.Prelude.{◌++◌, ◌⊎◌, IsNone, is_some}
 use Rattle.std.specs.FinSet as set
 use Rattle.std.specs.List.{slice_get, flat_map}
-use Rattle.std.specs.Map.{lookup}
-use Rattle.std.specs.Ordering.{is_eq, nat_cmp, match_ordering}
-use Rattle.std.specs.declared.alloc.Global.{Global}
-use Rattle.std.specs.declared.cmp.Ordering.{Ordering}
-use Rattle.std.specs.declared.cmp.Ordering.TheVariants.{Less, Equal, Greater}
-use Rattle.std.specs.declared.vec.Vec.{Vec}
-use Rattle.std.proofs.lemmas.Bool.Decides.{nat_tests}
+use Rattle.std.proofs.lemmas.List.{map-append}
 use Rattle.std.proofs.lemmas.Option.{slice_get_cases}
 use Rattle.mds_calendar.specs.Length.{count_of}
 use Rattle.mds_quantity.specs.declared.unit.Unit.{Unit as MeasureUnit}
@@ -22,7 +15,7 @@ use Rattle.mds_world.specs.FactOrder.{exact, total}
 use Rattle.mds_world.specs.Facts.{Fact, PeriodContent, head_at, key_at}
 use Rattle.mds_statements.specs.declared.periods.PeriodKey.{PeriodKey}
 use Rattle.mds_world.specs.Facts.Fact.{HeadIs, VersionIs, PeriodIs}
-use Rattle.mds_world.proofs.Lists.{member_append, append_left, in_flat, flat_in, in_map, map_in}
+use Rattle.mds_world.proofs.Lists.{member_append, append_left, append_right, in_flat, flat_in, in_map, map_in}
 use Rattle.mds_world.specs.Lists.{Apart, Member}
 use Rattle.mds_world.proofs.Members.{same_by, in_union, union_left, union_right, in_list, list_in}
 use Rattle.mds_world.proofs.Sets.{union_assoc, union_absorbs, union_empty}
@@ -30,6 +23,7 @@ use Rattle.mds_world.specs.Sets.{◌∈◌}
 use Rattle.mds_world.specs.Stated.{day_facts, versions_from}
 use Rattle.mds_world.specs.World.{Agrees, IsLawful, World, union}
 use Rattle.mds_keeper.specs.Books.{BookValue, book_facts, book_world, head_facts, row_fact}
+use Rattle.mds_keeper.specs.ClaimedUpdates.{ComesBeside}
 use Rattle.mds_keeper.specs.Claims.{BreaksForm, Contradicts, IsFirst, Suits, SuitsForm, key_of}
 use Rattle.mds_keeper.specs.DayMerges.{DayMergeValue}
 use Rattle.mds_keeper.specs.DayMergeSteps.{AreInBook, IsDayMerge, IsInBook, all_claimed, claimed_entries, claimed_entry, claimed_facts, claimed_readings, merge_value}
@@ -39,12 +33,6 @@ use Rattle.mds_keeper.specs.declared.day_book.Version.{Version}
 use Rattle.mds_keeper.specs.declared.refusal.RefusalCode.{RefusalCode}
 use Rattle.mds_keeper.specs.declared.refusal.RefusalCode.TheVariants.{LengthConflict, UnitConflict, VersionConflict, JobReused, Protected, StaleUpdate, NoLikeDay, TooLong, NoAnchor, UnknownDay, BadJob, RangeTooWide}
 use Rattle.mds_keeper.proofs.Rows.{same_some}
-
-nat_tied : (a b : ℕ) → is_eq (nat_cmp a b) ≡ true → a ≡ b
-nat_tied a b e = grind (arith, nat_tests)
-
-nat_tie : (a : ℕ) → is_eq (nat_cmp a a) ≡ true
-nat_tie a = grind (arith, nat_tests)
 
 -- the head of a book's day
 abbrev pub head_of : BookValue → ℕ × MeasureUnit → Head
@@ -112,11 +100,11 @@ pub record IsBase (b : BookValue) (form : Option (ℕ × MeasureUnit)) (w : Worl
   pub periods : (key : PeriodKey) (content : PeriodContent) → PeriodIs key content ∈ w → ⊥
 
 module _ (b : BookValue) (c : Claim) where
-  pub in_claim : (f : Fact) → f ∈ claim_world b.stream b.day c → IsOfClaim b (c.length, c.unit) c.update c.readings.items f
-  in_claim f i = of_claim b (c.length, c.unit) c.update c.readings.items f (in_list (claim_facts b.stream b.day c) f i)
+  pub in_claim : (f : Fact) → f ∈ claim_world b.stream b.day c → IsOfClaim b (c.length, c.unit) c.update c.readings f
+  in_claim f i = of_claim b (c.length, c.unit) c.update c.readings f (in_list (claim_facts b.stream b.day c) f i)
 
-  pub claim_in : (f : Fact) → IsOfClaim b (c.length, c.unit) c.update c.readings.items f → f ∈ claim_world b.stream b.day c
-  claim_in f i = list_in (claim_facts b.stream b.day c) f (claim_of b (c.length, c.unit) c.update c.readings.items f i)
+  pub claim_in : (f : Fact) → IsOfClaim b (c.length, c.unit) c.update c.readings f → f ∈ claim_world b.stream b.day c
+  claim_in f i = list_in (claim_facts b.stream b.day c) f (claim_of b (c.length, c.unit) c.update c.readings f i)
 
 module _ (b : BookValue) (form : Option (ℕ × MeasureUnit)) (w : World) (c : Claim) (is : IsBase b form w) where
   length_breaks : (known : ℕ × MeasureUnit) → form ≡ Some known → known.0 ≢ c.length
@@ -195,7 +183,7 @@ module _ (b : BookValue) (form : Option (ℕ × MeasureUnit)) (w : World) (c : C
   -- two versions with one key have one reading where the claim suits
   one_reading_at : (key : Key) (x y : ReadingValue) → VersionIs key x ∈ union w (claim_world b.stream b.day c)
       → VersionIs key y ∈ union w (claim_world b.stream b.day c)
-      → ((k : ℕ) → key.interval ≡ k + 1 → Suits w b c.update c.readings.items k) → x ≡ y
+      → ((k : ℕ) → key.interval ≡ k + 1 → Suits w b c.update c.readings k) → x ≡ y
   one_reading_at key x y i j suits = elim (in_union w _ _ i) [
     | inl a ↦ elim (in_union w _ _ j) [
       | inl d ↦ is.agrees.one_reading key x y a d
@@ -207,14 +195,14 @@ module _ (b : BookValue) (form : Option (ℕ × MeasureUnit)) (w : World) (c : C
     ]
   ]
     where
-      old_and_claim : (u v : ReadingValue) → VersionIs key u ∈ w → IsOfClaim b (c.length, c.unit) c.update c.readings.items (VersionIs key v) → u ≡ v
+      old_and_claim : (u v : ReadingValue) → VersionIs key u ∈ w → IsOfClaim b (c.length, c.unit) c.update c.readings (VersionIs key v) → u ≡ v
       old_and_claim u v h (inl e) = cc
       old_and_claim u v h (inr n) =
           let s = same_key key _ v n.1 n.3 in
           suits n.0 (ap (λ q. q.interval) s.0) n.1 u n.2 (subst (λ q. VersionIs q u ∈ w) s.0 h) ∙ sym s.1
 
-      two_claimed : IsOfClaim b (c.length, c.unit) c.update c.readings.items (VersionIs key x)
-          → IsOfClaim b (c.length, c.unit) c.update c.readings.items (VersionIs key y) → x ≡ y
+      two_claimed : IsOfClaim b (c.length, c.unit) c.update c.readings (VersionIs key x)
+          → IsOfClaim b (c.length, c.unit) c.update c.readings (VersionIs key y) → x ≡ y
       two_claimed (inl e) q = cc
       two_claimed (inr n) (inl e) = cc
       two_claimed (inr n) (inr m) =
@@ -222,7 +210,7 @@ module _ (b : BookValue) (form : Option (ℕ × MeasureUnit)) (w : World) (c : C
           let t = same_key key _ y m.1 m.3 in
           let at : n.0 + 1 ≡ m.0 + 1 = sym (ap (λ q. q.interval) s.0) ∙ ap (λ q. q.interval) t.0 in
           let k : n.0 ≡ m.0 = omega arith in
-          s.1 ∙ same_some n.1 m.1 (sym n.2 ∙ ap (slice_get c.readings.items) k ∙ m.2) ∙ sym t.1
+          s.1 ∙ same_some n.1 m.1 (sym n.2 ∙ ap (slice_get c.readings) k ∙ m.2) ∙ sym t.1
 
   no_period : (key : PeriodKey) (content : PeriodContent) → PeriodIs key content ∈ union w (claim_world b.stream b.day c) → ⊥
   no_period key content i = elim (in_union w _ _ i) [
@@ -230,7 +218,7 @@ module _ (b : BookValue) (form : Option (ℕ × MeasureUnit)) (w : World) (c : C
     | inr a ↦ elim (in_claim b c _ a) [ inl e ↦ cc | inr n ↦ let k = n.3 in cc ]
   ]
 
-  pub accepted : SuitsForm form c.length c.unit → ((k : ℕ) → Suits w b c.update c.readings.items k)
+  pub accepted : SuitsForm form c.length c.unit → ((k : ℕ) → Suits w b c.update c.readings k)
       → Agrees (union w (claim_world b.stream b.day c))
   accepted same suits = record {
     one_head = λ x y i j s t. one_head x y i j;
@@ -246,7 +234,7 @@ module _ (b : BookValue) (form : Option (ℕ × MeasureUnit)) (w : World) (c : C
       one_head x y i j = claimed x i ∙ sym (claimed y j)
 
   pub reading_refused : SuitsForm form c.length c.unit → (interval : ℕ)
-      → IsFirst (Contradicts w b c.update c.readings.items) (Suits w b c.update c.readings.items) interval
+      → IsFirst (Contradicts w b c.update c.readings) (Suits w b c.update c.readings) interval
       → Breaks (union w (claim_world b.stream b.day c)) VersionConflict interval
   reading_refused same interval q =
       let wrong = q.2 in (
@@ -366,15 +354,15 @@ module _ (b : BookValue) (form : Option (ℕ × MeasureUnit)) (claimed : List (�
       said_version k r e =
           union_right _ _ _ (said_here (c.length, c.unit) (known_form _ m c.length c.unit suits) _ m _ (inr (k, r, e, refl)))
 
-      pub first_of_claims : (interval : ℕ) → length readings ≡ length c.readings.items
-          → IsFirst (λ k. slice_get readings k ≢ slice_get c.readings.items k)
-          (λ k. slice_get readings k ≡ slice_get c.readings.items k) interval
-          → IsFirst (Contradicts (union (book_world b) (all_claimed b form claimed)) b c.update c.readings.items)
-          (Suits (union (book_world b) (all_claimed b form claimed)) b c.update c.readings.items) interval
+      pub first_of_claims : (interval : ℕ) → length readings ≡ length c.readings
+          → IsFirst (λ k. slice_get readings k ≢ slice_get c.readings k)
+          (λ k. slice_get readings k ≡ slice_get c.readings k) interval
+          → IsFirst (Contradicts (union (book_world b) (all_claimed b form claimed)) b c.update c.readings)
+          (Suits (union (book_world b) (all_claimed b form claimed)) b c.update c.readings) interval
       first_of_claims interval many q = (q.0, q.1, wrong, right)
         where
-          wrong : Contradicts (union (book_world b) (all_claimed b form claimed)) b c.update c.readings.items q.0
-          wrong = elim (slice_get_cases c.readings.items q.0).1 [
+          wrong : Contradicts (union (book_world b) (all_claimed b form claimed)) b c.update c.readings q.0
+          wrong = elim (slice_get_cases c.readings q.0).1 [
             | inl x ↦ elim (slice_get_cases readings q.0).1 [
               | inl y ↦ (x.0, y.0, x.2, said_version q.0 y.0 y.2, λ e. q.2 (y.2 ∙ ap Some e ∙ sym x.2))
               | inr y ↦ absurd (omega (arith, y.0, x.1, many))
@@ -385,10 +373,10 @@ module _ (b : BookValue) (form : Option (ℕ × MeasureUnit)) (claimed : List (�
             ]
           ]
 
-          right : (j : ℕ) → j < q.0 → Suits (union (book_world b) (all_claimed b form claimed)) b c.update c.readings.items j
+          right : (j : ℕ) → j < q.0 → Suits (union (book_world b) (all_claimed b form claimed)) b c.update c.readings j
           right j below mine other e i = d.agrees.one_reading _ other mine i (said_version j mine (q.3 j below ∙ e))
 
-      pub known_claim : ((k : ℕ) → slice_get readings k ≡ slice_get c.readings.items k)
+      pub known_claim : ((k : ℕ) → slice_get readings k ≡ slice_get c.readings k)
           → all_claimed b form claimed
           ≡ union (all_claimed b form claimed) (claim_world b.stream b.day c)
       known_claim same = sym (union_absorbs total exact _ _ (λ f i. elim (in_claim b c f i) [
@@ -409,114 +397,17 @@ module _ (b : BookValue) (form : Option (ℕ × MeasureUnit)) (claimed : List (�
         ]
       ]
 
-      pub suits_all : (k : ℕ) → Suits (book_world b) b c.update c.readings.items k
-          → Suits (union (book_world b) (all_claimed b form claimed)) b c.update c.readings.items k
+      pub suits_all : (k : ℕ) → Suits (book_world b) b c.update c.readings k
+          → Suits (union (book_world b) (all_claimed b form claimed)) b c.update c.readings k
       suits_all k s mine other e i = s mine other e (of_book (k + 1) other i)
 
       pub first_of_book : (interval : ℕ)
-          → IsFirst (Contradicts (book_world b) b c.update c.readings.items) (Suits (book_world b) b c.update c.readings.items) interval
-          → IsFirst (Contradicts (union (book_world b) (all_claimed b form claimed)) b c.update c.readings.items)
-          (Suits (union (book_world b) (all_claimed b form claimed)) b c.update c.readings.items) interval
+          → IsFirst (Contradicts (book_world b) b c.update c.readings) (Suits (book_world b) b c.update c.readings) interval
+          → IsFirst (Contradicts (union (book_world b) (all_claimed b form claimed)) b c.update c.readings)
+          (Suits (union (book_world b) (all_claimed b form claimed)) b c.update c.readings) interval
       first_of_book interval q =
           let w = q.2 in
           (q.0, q.1, (w.0, w.1, w.2, union_left _ _ _ w.3, w.4), λ j below. suits_all j (q.3 j below))
-
--- a map's look-up by the order of the keys
-pub found_entry : {V : Type 0} (row : ℕ → Ordering) (key : ℕ) (order : (other : ℕ) → row other ≡ nat_cmp key other)
-    (es : List (ℕ × V)) (v : V) → Some v ≡ lookup (λ k. is_eq (row k)) es → Member (key, v) es
-found_entry row key order [] v e = cc
-found_entry row key order (x ∷ es) v e = go (is_eq (row x.0)) refl (found_entry row key order es v) e
-  where
-    go : (t : Bool) → is_eq (row x.0) ≡ t → (Some v ≡ lookup (λ k. is_eq (row k)) es → Member (key, v) es) → Some v ≡ cond t (Some x.1) (lookup (λ k. is_eq (row k)) es) → Member (key, v) (x ∷ es)
-    go true t rest f =
-        let k : key ≡ x.0 = nat_tied key x.0 (sym (ap is_eq (order x.0)) ∙ t) in
-        inl (λ i. (k i, same_some v x.1 f i))
-    go false t rest f = inr (rest f)
-
-pub absent_entry : {V : Type 0} (row : ℕ → Ordering) (key : ℕ) (order : (other : ℕ) → row other ≡ nat_cmp key other)
-    (es : List (ℕ × V)) → None ≡ lookup (λ k. is_eq (row k)) es
-    → (entry : ℕ × V) → Member entry es → entry.0 ≢ key
-absent_entry row key order [] e entry m = absurd m
-absent_entry row key order (x ∷ es) e entry m =
-    go (is_eq (row x.0)) refl (λ f. absent_entry row key order es f entry) e m
-  where
-    go : (t : Bool) → is_eq (row x.0) ≡ t
-        → (None ≡ lookup (λ k. is_eq (row k)) es → Member entry es → entry.0 ≢ key) → None ≡ cond t (Some x.1) (lookup (λ k. is_eq (row k)) es)
-        → Member entry (x ∷ es) → entry.0 ≢ key
-    go true t rest f n = cc
-    go false t rest f (inl k) = λ same.
-        let tie : is_eq (row x.0) ≡ true = ap is_eq (order x.0) ∙ ap (λ z. is_eq (nat_cmp key z)) (sym (ap (λ y. y.0) k) ∙ same) ∙ nat_tie key in
-        cc
-    go false t rest f (inr n) = rest f n
-
--- a key that isn't there goes in between
-module _ {V : Type 0} (cmp : ℕ → ℕ → Ordering) (key : ℕ) (order : (other : ℕ) → cmp key other ≡ nat_cmp key other) (v : V) where
-  pub not_equal : (other : ℕ) → other ≢ key → cmp key other ≢ Equal
-  not_equal other apart e = apart (sym (nat_tied key other (ap is_eq (sym (order other) ∙ e))))
-
-  pub in_inserted : (es : List (ℕ × V)) → ((e : ℕ × V) → Member e es → e.0 ≢ key)
-      → (x : ℕ × V) → Member x (insert_entry cmp es key v) → (x ≡ (key, v)) ⊎ Member x es
-  in_inserted [] none x (inl e) = inl e
-  in_inserted [] none x (inr z) = absurd z
-  in_inserted (e ∷ es) none x m =
-      go (cmp key e.0) (not_equal e.0 (none e (inl refl))) (in_inserted es (λ y k. none y (inr k)) x) m
-    where
-      go : (o : Ordering) → o ≢ Equal → (Member x (insert_entry cmp es key v) → (x ≡ (key, v)) ⊎ Member x es)
-          → Member x (match_ordering o ((key, v) ∷ e ∷ es) ((e.0, v) ∷ es) (e ∷ insert_entry cmp es key v))
-          → (x ≡ (key, v)) ⊎ Member x (e ∷ es)
-      go Less h rest (inl a) = inl a
-      go Less h rest (inr n) = inr n
-      go Equal h rest n = absurd (h refl)
-      go Greater h rest (inl a) = inr (inl a)
-      go Greater h rest (inr n) = elim (rest n) [ inl a ↦ inl a | inr k ↦ inr (inr k) ]
-
-  pub inserted_new : (es : List (ℕ × V)) → ((e : ℕ × V) → Member e es → e.0 ≢ key)
-      → Member (key, v) (insert_entry cmp es key v)
-  inserted_new [] none = inl refl
-  inserted_new (e ∷ es) none = go (cmp key e.0) (not_equal e.0 (none e (inl refl))) (inserted_new es (λ y k. none y (inr k)))
-    where
-      go : (o : Ordering) → o ≢ Equal → Member (key, v) (insert_entry cmp es key v)
-          → Member (key, v) (match_ordering o ((key, v) ∷ e ∷ es) ((e.0, v) ∷ es) (e ∷ insert_entry cmp es key v))
-      go Less h rest = inl refl
-      go Equal h rest = absurd (h refl)
-      go Greater h rest = inr rest
-
-  pub inserted_old : (es : List (ℕ × V)) → ((e : ℕ × V) → Member e es → e.0 ≢ key)
-      → (x : ℕ × V) → Member x es → Member x (insert_entry cmp es key v)
-  inserted_old [] none x m = absurd m
-  inserted_old (e ∷ es) none x m =
-      go (cmp key e.0) (not_equal e.0 (none e (inl refl))) (inserted_old es (λ y k. none y (inr k)) x) m
-    where
-      go : (o : Ordering) → o ≢ Equal → (Member x es → Member x (insert_entry cmp es key v)) → Member x (e ∷ es)
-          → Member x (match_ordering o ((key, v) ∷ e ∷ es) ((e.0, v) ∷ es) (e ∷ insert_entry cmp es key v))
-      go Less h rest n = inr n
-      go Equal h rest n = absurd (h refl)
-      go Greater h rest (inl a) = inl a
-      go Greater h rest (inr n) = inr (rest n)
-
-  pub inserted_apart : (es : List (ℕ × V)) → ((e : ℕ × V) → Member e es → e.0 ≢ key)
-      → Apart (map (λ entry. entry.0) es) → Apart (map (λ entry. entry.0) (insert_entry cmp es key v))
-  inserted_apart [] none a = ((λ m. m), tt)
-  inserted_apart (e ∷ es) none a =
-      go (cmp key e.0) (not_equal e.0 (none e (inl refl))) (inserted_apart es (λ y k. none y (inr k)) a.1)
-      (in_inserted es (λ y k. none y (inr k)))
-    where
-      go : (o : Ordering) → o ≢ Equal → Apart (map (λ entry. entry.0) (insert_entry cmp es key v))
-          → ((x : ℕ × V) → Member x (insert_entry cmp es key v) → (x ≡ (key, v)) ⊎ Member x es)
-          → Apart (map (λ entry. entry.0) (match_ordering o ((key, v) ∷ e ∷ es) ((e.0, v) ∷ es) (e ∷ insert_entry cmp es key v)))
-      go Less h rest put = (
-        (λ m. let n = in_map (λ (entry : ℕ × V). entry.0) (e ∷ es) key m in none n.0 n.1 (sym n.2)),
-        a,
-      )
-      go Equal h rest put = absurd (h refl)
-      go Greater h rest put = (
-        (λ m. let n = in_map (λ (entry : ℕ × V). entry.0) (insert_entry cmp es key v) e.0 m in
-            elim (put n.0 n.1) [
-              | inl s ↦ none e (inl refl) (n.2 ∙ ap (λ y. y.0) s)
-              | inr k ↦ a.0 (subst (λ y. Member y (map (λ entry. entry.0) es)) (sym n.2) (map_in (λ (entry : ℕ × V). entry.0) es n.0 k))
-            ]),
-        rest,
-      )
 
 -- a claim that comes in
 pub record ComesIn (claimed later : List (ℕ × List ReadingValue)) (update : ℕ) (readings : List ReadingValue) : Type 0 where
@@ -525,70 +416,98 @@ pub record ComesIn (claimed later : List (ℕ × List ReadingValue)) (update : �
   pub old : (x : ℕ × List ReadingValue) → Member x claimed → Member x later
   pub once : Apart (map (λ entry. entry.0) claimed) → Apart (map (λ entry. entry.0) later)
 
-same_updates : (b : BookValue) (es : List (ℕ × Option (Vec ReadingValue Global)))
-    → map (λ entry. entry.0) (claimed_entries b es) ≡ map (λ entry. entry.0) es
-same_updates b [] = refl
-same_updates b (e ∷ es) = ap (λ l. e.0 ∷ l) (same_updates b es)
-
--- what is claimed under an update, by the map
-pub claimed_entry_in : (b : BookValue) (es : List (ℕ × Option (Vec ReadingValue Global))) (update : ℕ) (kept : Option (Vec ReadingValue Global))
+-- what is claimed under an update, by what is kept of it
+pub claimed_entry_in : (b : BookValue) (es : List (ℕ × Option (List ReadingValue))) (update : ℕ) (kept : Option (List ReadingValue))
     → Member (update, kept) es → Member (update, claimed_readings b update kept) (claimed_entries b es)
 claimed_entry_in b es update kept m = map_in (claimed_entry b) es (update, kept) m
 
-pub none_kept : (b : BookValue) (es : List (ℕ × Option (Vec ReadingValue Global))) (update : ℕ) (kept : Option (Vec ReadingValue Global))
+pub none_kept : (b : BookValue) (es : List (ℕ × Option (List ReadingValue))) (update : ℕ) (kept : Option (List ReadingValue))
     → AreInBook b es → Member (update, kept) es → IsNone kept → IsInBook b update
 none_kept b es update None all m e = all update m
 none_kept b es update (Some readings) all m e = cc
 
-pub absent_claimed : (b : BookValue) (es : List (ℕ × Option (Vec ReadingValue Global))) (update : ℕ)
-    → ((entry : ℕ × Option (Vec ReadingValue Global)) → Member entry es → entry.0 ≢ update)
+pub absent_claimed : (b : BookValue) (es : List (ℕ × Option (List ReadingValue))) (update : ℕ)
+    → ((kept : Option (List ReadingValue)) → Member (update, kept) es → ⊥)
     → (entry : ℕ × List ReadingValue) → Member entry (claimed_entries b es) → entry.0 ≢ update
 absent_claimed b es update absent entry m e =
     let n = in_map (claimed_entry b) es entry m in
-    absent n.0 n.1 (sym (ap (λ x. x.0) n.2) ∙ e)
+    let same : n.0.0 ≡ update = sym (ap (λ x. x.0) n.2) ∙ e in
+    absent n.0.1 (subst (λ u. Member (u, n.0.1) es) same n.1)
 
-module _ (b : BookValue) (es later : List (ℕ × Option (Vec ReadingValue Global))) (update : ℕ) (kept : Option (Vec ReadingValue Global))
-    (readings : List ReadingValue) (same : claimed_readings b update kept ≡ readings)
-    (absent : (entry : ℕ × Option (Vec ReadingValue Global)) → Member entry es → entry.0 ≢ update)
-    (cmp : ℕ → ℕ → Ordering) (order : (other : ℕ) → cmp update other ≡ nat_cmp update other)
-    (put : later ≡ insert_entry cmp es update kept) where
-  pub comes_in : ComesIn (claimed_entries b es) (claimed_entries b later) update readings
-  comes_in = record {
-    from = λ x m.
-        let n = in_map (claimed_entry b) later x m in
-        elim (in_inserted cmp update order kept es absent n.0 (subst (λ l. Member n.0 l) put n.1)) [
-          | inl e ↦ inl (n.2 ∙ ap (claimed_entry b) e ∙ ap (λ l. (update, l)) same)
-          | inr k ↦ inr (subst (λ y. Member y (claimed_entries b es)) (sym n.2) (map_in (claimed_entry b) es n.0 k))
-        ];
-    new = subst (λ l. Member (update, l) (claimed_entries b later)) same
-        (claimed_entry_in b later update kept (subst (λ l. Member (update, kept) l) (sym put) (inserted_new cmp update order kept es absent)));
-    old = λ x m.
-        let n = in_map (claimed_entry b) es x m in
-        subst (λ y. Member y (claimed_entries b later)) (sym n.2) (map_in (claimed_entry b) later n.0
-        (subst (λ l. Member n.0 l) (sym put) (inserted_old cmp update order kept es absent n.0 n.1)));
+-- a list with an entry more
+module _ {T : Type 0} (old new : List T) (entry : T) (put : ComesBeside old new entry) where
+  pub beside_from : (x : T) → Member x new → (x ≡ entry) ⊎ Member x old
+  beside_from x m = elim (member_append x put.0 (entry ∷ put.1) (subst (Member x) put.3 m)) [
+    | inl n ↦ inr (subst (Member x) (sym put.2) (append_left x put.0 put.1 n))
+    | inr n ↦ elim n [ inl e ↦ inl e | inr k ↦ inr (subst (Member x) (sym put.2) (append_right x put.0 put.1 k)) ]
+  ]
+
+  beside_new : Member entry new
+  beside_new = subst (Member entry) (sym put.3) (append_right entry put.0 (entry ∷ put.1) (inl refl))
+
+  beside_old : (x : T) → Member x old → Member x new
+  beside_old x m = elim (member_append x put.0 put.1 (subst (Member x) put.2 m)) [
+    | inl n ↦ subst (Member x) (sym put.3) (append_left x put.0 (entry ∷ put.1) n)
+    | inr n ↦ subst (Member x) (sym put.3) (append_right x put.0 (entry ∷ put.1) (inr n))
+  ]
+
+apart_beside : {K : Type 0} (x : K) (front back : List K) → (Member x (front ++ back) → ⊥) → Apart (front ++ back) → Apart (front ++ x ∷ back)
+apart_beside x [] back absent a = (absent, a)
+apart_beside x (k ∷ front) back absent a = (
+  (λ m. elim (member_append k front (x ∷ back) m) [
+    | inl n ↦ a.0 (append_left k front back n)
+    | inr n ↦ elim n [ inl e ↦ absent (inl (sym e)) | inr r ↦ a.0 (append_right k front back r) ]
+  ]),
+  apart_beside x front back (λ m. absent (inr m)) a.1,
+)
+
+module _ (b : BookValue) (es later : List (ℕ × Option (List ReadingValue))) (update : ℕ) (kept : Option (List ReadingValue))
+    (put : ComesBeside es later (update, kept)) where
+  pub comes_in : (readings : List ReadingValue) → claimed_readings b update kept ≡ readings
+      → ((entry : ℕ × List ReadingValue) → Member entry (claimed_entries b es) → entry.0 ≢ update)
+      → ComesIn (claimed_entries b es) (claimed_entries b later) update readings
+  comes_in readings same absent = record {
+    from = beside_from (claimed_entries b es) (claimed_entries b later) (update, readings) beside;
+    new = beside_new (claimed_entries b es) (claimed_entries b later) (update, readings) beside;
+    old = beside_old (claimed_entries b es) (claimed_entries b later) (update, readings) beside;
     once = λ a.
-        subst Apart (ap (map (λ entry. entry.0)) (sym put) ∙ sym (same_updates b later))
-        (inserted_apart cmp update order kept es absent (subst Apart (same_updates b es) a));
+        subst Apart (sym (map-append key front ((update, readings) ∷ back)) ∙ ap (map key) (sym beside.3))
+        (apart_beside update (map key front) (map key back)
+        (λ m. let n = in_map key (front ++ back) update (subst (Member update) (sym (map-append key front back)) m) in
+        absent n.0 (subst (Member n.0) (sym beside.2) n.1) (sym n.2))
+        (subst Apart (ap (map key) beside.2 ∙ map-append key front back) a));
   }
+    where
+      key : ℕ × List ReadingValue → ℕ
+      key entry = entry.0
+
+      front : List (ℕ × List ReadingValue)
+      front = claimed_entries b put.0
+
+      back : List (ℕ × List ReadingValue)
+      back = claimed_entries b put.1
+
+      beside : ComesBeside (claimed_entries b es) (claimed_entries b later) (update, readings)
+      beside = (
+        front,
+        back,
+        ap (claimed_entries b) put.2 ∙ map-append (claimed_entry b) put.0 put.1,
+        ap (claimed_entries b) put.3 ∙ map-append (claimed_entry b) put.0 ((update, kept) ∷ put.1)
+            ∙ ap (λ l. front ++ (update, l) ∷ back) same,
+      )
 
   -- where nothing is kept of it the book has it all
   pub still_in_book : (IsNone kept → IsInBook b update) → AreInBook b es → AreInBook b later
-  still_in_book one all u m = elim (in_inserted cmp update order kept es absent _ (subst (λ l. Member (u, None) l) put m)) [
+  still_in_book one all u m = elim (beside_from es later (update, kept) put (u, None) m) [
     | inl e ↦ subst (IsInBook b) (sym (ap (λ x. x.0) e)) (one (ap (λ x. is_some x.1) (sym e)))
     | inr k ↦ all u k
   ]
-
--- a claim that suits a merge is of the length of its book
-pub whole_of : (b : BookValue) (form : Option (ℕ × MeasureUnit)) (claimed : List (ℕ × List ReadingValue)) → IsDayMerge b form claimed → (c : Claim)
-    → SuitsForm form c.length c.unit → length c.readings.items ≡ count_of c.length
-    → (known : ℕ × MeasureUnit) → b.head ≡ Some known → length c.readings.items ≡ count_of known.0
-whole_of b form claimed d c suits whole known e = whole ∙ ap (λ k. count_of k.0) (sym (suits known (d.known known e)))
 
 -- the update wasn't claimed before, and comes in
 module _ (b : BookValue) (form : Option (ℕ × MeasureUnit)) (claimed later : List (ℕ × List ReadingValue)) (d : IsDayMerge b form claimed)
     (c : Claim) (suits : SuitsForm form c.length c.unit)
     (absent : (entry : ℕ × List ReadingValue) → Member entry claimed → entry.0 ≢ c.update)
-    (comes : ComesIn claimed later c.update c.readings.items) where
+    (comes : ComesIn claimed later c.update c.readings) where
   pub said_more : all_claimed b (Some (c.length, c.unit)) later
       ≡ union (all_claimed b form claimed) (claim_world b.stream b.day c)
   said_more = same_by _ _
@@ -603,16 +522,16 @@ module _ (b : BookValue) (form : Option (ℕ × MeasureUnit)) (claimed later : L
         | inl a ↦ let n = in_said b form claimed f a in
             said_in b (c.length, c.unit) later n.2 (comes.old n.2 n.3) f
             (subst (λ k. IsOfClaim b k n.2.0 n.2.1 f) (suits n.0 n.1) n.4)
-        | inr a ↦ said_in b (c.length, c.unit) later (c.update, c.readings.items) comes.new f (in_claim b c f a)
+        | inr a ↦ said_in b (c.length, c.unit) later (c.update, c.readings) comes.new f (in_claim b c f a)
       ])
 
-  module _ (free : (k : ℕ) → Suits (book_world b) b c.update c.readings.items k) where
+  module _ (free : (k : ℕ) → Suits (book_world b) b c.update c.readings k) where
     pub agrees_more : Agrees (union (book_world b) (all_claimed b (Some (c.length, c.unit)) later))
     agrees_more =
         subst Agrees (union_assoc total exact (book_world b) _ _ ∙ ap (union (book_world b)) (sym said_more))
         (accepted b form _ c (base b form claimed d) suits (λ k. suits_all b form claimed d c suits absent k (free k)))
 
-    pub merge_more : length c.readings.items ≡ count_of c.length → IsDayMerge b (Some (c.length, c.unit)) later
+    pub merge_more : length c.readings ≡ count_of c.length → IsDayMerge b (Some (c.length, c.unit)) later
     merge_more many = record {
       agrees = agrees_more;
       whole = λ known e entry m. elim (comes.from entry m) [
@@ -622,7 +541,7 @@ module _ (b : BookValue) (form : Option (ℕ × MeasureUnit)) (claimed later : L
       once = comes.once d.once;
       none = λ e. cc;
       known = λ head e. ap Some (sym (suits head (d.known head e)));
-      told = λ known e. inr ((c.update, c.readings.items), comes.new);
+      told = λ known e. inr ((c.update, c.readings), comes.new);
     }
 
 -- a want of memory
@@ -653,16 +572,16 @@ module _ (b : BookValue) (form : Option (ℕ × MeasureUnit)) (claimed : List (�
 
   module _ (suits : SuitsForm form c.length c.unit) where
     pub claim_end : (readings : List ReadingValue) → Member (c.update, readings) claimed
-        → length readings ≡ length c.readings.items → (interval : ℕ)
-        → IsFirst (λ k. slice_get readings k ≢ slice_get c.readings.items k)
-        (λ k. slice_get readings k ≡ slice_get c.readings.items k) interval
+        → length readings ≡ length c.readings → (interval : ℕ)
+        → IsFirst (λ k. slice_get readings k ≢ slice_get c.readings k)
+        (λ k. slice_get readings k ≡ slice_get c.readings k) interval
         → Breaks (union (book_world v.book) (union v.said (claim_world v.book.stream v.book.day c))) VersionConflict interval
     claim_end readings m many interval q =
         refuse VersionConflict interval
         (reading_refused b form _ c (base b form claimed d) suits interval (first_of_claims b form claimed d c suits readings m interval many q))
 
     pub known_end : (readings : List ReadingValue) → Member (c.update, readings) claimed
-        → ((k : ℕ) → slice_get readings k ≡ slice_get c.readings.items k)
+        → ((k : ℕ) → slice_get readings k ≡ slice_get c.readings k)
         → (v.said ≡ union v.said (claim_world v.book.stream v.book.day c)) × Agrees (union (book_world v.book) v.said)
     known_end readings m same =
         subst (λ x. (x.said ≡ union x.said (claim_world x.book.stream x.book.day c)) × Agrees (union (book_world x.book) x.said)) is
@@ -670,13 +589,13 @@ module _ (b : BookValue) (form : Option (ℕ × MeasureUnit)) (claimed : List (�
 
     module _ (absent : (entry : ℕ × List ReadingValue) → Member entry claimed → entry.0 ≢ c.update) where
       pub book_end : (interval : ℕ)
-          → IsFirst (Contradicts (book_world b) b c.update c.readings.items) (Suits (book_world b) b c.update c.readings.items) interval
+          → IsFirst (Contradicts (book_world b) b c.update c.readings) (Suits (book_world b) b c.update c.readings) interval
           → Breaks (union (book_world v.book) (union v.said (claim_world v.book.stream v.book.day c))) VersionConflict interval
       book_end interval q =
           refuse VersionConflict interval
           (reading_refused b form _ c (base b form claimed d) suits interval (first_of_book b form claimed d c suits absent interval q))
 
-      pub lacking_end : ((k : ℕ) → Suits (book_world b) b c.update c.readings.items k)
+      pub lacking_end : ((k : ℕ) → Suits (book_world b) b c.update c.readings k)
           → Agrees (union (book_world v.book) (union v.said (claim_world v.book.stream v.book.day c)))
       lacking_end free =
           subst (λ x. Agrees (union (book_world x.book) (union x.said (claim_world x.book.stream x.book.day c)))) is
@@ -691,8 +610,8 @@ module _ (b : BookValue) (form : Option (ℕ × MeasureUnit)) (claimed : List (�
             | inr q ↦ absent n.2 n.3 (sym (ap (λ k. k.update) (same_key _ _ r q.1 q.3).0))
           ])
 
-      pub taken_end : (later : List (ℕ × List ReadingValue)) → ComesIn claimed later c.update c.readings.items
-          → ((k : ℕ) → Suits (book_world b) b c.update c.readings.items k)
+      pub taken_end : (later : List (ℕ × List ReadingValue)) → ComesIn claimed later c.update c.readings
+          → ((k : ℕ) → Suits (book_world b) b c.update c.readings k)
           → (b ≡ v.book)
           × (all_claimed b (Some (c.length, c.unit)) later
           ≡ union v.said (claim_world v.book.stream v.book.day c))
@@ -713,7 +632,7 @@ pub new_said : (b : BookValue) (form : Option (ℕ × MeasureUnit)) (es : List (
     → all_claimed b form es ≡ set.empty
 new_said b form es e = ap (λ l. all_claimed b form l) e ∙ none_said b form
 
-pub none_in_book : (b : BookValue) (es : List (ℕ × Option (Vec ReadingValue Global))) → es ≡ [] → AreInBook b es
+pub none_in_book : (b : BookValue) (es : List (ℕ × Option (List ReadingValue))) → es ≡ [] → AreInBook b es
 none_in_book b es e update m = absurd (subst (λ l. Member (update, None) l) e m)
 
 pub new_merge : (b : BookValue) (form : Option (ℕ × MeasureUnit)) (claimed : List (ℕ × List ReadingValue))

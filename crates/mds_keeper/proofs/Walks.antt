@@ -1,30 +1,24 @@
 -- A walk down the rows of a book, side by side with the readings of a claim.
-use Rattle.std.proofs.Common.{◌≡◌, ◌≢◌, ℕ, zero, suc, ◌+◌, ◌<◌, ◌≤◌, List, [], ◌∷◌, ◌++◌, ◌-◌, length, take, take_all, drop, get_or, Option, Some, refl, sym, ap, ◌∙◌, subst, inl, inr, arith, drop-cons, length-append}
+use Rattle.std.proofs.Common.{◌≡◌, ◌≢◌, ℕ, suc, ◌+◌, ◌<◌, ◌≤◌, List, [], ◌∷◌, ◌++◌, ◌-◌, length, take, take_all, drop, get_or, Option, Some, refl, sym, ap, ◌∙◌, subst, inl, inr, arith, drop-cons, length-append}
 use Rattle.std.specs.Prelude.{Bool, true, false, cond}
-use Rattle.std.specs.BTreeMap.{insert_entry}
 use Rattle.std.specs.List.{AllPairs, slice_get}
-use Rattle.std.specs.Ordering.{nat_cmp, match_ordering}
-use Rattle.std.specs.declared.alloc.Global.{Global}
-use Rattle.std.specs.declared.cmp.Ordering.{Ordering}
-use Rattle.std.specs.declared.cmp.Ordering.TheVariants.{Less, Equal, Greater}
-use Rattle.std.specs.declared.vec.Vec.{Vec}
 use Rattle.std.proofs.lemmas.Bool.{cases_lt}
-use Rattle.std.proofs.lemmas.Option.{slice_get_read}
+use Rattle.std.proofs.lemmas.List.{drop_all}
+use Rattle.std.proofs.lemmas.Option.{slice_get_cases, slice_get_within}
 use Rattle.mds_marks.specs.Reading.{ReadingValue}
-use Rattle.mds_world.specs.declared.facts.Key.{Key}
 use Rattle.mds_world.specs.Facts.Fact.{VersionIs}
 use Rattle.mds_world.specs.Lists.{Member}
 use Rattle.mds_world.specs.Sets.{◌∈◌}
 use Rattle.mds_world.specs.World.{Agrees}
 use Rattle.mds_keeper.specs.Books.{BookValue, book_world}
 use Rattle.mds_keeper.specs.BookRows.{IsBefore}
+use Rattle.mds_keeper.specs.ClaimedUpdates.{ComesBeside}
 use Rattle.mds_keeper.specs.Claims.{Contradicts, IsFirst, Suits, fresh_all, fresh_versions, held_all, held_count, is_held, key_of}
 use Rattle.mds_keeper.specs.DayMergeSteps.{AreCounts, IsFrom, claimed_entries, claimed_readings, row_of}
 use Rattle.mds_keeper.specs.declared.day_book.Version.{Version}
 use Rattle.mds_keeper.proofs.BookFacts.{row_in_book, row_of_book}
 use Rattle.mds_keeper.proofs.BookPlaces.{place_of}
 use Rattle.mds_keeper.proofs.Rows.{same_some}
-use Rattle.mds_keeper.proofs.Taken.{not_equal}
 
 -- ---- rows from an interval on
 
@@ -158,11 +152,11 @@ seeks_end rows interval update left e s reading m = subst (Member (row_of interv
 
 -- ---- what a book says of it
 
-module _ (b : BookValue) (rows : List (ℕ × Version)) (interval update : ℕ) (f : IsFrom b.rows interval rows) where
-  off : (t : Bool) → (t ≡ true → ⊥) → t ≡ false
-  off true h = absurd (h refl)
-  off false h = refl
+is_false : (t : Bool) → (t ≡ true → ⊥) → t ≡ false
+is_false true h = absurd (h refl)
+is_false false h = refl
 
+module _ (b : BookValue) (rows : List (ℕ × Version)) (interval update : ℕ) (f : IsFrom b.rows interval rows) where
   none_there : ((reading : ReadingValue) → Member (row_of interval update reading) rows → ⊥) → (other : ReadingValue)
       → VersionIs (key_of b interval update) other ∈ book_world b → ⊥
   none_there none other i = none other (f.whole _ (row_of_book b interval update other i) (omega arith))
@@ -171,7 +165,7 @@ module _ (b : BookValue) (rows : List (ℕ × Version)) (interval update : ℕ) 
       → (is_held b update interval reading ≡ false)
       × ((other : ReadingValue) → VersionIs (key_of b interval update) other ∈ book_world b → other ≡ reading)
   count_none reading none = (
-    off (is_held b update interval reading) (λ i. none_there none reading i),
+    is_false (is_held b update interval reading) (λ i. none_there none reading i),
     (λ other i. absurd (none_there none other i)),
   )
 
@@ -207,57 +201,81 @@ walk_start b update readings left e up = record {
   few = omega arith;
 }
 
-module _ (b : BookValue) (update : ℕ) (readings : List ReadingValue) (old left : List (ℕ × Version)) (held i : ℕ) (r : ReadingValue)
-    (w : IsWalked b update readings old held i) (within : i < length readings) (at : r ≡ get_or readings i r) (f : IsFrom old (i + 1) left) where
+module _ (b : BookValue) (update : ℕ) (readings : List ReadingValue) (old left : List (ℕ × Version)) (held i : ℕ)
+    (w : IsWalked b update readings old held i) (f : IsFrom old (i + 1) left) where
   pub walk_from : IsFrom b.rows (i + 1) left
   walk_from = from_later b.rows (i + 1) old left w.passes f
 
-  here : slice_get readings i ≡ Some r
-  here = slice_get_read readings (length readings) i r refl within at
+  module _ (within : i < length readings) where
+    here : (r : ReadingValue) × (slice_get readings i ≡ Some r) × (get_or readings i r ≡ r)
+    here = elim (slice_get_cases readings i).1 [ inl x ↦ (x.0, x.2, x.3) | inr y ↦ absurd (omega (arith, y.0)) ]
 
-  pub walk_on : (count : ℕ) → count ≡ cond (is_held b update (i + 1) r) 1 0
-      → ((other : ReadingValue) → VersionIs (key_of b (i + 1) update) other ∈ book_world b → other ≡ r)
-      → IsWalked b update readings left (held + count) (i + 1)
-  walk_on count is suits = record {
-    passes = passes_next b.rows (i + 1) left walk_from;
-    suits = λ k h. elim (cases_lt k i) [
-      | inl below ↦ w.suits k below
-      | inr above ↦
-          let e : i ≡ k = omega arith in
-          subst (λ n. Suits (book_world b) b update readings n) e
-          (λ mine other g j. suits other j ∙ same_some r mine (sym here ∙ g))
-    ];
-    counted =
-        let d : drop i readings ≡ r ∷ drop (suc i) readings = drop-cons readings i r within ∙ ap (λ x. x ∷ drop (suc i) readings) (sym at) in
-        let c : held + (cond (is_held b update (i + 1) r) 1 0 + held_count b update (i + 1 + 1) (drop (suc i) readings)) ≡ held_count b update 1 readings =
-        ap (λ l. held + held_count b update (i + 1) l) (sym d) ∙ w.counted in
-        let z : i + 1 ≡ suc i = omega arith in
-        ap (λ n. held + count + held_count b update (i + 1 + 1) (drop n readings)) z
-        ∙ ap (λ n. held + n + held_count b update (i + 1 + 1) (drop (suc i) readings)) is
-        ∙ omega (arith, c);
-    few = let c = few_one (is_held b update (i + 1) r) in let p = w.few in omega arith;
-  }
-    where
-      few_one : (t : Bool) → cond t 1 0 ≤ 1
-      few_one true = omega arith
-      few_one false = omega arith
+    pub walk_on : (count : ℕ)
+        → ((r : ReadingValue) → slice_get readings i ≡ Some r → (count ≡ cond (is_held b update (i + 1) r) 1 0)
+        × ((other : ReadingValue) → VersionIs (key_of b (i + 1) update) other ∈ book_world b → other ≡ r))
+        → IsWalked b update readings left (held + count) (i + 1)
+    walk_on count counts =
+        let r : ReadingValue = here.0 in
+        let at : slice_get readings i ≡ Some r = here.1 in
+        let is : count ≡ cond (is_held b update (i + 1) r) 1 0 = (counts r at).0 in
+        record {
+          passes = passes_next b.rows (i + 1) left walk_from;
+          suits = λ k h. elim (cases_lt k i) [
+            | inl below ↦ w.suits k below
+            | inr above ↦
+                let e : i ≡ k = omega arith in
+                subst (λ n. Suits (book_world b) b update readings n) e
+                (λ mine other g j. (counts r at).1 other j ∙ same_some r mine (sym at ∙ g))
+          ];
+          counted =
+              let d : drop i readings ≡ r ∷ drop (suc i) readings = drop-cons readings i r within ∙ ap (λ x. x ∷ drop (suc i) readings) here.2 in
+              let c : held + (cond (is_held b update (i + 1) r) 1 0 + held_count b update (i + 1 + 1) (drop (suc i) readings)) ≡ held_count b update 1 readings =
+              ap (λ l. held + held_count b update (i + 1) l) (sym d) ∙ w.counted in
+              let z : i + 1 ≡ suc i = omega arith in
+              ap (λ n. held + count + held_count b update (i + 1 + 1) (drop n readings)) z
+              ∙ ap (λ n. held + n + held_count b update (i + 1 + 1) (drop (suc i) readings)) is
+              ∙ omega (arith, c);
+          few = let c = few_one (is_held b update (i + 1) r) in let p = w.few in omega arith;
+        }
+      where
+        few_one : (t : Bool) → cond t 1 0 ≤ 1
+        few_one true = omega arith
+        few_one false = omega arith
 
-  pub walk_stop : ((other : ReadingValue) × (VersionIs (key_of b (i + 1) update) other ∈ book_world b) × (other ≢ r))
-      → IsFirst (Contradicts (book_world b) b update readings) (Suits (book_world b) b update readings) (i + 1)
-  walk_stop q = (i, refl, (r, q.0, here, q.1, q.2), w.suits)
+    pub walk_stop : ((r : ReadingValue) → slice_get readings i ≡ Some r
+        → (other : ReadingValue) × (VersionIs (key_of b (i + 1) update) other ∈ book_world b) × (other ≢ r))
+        → IsFirst (Contradicts (book_world b) b update readings) (Suits (book_world b) b update readings) (i + 1)
+    walk_stop none = let q = none here.0 here.1 in (i, refl, (here.0, q.0, here.1, q.1, q.2), w.suits)
 
 pub walk_end : (b : BookValue) (update : ℕ) (readings : List ReadingValue) (left : List (ℕ × Version)) (held i : ℕ)
     → IsWalked b update readings left held i → length readings ≤ i → held ≡ held_count b update 1 readings
 walk_end b update readings left held i w h =
     let c : held + held_count b update (i + 1) [] ≡ held_count b update 1 readings =
-    ap (λ l. held + held_count b update (i + 1) l) (sym (none_behind readings i h)) ∙ w.counted in
+    ap (λ l. held + held_count b update (i + 1) l) (sym (drop_all i readings h)) ∙ w.counted in
     omega arith
-  where
-    none_behind : {X : Type 0} (xs : List X) (n : ℕ) → length xs ≤ n → drop n xs ≡ []
-    none_behind [] zero h = refl
-    none_behind [] (suc n) h = refl
-    none_behind (x ∷ xs) zero h = absurd (omega arith)
-    none_behind (x ∷ xs) (suc n) h = none_behind xs n (omega arith)
+
+pub walk_suits : (b : BookValue) (update : ℕ) (readings : List ReadingValue) (left : List (ℕ × Version)) (held i : ℕ)
+    → IsWalked b update readings left held i → length readings ≤ i → (k : ℕ) → Suits (book_world b) b update readings k
+walk_suits b update readings left held i w h k mine other e g =
+    w.suits k (omega (arith, slice_get_within readings k mine e)) mine other e g
+
+-- ---- a book without rows has no reading
+
+module _ (b : BookValue) (update : ℕ) (none : b.rows ≡ []) where
+  not_there : (interval : ℕ) (r : ReadingValue) → VersionIs (key_of b interval update) r ∈ book_world b → ⊥
+  not_there interval r i = subst (Member (row_of interval update r)) none (row_of_book b interval update r i)
+
+  pub none_held : (interval : ℕ) (rs : List ReadingValue) → held_count b update interval rs ≡ 0
+  none_held interval [] = refl
+  none_held interval (r ∷ rs) =
+      none_more (is_held b update interval r) (is_false (is_held b update interval r) (not_there interval r)) _ (none_held (interval + 1) rs)
+    where
+      none_more : (t : Bool) → t ≡ false → (n : ℕ) → n ≡ 0 → cond t 1 0 + n ≡ 0
+      none_more true e n z = cc
+      none_more false e n z = omega arith
+
+  pub none_suits : (rs : List ReadingValue) (k : ℕ) → Suits (book_world b) b update rs k
+  none_suits rs k mine other e i = absurd (not_there (k + 1) other i)
 
 -- ---- the counts of all that was claimed
 
@@ -273,60 +291,41 @@ one_or_other b update interval (r ∷ rs) = go (is_held b update interval r) (on
     go true h = omega arith
     go false h = omega arith
 
-module _ (b : BookValue) (cmp : ℕ → ℕ → Ordering) (key : ℕ) (order : (other : ℕ) → cmp key other ≡ nat_cmp key other) (v : Option (Vec ReadingValue Global)) where
-  held_inserted : (es : List (ℕ × Option (Vec ReadingValue Global))) → ((e : ℕ × Option (Vec ReadingValue Global)) → Member e es → e.0 ≢ key)
-      → held_all b (claimed_entries b (insert_entry cmp es key v)) ≡ held_all b (claimed_entries b es) + held_count b key 1 (claimed_readings b key v)
-  held_inserted [] none = omega arith
-  held_inserted (e ∷ es) none = go (cmp key e.0) (not_equal cmp key order v e.0 (none e (inl refl))) (held_inserted es (λ y k. none y (inr k)))
-    where
-      go : (o : Ordering) → o ≢ Equal → held_all b (claimed_entries b (insert_entry cmp es key v)) ≡ held_all b (claimed_entries b es) + held_count b key 1 (claimed_readings b key v)
-          → held_all b (claimed_entries b (match_ordering o ((key, v) ∷ e ∷ es) ((e.0, v) ∷ es) (e ∷ insert_entry cmp es key v)))
-          ≡ held_count b e.0 1 (claimed_readings b e.0 e.1) + held_all b (claimed_entries b es) + held_count b key 1 (claimed_readings b key v)
-      go Less h rest = omega arith
-      go Equal h rest = absurd (h refl)
-      go Greater h rest = omega arith
+module _ (b : BookValue) (update : ℕ) (kept : Option (List ReadingValue)) where
+  held_beside : (front back : List (ℕ × Option (List ReadingValue)))
+      → held_all b (claimed_entries b (front ++ (update, kept) ∷ back))
+      ≡ held_all b (claimed_entries b (front ++ back)) + held_count b update 1 (claimed_readings b update kept)
+  held_beside [] back = omega arith
+  held_beside (e ∷ front) back = let rest = held_beside front back in omega arith
 
-  fresh_inserted : (es : List (ℕ × Option (Vec ReadingValue Global))) → ((e : ℕ × Option (Vec ReadingValue Global)) → Member e es → e.0 ≢ key)
-      → length (fresh_all b (claimed_entries b (insert_entry cmp es key v))) ≡ length (fresh_all b (claimed_entries b es)) + length (fresh_versions b key 1 (claimed_readings b key v))
-  fresh_inserted [] none = length-append (fresh_versions b key 1 (claimed_readings b key v)) [] ∙ omega arith
-  fresh_inserted (e ∷ es) none = go (cmp key e.0) (not_equal cmp key order v e.0 (none e (inl refl))) (fresh_inserted es (λ y k. none y (inr k)))
-    where
-      here : List (Key × ReadingValue)
-      here = fresh_versions b e.0 1 (claimed_readings b e.0 e.1)
+  fresh_beside : (front back : List (ℕ × Option (List ReadingValue)))
+      → length (fresh_all b (claimed_entries b (front ++ (update, kept) ∷ back)))
+      ≡ length (fresh_all b (claimed_entries b (front ++ back))) + length (fresh_versions b update 1 (claimed_readings b update kept))
+  fresh_beside [] back =
+      length-append (fresh_versions b update 1 (claimed_readings b update kept)) (fresh_all b (claimed_entries b back)) ∙ omega arith
+  fresh_beside (e ∷ front) back =
+      let rest = fresh_beside front back in
+      let l = length-append (fresh_versions b e.0 1 (claimed_readings b e.0 e.1)) (fresh_all b (claimed_entries b (front ++ (update, kept) ∷ back))) in
+      let m = length-append (fresh_versions b e.0 1 (claimed_readings b e.0 e.1)) (fresh_all b (claimed_entries b (front ++ back))) in
+      omega arith
 
-      new : List (Key × ReadingValue)
-      new = fresh_versions b key 1 (claimed_readings b key v)
-
-      all : List (Key × ReadingValue)
-      all = fresh_all b (claimed_entries b (insert_entry cmp es key v))
-
-      go : (o : Ordering) → o ≢ Equal → length all ≡ length (fresh_all b (claimed_entries b es)) + length new
-          → length (fresh_all b (claimed_entries b (match_ordering o ((key, v) ∷ e ∷ es) ((e.0, v) ∷ es) (e ∷ insert_entry cmp es key v))))
-          ≡ length (here ++ fresh_all b (claimed_entries b es)) + length new
-      go Less h rest = length-append new (here ++ fresh_all b (claimed_entries b es)) ∙ omega arith
-      go Equal h rest = absurd (h refl)
-      go Greater h rest =
-          let l = length-append here all in
-          let m = length-append here (fresh_all b (claimed_entries b es)) in
-          omega arith
-
-  pub counts_more : (es later : List (ℕ × Option (Vec ReadingValue Global)))
-      → ((e : ℕ × Option (Vec ReadingValue Global)) → Member e es → e.0 ≢ key)
-      → later ≡ insert_entry cmp es key v → (rs : List ReadingValue) → claimed_readings b key v ≡ rs
+  pub counts_more : (es later : List (ℕ × Option (List ReadingValue))) → ComesBeside es later (update, kept)
+      → (rs : List ReadingValue) → claimed_readings b update kept ≡ rs
       → (held fresh one other all_held all_fresh : ℕ) → AreCounts b (claimed_entries b es) held fresh
-      → one ≡ held_count b key 1 rs → one + other ≡ length rs → all_held ≡ held + one → all_fresh ≡ fresh + other
+      → one ≡ held_count b update 1 rs → one + other ≡ length rs → all_held ≡ held + one → all_fresh ≡ fresh + other
       → AreCounts b (claimed_entries b later) all_held all_fresh
-  counts_more es later none put rs same held fresh one other all_held all_fresh c is split h f =
-      let both = one_or_other b key 1 (claimed_readings b key v) in
-      let p = c.held_are in
-      let q = c.fresh_are in
-      let one_is : one ≡ held_count b key 1 (claimed_readings b key v) = is ∙ ap (held_count b key 1) (sym same) in
-      let all : one + other ≡ length (claimed_readings b key v) = split ∙ ap length (sym same) in
+  counts_more es later put rs same held fresh one other all_held all_fresh c is split h f =
+      let both = one_or_other b update 1 (claimed_readings b update kept) in
+      let p : held ≡ held_all b (claimed_entries b (put.0 ++ put.1)) = c.held_are ∙ ap (λ l. held_all b (claimed_entries b l)) put.2 in
+      let q : fresh ≡ length (fresh_all b (claimed_entries b (put.0 ++ put.1))) =
+      c.fresh_are ∙ ap (λ l. length (fresh_all b (claimed_entries b l))) put.2 in
+      let one_is : one ≡ held_count b update 1 (claimed_readings b update kept) = is ∙ ap (held_count b update 1) (sym same) in
+      let all : one + other ≡ length (claimed_readings b update kept) = split ∙ ap length (sym same) in
       record {
-        held_are = (let z : all_held ≡ held_all b (claimed_entries b es) + held_count b key 1 (claimed_readings b key v) = omega arith in z)
-            ∙ sym (held_inserted es none) ∙ ap (λ l. held_all b (claimed_entries b l)) (sym put);
-        fresh_are = (let z : all_fresh ≡ length (fresh_all b (claimed_entries b es)) + length (fresh_versions b key 1 (claimed_readings b key v)) = omega arith in z)
-            ∙ sym (fresh_inserted es none) ∙ ap (λ l. length (fresh_all b (claimed_entries b l))) (sym put);
+        held_are = (let z : all_held ≡ held_all b (claimed_entries b (put.0 ++ (update, kept) ∷ put.1)) = omega (arith, held_beside put.0 put.1) in z)
+            ∙ ap (λ l. held_all b (claimed_entries b l)) (sym put.3);
+        fresh_are = (let z : all_fresh ≡ length (fresh_all b (claimed_entries b (put.0 ++ (update, kept) ∷ put.1))) = omega (arith, fresh_beside put.0 put.1) in z)
+            ∙ ap (λ l. length (fresh_all b (claimed_entries b l))) (sym put.3);
       }
 
 pub counts_same : (b : BookValue) (es later : List (ℕ × List ReadingValue)) (held fresh : ℕ) → later ≡ es → AreCounts b es held fresh

@@ -1,5 +1,5 @@
 -- What additions add, as facts.
-use Rattle.std.specs.Prelude.{ℕ, List, ◌++◌, map}
+use Rattle.std.specs.Prelude.{ℕ, ◌+◌, List, [], ◌∷◌, ◌++◌, map}
 use Rattle.std.specs.List.{flat_map}
 use Rattle.std.specs.FinSet as set
 use Rattle.mds_marks.specs.Reading.{ReadingValue}
@@ -15,6 +15,8 @@ use Rattle.mds_world.specs.Sets.{◌∈◌}
 use Rattle.mds_world.specs.World.{World}
 use Rattle.mds_keeper.specs.declared.additions.Additions.{Additions}
 use Rattle.mds_keeper.specs.declared.additions.DayVersions.{DayVersions}
+use Rattle.mds_keeper.specs.declared.additions.VersionRows.{VersionRows}
+use Rattle.mds_keeper.specs.declared.additions.VersionRows.TheVariants.{Each, Whole}
 use Rattle.mds_keeper.specs.declared.day_book.Version.{Version}
 
 -- where a version of a day of a stream stands, and its reading
@@ -22,8 +24,19 @@ abbrev pub version_at : Stream → ℕ → ℕ × Version → Key × ReadingValu
 version_at stream day row =
     (key_at stream day row.0 row.1.update, row.1.reading)
 
+-- a version of each interval in turn, from one on, under an update
+abbrev pub whole_rows : ℕ → ℕ → List ReadingValue → List (ℕ × Version)
+whole_rows update interval [] = []
+whole_rows update interval (reading ∷ rest) =
+    (interval, record { update = update; reading = reading }) ∷ whole_rows update (interval + 1) rest
+
+-- the versions of a day, each with its interval
+abbrev pub rows_of : VersionRows → List (ℕ × Version)
+rows_of (Each rows) = rows.items
+rows_of (Whole update readings) = whole_rows update 1 readings
+
 abbrev pub day_versions : DayVersions → List (Key × ReadingValue)
-day_versions day = map (version_at day.stream day.day) day.rows.items
+day_versions day = map (version_at day.stream day.day) (rows_of day.rows)
 
 -- the versions of days, one day after the other
 abbrev pub versions_of : List DayVersions → List (Key × ReadingValue)

@@ -4,8 +4,6 @@ use Rattle.std.specs.Coded.{Coded, code_by, coded×, coded_ℕ, coded_list, code
 use Rattle.std.specs.FinSet as set
 use Rattle.std.specs.FinSet.{code}
 use Rattle.std.specs.List.{AllPairs, flat_map, slice_get}
-use Rattle.std.specs.declared.alloc.Global.{Global}
-use Rattle.std.specs.declared.vec.Vec.{Vec}
 use Rattle.mds_calendar.specs.Length.{count_of}
 use Rattle.mds_quantity.specs.declared.unit.Unit.{Unit as MeasureUnit}
 use Rattle.mds_marks.specs.Reading.{ReadingValue}
@@ -35,19 +33,19 @@ IsInBook book update =
     → VersionIs (key_of book (k + 1) update) reading ∈ book_world book
 
 -- the readings claimed under an update: where none are kept, those that the book has
-abbrev pub claimed_readings : BookValue → ℕ → Option (Vec ReadingValue Global) → List ReadingValue
-claimed_readings book update (Some readings) = readings.items
+abbrev pub claimed_readings : BookValue → ℕ → Option (List ReadingValue) → List ReadingValue
+claimed_readings book update (Some readings) = readings
 claimed_readings book update None = readings_under update book.rows
 
-abbrev pub claimed_entry : BookValue → ℕ × Option (Vec ReadingValue Global) → ℕ × List ReadingValue
+abbrev pub claimed_entry : BookValue → ℕ × Option (List ReadingValue) → ℕ × List ReadingValue
 claimed_entry book entry = (entry.0, claimed_readings book entry.0 entry.1)
 
 -- the same of all updates that were claimed
-abbrev pub claimed_entries : BookValue → List (ℕ × Option (Vec ReadingValue Global)) → List (ℕ × List ReadingValue)
+abbrev pub claimed_entries : BookValue → List (ℕ × Option (List ReadingValue)) → List (ℕ × List ReadingValue)
 claimed_entries book claimed = map (claimed_entry book) claimed
 
 -- where none are kept, the book has them
-abbrev pub AreInBook : BookValue → List (ℕ × Option (Vec ReadingValue Global)) → Type 0
+abbrev pub AreInBook : BookValue → List (ℕ × Option (List ReadingValue)) → Type 0
 AreInBook book claimed = (update : ℕ) → Member (update, None) claimed → IsInBook book update
 
 -- what was claimed under an update; on which lines isn't kept

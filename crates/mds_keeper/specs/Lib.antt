@@ -2,6 +2,7 @@ pub mod BookOrder
 pub mod BookPlaces
 pub mod BookRows
 pub mod Books
+pub mod ClaimedUpdates
 pub mod Claims
 pub mod Content
 pub mod DayMergeSteps

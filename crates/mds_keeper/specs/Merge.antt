@@ -66,7 +66,7 @@ pub record IsRefusal (w : World) (stated_upto : ℕ → World) (refusal : Refusa
 
 -- what a claim states of a day of a stream
 abbrev pub claim_facts : Stream → ℕ → Claim → List Fact
-claim_facts stream day claim = day_facts stream day claim.length claim.unit claim.update claim.readings.items
+claim_facts stream day claim = day_facts stream day claim.length claim.unit claim.update claim.readings
 
 abbrev pub claim_world : Stream → ℕ → Claim → World
 claim_world stream day claim = set.from_list (claim_facts stream day claim)

@@ -1,19 +1,83 @@
 //! What is added to a World.
 
+ghost use Rattle.std.specs.Prelude.{◌≡◌, ◌++◌, OnOk};
+ghost use Rattle.mds_keeper.specs.Content.{rows_of, whole_rows};
+
 use crate::day_book::Version;
 use mds_jobs::Job;
+use mds_runs::DayReadings;
 use mds_statements::Period;
-use mds_terms::{Day, Event, Stream};
+use mds_terms::{Day, Event, Moment, Stream};
 use mds_world::{Detail, Head};
-use std::alloc::Global;
+use std::alloc::{AllocError, Global};
 
-/// Versions of a day of a stream, in any order.
+/// Versions of a day of a stream.
 #[derive(Drop)]
 pub struct DayVersions {
     pub stream: Stream,
     pub day: Day,
-    /// Each with the number of its interval.
-    pub rows: Vec<(u16, Version)>,
+    pub rows: VersionRows,
+}
+
+/// The versions of a day, each with the number of its interval.
+pub enum VersionRows {
+    /// These, in any order.
+    Each(Vec<(u16, Version)>),
+    /// One of each interval, from 1 on, all under one update. So a file states a day, and its readings are moved here as they lie.
+    Whole(Moment, DayReadings),
+}
+
+// Written out, so that it is one call for whoever drops a day's versions.
+impl Drop for VersionRows {
+    fn drop(self) {
+        match self {
+            VersionRows::Each(rows) => drop(rows),
+            VersionRows::Whole(_, readings) => drop(readings),
+        }
+    }
+}
+
+impl VersionRows {
+    /// Moves them behind these versions. Readings that lie together are copied one by one: each takes the room of a version, and that
+    /// of its reason's text.
+    pub fn append_to(self, rows: &mut Vec<(u16, Version)>) -> Result<(), AllocError>
+        ensures { OnOk result (rows.new.items ≡ rows.old.items ++ rows_of self) }
+    {
+        match self {
+            VersionRows::Each(more) => append_each(rows, more),
+            VersionRows::Whole(update, readings) => append_whole(rows, update, &readings),
+        }
+    }
+}
+
+/// Moves versions behind others. Where there are no others they take no memory.
+fn append_each(rows: &mut Vec<(u16, Version)>, more: Vec<(u16, Version)>) -> Result<(), AllocError>
+    ensures { OnOk result (rows.new.items ≡ rows.old.items ++ more.items) }
+{
+    if rows.is_empty() {
+        *rows = more;
+        return Ok(());
+    }
+    for row in more {
+        rows.push(row)?;
+    }
+    Ok(())
+}
+
+/// Puts a copy of each reading behind versions, from interval 1 on and under one update.
+fn append_whole(
+    rows: &mut Vec<(u16, Version)>,
+    update: Moment,
+    readings: &DayReadings,
+) -> Result<(), AllocError>
+    ensures { OnOk result (rows.new.items ≡ rows.old.items ++ whole_rows update 1 readings.now) }
+{
+    rows.reserve(readings.len())?;
+    for i in 0..readings.len() {
+        let reading = readings.reading(i)?;
+        rows.push(((i + 1) as u16, Version { update, reading }))?;
+    }
+    Ok(())
 }
 
 /// What a change adds to each set that a World has.

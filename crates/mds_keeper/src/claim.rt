@@ -3,8 +3,8 @@
 ghost use Rattle.std.specs.Prelude.{◌≡◌, ◌<◌, IfOk, OnErr, length as size};
 ghost use Rattle.mds_calendar.specs.Length.{count_of};
 
-use mds_marks::Reading;
 use mds_quantity::Unit;
+use mds_runs::DayReadings;
 use mds_terms::{Length, Moment};
 use std::alloc::{AllocError, Global};
 
@@ -18,8 +18,8 @@ pub struct Claim {
     pub unit: Unit,
     pub update: Moment,
     /// One for each interval, in order.
-    pub readings: Vec<Reading>,
-    pub ghost whole: { size readings.items ≡ count_of length },
+    pub readings: DayReadings,
+    pub ghost whole: { size readings ≡ count_of length },
 }
 
 impl Claim {
@@ -27,19 +27,15 @@ impl Claim {
     pub fn try_clone(&self, alloc: Global) -> Result<Claim, AllocError>
         ensures value { IfOk result (λ claim. (claim.line ≡ self.now.line) × (claim.length ≡ self.now.length)
             × (claim.unit ≡ self.now.unit) × (claim.update ≡ self.now.update)
-            × (claim.readings.items ≡ self.now.readings.items)) }
-        ensures memory { OnErr result (0 < size self.now.readings.items) }
+            × (claim.readings ≡ self.now.readings)) }
+        ensures memory { OnErr result (0 < size self.now.readings) }
     {
-        let mut readings = Vec::with_capacity(alloc, self.readings.len())?;
-        for reading in &self.readings {
-            readings.push(reading.try_clone()?)?;
-        }
         Ok(Claim {
             line: self.line,
             length: self.length,
             unit: self.unit,
             update: self.update,
-            readings,
+            readings: self.readings.try_clone(alloc)?,
         })
     }
 }

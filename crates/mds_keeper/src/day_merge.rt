@@ -1,6 +1,6 @@
 //! A day of the store with what the lines so far claim of it.
 
-ghost use Rattle.std.specs.Prelude.{◌≡◌, ◌≢◌, ◌≤◌, ℕ, ◌++◌, cond, false, length, map, Err, IsTrue, IfOk, IfErr, IfSome, IfNone, IsNone, OnOk, Some};
+ghost use Rattle.std.specs.Prelude.{◌≡◌, ◌≢◌, ◌+◌, ◌<◌, ◌≤◌, ℕ, ◌++◌, cond, false, length, Err, IsTrue, IfOk, IfErr, IfSome, IfNone, IsNone, OnOk, Some};
 ghost use Rattle.std.specs.List.{AllPairs, slice_get};
 ghost use Rattle.std.specs.FinSet as set;
 ghost use Rattle.mds_calendar.specs.Length.{count_of};
@@ -12,7 +12,7 @@ ghost use Rattle.mds_world.specs.Sets.{◌∈◌};
 ghost use Rattle.mds_world.specs.World.{Agrees, union};
 ghost use Rattle.mds_keeper.specs.Books.{book_world};
 ghost use Rattle.mds_keeper.specs.BookRows.{IsBefore};
-ghost use Rattle.mds_keeper.specs.Content.{version_at, versions_of};
+ghost use Rattle.mds_keeper.specs.Content.{versions_of};
 ghost use Rattle.mds_keeper.specs.declared.day_merge.Stop.TheVariants.{Memory, Refused};
 ghost use Rattle.mds_keeper.specs.declared.refusal.RefusalCode.TheVariants.{VersionConflict};
 ghost use Rattle.mds_keeper.specs.DayMerges.{DayMergeValue, AreAscending, IfRefused, IsPlan, Settles};
@@ -20,12 +20,14 @@ ghost use Rattle.mds_keeper.specs.Claims.{Contradicts, IsFirst, Suits, BreaksFor
 ghost use Rattle.mds_keeper.specs.DayMergeSteps.{AreCounts, AreInBook, IsFrom, IsInBook, claimed_entries, claimed_readings, readings_under, row_of};
 ghost use Rattle.mds_keeper.specs.Merge.{Breaks, IsRefusal, claim_world, claims_upto, claims_world};
 
-use crate::additions::{Additions, DayVersions};
+use crate::additions::{Additions, DayVersions, VersionRows};
 use crate::claim::Claim;
+use crate::claimed::{ClaimedUpdate, ClaimedUpdates};
 use crate::day_book::{DayBook, Version};
 use crate::refusal::{Refusal, RefusalCode};
 use mds_marks::Reading;
 use mds_quantity::Unit;
+use mds_runs::DayReadings;
 use mds_terms::{Length, Moment};
 use mds_world::Head;
 use std::alloc::{AllocError, AllocFailed, Global};
@@ -71,9 +73,7 @@ pub struct DayMerge {
     book: DayBook,
     /// The length and unit of the book, or of the first claim.
     form: Option<(Length, Unit)>,
-    /// The readings of each update that was claimed, one for each interval. None are kept where the
-    /// book has all of them.
-    claimed: BTreeMap<Moment, Option<Vec<Reading>>>,
+    claimed: ClaimedUpdates,
     /// How many of the readings claimed the book has.
     held: u64,
     /// How many of them it doesn't have.
@@ -88,11 +88,11 @@ impl Model for DayMerge {
 
     ghost coded = { coded_merge };
 
-    ghost view = { λ d. merge_value d.book d.form (claimed_entries d.book d.claimed.entries) };
+    ghost view = { λ d. merge_value d.book d.form (claimed_entries d.book d.claimed) };
 
-    ghost invariant = { λ d. IsDayMerge d.book d.form (claimed_entries d.book d.claimed.entries)
-        × AreInBook d.book d.claimed.entries
-        × AreCounts d.book (claimed_entries d.book d.claimed.entries) d.held d.fresh };
+    ghost invariant = { λ d. IsDayMerge d.book d.form (claimed_entries d.book d.claimed)
+        × AreInBook d.book d.claimed
+        × AreCounts d.book (claimed_entries d.book d.claimed) d.held d.fresh };
 }
 
 /// The rule that a length and a unit break where a day has others (M1, M2): on the length before the
@@ -149,22 +149,6 @@ fn has_reading(book: &DayBook, interval: u16, update: Moment, reading: &Reading)
     }
 }
 
-/// The first interval of which two claims under one update have other readings.
-fn first_difference(claimed: &[Reading], readings: &[Reading]) -> Option<u16>
-    requires as_many { length claimed.now ≡ length readings.now }
-    requires few { length readings.now ≤ 1440 }
-    ensures some { IfSome result (IsFirst (λ k. slice_get claimed.now k ≢ slice_get readings.now k)
-        (λ k. slice_get claimed.now k ≡ slice_get readings.now k)) }
-    ensures none { IfNone result ((k : ℕ) → slice_get claimed.now k ≡ slice_get readings.now k) }
-{
-    for i in 0..readings.len() {
-        if !claimed[i].is_same(&readings[i]) {
-            return Some((i + 1) as u16);
-        }
-    }
-    None
-}
-
 /// The rows without those at their start that are of intervals before this one.
 fn rows_from(rows: &[(u16, Version)], interval: u16) -> &[(u16, Version)]
     requires { AllPairs IsBefore rows.now }
@@ -199,33 +183,41 @@ fn reading_at(rows: &[(u16, Version)], interval: u16, update: Moment) -> Option<
     None
 }
 
-/// 1 where a book has this reading of an interval under an update, and 0 where it has none. `None`
-/// where it has another. It looks at the book's rows from the interval on.
+/// 1 where a book has the reading at this index under an update, and 0 where it has none of the interval. `None` where it has
+/// another. It looks at the book's rows from the interval on, which is the index and one.
 fn count_at(
     book: &DayBook,
     rows: &[(u16, Version)],
-    interval: u16,
     update: Moment,
-    reading: &Reading,
+    readings: &DayReadings,
+    at: usize,
 ) -> Option<u64>
-    requires { IsFrom book.now.rows interval rows.now }
-    ensures some { IfSome result (λ count. (count ≡ cond (is_held book.now update interval reading.now) 1 0)
-        × ((other : ReadingValue) → VersionIs (key_of book.now interval update) other ∈ book_world book.now
-        → other ≡ reading.now)) }
-    ensures none { IfNone result ((other : ReadingValue)
-        × (VersionIs (key_of book.now interval update) other ∈ book_world book.now) × (other ≢ reading.now)) }
+    requires within { at < length readings.now }
+    requires few { length readings.now ≤ 1440 }
+    requires from { IsFrom book.now.rows (at + 1) rows.now }
+    ensures some { IfSome result (λ count. (reading : ReadingValue) → slice_get readings.now at ≡ Some reading
+        → (count ≡ cond (is_held book.now update (at + 1) reading) 1 0)
+        × ((other : ReadingValue) → VersionIs (key_of book.now (at + 1) update) other ∈ book_world book.now
+        → other ≡ reading)) }
+    ensures small { IfSome result (λ count. count ≤ 1) }
+    ensures none { IfNone result ((reading : ReadingValue) → slice_get readings.now at ≡ Some reading
+        → (other : ReadingValue) × (VersionIs (key_of book.now (at + 1) update) other ∈ book_world book.now) × (other ≢ reading)) }
 {
     // For the proof: what a book says is a lawful World.
     book.is_lawful();
-    let Some(kept) = reading_at(rows, interval, update) else {
+    let Some(kept) = reading_at(rows, (at + 1) as u16, update) else {
         return Some(0);
     };
-    if kept.is_same(reading) { Some(1) } else { None }
+    if readings.is_at(at, kept) {
+        Some(1)
+    } else {
+        None
+    }
 }
 
 /// How many of the readings a book has under the update, or the first interval of which it has
 /// another. It goes down the rows of the book and the readings side by side.
-fn count_held(book: &DayBook, update: Moment, readings: &[Reading]) -> Result<u64, u16>
+fn count_held(book: &DayBook, update: Moment, readings: &DayReadings) -> Result<u64, u16>
     requires { length readings.now ≤ 1440 }
     ensures held { IfOk result (λ held. held ≡ held_count book.now update 1 readings.now) }
     ensures few { IfOk result (λ held. held ≤ length readings.now) }
@@ -234,11 +226,14 @@ fn count_held(book: &DayBook, update: Moment, readings: &[Reading]) -> Result<u6
         (Suits (book_world book.now) book.now update readings.now)) }
 {
     let mut left = book.ascending_rows();
+    if left.is_empty() {
+        return Ok(0);
+    }
     let mut held: u64 = 0;
     for i in 0..readings.len() {
         let interval = (i + 1) as u16;
         left = rows_from(left, interval);
-        let Some(count) = count_at(book, left, interval, update, &readings[i]) else {
+        let Some(count) = count_at(book, left, update, readings, i) else {
             return Err(interval);
         };
         held += count;
@@ -248,7 +243,7 @@ fn count_held(book: &DayBook, update: Moment, readings: &[Reading]) -> Result<u6
 
 /// The first interval of which a claim has another reading than one under the same update, of which
 /// the book has all readings.
-fn difference_in(book: &DayBook, update: Moment, readings: &[Reading]) -> Option<u16>
+fn difference_in(book: &DayBook, update: Moment, readings: &DayReadings) -> Option<u16>
     requires as_many { length (readings_under update book.now.rows) ≡ length readings.now }
     requires few { length readings.now ≤ 1440 }
     requires kept { IsInBook book.now update }
@@ -265,13 +260,27 @@ fn difference_in(book: &DayBook, update: Moment, readings: &[Reading]) -> Option
     }
 }
 
+/// The first interval of which two claims under one update have other readings.
+fn difference_between(claimed: &DayReadings, readings: &DayReadings) -> Option<u16>
+    requires as_many { length claimed.now ≡ length readings.now }
+    requires few { length readings.now ≤ 1440 }
+    ensures some { IfSome result (IsFirst (λ k. slice_get claimed.now k ≢ slice_get readings.now k)
+        (λ k. slice_get claimed.now k ≡ slice_get readings.now k)) }
+    ensures none { IfNone result ((k : ℕ) → slice_get claimed.now k ≡ slice_get readings.now k) }
+{
+    match claimed.first_difference(readings) {
+        Some(at) => Some((at + 1) as u16),
+        None => None,
+    }
+}
+
 /// The first interval of which a claim has another reading than one under the same update, by what
 /// is kept of that.
 fn difference(
     book: &DayBook,
     update: Moment,
-    claimed: &Option<Vec<Reading>>,
-    readings: &[Reading],
+    claimed: &Option<DayReadings>,
+    readings: &DayReadings,
 ) -> Option<u16>
     requires as_many { length (claimed_readings book.now update claimed.now) ≡ length readings.now }
     requires few { length readings.now ≤ 1440 }
@@ -283,22 +292,17 @@ fn difference(
         → slice_get (claimed_readings book.now update claimed.now) k ≡ slice_get readings.now k) }
 {
     match claimed {
-        Some(claimed) => first_difference(claimed, readings),
+        Some(claimed) => difference_between(claimed, readings),
         None => difference_in(book, update, readings),
     }
 }
 
 /// What is kept of a claim's readings, of which a book has so many: none where it has all.
-fn kept_of(
-    book: &DayBook,
-    update: Moment,
-    held: u64,
-    readings: Vec<Reading>,
-) -> Option<Vec<Reading>>
-    requires held { held ≡ held_count book.now update 1 readings.items }
+fn kept_of(book: &DayBook, update: Moment, held: u64, readings: DayReadings) -> Option<DayReadings>
+    requires held { held ≡ held_count book.now update 1 readings }
     requires whole { (known : ℕ × MeasureUnit) → book.now.head ≡ Some known
-        → length readings.items ≡ count_of known.0 }
-    ensures same { claimed_readings book.now update result ≡ readings.items }
+        → length readings ≡ count_of known.0 }
+    ensures same { claimed_readings book.now update result ≡ readings }
     ensures kept { IsNone result → IsInBook book.now update }
 {
     // For the proof: what a book says is a lawful World, and its rows ascend.
@@ -331,62 +335,96 @@ fn settle_head(
     Ok(())
 }
 
-/// Whether a book has this reading of an interval under an update. It isn't looked up where all that
-/// was claimed is new.
-fn is_kept(book: &DayBook, are_new: bool, interval: u16, update: Moment, reading: &Reading) -> bool
-    requires { IsTrue are_new → is_held book.now update interval reading.now ≡ false }
-    ensures { result ≡ is_held book.now update interval reading.now }
+/// Puts the readings of an update behind the days to be added, as they lie. A book has none of them.
+fn settle_whole(
+    book: &DayBook,
+    update: Moment,
+    readings: DayReadings,
+    days: &mut Vec<DayVersions>,
+) -> Result<(), AllocError>
+    requires new { held_count book.now update 1 readings ≡ 0 }
+    ensures { OnOk result (versions_of days.new.items
+        ≡ versions_of days.old.items ++ fresh_versions book.now update 1 readings) }
 {
-    if are_new {
-        return false;
-    }
-    has_reading(book, interval, update, reading)
+    days.push(DayVersions {
+        stream: book.stream(),
+        day: book.day(),
+        rows: VersionRows::Whole(update, readings),
+    })?;
+    Ok(())
 }
 
-/// Moves the readings of an update that a book doesn't have behind the rows of its day.
-fn settle_update(
+/// Puts copies of the readings of an update that a book doesn't have behind the days to be added.
+fn settle_some(
+    alloc: Global,
     book: &DayBook,
-    are_new: bool,
     update: Moment,
-    readings: Vec<Reading>,
-    rows: &mut Vec<(u16, Version)>,
+    readings: &DayReadings,
+    days: &mut Vec<DayVersions>,
 ) -> Result<(), AllocError>
-    requires few { length readings.items ≤ 1440 }
-    requires new { IsTrue are_new → held_count book.now update 1 readings.items ≡ 0 }
-    ensures { OnOk result (map (version_at book.now.stream book.now.day) rows.new.items
-        ≡ map (version_at book.now.stream book.now.day) rows.old.items ++ fresh_versions book.now update 1 readings.items) }
+    requires few { length readings.now ≤ 1440 }
+    ensures { OnOk result (versions_of days.new.items
+        ≡ versions_of days.old.items ++ fresh_versions book.now update 1 readings.now) }
 {
-    let mut interval: u16 = 0;
-    for reading in readings {
-        interval += 1;
-        if is_kept(book, are_new, interval, update, &reading) {
+    let mut rows = Vec::new(alloc);
+    for i in 0..readings.len() {
+        let interval = (i + 1) as u16;
+        let reading = readings.reading(i)?;
+        if has_reading(book, interval, update, &reading) {
             continue;
         }
         rows.push((interval, Version { update, reading }))?;
     }
+    days.push(DayVersions {
+        stream: book.stream(),
+        day: book.day(),
+        rows: VersionRows::Each(rows),
+    })?;
     Ok(())
 }
 
-/// The same for all updates that were claimed.
-fn settle_claimed(
+/// Puts the readings of an update that a book doesn't have behind the days to be added. Where none are kept, the book has them
+/// all. Where all that was claimed is new, nothing is looked up or copied.
+fn settle_update(
+    alloc: Global,
     book: &DayBook,
     are_new: bool,
-    claimed: BTreeMap<Moment, Option<Vec<Reading>>>,
-    rows: &mut Vec<(u16, Version)>,
+    update: Moment,
+    kept: Option<DayReadings>,
+    days: &mut Vec<DayVersions>,
+) -> Result<(), AllocError>
+    requires few { length (claimed_readings book.now update kept) ≤ 1440 }
+    requires kept { IsNone kept → IsInBook book.now update }
+    requires new { IsTrue are_new → held_count book.now update 1 (claimed_readings book.now update kept) ≡ 0 }
+    ensures { OnOk result (versions_of days.new.items
+        ≡ versions_of days.old.items ++ fresh_versions book.now update 1 (claimed_readings book.now update kept)) }
+{
+    let Some(readings) = kept else {
+        return Ok(());
+    };
+    if are_new {
+        settle_whole(book, update, readings, days)
+    } else {
+        settle_some(alloc, book, update, &readings, days)
+    }
+}
+
+/// The same for updates that lie in a map.
+fn settle_others(
+    alloc: Global,
+    book: &DayBook,
+    are_new: bool,
+    claimed: BTreeMap<Moment, Option<DayReadings>>,
+    days: &mut Vec<DayVersions>,
 ) -> Result<(), AllocError>
     requires short { AreShort (claimed_entries book.now claimed.entries) }
     requires kept { AreInBook book.now claimed.entries }
     requires new { IsTrue are_new → held_all book.now (claimed_entries book.now claimed.entries) ≡ 0 }
-    ensures { OnOk result (map (version_at book.now.stream book.now.day) rows.new.items
-        ≡ map (version_at book.now.stream book.now.day) rows.old.items
-        ++ fresh_all book.now (claimed_entries book.now claimed.entries)) }
+    ensures { OnOk result (versions_of days.new.items
+        ≡ versions_of days.old.items ++ fresh_all book.now (claimed_entries book.now claimed.entries)) }
 {
     for (update, kept) in claimed {
-        // Where none are kept, the book has them.
-        let Some(readings) = kept else {
-            continue;
-        };
-        settle_update(book, are_new, update, readings, rows)?;
+        settle_update(alloc, book, are_new, update, kept, days)?;
     }
     Ok(())
 }
@@ -396,28 +434,27 @@ fn settle_claimed(
 fn settle_fresh(
     alloc: Global,
     book: &DayBook,
-    claimed: BTreeMap<Moment, Option<Vec<Reading>>>,
+    claimed: ClaimedUpdates,
     held: u64,
     fresh: u64,
     days: &mut Vec<DayVersions>,
 ) -> Result<(), AllocError>
-    requires short { AreShort (claimed_entries book.now claimed.entries) }
-    requires kept { AreInBook book.now claimed.entries }
-    requires counts { AreCounts book.now (claimed_entries book.now claimed.entries) held fresh }
+    requires short { AreShort (claimed_entries book.now claimed) }
+    requires kept { AreInBook book.now claimed }
+    requires counts { AreCounts book.now (claimed_entries book.now claimed) held fresh }
     ensures { OnOk result (versions_of days.new.items
-        ≡ versions_of days.old.items ++ fresh_all book.now (claimed_entries book.now claimed.entries)) }
+        ≡ versions_of days.old.items ++ fresh_all book.now (claimed_entries book.now claimed)) }
 {
     if fresh == 0 {
         return Ok(());
     }
-    let mut rows = Vec::with_capacity(alloc, fresh as usize)?;
-    settle_claimed(book, held == 0, claimed, &mut rows)?;
-    days.push(DayVersions {
-        stream: book.stream(),
-        day: book.day(),
-        rows,
-    })?;
-    Ok(())
+    let are_new = held == 0;
+    let (first, others) = claimed.into_parts();
+    if let Some(first) = first {
+        let ClaimedUpdate { update, readings } = first;
+        settle_update(alloc, book, are_new, update, readings, days)?;
+    }
+    settle_others(alloc, book, are_new, others, days)
 }
 
 impl DayMerge {
@@ -431,7 +468,7 @@ impl DayMerge {
         DayMerge {
             book,
             form,
-            claimed: BTreeMap::new(alloc),
+            claimed: ClaimedUpdates::new(alloc),
             held: 0,
             fresh: 0,
         }
@@ -465,9 +502,7 @@ impl DayMerge {
         if let Some(code) = head_conflict(self.form, length, unit) {
             return Err(Stop::Refused(Refusal::at_line(code, line)));
         }
-        // For the proof: the order of updates is a total one, by which the map finds this one.
-        update.seconds();
-        if let Some(claimed) = self.claimed.get(&update) {
+        if let Some(claimed) = self.claimed.get(update) {
             if let Some(interval) = difference(&self.book, update, claimed, &readings) {
                 return Err(conflict(line, interval));
             }

@@ -5,12 +5,13 @@
 mod additions;
 mod book_rows;
 mod claim;
+mod claimed;
 mod day_book;
 mod day_merge;
 mod keeper;
 mod refusal;
 
-pub use additions::{Additions, DayVersions};
+pub use additions::{Additions, DayVersions, VersionRows};
 pub use claim::Claim;
 pub use day_book::{DayBook, Version};
 pub use day_merge::{DayMerge, MergeCounts, Stop, head_conflict};

@@ -24,7 +24,7 @@ use Rattle.mds_world.proofs.Members.{in_list, in_union, list_in, union_left, uni
 use Rattle.mds_world.specs.Sets.{◌∈◌}
 use Rattle.mds_world.specs.World.{IsLawful, IsOn, World, union}
 use Rattle.mds_keeper.specs.Books.{BookValue, IsDay, book_facts, book_world, head_facts, row_fact}
-use Rattle.mds_keeper.specs.Content.{day_versions, version_at, version_fact, versions_of}
+use Rattle.mds_keeper.specs.Content.{day_versions, rows_of, version_at, version_fact, versions_of}
 use Rattle.mds_memory.specs.Stored.{AreOfTheirDays, IsChange, days_world, place_cmp}
 use Rattle.mds_memory.specs.StoredSteps.{AreBooks, AreChanged, AreLawfulDays, Holds, rows_book}
 use Rattle.mds_keeper.specs.declared.additions.DayVersions.{DayVersions}
@@ -502,26 +502,26 @@ head_pushed w heads yielded rest versions head closed hand new lawful split at a
 -- the facts of one more day
 day_push : (yielded : List DayVersions) (day : DayVersions)
     → map version_fact (versions_of (yielded ++ day ∷ []))
-    ≡ map version_fact (versions_of yielded) ++ map (row_fact day.stream day.day) day.rows.items
+    ≡ map version_fact (versions_of yielded) ++ map (row_fact day.stream day.day) (rows_of day.rows)
 day_push yielded day =
     ap (map version_fact) (flat_map-append day_versions yielded (day ∷ []) ∙ ap (λ l. versions_of yielded ++ l) (append-nil (day_versions day)))
     ∙ map-append version_fact (versions_of yielded) (day_versions day)
-    ∙ ap (λ l. map version_fact (versions_of yielded) ++ l) (map-map version_fact (version_at day.stream day.day) day.rows.items)
+    ∙ ap (λ l. map version_fact (versions_of yielded) ++ l) (map-map version_fact (version_at day.stream day.day) (rows_of day.rows))
 
 -- versions are put into the day in hand
 pub versions_pushed : (w : World) (front : List Fact) (yielded : List DayVersions) (day : DayVersions) (closed : Pending) (hand new : InHand)
     → hand.place ≡ record { stream = day.stream; day = day.day }
     → AreChanged w (front ++ map version_fact (versions_of yielded)) closed (Some hand) → new.place ≡ hand.place
-    → new.rows.head ≡ hand.rows.head → new.rows.versions.items ≡ hand.rows.versions.items ++ day.rows.items
+    → new.rows.head ≡ hand.rows.head → new.rows.versions.items ≡ hand.rows.versions.items ++ rows_of day.rows
     → AreChanged w (front ++ map version_fact (versions_of (yielded ++ day ∷ []))) closed (Some new)
 versions_pushed w front yielded day closed hand new at a p h v =
     let more : List Fact = front ++ map version_fact (versions_of yielded) in
     let place : StreamDay = record { stream = day.stream; day = day.day } in
-    let facts : List Fact = map (row_fact day.stream day.day) day.rows.items in
+    let facts : List Fact = map (row_fact day.stream day.day) (rows_of day.rows) in
     let holds : Holds w (more ++ facts) place new.rows =
-    holds_versions w more place day.rows.items hand.rows new.rows h v (subst (λ k. Holds w more k hand.rows) at a.hand) in
+    holds_versions w more place (rows_of day.rows) hand.rows new.rows h v (subst (λ k. Holds w more k hand.rows) at a.hand) in
     let on : (f : Fact) → Member f facts → IsOn hand.place.stream hand.place.day f = λ f m.
-    let r = in_map (row_fact day.stream day.day) day.rows.items f m in
+    let r = in_map (row_fact day.stream day.day) (rows_of day.rows) f m in
     subst (IsOn hand.place.stream hand.place.day) (sym r.2)
     (subst (λ (k : StreamDay). IsOn k.stream k.day (row_fact day.stream day.day r.0)) (sym at) (refl, refl)) in
     let same : more ++ facts ≡ front ++ map version_fact (versions_of (yielded ++ day ∷ [])) =

@@ -126,7 +126,7 @@ pub(crate) fn changed_days(
             day: added.day,
         };
         let mut hand = opened(alloc, days, &mut closed, in_hand, &place)?;
-        put_behind(&mut hand.rows.versions, added.rows)?;
+        added.rows.append_to(&mut hand.rows.versions)?;
         in_hand = Some(hand);
     }
     let Some(hand) = in_hand else {
@@ -134,24 +134,6 @@ pub(crate) fn changed_days(
     };
     close(&mut closed, hand)?;
     books_of(alloc, closed)
-}
-
-/// Puts versions behind others. Where there are no others they are moved, and take no memory.
-fn put_behind(
-    versions: &mut Vec<(u16, Version)>,
-    more: Vec<(u16, Version)>,
-) -> Result<(), AllocError>
-    ensures value { OnOk result (versions.new.items ≡ versions.old.items ++ more.items) }
-    ensures memory { OnErr result (0 < length versions.old.items) }
-{
-    if versions.is_empty() {
-        *versions = more;
-        return Ok(());
-    }
-    for version in more {
-        versions.push(version)?;
-    }
-    Ok(())
 }
 
 /// Goes on to the day of this place. It takes the day out of those that were changed before, or

@@ -12,7 +12,7 @@ ghost use Rattle.mds_pack_rows.specs.PackTables.{pack_tree, schema_2};
 ghost use Rattle.mds_pack_rows.specs.PacksLayout.{packs_layout};
 ghost use Rattle.mds_pack_rows.specs.Putting.{GoesOn, IsThere};
 
-use mds_keeper::{DayVersions, Unavailable};
+use mds_keeper::{DayVersions, Unavailable, VersionRows};
 use mds_pack_rows::put_day;
 use mds_selects::{all_versions, head_in};
 use mds_tables::day_cells;
@@ -101,7 +101,7 @@ fn pack_day_of<S: Alter>(
     let added = DayVersions {
         stream: head.stream,
         day: head.day,
-        rows: all_versions(alloc, rows.as_slice())?,
+        rows: VersionRows::Each(all_versions(alloc, rows.as_slice())?),
     };
     // For the proof: a day's number is at most that of the last day.
     let _ = head.day.number();

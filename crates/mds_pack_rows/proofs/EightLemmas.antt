@@ -1,5 +1,5 @@
 -- Eight new days whose rows one statement puts.
-use Rattle.std.proofs.Common.{◌≡◌, ◌≤◌, ◌<◌, ◌+◌, ◌/◌, ◌++◌, ℕ, Bool, List, [], ◌∷◌, get_or, length, map, take, IsTrue, IfOk, Ok, Err, None, Some, Option, Result, refl, sym, ap, subst, ◌∙◌, arith}
+use Rattle.std.proofs.Common.{◌≡◌, ◌≤◌, ◌<◌, ◌+◌, ◌/◌, ◌++◌, ℕ, Bool, List, [], ◌∷◌, get_or, length, map, take, IsTrue, IfOk, IfSome, Ok, Err, None, Some, Option, Result, refl, sym, ap, subst, ◌∙◌, arith}
 use Rattle.std.proofs.lemmas.Grind.{flat_map-append}
 use Rattle.std.proofs.lemmas.List.{append-nil, map-append, take_more}
 use Rattle.std.specs.List.{flat_map}
@@ -21,7 +21,8 @@ use Rattle.mds_world.specs.FactOrder.{exact, total}
 use Rattle.mds_world.specs.Facts.{Fact}
 use Rattle.mds_world.proofs.Sets.{list_append, union_empty}
 use Rattle.mds_world.specs.World.{union}
-use Rattle.mds_keeper.specs.Content.{day_versions, version_at, version_fact, versions_of}
+use Rattle.mds_keeper.specs.Books.{row_fact}
+use Rattle.mds_keeper.specs.Content.{day_versions, rows_of, version_fact, versions_of}
 use Rattle.mds_keeper.specs.declared.additions.DayVersions.{DayVersions}
 use Rattle.mds_keeper.specs.declared.day_book.Version.{Version}
 use Rattle.mds_tables.specs.Stores.{Gains}
@@ -38,7 +39,7 @@ use Rattle.mds_pack_rows.specs.Putting.{ChangesPacks, NamesMore, PutsFacts, SayR
 use Rattle.mds_pack_rows.specs.declared.statements.PackRow.{PackRow}
 use Rattle.mds_pack_rows.proofs.ManyLemmas.{AddsAll, AreFit, adds_all}
 use Rattle.mds_pack_rows.proofs.PackTexts.{eight_terms, insert_packs, insert_packs_is, insert_packs_plain, pack_place}
-use Rattle.mds_pack_rows.proofs.PutLemmas.{as_rows, fits, puts_as, puts_then, ran_on, same_others, says_day}
+use Rattle.mds_pack_rows.proofs.PutLemmas.{fits, puts_as, puts_then, ran_on, rows_say, same_others, says_day}
 use Rattle.mds_pack_rows.proofs.SwapLemmas.{gained_all, pack_bare}
 
 -- ---- eight rows that are put
@@ -133,12 +134,19 @@ pub facts_both : (xs ys : List DayVersions)
     → map version_fact (versions_of (xs ++ ys)) ≡ map version_fact (versions_of xs) ++ map version_fact (versions_of ys)
 facts_both xs ys = ap (map version_fact) (flat_map-append day_versions xs ys) ∙ map-append version_fact (versions_of xs) (versions_of ys)
 
--- what the row of a day says, whose readings say its versions
+-- what a body says, whose readings say these versions
 pub packed_says : (s : Stream) (day update : ℕ) (body : List ℕ) (readings : List (Option ReadingValue)) (rows : List (ℕ × Version))
     → readings_in body ≡ Some readings → SayRows update readings rows
-    → of (body_facts s day update body) ≡ of (map version_fact (map (version_at s day) rows))
-packed_says s day update body readings rows is says =
-    ap of (says_day s day update body readings is) ∙ says s day ∙ ap of (as_rows s day rows)
+    → of (body_facts s day update body) ≡ of (map (row_fact s day) rows)
+packed_says s day update body readings rows is says = ap of (says_day s day update body readings is) ∙ says s day
+
+-- a row that says these versions is that of their day
+pub row_of_day : {E : Type 0} (r : Result (Option PackRow) E) (added : DayVersions) (rows : List (ℕ × Version)) → rows_of added.rows ≡ rows
+    → IfOk r (λ o. IfSome o (λ row. of (said_by row) ≡ of (map (row_fact added.stream added.day) rows)))
+    → IfOk r (λ o. IfSome o (λ row. SaysDay row added))
+row_of_day (Ok (Some row)) added rows is says = says ∙ ap of (rows_say added rows is)
+row_of_day (Ok None) added rows is says = tt
+row_of_day (Err e) added rows is says = tt
 
 -- the rows of the first days, and that of the next
 pub say_more : (rows : List PackRow) (days : List DayVersions) (k : ℕ) (row : PackRow) (day : DayVersions) → k < length days

@@ -23,14 +23,15 @@ use Rattle.sqlite_value.specs.Order.{Row, bytes, column}
 use Rattle.mds_names.specs.declared.stream.Stream.{Stream}
 use Rattle.mds_world.specs.Lists.{Member}
 use Rattle.mds_marks.specs.Reading.{ReadingValue}
-use Rattle.mds_world.specs.Facts.{Fact}
+use Rattle.mds_world.specs.Facts.{Fact, key_at}
+use Rattle.mds_world.specs.Facts.Fact.{VersionIs}
 use Rattle.mds_world.specs.FactOrder.{exact, total}
 use Rattle.mds_world.specs.World.{union}
 use Rattle.mds_world.proofs.Sets.{list_append, union_assoc, union_empty}
 use Rattle.std.proofs.lemmas.Grind.{flat_map-append}
 use Rattle.std.proofs.lemmas.List.{append-nil, map-append, take_more}
 use Rattle.mds_keeper.specs.Books.{row_fact}
-use Rattle.mds_keeper.specs.Content.{day_versions, version_at, version_fact, versions_of}
+use Rattle.mds_keeper.specs.Content.{day_versions, rows_of, version_at, version_fact, versions_of, whole_rows}
 use Rattle.mds_keeper.specs.declared.additions.DayVersions.{DayVersions}
 use Rattle.mds_keeper.specs.declared.day_book.Version.{Version}
 use Rattle.mds_tables.specs.Cells.{number_cell}
@@ -44,7 +45,7 @@ use Rattle.mds_selects.proofs.SelectTexts.{equals}
 use Rattle.mds_selects.proofs.TypedRows.{begins_at}
 use Rattle.mds_pack_rows.specs.Laying.{laid}
 use Rattle.mds_pack_rows.specs.PackCells.{key_cells, pack_cells}
-use Rattle.mds_pack_rows.specs.PackFacts.{body_facts, pack_facts, pack_versions, readings_facts, readings_in}
+use Rattle.mds_pack_rows.specs.PackFacts.{body_facts, facts_from, pack_facts, pack_versions, readings_facts, readings_in}
 use Rattle.mds_pack_rows.specs.PackTables.{body_columns, pack_table, pack_tree, schema_2, tables_2}
 use Rattle.mds_pack_rows.specs.PacksLayout.{idle_packs}
 use Rattle.mds_pack_rows.specs.Putting.{ChangesPacks, GoesOn, IsThere, NamesMore, PutsBeside, PutsBody, PutsFacts}
@@ -355,10 +356,27 @@ pub puts_as : (a b : State) (xs ys : List Fact) → of xs ≡ of ys → PutsFact
 puts_as a b xs ys same puts =
     (puts.0, λ there. let it = puts.1 there in (it.0, it.1 ∙ ap (union (of (pack_versions a.now.trees))) same))
 
+-- the readings of all intervals say a version of each
+pub whole_said : (s : Stream) (day update interval : ℕ) (readings : List ReadingValue)
+    → facts_from s day update interval (map (λ reading. Some reading) readings) ≡ map (row_fact s day) (whole_rows update interval readings)
+whole_said s day update interval [] = refl
+whole_said s day update interval (r ∷ rs) =
+    ap (λ facts. VersionIs (key_at s day interval update) r ∷ facts) (whole_said s day update (interval + 1) rs)
+
 -- versions of a day, as rows of its book
 pub as_rows : (s : Stream) (day : ℕ) (rows : List (ℕ × Version)) → map (row_fact s day) rows ≡ map version_fact (map (version_at s day) rows)
 as_rows s day [] = refl
 as_rows s day (r ∷ rs) = ap (λ xs. row_fact s day r ∷ xs) (as_rows s day rs)
+
+pub rows_say : (added : DayVersions) (rows : List (ℕ × Version)) → rows_of added.rows ≡ rows
+    → map (row_fact added.stream added.day) rows ≡ map version_fact (day_versions added)
+rows_say added rows is =
+    as_rows added.stream added.day rows ∙ ap (λ rows. map version_fact (map (version_at added.stream added.day) rows)) (sym is)
+
+-- the versions of a day are put by its rows
+pub puts_rows : {X E : Type 0} (r : Result X E) (old new : State) (added : DayVersions) (rows : List (ℕ × Version)) → rows_of added.rows ≡ rows
+    → OnOk r (PutsFacts old new (map (row_fact added.stream added.day) rows)) → OnOk r (PutsFacts old new (map version_fact (day_versions added)))
+puts_rows r old new added rows is = if_ok r _ _ (subst (PutsFacts old new) (rows_say added rows is))
 
 -- the versions of the first days were put, and those of the next are
 pub puts_day : (a b c : State) → doubt b.is_clean ≤ doubt c.is_clean → (days : List DayVersions) (k : ℕ) (day : DayVersions) → k < length days

@@ -3,14 +3,18 @@
 ghost use Rattle.std.specs.Prelude.{◌≡◌, [], IfOk, IfSome, IsTrue, OnOk, false, length as list_length, map};
 ghost use Rattle.sqlite.specs.Held.{state};
 ghost use Rattle.sqlite.specs.State.{HasCleanDisk, KeepsCommit, Survives};
-ghost use Rattle.mds_keeper.specs.Content.{version_fact, versions_of};
-ghost use Rattle.mds_pack_rows.specs.Eights.{HasNewHead, SayDays, SaysDay};
+ghost use Rattle.std.specs.FinSet as set;
+ghost use Rattle.mds_world.specs.FactOrder.{fact_cmp};
+ghost use Rattle.mds_keeper.specs.Books.{row_fact};
+ghost use Rattle.mds_keeper.specs.Content.{version_fact, versions_of, whole_rows};
+ghost use Rattle.mds_pack_rows.specs.Eights.{HasNewHead, SayDays, SaysDay, said_by};
 ghost use Rattle.mds_pack_rows.specs.Putting.{IsThere, PutsFacts};
 
 use crate::grouping::{has_some, put_each_day, spread};
 use crate::statements::{PackRow, insert_eight};
-use mds_keeper::{DayVersions, Unavailable, Version};
-use mds_packs::pack_day;
+use mds_keeper::{DayVersions, Unavailable, Version, VersionRows};
+use mds_packs::{pack_day, pack_readings};
+use mds_runs::DayReadings;
 use mds_terms::{Day, Length, Moment, Stream};
 use mds_world::Head;
 use sqlite::{Alter, Transaction};
@@ -111,10 +115,30 @@ fn pack_new_day(
     let Some(length) = new_length(heads, &added.stream, added.day) else {
         return Ok(None);
     };
-    let Some(update) = first_update(added.rows.as_slice()) else {
+    match &added.rows {
+        VersionRows::Each(rows) => {
+            pack_listed(alloc, length, &added.stream, added.day, rows.as_slice())
+        }
+        VersionRows::Whole(update, readings) => {
+            pack_whole(alloc, length, &added.stream, added.day, *update, readings)
+        }
+    }
+}
+
+/// The row of versions of a new day. `None` where they aren't those of one update, each at an interval of its own.
+fn pack_listed(
+    alloc: Global,
+    length: Length,
+    stream: &Stream,
+    day: Day,
+    rows: &[(u16, Version)],
+) -> Result<Option<PackRow>, AllocError>
+    ensures { IfOk result (λ o. IfSome o (λ row. set.from_list {R = fact_cmp} (said_by row) ≡ set.from_list (map (row_fact stream.now day) rows.now))) }
+{
+    let Some(update) = first_update(rows) else {
         return Ok(None);
     };
-    let Some(readings) = spread(alloc, length, update, added.rows.as_slice())? else {
+    let Some(readings) = spread(alloc, length, update, rows)? else {
         return Ok(None);
     };
     if !has_some(readings.as_slice()) {
@@ -122,8 +146,32 @@ fn pack_new_day(
     }
     let body = pack_day(alloc, readings.as_slice())?;
     Ok(Some(PackRow {
-        stream: added.stream,
-        day: added.day,
+        stream: *stream,
+        day,
+        update,
+        body,
+    }))
+}
+
+/// The row of a new day's readings, of all its intervals and under one update. They are packed as they lie. `None` where they
+/// are more or fewer than the day has intervals.
+fn pack_whole(
+    alloc: Global,
+    length: Length,
+    stream: &Stream,
+    day: Day,
+    update: Moment,
+    readings: &DayReadings,
+) -> Result<Option<PackRow>, AllocError>
+    ensures { IfOk result (λ o. IfSome o (λ row. set.from_list {R = fact_cmp} (said_by row) ≡ set.from_list (map (row_fact stream.now day) (whole_rows update 1 readings.now)))) }
+{
+    if readings.len() != length.count() || readings.len() == 0 {
+        return Ok(None);
+    }
+    let body = pack_readings(alloc, readings)?;
+    Ok(Some(PackRow {
+        stream: *stream,
+        day,
         update,
         body,
     }))

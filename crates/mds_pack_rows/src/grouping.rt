@@ -1,17 +1,18 @@
 //! The versions of days, put update by update.
 
-ghost use Rattle.std.specs.Prelude.{◌≡◌, ◌<◌, ◌≤◌, ◌^◌, IfOk, IfSome, IsTrue, None, OnOk, is_some, length as list_length, map, replicate};
+ghost use Rattle.std.specs.Prelude.{◌≡◌, ◌<◌, ◌≤◌, ◌^◌, IfOk, IfSome, IsTrue, None, OnOk, Some, is_some, length as list_length, map, replicate};
 ghost use Rattle.std.specs.List.{list_any};
 ghost use Rattle.sqlite.specs.Held.{state};
 ghost use Rattle.sqlite.specs.State.{KeepsCommit, Survives};
 ghost use Rattle.mds_keeper.specs.Books.{row_fact};
-ghost use Rattle.mds_keeper.specs.Content.{day_versions, version_fact, versions_of};
+ghost use Rattle.mds_keeper.specs.Content.{day_versions, version_fact, versions_of, whole_rows};
 ghost use Rattle.mds_pack_rows.specs.Putting.{IsThere, PutsFacts, SayMore, SayRows};
 
 use crate::heads::length_of_day;
 use crate::putting::put_readings;
-use mds_keeper::{DayVersions, Unavailable, Version};
+use mds_keeper::{DayVersions, Unavailable, Version, VersionRows};
 use mds_marks::Reading;
+use mds_runs::DayReadings;
 use mds_terms::{Day, Length, Moment, Stream};
 use sqlite::{Alter, Transaction};
 use std::alloc::{AllocError, Global};
@@ -62,15 +63,83 @@ pub fn put_day<S: Alter>(
     ensures kept { IsThere (state S.Store tx.old.conn.now) (state S.Store tx.new.conn.now) → KeepsCommit (state S.Store tx.old.conn.now) (state S.Store tx.new.conn.now) }
     ensures survives { Survives (state S.Store tx.old.conn.now) (state S.Store tx.new.conn.now) (λ _. ⊥) }
 {
-    let mut left = added.rows.as_slice();
+    match &added.rows {
+        VersionRows::Each(rows) => {
+            put_listed(alloc, tx, length, &added.stream, added.day, rows.as_slice())
+        }
+        VersionRows::Whole(update, readings) => {
+            put_whole(
+                alloc,
+                tx,
+                length,
+                &added.stream,
+                added.day,
+                *update,
+                readings,
+            )
+        }
+    }
+}
+
+/// Puts versions of a day, those of one update that lie together at once.
+fn put_listed<S: Alter>(
+    alloc: Global,
+    tx: &mut Transaction<'_, S>,
+    length: Length,
+    stream: &Stream,
+    day: Day,
+    rows: &[(u16, Version)],
+) -> Result<(), Unavailable>
+    ensures same_reference { tx.new.conn.ghost_name ≡ tx.old.conn.ghost_name }
+    ensures ok { OnOk result (PutsFacts (state S.Store tx.old.conn.now) (state S.Store tx.new.conn.now) (map (row_fact stream.now day) rows.now)) }
+    ensures kept { IsThere (state S.Store tx.old.conn.now) (state S.Store tx.new.conn.now) → KeepsCommit (state S.Store tx.old.conn.now) (state S.Store tx.new.conn.now) }
+    ensures survives { Survives (state S.Store tx.old.conn.now) (state S.Store tx.new.conn.now) (λ _. ⊥) }
+{
+    let mut left = rows;
     while let [first, ..] = left {
         let update = first.1.update;
         let end = end_of_run(left);
         let (run, rest) = left.split_at(end);
-        put_run(alloc, tx, length, &added.stream, added.day, update, run)?;
+        put_run(alloc, tx, length, stream, day, update, run)?;
         left = rest;
     }
     Ok(())
+}
+
+/// Puts the readings of all intervals of a day under an update.
+fn put_whole<S: Alter>(
+    alloc: Global,
+    tx: &mut Transaction<'_, S>,
+    length: Length,
+    stream: &Stream,
+    day: Day,
+    update: Moment,
+    readings: &DayReadings,
+) -> Result<(), Unavailable>
+    ensures same_reference { tx.new.conn.ghost_name ≡ tx.old.conn.ghost_name }
+    ensures ok { OnOk result (PutsFacts (state S.Store tx.old.conn.now) (state S.Store tx.new.conn.now) (map (row_fact stream.now day) (whole_rows update 1 readings.now))) }
+    ensures kept { IsThere (state S.Store tx.old.conn.now) (state S.Store tx.new.conn.now) → KeepsCommit (state S.Store tx.old.conn.now) (state S.Store tx.new.conn.now) }
+    ensures survives { Survives (state S.Store tx.old.conn.now) (state S.Store tx.new.conn.now) (λ _. ⊥) }
+{
+    if readings.len() != length.count() {
+        return Err(Unavailable);
+    }
+    let places = places_of(alloc, readings)?;
+    if !has_some(places.as_slice()) {
+        return Err(Unavailable);
+    }
+    put_readings(alloc, tx, stream, day, update, places.as_slice())
+}
+
+/// A copy of each reading, at its interval.
+fn places_of(alloc: Global, readings: &DayReadings) -> Result<Vec<Option<Reading>>, AllocError>
+    ensures { IfOk result (λ places. places.items ≡ map (λ reading. Some reading) readings.now) }
+{
+    let mut places = Vec::with_capacity(alloc, readings.len())?;
+    for i in 0..readings.len() {
+        places.push(Some(readings.reading(i)?))?;
+    }
+    Ok(places)
 }
 
 /// How many versions at the front have one update.

@@ -6,5 +6,5 @@ mod layout;
 mod packing;
 mod unpacking;
 
-pub use packing::pack_day;
+pub use packing::{pack_day, pack_readings};
 pub use unpacking::unpack_day;

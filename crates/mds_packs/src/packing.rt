@@ -1,13 +1,15 @@
 //! The readings of a day, as one body.
 
-ghost use Rattle.std.specs.Prelude.{option_map, List, ◌≡◌, ◌≢◌, ◌↔◌, ◌+◌, ◌<◌, ◌≤◌, ◌^◌, ℕ, IsTrue, IfOk, OnOk, Some, [], ◌∷◌, ◌++◌, is_some, length, slice_get};
+ghost use Rattle.std.specs.Prelude.{option_map, List, ◌≡◌, ◌≢◌, ◌↔◌, ◌+◌, ◌<◌, ◌≤◌, ◌^◌, ℕ, IsTrue, IfOk, OnOk, Some, [], ◌∷◌, ◌++◌, is_some, length, map, slice_get};
 ghost use Rattle.std.specs.List.{flat_map, list_all, list_any};
 ghost use Rattle.mds_runs.specs.GapSteps.{stretch_of};
-ghost use Rattle.mds_packs.specs.Body.{is_held_lawful, IsDay, body_of, two, code_number, mark_in, run_bytes, reading_bytes, runs_in};
+ghost use Rattle.mds_packs.specs.Body.{is_held_lawful, IsDay, body_of, two, code_number, mark_in, run_bytes, reading_bytes, runs_in, value_bytes};
 ghost use Rattle.mds_packs.specs.Unpacked.{unpacked};
 
 use crate::layout::{NO_CODE, VERSION};
 use mds_marks::{Mark, Reading};
+use mds_quantity::Quantity;
+use mds_runs::{DayReadings, Run};
 use std::alloc::{AllocError, Global};
 
 /// The bytes before the first run.
@@ -36,6 +38,26 @@ pub fn pack_day(alloc: Global, readings: &[Option<Reading>]) -> Result<Vec<u8>, 
     let number = put_runs(&mut out, readings)?;
     set_number(&mut out, number);
     put_values(&mut out, readings)?;
+    Ok(out)
+}
+
+/// Packs a day of which each interval has a reading, as `pack_day` does. It fails only for want of memory.
+pub fn pack_readings(alloc: Global, readings: &DayReadings) -> Result<Vec<u8>, AllocError>
+    ensures value { IfOk result (λ body. body.items ≡ body_of (map (λ reading. Some reading) readings.now)) }
+    ensures day { OnOk result (0 < length readings.now
+        → IsDay (length readings.now) (map (λ reading. Some reading) readings.now)) }
+    ensures back { IfOk result (λ body. 0 < length readings.now
+        → unpacked (length readings.now) body.items ≡ Some (map (λ reading. Some reading) readings.now)) }
+{
+    // For the proof: each reading is lawful.
+    readings.are_lawful();
+    let runs = readings.runs();
+    let mut out = Vec::with_capacity(alloc, HEAD + RUN * runs.len() + VALUE * readings.len())?;
+    out.push(VERSION)?;
+    put_two(&mut out, readings.len() as u16)?;
+    put_two(&mut out, runs.len() as u16)?;
+    put_each_run(&mut out, runs)?;
+    put_each_value(&mut out, readings)?;
     Ok(out)
 }
 
@@ -139,6 +161,16 @@ fn put_run(out: &mut Vec<u8>, first: u16, last: u16, mark: &Mark) -> Result<(), 
     out.extend_from_slice(text.as_bytes())
 }
 
+/// Appends runs.
+fn put_each_run(out: &mut Vec<u8>, runs: &[Run]) -> Result<(), AllocError>
+    ensures { OnOk result (out.new.items ≡ out.old.items ++ flat_map run_bytes runs.now) }
+{
+    for run in runs {
+        put_run(out, run.first, run.last, &run.mark)?;
+    }
+    Ok(())
+}
+
 /// The number of a code, or the one that stands for none.
 fn number_of(code: Option<u16>) -> u16
     ensures { result ≡ code_number code }
@@ -169,7 +201,26 @@ fn put_value(out: &mut Vec<u8>, reading: &Option<Reading>) -> Result<(), AllocEr
     let Some(reading) = reading else {
         return Ok(());
     };
-    let Some(value) = reading.value() else {
+    put_number(out, reading.value())
+}
+
+/// Appends the values of readings.
+fn put_each_value(out: &mut Vec<u8>, readings: &DayReadings) -> Result<(), AllocError>
+    ensures { OnOk result (out.new.items
+        ≡ out.old.items ++ flat_map (λ reading. value_bytes reading.value) readings.now) }
+{
+    for at in 0..readings.len() {
+        put_number(out, readings.value(at))?;
+    }
+    Ok(())
+}
+
+/// Appends a value, if there is one.
+#[inline]
+fn put_number(out: &mut Vec<u8>, value: Option<Quantity>) -> Result<(), AllocError>
+    ensures { OnOk result (out.new.items ≡ out.old.items ++ value_bytes value) }
+{
+    let Some(value) = value else {
         return Ok(());
     };
     let bits = value.millionths().cast_unsigned();

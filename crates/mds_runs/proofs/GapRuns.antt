@@ -67,7 +67,7 @@ goes_on-facts place m run e =
     let p = and_both _ _ e in
     (eqb-true run.first (place + 1) p.0, same_mark-is m run.mark p.1)
 
-goes_on-other : (place : ℕ) (m : Mark) (run : Run) → (run.first ≡ place + 1 → m ≡ run.mark → ⊥) → goes_on place m run ≡ false
+pub goes_on-other : (place : ℕ) (m : Mark) (run : Run) → (run.first ≡ place + 1 → m ≡ run.mark → ⊥) → goes_on place m run ≡ false
 goes_on-other place m run h = elim (goes_on place m run) as (λ b. goes_on place m run ≡ b → b ≡ false) [
   | true ↦ λ e. let p = goes_on-facts place m run e in absurd (h p.0 p.1)
   | false ↦ λ e. refl
@@ -295,7 +295,7 @@ abbrev pub first_touches : Option Run → List Run → Bool
 first_touches last [] = false
 first_touches last (run ∷ runs) = touches last run
 
-follows-made : (count : ℕ) (last : Option Run) (run : Run) → end_of last < run.first → run.first ≤ run.last → run.last ≤ count → touches last run ≡ false → follows count last run ≡ true
+pub follows-made : (count : ℕ) (last : Option Run) (run : Run) → end_of last < run.first → run.first ≤ run.last → run.last ≤ count → touches last run ≡ false → follows count last run ≡ true
 follows-made count last run after grows within off =
     let a : nat_lt (end_of last) run.first ≡ true = grind arith in
     let b : nat_le run.first run.last ≡ true = grind arith in

@@ -1,4 +1,6 @@
+pub mod CloseRuns
 pub mod GapRuns
+pub mod KeptLemmas
 pub mod Overlays
 pub mod RunFacts
 pub mod Spreads

@@ -141,7 +141,7 @@ fn is_in_range(count: u16, first: u16, last: u16) -> bool
 }
 
 /// The interval that the last run ends with, or 0 where there is none.
-fn last_end(runs: &[Run]) -> u16
+pub(crate) fn last_end(runs: &[Run]) -> u16
     ensures { result ≡ last_end runs.now }
 {
     match runs.last() {

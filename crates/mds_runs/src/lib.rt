@@ -3,8 +3,10 @@
 #![tactic(auto)]
 
 mod cover;
+mod day_readings;
 
 pub use cover::{
     Cover, Run, RunFault, equal_faults, gather, gather_some, mark_from, one_run_holds, overlay,
     spread,
 };
+pub use day_readings::DayReadings;

@@ -69,27 +69,27 @@ ascends_from last (day ∷ days) low pairs =
 -- ---- the tests of the days of a block, and of all blocks
 
 days_parts : (count : ℕ) (last : Option ℕ) (days : List DeliveredDay) → days_follow count last days ≡ true
-    → (ascends last days ≡ true) × All (λ day. length day.readings.items ≡ count) days
+    → (ascends last days ≡ true) × All (λ day. length day.readings ≡ count) days
 unfolding ascends
-days_parts count last [] e = (refl, All-nil (λ day. length day.readings.items ≡ count))
+days_parts count last [] e = (refl, All-nil (λ day. length day.readings ≡ count))
 days_parts count last (day ∷ days) e =
     let parts = and_parts (day_follows count last day) (days_follow count (Some day.line) days) e in
-    let here = and_parts (is_after last day.line) (eqb (length day.readings.items) count) parts.0 in
+    let here = and_parts (is_after last day.line) (eqb (length day.readings) count) parts.0 in
     let later = days_parts count (Some day.line) days parts.1 in (
       and_from (is_after last day.line) (ascends (Some day.line) days) here.0 later.0,
-      All-cons (λ day. length day.readings.items ≡ count) day days (eqb-true (length day.readings.items) count here.1) later.1,
+      All-cons (λ day. length day.readings ≡ count) day days (eqb-true (length day.readings) count here.1) later.1,
     )
 
 days_from : (count : ℕ) (last : Option ℕ) (days : List DeliveredDay) → ascends last days ≡ true
-    → All (λ day. length day.readings.items ≡ count) days → days_follow count last days ≡ true
+    → All (λ day. length day.readings ≡ count) days → days_follow count last days ≡ true
 unfolding ascends
 days_from count last [] e whole = refl
 days_from count last (day ∷ days) e whole =
     let parts = and_parts (is_after last day.line) (ascends (Some day.line) days) e in
     and_from (day_follows count last day) (days_follow count (Some day.line) days)
-    (and_from (is_after last day.line) (eqb (length day.readings.items) count) parts.0
-    (eq-eqb (length day.readings.items) count (All-head (λ day. length day.readings.items ≡ count) day days whole)))
-    (days_from count (Some day.line) days parts.1 (All-tail (λ day. length day.readings.items ≡ count) day days whole))
+    (and_from (is_after last day.line) (eqb (length day.readings) count) parts.0
+    (eq-eqb (length day.readings) count (All-head (λ day. length day.readings ≡ count) day days whole)))
+    (days_from count (Some day.line) days parts.1 (All-tail (λ day. length day.readings ≡ count) day days whole))
 
 blocks_parts : (last : Option ℕ) (blocks : List Block) → blocks_follow last blocks ≡ true
     → (ascends last (days_of_blocks blocks) ≡ true) × All IsWhole blocks

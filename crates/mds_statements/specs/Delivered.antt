@@ -20,7 +20,7 @@ day_in block day = record {
   length = block.length;
   unit = block.unit;
   update = day.update;
-  readings = day.readings.items;
+  readings = day.readings;
 }
 
 -- a day and its events

@@ -7,7 +7,7 @@ use Rattle.mds_statements.specs.declared.blocks.DeliveredDay.{DeliveredDay}
 
 -- the days of a block have a reading for each interval
 abbrev pub IsWhole : Block → Type 0
-IsWhole block = All (λ day. length day.readings.items ≡ count_of block.length) block.days.items
+IsWhole block = All (λ day. length day.readings ≡ count_of block.length) block.days.items
 
 -- the days of all blocks, in the order in which they stand
 abbrev pub days_of_blocks : List Block → List DeliveredDay

@@ -11,7 +11,7 @@ is_after (Some last) line = nat_lt last line
 
 -- a day stands after the last line, and has so many readings
 abbrev pub day_follows : ℕ → Option ℕ → DeliveredDay → Bool
-day_follows count last day = is_after last day.line && (length day.readings.items == count)
+day_follows count last day = is_after last day.line && (length day.readings == count)
 
 -- days follow a last line, each the one before
 abbrev pub days_follow : ℕ → Option ℕ → List DeliveredDay → Bool

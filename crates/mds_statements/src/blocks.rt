@@ -1,7 +1,7 @@
 //! The parts of a delivery: a header, and blocks of days.
 
-use mds_marks::Reading;
 use mds_quantity::Unit;
+use mds_runs::DayReadings;
 use mds_terms::{Day, Details, Event, Length, Moment, PrintableString, Stream};
 
 /// The header of a file, its 100 record.
@@ -37,7 +37,7 @@ pub struct DeliveredDay {
     /// When it was updated: the moment of the header where the record doesn't say so.
     pub update: Moment,
     /// One for each interval, in order.
-    pub readings: Vec<Reading>,
+    pub readings: DayReadings,
     /// One for each 500 record.
     pub events: Vec<Event>,
 }

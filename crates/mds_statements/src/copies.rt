@@ -7,7 +7,6 @@ ghost use Rattle.mds_statements.specs.declared.blocks.Block.{Block as ABlock};
 
 use crate::blocks::{Block, DeliveredDay, Header};
 use crate::delivery::Delivery;
-use mds_marks::Reading;
 use mds_terms::Event;
 use std::alloc::{AllocError, Global};
 
@@ -60,7 +59,7 @@ impl DeliveredDay {
             line: self.line,
             date: self.date,
             update: self.update,
-            readings: copy_readings(*self.readings.allocator(), &self.readings)?,
+            readings: self.readings.try_clone(*self.events.allocator())?,
             events: copy_events(*self.events.allocator(), &self.events)?,
         })
     }
@@ -86,17 +85,6 @@ fn copy_days(alloc: Global, days: &[DeliveredDay]) -> Result<Vec<DeliveredDay>, 
     let mut copies = Vec::with_capacity(alloc, days.len())?;
     for day in days {
         copies.push(day.try_clone()?)?;
-    }
-    Ok(copies)
-}
-
-/// Copies of readings, in the same order.
-fn copy_readings(alloc: Global, readings: &[Reading]) -> Result<Vec<Reading>, AllocError>
-    ensures { IfOk result (λ copies. copies.items ≡ readings.now) }
-{
-    let mut copies = Vec::with_capacity(alloc, readings.len())?;
-    for reading in readings {
-        copies.push(reading.try_clone()?)?;
     }
     Ok(copies)
 }

@@ -4,6 +4,7 @@ ghost use Rattle.std.specs.Prelude.{◌≡◌, IfSome};
 
 use mds_keeper::{Additions, Claim, DayBook, Stop};
 use mds_quantity::Unit;
+use mds_runs::DayReadings;
 use mds_terms::{Day, Length, Moment, Reading, Stream};
 use std::alloc::Global;
 
@@ -24,7 +25,7 @@ fn claim_of(alloc: Global, line: u64, seconds: i64, third: &str) -> Option<Claim
 {
     let length = Length::from_minutes(30)?;
     let update = Moment::from_seconds(seconds)?;
-    let readings = readings_of(alloc, third)?;
+    let readings = DayReadings::of(alloc, &readings_of(alloc, third)?).ok()?;
     if readings.len() != length.count() {
         return None;
     }
@@ -58,13 +59,18 @@ fn told(alloc: Global, seconds: i64) -> Option<String> {
         Err(Stop::Refused(refusal)) => return format!(in alloc; "{refusal}").ok(),
         Err(Stop::Memory) => return None,
     };
-    let day = added.days.first()?;
-    let (interval, version) = day.rows.get(50)?;
+    let heads = added.heads.len();
+    let days = added.days.len();
+    let mut rows = Vec::new(alloc);
+    for day in added.days {
+        day.rows.append_to(&mut rows).ok()?;
+    }
+    let (interval, version) = rows.get(50)?;
     let mut text = format!(in alloc;
         "{} {} {} {interval} {} ",
-        added.heads.len(),
-        added.days.len(),
-        day.rows.len(),
+        heads,
+        days,
+        rows.len(),
         version.update.seconds()
     )
     .ok()?;
@@ -75,7 +81,7 @@ fn told(alloc: Global, seconds: i64) -> Option<String> {
 #[test]
 fn claims_are_planned(rt: HostRuntime) {
     let added = told(rt.alloc(), 20);
-    assert!(rt; added.as_deref() == Some("1 1 96 3 20 A,,,2"));
+    assert!(rt; added.as_deref() == Some("1 2 96 3 20 A,,,2"));
     let refused = told(rt.alloc(), 10);
     assert!(rt; refused.as_deref() == Some("M3 line 9 interval 3"));
 }

@@ -50,7 +50,8 @@ fn write_day(day: &DeliveredDay, out: &mut String) -> Result<(), AllocError> {
     day.date.write_to(out)?;
     out.push(',')?;
     day.update.write_to(out)?;
-    for reading in &day.readings {
+    for i in 0..day.readings.len() {
+        let reading = day.readings.reading(i)?;
         out.push_str("\nreading ")?;
         reading.write_to(out)?;
     }

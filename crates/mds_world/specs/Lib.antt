@@ -7,4 +7,5 @@ pub mod Lists
 pub mod Order
 pub mod Sets
 pub mod Stated
+pub mod StreamDays
 pub mod World

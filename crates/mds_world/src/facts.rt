@@ -5,12 +5,53 @@ ghost use Rattle.std.specs.Prelude.{◌≡◌, ◌+◌, ◌<◌, IfOk, OnErr, le
 use mds_quantity::Unit;
 use mds_terms::{Day, Details, Length, Moment, Stream};
 use std::alloc::AllocError;
+use std::cmp::Ordering;
 
-/// A day of a stream.
-#[derive(Clone, Copy, PartialEq, Eq, PartialOrd, Ord)]
+/// A day of a stream. Its order goes by the stream, and then by the day.
+#[derive(Clone, Copy, PartialEq, Eq)]
 pub struct StreamDay {
     pub stream: Stream,
     pub day: Day,
+}
+
+impl PartialOrd for StreamDay {
+    ghost use Rattle.std.proofs.Common.{rules};
+    ghost use Rattle.std.specs.Cmp.{partial_order_from_own_ties, partial_order_from_total};
+    ghost use Rattle.std.specs.Ordering.{as_partial_cmp};
+    ghost use Rattle.std.specs.Cmp.Rules.{comparing};
+    ghost use Rattle.mds_world.specs.StreamDays.{stream_day_cmp, stream_day_total};
+
+    ghost partial_cmp = { as_partial_cmp stream_day_cmp };
+
+    ghost laws = { partial_order_from_own_ties (partial_order_from_total stream_day_total) (Prim.search (comparing, rules)) };
+
+    fn partial_cmp(&self, other: &StreamDay) -> Option<Ordering> {
+        Some(self.cmp(other))
+    }
+}
+
+impl Ord for StreamDay {
+    ghost use Rattle.std.proofs.Common.{rules};
+    ghost use Rattle.std.specs.Cmp.Rules.{comparing};
+    ghost use Rattle.std.specs.Prelude.{refl};
+    ghost use Rattle.mds_world.specs.StreamDays.{stream_day_cmp, stream_day_total};
+
+    ghost cmp = { stream_day_cmp };
+
+    ghost total = { stream_day_total };
+
+    ghost matches_partial_cmp = { λ _ _. refl };
+
+    ghost matches_eq = { Prim.search (comparing, rules) };
+
+    // Days that meet in a map are mostly of one stream. Whether two streams are one is told at once, and their order byte by byte.
+    fn cmp(&self, other: &StreamDay) -> Ordering {
+        if self.stream == other.stream {
+            self.day.cmp(&other.day)
+        } else {
+            self.stream.cmp(&other.stream)
+        }
+    }
 }
 
 /// The head of a known day: the length of its intervals, and its unit.

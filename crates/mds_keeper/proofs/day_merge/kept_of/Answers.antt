@@ -7,12 +7,12 @@ use Rattle.mds_keeper.proofs.day_merge.kept_of.Goals as goal
 
 pub returns-then-has_all-clause-same : goal.returns-then-has_all-clause-same
 returns-then-has_all-clause-same c =
-    let all : held_count c.args.book.now c.args.update 1 c.args.readings.items ≡ length c.args.readings.items =
-    omega (arith, c.requires.held, c.if-has_all.true, c.len.ensures, c.args.readings.ok.0) in
+    let all : held_count c.args.book.now c.args.update 1 c.args.readings ≡ length c.args.readings =
+    omega (arith, c.requires.held, c.if-has_all.true, c.len.ensures.value) in
     kept_same _ _ _ c.is_lawful.ensures (subst (AllPairs IsBefore) c.ascending_rows.ensures.value c.ascending_rows.ensures.ascending) c.requires.whole all
 
 pub returns-then-has_all-clause-kept : goal.returns-then-has_all-clause-kept
 returns-then-has_all-clause-kept c = λ _.
-    let all : held_count c.args.book.now c.args.update 1 c.args.readings.items ≡ length c.args.readings.items =
-    omega (arith, c.requires.held, c.if-has_all.true, c.len.ensures, c.args.readings.ok.0) in
+    let all : held_count c.args.book.now c.args.update 1 c.args.readings ≡ length c.args.readings =
+    omega (arith, c.requires.held, c.if-has_all.true, c.len.ensures.value) in
     kept_in_book _ _ _ c.is_lawful.ensures (subst (AllPairs IsBefore) c.ascending_rows.ensures.value c.ascending_rows.ensures.ascending) c.requires.whole all

@@ -36,7 +36,7 @@ loop-added-preserved c =
       split = split_step _ _ _ _ c.in-Some-added.added c.loop-added.invariant.split c.in-Some-added.ensures.steps.0;
       changed = versions_pushed (days_world c.args.days.now) (map HeadIs c.args.heads.items) c.loop-added.yielded c.in-Some-added.added
           c.opened-in-loop-added.new.closed c.in_ok-hand-2.hand _ c.in_ok-hand-2.ensures.place
-          (c.in_ok-hand-2.ensures.changed _ c.loop-added.invariant.changed) refl refl c.in_ok-put_behind.ensures.value;
+          (c.in_ok-hand-2.ensures.changed _ c.loop-added.invariant.changed) refl refl c.in_ok-append_to.ensures;
     }
 
 pub books_of-requires : goal.books_of-requires

@@ -2,7 +2,7 @@ use Rattle.std.proofs.Common.{◌≡◌, Some, ap, option_map, ◌∙◌}
 use Rattle.std.proofs.lemmas.Result.{IfOk-weaker}
 use Rattle.mds_calendar.specs.Length.{count_of}
 use Rattle.mds_packs.specs.Unpacked.{unpacked}
-use Rattle.mds_pack_rows.proofs.BodyLemmas.{all_said, counted_as}
+use Rattle.mds_pack_rows.proofs.BodyLemmas.{counted_as}
 use Rattle.mds_pack_rows.proofs.bodies.unpack.Goals as goal
 
 pub returns-in_default-clause-only : goal.returns-in_default-clause-only

@@ -1,19 +1,11 @@
-use Rattle.std.proofs.Common.{◌≡◌, IfSome, IsTrue, Some, rules, subst}
-use Rattle.mds_packs.proofs.Whole.{any_held}
-use Rattle.mds_pack_rows.specs.PackFacts.{readings_in}
-use Rattle.mds_pack_rows.specs.Putting.{SayRows}
-use Rattle.mds_pack_rows.proofs.BodyLemmas.{says}
-use Rattle.mds_pack_rows.proofs.EightLemmas.{packed_says}
+use Rattle.std.proofs.Common.{ap, sym, ◌∙◌}
+use Rattle.mds_keeper.specs.Content.{rows_of}
+use Rattle.mds_pack_rows.proofs.EightLemmas.{row_of_day}
 use Rattle.mds_pack_rows.proofs.eights.pack_new_day.Goals as goal
 
-pub returns : goal.returns
-returns c =
-    let added = c.args.added.now in
-    let update = c.in-Some-first_update.update in
-    let readings = c.in-Some-2.readings.items in
-    let body = c.in_ok-body.body.items in
-    let some : IsTrue (any_held readings) = search rules in
-    let is : readings_in body ≡ Some readings = says _ body readings (rw c.as_slice-4.ensures.value at c.in_ok-body.ensures.back some) in
-    let spread : SayRows update readings c.as_slice-2.result.now =
-    subst (λ o. IfSome o (λ readings. SayRows update readings.items c.as_slice-2.result.now)) c.in-Some-2.is c.in_ok-readings.ensures.says in
-    packed_says added.stream added.day update body readings added.rows.items is (rw c.as_slice-2.ensures.value at spread)
+pub returns-in-Each : goal.returns-in-Each
+returns-in-Each c =
+    row_of_day c.pack_listed.result c.args.added.now c.as_slice.result.now (ap rows_of c.in-Each.is ∙ sym c.as_slice.ensures.value) c.pack_listed.ensures
+
+pub returns-in-Whole : goal.returns-in-Whole
+returns-in-Whole c = row_of_day c.pack_whole.result c.args.added.now _ (ap rows_of c.in-Whole.is) c.pack_whole.ensures

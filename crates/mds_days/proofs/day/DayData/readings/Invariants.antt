@@ -5,5 +5,5 @@ use Rattle.mds_days.proofs.day.DayData.readings.Given as goal
 
 abbrev pub invariant-loop-k : goal.invariant-loop-k
 invariant-loop-k l =
-    (l.readings.items ≡ readings_of l.k l.self-inside.mark l.self-inside.cover.runs l.self-inside.values)
+    (l.readings ≡ readings_of l.k l.self-inside.mark l.self-inside.cover.runs l.self-inside.values)
     × GoOn l.self-inside.mark l.self-inside.cover.runs (l.k + 1) l.runs

@@ -6,8 +6,8 @@ use Rattle.mds_keeper.proofs.day_merge.DayMerge.new.Goals as goal
 
 pub invariant_of-result : goal.invariant_of-result
 invariant_of-result c =
-    let none = ap (claimed_entries c.args.book) c.new.ensures.empty in (
+    let none = ap (claimed_entries c.args.book) c.new.ensures in (
       new_merge _ _ _ c.head-form.ensures none c.is_lawful.ensures,
-      none_in_book _ _ c.new.ensures.empty,
+      none_in_book _ _ c.new.ensures,
       counts_none _ _ none,
     )

@@ -1,6 +1,6 @@
-use Rattle.std.proofs.Common.{refl, sym, ap, ◌∙◌, subst, length, arith}
+use Rattle.std.proofs.Common.{refl, sym, ap, ◌∙◌, subst, arith}
 use Rattle.mds_keeper.specs.DayMergeSteps.{AreInBook, claimed_entries}
-use Rattle.mds_keeper.proofs.Taken.{absent_claimed, absent_entry, as_many, book_end, claim_end, claimed_entry_in, comes_in, merge_more, merge_same, none_kept, form_end, found_entry, known_end, lacking_end, still_in_book, taken_end, unsaid_end}
+use Rattle.mds_keeper.proofs.Taken.{absent_claimed, as_many, book_end, claim_end, claimed_entry_in, comes_in, merge_more, merge_same, none_kept, form_end, known_end, lacking_end, still_in_book, taken_end, unsaid_end}
 use Rattle.mds_keeper.proofs.Walks.{counts_more, counts_same}
 use Rattle.mds_keeper.proofs.day_merge.DayMerge.take.Goals as goal
 
@@ -11,50 +11,43 @@ returns-in-Some-clause-refused c =
 pub difference-requires-clause-as_many : goal.difference-requires-clause-as_many
 difference-requires-clause-as_many c =
     as_many _ _ _ c.self.invariant.0 c.args.claim c.in_default.ensures.none _
-    (claimed_entry_in c.self.inside.book _ c.args.claim.update c.in-Some-get.claimed.now
-    (found_entry _ c.args.claim.update c.seconds.ensures.order _ _ c.in-Some-get.ensures.value))
-    ∙ sym c.args.claim.whole ∙ sym (ap length c.deref.ensures.value)
+    (claimed_entry_in c.self.inside.book _ c.args.claim.update c.in-Some-get.claimed.now c.in-Some-get.ensures.some)
+    ∙ sym c.args.claim.whole
 
 pub difference-requires-clause-kept : goal.difference-requires-clause-kept
 difference-requires-clause-kept c =
-    none_kept c.self.inside.book _ c.args.claim.update c.in-Some-get.claimed.now c.self.invariant.1
-    (found_entry _ c.args.claim.update c.seconds.ensures.order _ _ c.in-Some-get.ensures.value)
+    none_kept c.self.inside.book _ c.args.claim.update c.in-Some-get.claimed.now c.self.invariant.1 c.in-Some-get.ensures.some
 
 pub returns-in-Some-difference-clause-refused : goal.returns-in-Some-difference-clause-refused
 returns-in-Some-difference-clause-refused c =
-    let m = claimed_entry_in c.self.inside.book _ c.args.claim.update c.in-Some-get.claimed.now
-    (found_entry _ c.args.claim.update c.seconds.ensures.order _ _ c.in-Some-get.ensures.value) in
+    let m = claimed_entry_in c.self.inside.book _ c.args.claim.update c.in-Some-get.claimed.now c.in-Some-get.ensures.some in
     let many = as_many _ _ _ c.self.invariant.0 c.args.claim c.in_default.ensures.none _ m ∙ sym c.args.claim.whole in
-    let q = rw c.deref.ensures.value at c.in-Some-difference.ensures.some in
     rw c.conflict.ensures (
       refl,
       refl,
       claim_end _ _ _ _ c.self.view_is c.self.invariant.0 c.args.claim c.in_default.ensures.none _ m many
-          c.in-Some-difference.interval q,
+          c.in-Some-difference.interval c.in-Some-difference.ensures.some,
     )
 
 pub returns-in-Some-get-clause-ok : goal.returns-in-Some-get-clause-ok
 returns-in-Some-get-clause-ok c =
-    let m = claimed_entry_in c.self.inside.book _ c.args.claim.update c.in-Some-get.claimed.now
-    (found_entry _ c.args.claim.update c.seconds.ensures.order _ _ c.in-Some-get.ensures.value) in
-    let q = rw c.deref.ensures.value at c.in_default-difference.ensures.none in
-    let k = known_end _ _ _ _ c.self.view_is c.self.invariant.0 c.args.claim c.in_default.ensures.none _ m q in
+    let m = claimed_entry_in c.self.inside.book _ c.args.claim.update c.in-Some-get.claimed.now c.in-Some-get.ensures.some in
+    let k = known_end _ _ _ _ c.self.view_is c.self.invariant.0 c.args.claim c.in_default.ensures.none _ m
+    c.in_default-difference.ensures.none in
     (refl, k.0, k.1)
 
 pub returns-in-Err-clause-refused : goal.returns-in-Err-clause-refused
 returns-in-Err-clause-refused c =
-    let absent = absent_claimed c.self.inside.book _ c.args.claim.update
-    (absent_entry _ c.args.claim.update c.seconds.ensures.order _ c.in_default-get.ensures.value) in
-    let q = rw c.deref-2.ensures.value at c.in-Err.ensures.conflict in
+    let absent = absent_claimed c.self.inside.book _ c.args.claim.update c.in_default-get.ensures.none in
     rw c.conflict-in-Err.ensures (
       refl,
       refl,
-      book_end _ _ _ _ c.self.view_is c.self.invariant.0 c.args.claim c.in_default.ensures.none absent c.in-Err.interval q,
+      book_end _ _ _ _ c.self.view_is c.self.invariant.0 c.args.claim c.in_default.ensures.none absent c.in-Err.interval c.in-Err.ensures.conflict,
     )
 
 pub invariant_of-self : goal.invariant_of-self
 invariant_of-self c =
-    let same = c.in_err-insert.ensures.err in
+    let same = c.in_err-insert.ensures.kept in
     let of_book = ap (claimed_entries c.self.inside.book) same in (
       merge_same _ _ _ _ of_book c.self.invariant.0,
       subst (λ l. AreInBook c.self.inside.book l) (sym same) c.self.invariant.1,
@@ -63,64 +56,47 @@ invariant_of-self c =
 
 pub invariant_of-self-2 : goal.invariant_of-self-2
 invariant_of-self-2 c =
-    let raw = absent_entry _ c.args.claim.update c.seconds.ensures.order _ c.in_default-get.ensures.value in
-    let absent = absent_claimed c.self.inside.book _ c.args.claim.update raw in
-    let put = c.in_ok-insert.ensures.entries in
-    let free = rw c.deref-2.ensures.value at c.in-Ok.ensures.suits in
-    let held = rw c.deref-2.ensures.value at c.in-Ok.ensures.held in
-    let few = rw c.deref-2.ensures.value at c.in-Ok.ensures.few in
-    let comes = comes_in c.self.inside.book _ _ c.args.claim.update c.kept_of-kept.result _ c.kept_of-kept.ensures.same raw _ c.seconds.ensures.order put in (
-      merge_more _ _ _ _ c.self.invariant.0 c.args.claim c.in_default.ensures.none absent comes free c.args.claim.whole,
-      still_in_book c.self.inside.book _ _ c.args.claim.update c.kept_of-kept.result _ c.kept_of-kept.ensures.same raw _ c.seconds.ensures.order put
-          c.kept_of-kept.ensures.kept c.self.invariant.1,
-      counts_more _ _ _ c.seconds.ensures.order c.kept_of-kept.result _ _ raw put _ c.kept_of-kept.ensures.same _ _ _ _ _ _ c.self.invariant.2 held
-          (omega (arith, few, c.len.ensures)) c.in-Some-checked_add.ensures.1 c.in-Some-checked_add-2.ensures.1,
+    let absent = absent_claimed c.self.inside.book _ c.args.claim.update c.in_default-get.ensures.none in
+    let put = c.in_ok-insert.ensures.done in
+    let comes = comes_in c.self.inside.book _ _ c.args.claim.update c.kept_of-kept.result put _ c.kept_of-kept.ensures.same absent in (
+      merge_more _ _ _ _ c.self.invariant.0 c.args.claim c.in_default.ensures.none absent comes c.in-Ok.ensures.suits c.args.claim.whole,
+      still_in_book c.self.inside.book _ _ c.args.claim.update c.kept_of-kept.result put c.kept_of-kept.ensures.kept c.self.invariant.1,
+      counts_more _ _ c.kept_of-kept.result _ _ put _ c.kept_of-kept.ensures.same _ _ _ _ _ _ c.self.invariant.2 c.in-Ok.ensures.held
+          (omega (arith, c.in-Ok.ensures.few, c.len.ensures.value)) c.in-Some-checked_add.ensures.1 c.in-Some-checked_add-2.ensures.1,
     )
 
 pub returns-clause-ok : goal.returns-clause-ok
 returns-clause-ok c =
-    let raw = absent_entry _ c.args.claim.update c.seconds.ensures.order _ c.in_default-get.ensures.value in
-    let absent = absent_claimed c.self.inside.book _ c.args.claim.update raw in
-    let put = c.in_ok-insert.ensures.entries in
-    let free = rw c.deref-2.ensures.value at c.in-Ok.ensures.suits in
-    let comes = comes_in c.self.inside.book _ _ c.args.claim.update c.kept_of-kept.result _ c.kept_of-kept.ensures.same raw _ c.seconds.ensures.order put in
-    taken_end _ _ _ _ c.self.view_is c.self.invariant.0 c.args.claim c.in_default.ensures.none absent _ comes free
+    let absent = absent_claimed c.self.inside.book _ c.args.claim.update c.in_default-get.ensures.none in
+    let comes = comes_in c.self.inside.book _ _ c.args.claim.update c.kept_of-kept.result c.in_ok-insert.ensures.done _ c.kept_of-kept.ensures.same absent in
+    taken_end _ _ _ _ c.self.view_is c.self.invariant.0 c.args.claim c.in_default.ensures.none absent _ comes c.in-Ok.ensures.suits
 
 pub returns-in_err-insert-clause-agrees : goal.returns-in_err-insert-clause-agrees
 returns-in_err-insert-clause-agrees c = λ _.
-    let absent = absent_claimed c.self.inside.book _ c.args.claim.update
-    (absent_entry _ c.args.claim.update c.seconds.ensures.order _ c.in_default-get.ensures.value) in
-    let free = rw c.deref-2.ensures.value at c.in-Ok.ensures.suits in
-    lacking_end _ _ _ _ c.self.view_is c.self.invariant.0 c.args.claim c.in_default.ensures.none absent free
+    let absent = absent_claimed c.self.inside.book _ c.args.claim.update c.in_default-get.ensures.none in
+    lacking_end _ _ _ _ c.self.view_is c.self.invariant.0 c.args.claim c.in_default.ensures.none absent c.in-Ok.ensures.suits
 
 pub returns-in_err-insert-clause-unsaid : goal.returns-in_err-insert-clause-unsaid
 returns-in_err-insert-clause-unsaid c = λ _.
-    let absent = absent_claimed c.self.inside.book _ c.args.claim.update
-    (absent_entry _ c.args.claim.update c.seconds.ensures.order _ c.in_default-get.ensures.value) in
+    let absent = absent_claimed c.self.inside.book _ c.args.claim.update c.in_default-get.ensures.none in
     unsaid_end _ _ _ _ c.self.view_is c.self.invariant.0 c.args.claim c.in_default.ensures.none absent
 
 pub returns-in_default-checked_add-clause-agrees : goal.returns-in_default-checked_add-clause-agrees
 returns-in_default-checked_add-clause-agrees c = λ _.
-    let absent = absent_claimed c.self.inside.book _ c.args.claim.update
-    (absent_entry _ c.args.claim.update c.seconds.ensures.order _ c.in_default-get.ensures.value) in
-    let free = rw c.deref-2.ensures.value at c.in-Ok.ensures.suits in
-    lacking_end _ _ _ _ c.self.view_is c.self.invariant.0 c.args.claim c.in_default.ensures.none absent free
+    let absent = absent_claimed c.self.inside.book _ c.args.claim.update c.in_default-get.ensures.none in
+    lacking_end _ _ _ _ c.self.view_is c.self.invariant.0 c.args.claim c.in_default.ensures.none absent c.in-Ok.ensures.suits
 
 pub returns-in_default-checked_add-clause-unsaid : goal.returns-in_default-checked_add-clause-unsaid
 returns-in_default-checked_add-clause-unsaid c = λ _.
-    let absent = absent_claimed c.self.inside.book _ c.args.claim.update
-    (absent_entry _ c.args.claim.update c.seconds.ensures.order _ c.in_default-get.ensures.value) in
+    let absent = absent_claimed c.self.inside.book _ c.args.claim.update c.in_default-get.ensures.none in
     unsaid_end _ _ _ _ c.self.view_is c.self.invariant.0 c.args.claim c.in_default.ensures.none absent
 
 pub returns-in_default-checked_add-2-clause-agrees : goal.returns-in_default-checked_add-2-clause-agrees
 returns-in_default-checked_add-2-clause-agrees c = λ _.
-    let absent = absent_claimed c.self.inside.book _ c.args.claim.update
-    (absent_entry _ c.args.claim.update c.seconds.ensures.order _ c.in_default-get.ensures.value) in
-    let free = rw c.deref-2.ensures.value at c.in-Ok.ensures.suits in
-    lacking_end _ _ _ _ c.self.view_is c.self.invariant.0 c.args.claim c.in_default.ensures.none absent free
+    let absent = absent_claimed c.self.inside.book _ c.args.claim.update c.in_default-get.ensures.none in
+    lacking_end _ _ _ _ c.self.view_is c.self.invariant.0 c.args.claim c.in_default.ensures.none absent c.in-Ok.ensures.suits
 
 pub returns-in_default-checked_add-2-clause-unsaid : goal.returns-in_default-checked_add-2-clause-unsaid
 returns-in_default-checked_add-2-clause-unsaid c = λ _.
-    let absent = absent_claimed c.self.inside.book _ c.args.claim.update
-    (absent_entry _ c.args.claim.update c.seconds.ensures.order _ c.in_default-get.ensures.value) in
+    let absent = absent_claimed c.self.inside.book _ c.args.claim.update c.in_default-get.ensures.none in
     unsaid_end _ _ _ _ c.self.view_is c.self.invariant.0 c.args.claim c.in_default.ensures.none absent

@@ -1,6 +1,0 @@
-use Rattle.std.proofs.Common.{◌≡◌, ℕ, ◌<◌}
-use Rattle.std.specs.List.{slice_get}
-use Rattle.mds_keeper.proofs.day_merge.first_difference.Given as goal
-
-abbrev pub invariant-loop-i : goal.invariant-loop-i
-invariant-loop-i l = (k : ℕ) → k < l.i → slice_get l.claimed k ≡ slice_get l.readings k

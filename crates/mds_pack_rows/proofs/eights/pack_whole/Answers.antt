@@ -1,0 +1,15 @@
+use Rattle.std.proofs.Common.{◌≡◌, ◌<◌, Some, ap, length, map, ◌∙◌, rules}
+use Rattle.mds_inserts.proofs.RowLemmas.{of}
+use Rattle.mds_pack_rows.specs.PackFacts.{readings_in}
+use Rattle.mds_pack_rows.proofs.BodyLemmas.{says}
+use Rattle.mds_pack_rows.proofs.PutLemmas.{says_day, whole_said}
+use Rattle.mds_pack_rows.proofs.eights.pack_whole.Goals as goal
+
+pub returns : goal.returns
+returns c =
+    let readings = c.args.readings.now in
+    let places = map (λ reading. Some reading) readings in
+    let body = c.in_ok-body.body.items in
+    let some : 0 < length readings = search rules in
+    let is : readings_in body ≡ Some places = says (length readings) body places (c.in_ok-body.ensures.back some) in
+    ap of (says_day c.args.stream.now c.args.day c.args.update body places is ∙ whole_said c.args.stream.now c.args.day c.args.update 1 readings)
