@@ -25,7 +25,11 @@ fn claim_of(alloc: Global, line: u64, seconds: i64, third: &str) -> Option<Claim
 {
     let length = Length::from_minutes(30)?;
     let update = Moment::from_seconds(seconds)?;
-    let readings = DayReadings::of(alloc, &readings_of(alloc, third)?).ok()?;
+    let readings = readings_of(alloc, third)?;
+    if readings.len() != 48 {
+        return None;
+    }
+    let readings = DayReadings::of(alloc, &readings).ok()?;
     if readings.len() != length.count() {
         return None;
     }
