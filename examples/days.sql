@@ -4,10 +4,12 @@ SELECT 'day', h.nmi, h.suffix, strftime('%Y%m%d', h.day * 86400, 'unixepoch'), h
 FROM mds_head AS h LEFT JOIN mds_pack AS p ON p.nmi = h.nmi AND p.suffix = h.suffix AND p.day = h.day
 GROUP BY h.nmi, h.suffix, h.day
 ORDER BY h.nmi, h.suffix, h.day;
--- Each stream with its details, the current ones last: the moment of the file, then configuration, register, data stream and meter.
-SELECT 'details', nmi, suffix, strftime('%Y%m%d%H%M%S', moment, 'unixepoch'), configuration, register, datastream, meter
-FROM mds_detail
-ORDER BY nmi, suffix, moment;
+-- The details of each day, the current ones last: the day, the moment of the file, then configuration, register, data stream and meter. A
+-- day that isn't here has those of the nearest earlier day of its stream.
+SELECT 'details', nmi, suffix, strftime('%Y%m%d', day * 86400, 'unixepoch'), strftime('%Y%m%d%H%M%S', moment, 'unixepoch'),
+    configuration, register, datastream, meter
+FROM mds_daydetail
+ORDER BY nmi, suffix, day, moment, configuration, register, datastream, meter, next;
 -- Each event: its day, transaction code, service order, moment and index read. A moment of -1 is none.
 SELECT 'event', nmi, suffix, strftime('%Y%m%d', day * 86400, 'unixepoch'), trans, ticket,
     CASE moment WHEN -1 THEN '' ELSE strftime('%Y%m%d%H%M%S', moment, 'unixepoch') END, reading

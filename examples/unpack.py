@@ -3,9 +3,9 @@
 
     examples/unpack.py STORE > readings.csv
 
-A store of schema 2 is an SQLite file. Its table mds_pack has a row for each stream, day and update. The body of a row holds the
-readings of that day that have that update. It is packed in bytes, as "Packed days" of docs/FORMATS.md tells. This script reads these
-rows and prints a line for each version of an interval, under a line of the names:
+A store of schema 3, or of schema 2, is an SQLite file. Its table mds_pack has a row for each stream, day and update. The body of a row
+holds the readings of that day that have that update. It is packed in bytes, as "Packed days" of docs/FORMATS.md tells. This script
+reads these rows and prints a line for each version of an interval, under a line of the names:
 
     nmi,suffix,date,interval,update,quality,code,text,value
     NEM1201009,E1,20240101,7,20240102010203,A,,,1.5
@@ -14,8 +14,8 @@ An interval that was corrected has several lines. The one of the latest update i
 none, and so is the value where the quality is N. Lines are in order of stream, day, update and interval.
 
 A row that isn't as the format says is told on standard error, with what is wrong with it. The others are printed all the same. The
-status is 0 where all rows were read, 1 where some weren't, and 2 where the file is no store of schema 2. Nothing that the store keeps
-is changed. While another process has the store, as `mdstore serve`, it can't be read.
+status is 0 where all rows were read, 1 where some weren't, and 2 where the file is no store of these schemas. Nothing that the store
+keeps is changed. While another process has the store, as `mdstore serve`, it can't be read.
 """
 
 import csv
@@ -149,17 +149,17 @@ def opened(path):
 
 
 def see_schema(database):
-    """Sees to it that the database is a store of schema 2, all of whose readings are packed."""
+    """Sees to it that the database is a store of schema 2 or 3, all of whose readings are packed."""
     tables = {name for name, in database.execute("SELECT name FROM sqlite_schema WHERE type = 'table'")}
     if not {"mds_schema", "mds_head", "mds_version"} <= tables:
         raise NoStore("this is no store")
     versions = [version for version, in database.execute("SELECT version FROM mds_schema")]
     if versions == [1]:
         raise NoStore("this is a store of schema 1, whose table mds_version has a row for each version already")
-    if versions != [2] or "mds_pack" not in tables:
-        raise NoStore(f"mds_schema says {', '.join(map(str, versions)) or 'nothing'}, and only stores of schema 2 are read")
+    if versions not in ([2], [3]) or "mds_pack" not in tables:
+        raise NoStore(f"mds_schema says {', '.join(map(str, versions)) or 'nothing'}, and only stores of schemas 2 and 3 are read")
     if database.execute("SELECT 1 FROM mds_version LIMIT 1").fetchone():
-        raise NoStore("mds_version has rows, and in schema 2 it has none")
+        raise NoStore(f"mds_version has rows, and in schema {versions[0]} it has none")
 
 
 def row_name(nmi, suffix, day, moment):

@@ -13,7 +13,7 @@ import checks
 from checks import MDSTORE, SCRIPT, limited, mdstore
 from file_parts import block, day, file_of, period
 from many_runs import ManyRuns, Shared, built, shared_numbers
-from schema_1 import PERIOD_HEADER, build, job, run
+from old_stores import PERIOD_HEADER, build, job, opened, run
 
 # What is written in memory is synced at once.
 DIR = tempfile.mkdtemp(dir="/dev/shm" if os.path.isdir("/dev/shm") else None)
@@ -52,7 +52,8 @@ UPDATE, LATER = "20240102010203", "20240103010203"
 TWO_DAYS = file_of(block(), day(values=VALUES, update=UPDATE), "500,O,S1,20240101101112,12\n", block(suffix="B1"),
                    day(values=VALUES[::-1], update=UPDATE))
 LATER_DAYS = file_of(block(), *(day(f"202401{number:02}", VALUES, update="20240201000000") for number in range(2, 9)))
-CORRECTION = file_of(block(), day(values=["9.5", *VALUES[1:8], "", *VALUES[9:]], quality="V", update=LATER), run(1, 8, "A"),
+# The meter is another one as well.
+CORRECTION = file_of(block(meter="01010"), day(values=["9.5", *VALUES[1:8], "", *VALUES[9:]], quality="V", update=LATER), run(1, 8, "A"),
                      run(9, 9, "N", "79"), run(10, 48, "F14", "76", "Zähler gewechselt"))
 PERIODS = file_of(period(), "550,N,,A,\n", header=PERIOD_HEADER)
 HOLIDAYS = "date\n20240126\n20240401\n"
@@ -64,10 +65,11 @@ EXPORT = ["export", "NEM1201009", "20240101", "20240108", "202406010000", "MDP1"
 
 class Command:
     """A command: its words, of which `INPUT` is the name of a file, the bytes of that file, the files that it finds at the path of the
-    store and beside it, and what it prints where it does its work and where that is known already."""
+    store and beside it, and what it prints where it does its work and where that is known already. Where it does that in two steps the files
+    of a store that has what the first of them leaves are told, or else none."""
 
-    def __init__(self, words, given, found, done, known):
-        self.words, self.given, self.found, self.done, self.known = words, given.encode(), found, done, known
+    def __init__(self, words, given, found, done, known, between=None):
+        self.words, self.given, self.found, self.done, self.known, self.between = words, given.encode(), found, done, known, between
         self.is_query = done == known
 
 
@@ -117,20 +119,24 @@ def store_with_log():
                     most=file_size)
 
 
-def old_store(*statements):
-    """A store of schema 1, changed by these statements."""
+def old_store(schema, *statements):
+    """The store of a schema, changed by these statements."""
     with folder_of({}) as folder:
         store = os.path.join(folder, "store.db")
-        build(store)
-        with contextlib.closing(sqlite3.connect(store, isolation_level=None)) as database:
+        build(store, schema)
+        with opened(store) as database:
             for statement in statements:
                 database.execute(statement)
         return files_of(folder)
 
 
-# What leaves a store of schema 1 one day, which has versions of three updates.
 OTHER_DAYS = "(nmi, suffix, day) != ('NEM1201009', 'E1', 19725)"
-ONE_DAY = [f"DELETE FROM mds_version WHERE {OTHER_DAYS}", f"DELETE FROM mds_head WHERE {OTHER_DAYS}", "VACUUM"]
+
+
+def old_store_of_a_day(schema):
+    """The store of a schema with one day left, which has versions of three updates."""
+    return old_store(schema, f"DELETE FROM {'mds_version' if schema == 1 else 'mds_pack'} WHERE {OTHER_DAYS}",
+                     f"DELETE FROM mds_head WHERE {OTHER_DAYS}", "VACUUM")
 
 
 def commands():
@@ -152,8 +158,9 @@ def commands():
         "holidays": Command(["holidays", "INPUT"], HOLIDAYS, days, "added 2 known 0\n", "added 0 known 2\n"),
         "holidays beside a log": Command(["holidays", "INPUT"], HOLIDAYS, with_log, "added 2 known 0\n", "added 0 known 2\n"),
         "export": Command(EXPORT, "", days, exported, exported),
-        "migrate": Command(["migrate"], "", old_store(*ONE_DAY), "migrated\n", "already current\n"),
-        "migrate of many days": Command(["migrate"], "", old_store(), "migrated\n", "already current\n"),
+        "migrate": Command(["migrate"], "", old_store_of_a_day(1), "migrated\n", "already current\n", old_store_of_a_day(2)),
+        "migrate of many days": Command(["migrate"], "", old_store(1), "migrated\n", "already current\n", old_store(2)),
+        "migrate from schema 2": Command(["migrate"], "", old_store_of_a_day(2), "migrated\n", "already current\n"),
     }
 
 
@@ -289,7 +296,7 @@ class Judge:
     def __init__(self, command):
         self.command, self.states, self.seen = command, {}, {}
         self.is_new = not command.found.get("store.db")
-        self.before = rows_of(command.found)
+        self.before, self.between = rows_of(command.found), command.between and rows_of(command.between)
         self.places = Shared(Disturbed(command) for _ in range(os.cpu_count()))
         undisturbed = self.run(command.found)
         check(f"{command.words} undisturbed", (undisturbed.text, undisturbed.status), (command.done, 0))
@@ -309,9 +316,15 @@ class Judge:
     def state_of(self, files):
         key = key_of(files)
         if key not in self.states:
-            rows = rows_of(files, self.is_new)
-            self.states[key] = "after" if rows == self.after else "before" if rows == self.before else f"neither: {rows}"
+            self.states[key] = self.state_of_rows(rows_of(files, self.is_new))
         return self.states[key]
+
+    def state_of_rows(self, rows):
+        if rows == self.after:
+            return "after"
+        if rows == self.before:
+            return "before"
+        return "between" if self.between and rows == self.between else f"neither: {rows}"
 
     def see(self, files):
         """The state of the store, and what is wrong with it or with the command once more."""
@@ -322,7 +335,7 @@ class Judge:
 
     def look(self, files):
         state = self.state_of(files)
-        problems = [] if state in ("before", "after") else [f"the store is {state}"]
+        problems = [] if state in ("before", "between", "after") else [f"the store is {state}"]
         again = self.run(files)
         wanted = (self.command.known, 3 if self.command.known == "U3\n" else 0) if state == "after" else (self.command.done, 0)
         if (again.text, again.status) != wanted:

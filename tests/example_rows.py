@@ -11,6 +11,13 @@ TOLD_FIRST = told_day("20240101", {1: "A,,,1.5"}, "20240102010203")
 EXPORTED_FIRST = exported(block(), FIRST_DAY)
 FIVE_MINUTES = header() + block(5)
 LATER_DAY = day("20240103", half_hours("2"), "20240104000000")
+# A meter is exchanged between two days of one file.
+METER_OF_FIRST, METER_OF_SECOND = block(), block(meter="01010")
+SECOND_DAY = day("20240102", half_hours("2"), "20240103010203")
+EXCHANGED = take_in(header("202401020000"), METER_OF_FIRST, FIRST_DAY, METER_OF_SECOND, SECOND_DAY, END)
+EXPORTED_EXCHANGE = exported(METER_OF_FIRST, FIRST_DAY, METER_OF_SECOND, SECOND_DAY)
+# A 200 without details, as an export has it of a day that has none.
+BARE = f"200,{NMI},,,{SUFFIX},,,kWh,30,\n"
 LIKE_DAYS = take_in(header(), block(), day("20240108", half_hours("1.000002"), "20240116000000"),
                     day("20240115", half_hours("1.000001"), "20240116000000"), END)
 
@@ -89,13 +96,113 @@ TWICE = [
     (TWICE_NOTED, added(0, 48)),
 ]
 
-# The details of the latest header are current, also where its file comes first.
+# A 200 without a day states nothing. The details of the latest header are current, also where its file comes first.
 LATEST_DETAILS = [
     (take_in(header("202401040000"), block(meter="LATER", next_read="20240203"), END), added(0, 0)),
-    (FIRST, added(48, 0)),
-    (take_in(header(), block(suffix="B1", meter="01010"), END), added(0, 0)),
+    (TELL_STREAMS, told_streams()),
+    (take_in(header("202401040000"), block(meter="LATER", next_read="20240203"), FIRST_DAY, END), added(48, 0)),
+    (FIRST, added(0, 48)),
+    (take_in(header(), block(suffix="B1", meter="01010"), FIRST_DAY, END), added(48, 0)),
     (TELL_STREAMS, told_streams("NEM1201009,B1,B1,1,N1,01010,", "NEM1201009,E1,E1,1,N1,LATER,20240203")),
     (tell_day("20240102"), refused("M10")),
+]
+
+# A meter is exchanged: each day has the details of the 200 before it. A job's day has those of the day before.
+THREE_DAYS = [METER_OF_FIRST, FIRST_DAY, METER_OF_SECOND, SECOND_DAY, day("20240103", half_hours("0"), "20240104000000", "V"),
+              run(1, 1, "S19"), run(2, 48, "N")]
+OTHER_METER = [block(meter="01000"), FIRST_DAY, END]
+EXCHANGE = [
+    (EXCHANGED, added(96, 0)),
+    (export("20240101", "20240102", "E1"), EXPORTED_EXCHANGE),
+    (TELL_STREAMS, told_streams("NEM1201009,E1,E1,1,N1,01010,")),
+    (EXCHANGED, added(0, 96)),
+    (fill_in("J1", "20240103", 1, 1, 19, "S", "20240104000000"), filled(1)),
+    (export("20240101", "20240103", "E1"), exported(*THREE_DAYS)),
+    (export("20240103", "20240103", "E1"), exported(METER_OF_SECOND, *THREE_DAYS[4:])),
+    (TELL_STREAMS, told_streams("NEM1201009,E1,E1,1,N1,01010,")),
+]
+
+# The details of a day are those of the latest header that stated it, and of one header the greatest. They count as no reading, and no other
+# day gets them.
+LATEST_OF_A_DAY = [
+    (EXCHANGED, added(96, 0)),
+    (take_in(header("202401020000"), *OTHER_METER), added(0, 48)),
+    (export("20240101", "20240102", "E1"), EXPORTED_EXCHANGE),
+    (take_in(header("202401040000"), *OTHER_METER), added(0, 48)),
+    (export("20240101", "20240102", "E1"), exported(block(meter="01000"), FIRST_DAY, METER_OF_SECOND, SECOND_DAY)),
+    (take_in(header("202401030000"), block(meter="99999"), FIRST_DAY, END), added(0, 48)),
+    (EXCHANGED, added(0, 96)),
+    (export("20240101", "20240101", "E1"), exported(block(meter="01000"), FIRST_DAY)),
+    (TELL_STREAMS, told_streams("NEM1201009,E1,E1,1,N1,01010,")),
+]
+
+# An export states the details of each of its days. Its own store takes it in, and another one has them then.
+EXPORTED_AGAIN = [
+    (EXCHANGED, added(96, 0)),
+    (take_in(EXPORTED_EXCHANGE[2]), added(0, 96)),
+    (export("20240101", "20240102", "E1"), EXPORTED_EXCHANGE),
+    (TELL_STREAMS, told_streams("NEM1201009,E1,E1,1,N1,01010,")),
+]
+EXPORTED_TO_ANOTHER = [(take_in(EXPORTED_EXCHANGE[2]), added(96, 0)), *EXPORTED_AGAIN[2:]]
+
+# The days of a file are in any order, and so are its 200s. Where a day has two of one header the greater one is current. A next read alone
+# is another 200 as well.
+OUT_OF_ORDER = [
+    (take_in(header(), block(meter="2"), SECOND_DAY, LATER_DAY, block(meter="1"), FIRST_DAY, block(meter="3"), SECOND_DAY, block(meter="1"),
+             LATER_DAY, END), added(144, 0)),
+    (export("20240101", "20240103", "E1"), exported(block(meter="1"), FIRST_DAY, block(meter="3"), SECOND_DAY, block(meter="2"), LATER_DAY)),
+    (take_in(header("202401040000"), block(meter="3", next_read="20240201"), LATER_DAY, END), added(0, 48)),
+    (take_in(header("202401040000"), block(meter="3"), FIRST_DAY, SECOND_DAY, END), added(0, 96)),
+    (export("20240101", "20240103", "E1"), exported(block(meter="3"), FIRST_DAY, SECOND_DAY, block(meter="3", next_read="20240201"), LATER_DAY)),
+    (export("20240103", "20240103", "E1"), exported(block(meter="3", next_read="20240201"), LATER_DAY)),
+    (TELL_STREAMS, told_streams("NEM1201009,E1,E1,1,N1,3,20240201")),
+]
+
+# A stream that no day and no accumulation has isn't known.
+WITHOUT_DAYS = [
+    (take_in(header(), block(), END), added(0, 0)),
+    (TELL_STREAMS, told_streams()),
+    (export("20240101", "20240102", "E1"), exported()),
+    (take_in(header(), block(), block(suffix="B1"), FIRST_DAY, block(), END), added(48, 0)),
+    (TELL_STREAMS, told_streams("NEM1201009,B1,B1,1,N1,01009,")),
+]
+
+# A job's day has the details of no day behind it, and of no other stream. A day that states its own has these.
+FILLED_FIRST = [day("20240101", half_hours("0"), "20240104000000", "V"), run(1, 1, "S19"), run(2, 48, "N")]
+NEVER_LATER = [
+    (take_in(header(), block(), LATER_DAY, block(suffix="B1"), FIRST_DAY, END), added(96, 0)),
+    (fill_in("J1", "20240101", 1, 1, 19, "S", "20240104000000"), filled(1)),
+    (export("20240101", "20240101", "E1"), exported(BARE, *FILLED_FIRST)),
+    (export("20240101", "20240103", "E1"), exported(BARE, *FILLED_FIRST, block(), LATER_DAY)),
+    (fill_in("J2", "20240105", 1, 48, 19, "F", "20240106000000"), filled(48)),
+    (export("20240103", "20240105", "E1"), exported(block(), LATER_DAY, day("20240105", half_hours("0"), "20240106000000", "F19"))),
+    (TELL_STREAMS, told_streams("NEM1201009,B1,B1,1,N1,01009,", "NEM1201009,E1,E1,1,N1,01009,")),
+    (take_in(header(), block(meter="01010"), day("20240105", half_hours("0"), "20240106000000", "F19"), END), added(0, 48)),
+    (export("20240101", "20240105", "E1"), exported(BARE, *FILLED_FIRST, block(), LATER_DAY, block(meter="01010"),
+                                                    day("20240105", half_hours("0"), "20240106000000", "F19"))),
+    (TELL_STREAMS, told_streams("NEM1201009,B1,B1,1,N1,01009,", "NEM1201009,E1,E1,1,N1,01010,")),
+]
+
+# A stream of jobs alone has five empty details. An export of it states them, and then its days have them.
+OF_JOBS_ALONE = [
+    (fill_in("J1", "20240101", 1, 1, 19, "S", "20240104000000"), filled(1)),
+    (TELL_STREAMS, told_streams("NEM1201009,E1,,,,,")),
+    (export("20240101", "20240101", "E1"), exported(BARE, *FILLED_FIRST)),
+    (take_in(exported(BARE, *FILLED_FIRST)[2]), added(47, 1)),
+    (export("20240101", "20240101", "E1"), exported(BARE, *FILLED_FIRST)),
+    (take_in(header("202401050000"), block(), LATER_DAY, END), added(48, 0)),
+    (export("20240101", "20240103", "E1"), exported(BARE, *FILLED_FIRST, block(), LATER_DAY)),
+    (TELL_STREAMS, told_streams("NEM1201009,E1,E1,1,N1,01009,")),
+]
+
+# Details alone are no conflict, and a file that conflicts leaves none behind.
+NO_DETAILS_LEFT = [
+    (FIRST, added(48, 0)),
+    (take_in(header("202401040000"), block(meter="01010"), FIRST_DAY, day("20240101", half_hours("9"), "20240102010203"), END),
+     refused("M3", line=4, interval=1)),
+    (take_in(header("202401040000"), block(meter="01010"), FIRST_DAY), refused("L9", line=4)),
+    (export("20240101", "20240101", "E1"), EXPORTED_FIRST),
+    (TELL_STREAMS, told_streams("NEM1201009,E1,E1,1,N1,01009,")),
 ]
 
 # A day of null data, and the same day with all kinds of marks and a value below zero.
@@ -352,6 +459,15 @@ EXAMPLES = {
     "conflicts": CONFLICTS,
     "what comes twice": TWICE,
     "the latest details": LATEST_DETAILS,
+    "an exchange of meters": EXCHANGE,
+    "the latest details of a day": LATEST_OF_A_DAY,
+    "an exchange exported again": EXPORTED_AGAIN,
+    "an exchange exported to another store": EXPORTED_TO_ANOTHER,
+    "details out of order": OUT_OF_ORDER,
+    "streams without days": WITHOUT_DAYS,
+    "details of the nearest earlier day": NEVER_LATER,
+    "details of jobs": OF_JOBS_ALONE,
+    "details of refused files": NO_DETAILS_LEFT,
     "marks": MARKS,
     "two updates": TWO_UPDATES,
     "two days": TWO_DAYS,

@@ -1,4 +1,4 @@
-"""Made meters: what each states, as a file, and what a slow writer of its own writes as the export of it."""
+"""Made meters: what files state of each and what jobs fill in, and what a slow writer of its own writes as the export of it."""
 
 import random
 
@@ -11,6 +11,12 @@ MARKS = [("A", "", ""), ("N", "", ""), ("S14", "53", "meter changed"), ("E52", "
 VALUES = ["0", "1.5", "-2", "1000.000001", "0.1"]
 COUNTS = {"30": 48, "15": 96, "5": 288}
 UPDATE = "20240501000102"
+
+# The moments of headers, in their order, and the details of days: configuration, register, data stream, meter and next read.
+MOMENTS = ["202401030000", "202401030001", "20240103000101"]
+DETAILS = [("C", "1", "N1", "", "20240301"), ("C", "1", "N1", "", ""), ("C", "1", "N1", "M-2", ""), ("C", "", "", "M-2", "20240301"),
+           ("", "", "", "", "")]
+NO_DETAILS = DETAILS[-1]
 
 
 def made_marks(numbers, count):
@@ -50,28 +56,69 @@ def exported_day(date, marks, values):
     return day(date, values, "V", update=UPDATE) + "".join(f"400,{first},{last},{','.join(mark)}\n" for first, last, mark in runs)
 
 
-def made_meter(numbers, nmi):
-    """A file of up to three streams of a meter, with up to four days each, and the export of all of them."""
-    stated, exported = [], []
-    for suffix in SUFFIXES:
-        last_head = None
-        for date in DATES if numbers.randrange(2) else []:
-            if numbers.randrange(2):
-                length, unit = numbers.choice(list(COUNTS)), numbers.choice(["kWh", "kVArh"])
-                head = block(nmi, "C", "1", suffix, "N1", "", unit, length, "20240301")
-                marks = made_marks(numbers, COUNTS[length])
-                values = [numbers.choice(VALUES) for _ in marks]
-                stated += [head, stated_day(date, marks, values)]
-                exported += [head] if head != last_head else []
-                exported.append(exported_day(date, marks, values))
-                last_head = head
-    export = file_of(*exported, header="100,NEM12,202401040000,MDP1,RETAILER\n")
-    return file_of(*stated), export.replace("\n", "\r\n")
+class Day:
+    """A made day: its length and unit, the mark and the value of each interval, and the moments and details of the 200s that state it. A day
+    without such is filled in by a job."""
+
+    def __init__(self, numbers, date):
+        self.date, self.length, self.unit = date, numbers.choice(list(COUNTS)), numbers.choice(["kWh", "kVArh"])
+        count = COUNTS[self.length]
+        if numbers.randrange(4):
+            self.marks = made_marks(numbers, count)
+            self.values = [numbers.choice(VALUES) for _ in self.marks]
+            self.stated = [(numbers.choice(MOMENTS), numbers.choice(DETAILS)) for _ in range(numbers.choice([1, 1, 2, 3]))]
+        else:
+            self.first = numbers.randint(1, count)
+            self.marks = (self.first - 1) * [("N", "", "")] + (count + 1 - self.first) * [("S19", "", "")]
+            self.values, self.stated = count * ["0"], []
+
+    def block(self, nmi, suffix, details):
+        configuration, register, datastream, meter, read = details
+        return block(nmi, configuration, register, suffix, datastream, meter, self.unit, self.length, read)
+
+    def job(self, nmi, suffix):
+        """The job that fills it in, from an interval on."""
+        return {"nmi": nmi, "suffix": suffix, "date": self.date, "first": self.first, "last": len(self.marks), "length": int(self.length),
+                "unit": self.unit, "update": UPDATE}
+
+
+class Meter:
+    """A made meter of up to three streams with up to four days each."""
+
+    def __init__(self, numbers, nmi):
+        self.nmi = nmi
+        self.streams = {suffix: [Day(numbers, date) for date in DATES if numbers.randrange(2)] for suffix in SUFFIXES if numbers.randrange(2)}
+
+    def files(self):
+        """The files that state it, one of each moment, the latest first. A 200 that says the same as the one before isn't written."""
+        for moment in reversed(MOMENTS):
+            records, last = [], None
+            for suffix, day, details in [(suffix, day, details) for suffix, days in self.streams.items() for day in days
+                                         for of, details in day.stated if of == moment]:
+                head = day.block(self.nmi, suffix, details)
+                records += [head] if head != last else []
+                records.append(stated_day(day.date, day.marks, day.values))
+                last = head
+            yield file_of(*records, header=f"100,NEM12,{moment},MDP1,RETAILER\n")
+
+    def jobs(self):
+        return [day.job(self.nmi, suffix) for suffix, days in self.streams.items() for day in days if not day.stated]
+
+    def export(self):
+        """The export of all of it. A day has its latest details, of one moment the greatest, or those of the day before."""
+        records = []
+        for suffix, days in self.streams.items():
+            details, last = NO_DETAILS, None
+            for day in days:
+                _, details = max(day.stated, default=(None, details))
+                head = day.block(self.nmi, suffix, details)
+                records += [head] if head != last else []
+                records.append(exported_day(day.date, day.marks, day.values))
+                last = head
+        return file_of(*records, header="100,NEM12,202401040000,MDP1,RETAILER\n").replace("\n", "\r\n")
 
 
 def made_meters(count):
-    """So many meters, each as its NMI, its file and its export."""
+    """So many meters."""
     numbers = random.Random(12)
-    for number in range(count):
-        nmi = f"MADE{number:06}"
-        yield nmi, *made_meter(numbers, nmi)
+    return [Meter(numbers, f"MADE{number:06}") for number in range(count)]

@@ -5,7 +5,7 @@ import re
 
 import no_memory_rows as rows
 from checks import MDSTORE
-from disturbed import ONE_DAY, old_store, store_of
+from disturbed import old_store_of_a_day, store_of
 from no_memory_rows import NMI, NUMBER
 
 STORE = ["--store", "@store.db"]
@@ -16,18 +16,19 @@ NO_LIKE_DAYS = rows.job("J2", "20240303", 5, 8, 15, "F", "20240304000000", "76",
 
 # Steps to make stores of, each the words of a command and its input.
 DAY, OTHER, TWO_DAYS = ((["import", "-"], text) for text in (rows.first_file(NUMBER), OTHER_DAY, rows.two_days(NUMBER)))
-OTHERS = [(["import", "-"], rows.older_file(NUMBER)), (["substitute", "-"], rows.job_of(NUMBER)),
+OTHERS = [(["import", "-"], rows.older_file(NUMBER)), (["import", "-"], rows.other_meter(NUMBER)), (["substitute", "-"], rows.job_of(NUMBER)),
           (["import", "--kind", "nem13", "-"], rows.accumulation(NUMBER)), (["holidays", "-"], rows.holiday(NUMBER))]
 
 
 class Command:
     """A command: its words, of which one that begins with @ is the name of a file, the bytes of its input and of files beside it, and the
     files of its store, if it opens one. It prints a text, which may be told elsewhere, and ends with a status. By other texts and statuses
-    it may leave other files."""
+    it may leave other files. Where it does its work in two steps U1 may also leave a store that has what that of the files `between` has.
+    One that `asks_again` looks once more when all is done, so that U1 may leave that too."""
 
-    def __init__(self, words, given="", found={}, text=None, status=0, beside={}, others={}):
+    def __init__(self, words, given="", found={}, text=None, status=0, beside={}, others={}, between=None, asks_again=False):
         self.words, self.given, self.found, self.text, self.status = words, given.encode(), found, text, status
-        self.beside, self.others = beside, others
+        self.beside, self.others, self.between, self.asks_again = beside, others, between, asks_again
 
     def words_in(self, folder):
         return [MDSTORE, *(os.path.join(folder, word[1:]) if word.startswith("@") else word for word in self.words)]
@@ -69,14 +70,16 @@ def changes():
                                            "added 1 known 0\n"),
         "substitute": Command(["substitute", *STORE, "@input"], rows.job_of(NUMBER), days, "substituted 4\n"),
         "holidays": Command(["holidays", *STORE, "@input"], rows.holiday(NUMBER), days, "added 1 known 0\n"),
-        "migrate": Command(["migrate", *STORE], found=old_store(*ONE_DAY), text="migrated\n"),
+        "import of another meter": Command(["import", *STORE, "@input"], rows.other_meter(NUMBER), store_of(TWO_DAYS, DAY), "added 0 known 48\n"),
+        "migrate": Command(["migrate", *STORE], found=old_store_of_a_day(1), text="migrated\n", between=old_store_of_a_day(2)),
+        "migrate from schema 2": Command(["migrate", *STORE], found=old_store_of_a_day(2), text="migrated\n", asks_again=True),
     }
 
 
 def queries(port):
     """Commands that change nothing, by name. At the port somebody else listens."""
     whole, told = whole_store(), {name: answer.partition("\r\n\r\n")[2] for name, _, answer in rows.QUESTIONS}
-    export = [*STORE, NMI, "20240115", "20240122", "202401030000", "MDP1", "RETAILER", "E1"]
+    export = [*STORE, NMI, "20240103", "20240122", "202401030000", "MDP1", "RETAILER", "E1"]
     return {
         "import of standard input": Command(["import", *STORE, "-"], rows.two_days(NUMBER), whole, "added 0 known 96\n"),
         "substitute without like days": Command(["substitute", *STORE, "-"], NO_LIKE_DAYS, whole, "M7\n", 1),

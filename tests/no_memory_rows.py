@@ -6,7 +6,7 @@ of these and the last depend on the number of the meter. A row of the latter is 
 import datetime
 
 from file_parts import END, HEADER, block, day, file_of, period
-from schema_1 import PERIOD_HEADER, job, run
+from old_stores import PERIOD_HEADER, job, run
 from service_rows import NO_ROUTE, OK, answer, not_allowed, request, told
 
 
@@ -20,6 +20,11 @@ def first_file(number):
 
 def older_file(number):
     return first_file(number).replace(",1.5", ",9").replace("20240104010203", "20240103230000")
+
+
+def other_meter(number):
+    """The first file with another meter of its day, which is all that it adds."""
+    return first_file(number).replace(",01009,", ",01010,")
 
 
 def two_days(number):
@@ -46,10 +51,10 @@ def posts(target, text_of):
 
 A_DAY = "a day", posts("/v1/imports", first_file), told(added=48, known=0), told(added=0, known=48), []
 TWO_DAYS = "two days", posts("/v1/imports", two_days), told(added=96, known=0), told(added=0, known=96), []
-OLDER = "an older update of it", posts("/v1/imports", older_file), told(added=48, known=0), told(added=0, known=48), [A_DAY]
 CHANGES = [
     A_DAY,
-    OLDER,
+    ("an older update of it", posts("/v1/imports", older_file), told(added=48, known=0), told(added=0, known=48), [A_DAY]),
+    ("another meter of it", posts("/v1/imports", other_meter), told(added=0, known=48), told(added=0, known=48), [A_DAY]),
     TWO_DAYS,
     ("a job", posts("/v1/substitutions", job_of), told(count=4, known=False), told(count=4, known=True), [TWO_DAYS]),
     ("an accumulation", posts("/v1/imports?kind=nem13", accumulation), told(added=1, known=0), told(added=0, known=1), []),
@@ -64,7 +69,8 @@ GAPS = "nmi,suffix,date,first,last\n" + "".join(f"{NMI},E1,202401{number},0,0\n"
     f"{NMI},E1,20240122,1,4\n{NMI},E1,20240122,9,48\n")
 FINALS = f"nmi,suffix,date,first,last,method,code,text\n{NMI},E1,20240122,5,8,15,76,\n"
 FILLED = 4 * ["0"] + 4 * ["1.000002"] + 40 * ["0"]
-EXPORT = file_of(block(NMI), day("20240115", 48 * ["1.000001"], update="20240116000000"),
+EXPORT = file_of(block(NMI, meter="01010"), day("20240103", 48 * ["1.5"], update="20240104010203"), block(NMI),
+                 day("20240108", 48 * ["1.000002"], update="20240116000000"), day("20240115", 48 * ["1.000001"], update="20240116000000"),
                  day("20240122", FILLED, "V", update="20240123000000"), run(1, 4, "N"), run(5, 8, "F15", "76"), run(9, 48, "N"))
 FIELDS = ["1141", "01", "11", "11", "METSER66", "E", "000021.2", "20031001103230", "A", "", "", "000534.5", "20040201100030", "E64", "77",
           "", "343.5", "kWh", "20040509", "20040202125010"]
@@ -80,7 +86,7 @@ QUESTIONS = [
     *((f"{name} that is known", text_of(NUMBER), known) for name, text_of, _, known, _ in CHANGES),
     ("gaps", request("GET", "/v1/gaps?" + RANGE), answer(OK, GAPS)),
     ("finals", request("GET", "/v1/finals?" + RANGE), answer(OK, FINALS)),
-    ("an export", request("GET", f"/v1/exports/nem12?{RANGE}&moment=202401030000&sender=MDP1&receiver=RETAILER"),
+    ("an export", request("GET", f"/v1/exports/nem12?{RANGE.replace('20240115', '20240103')}&moment=202401030000&sender=MDP1&receiver=RETAILER"),
      answer(OK, EXPORT.replace("\n", "\r\n"))),
     ("periods", request("GET", f"/v1/periods/{NMI}/11"), told(**PERIODS)),
     ("the readings of a day", request("GET", f"/v1/days/{NMI}/E1/20240103"), told(**DAY)),

@@ -1,4 +1,4 @@
--- A store of schema 1, of commit ec70073: what tests/schema_1.py wrote. Each statement is a line.
+-- A store of schema 1, of commit ec70073: what tests/old_stores.py wrote. Each statement is a line.
 BEGIN;
 CREATE TABLE mds_schema (version INTEGER NOT NULL, UNIQUE (version)) STRICT;
 INSERT INTO mds_schema VALUES(1);

@@ -79,10 +79,6 @@ def in_memory(count):
     return started(lambda port: [TRIALS, "serve", port, str(count)])
 
 
-def in_rows(count):
-    return started(lambda port: [TRIALS, "serve-rows", port, str(count)])
-
-
 def new_store(name):
     store = os.path.join(DIR, name)
     check(f"init of {name}", command("init", "--store", store), (0, "created\n"))

@@ -14,6 +14,9 @@ HEADER = "100,NEM12,202401030000,MDP1,RETAILER\n"
 COUNT = 48
 WEEK = 7
 
+# So many days a meter stands before it is exchanged.
+STAND = 4
+
 # A reading is its quality, the code and the text of its reason, and its value. A mark is a reading without its value.
 NULL = "N", "", "", None
 
@@ -95,12 +98,26 @@ class Day:
 UNKNOWN = Day()
 
 
+def stated_details(number):
+    """The details that files state of a day: configuration, register, datastream and meter. There is no next read."""
+    return "E1", "1", "N1", f"M{number // STAND}"
+
+
 class Meter:
-    """The days of an interval meter, of one stream."""
+    """The days of an interval meter, of one stream, and those of them that files stated."""
 
     def __init__(self, nmi):
-        self.nmi, self.days = nmi, {}
-        self.block = f"200,{nmi},E1,1,E1,N1,{nmi[-5:]},kWh,30,\n"
+        self.nmi, self.days, self.stated = nmi, {}, set()
+
+    def details(self, number):
+        """The current details of a day: those of the nearest day up to it that a file stated. A day that a job made states none."""
+        nearest = max((it for it in self.stated if it <= number), default=None)
+        return ("", "", "", "") if nearest is None else stated_details(nearest)
+
+    def block(self, details):
+        """The record that begins days with these details."""
+        configuration, register, datastream, meter = details
+        return f"200,{self.nmi},{configuration},{register},E1,{datastream},{meter},kWh,30,\n"
 
     def day(self, number):
         return self.days.get(number, UNKNOWN)
@@ -143,10 +160,12 @@ class Meter:
         return rows.answer(rows.OK, text)
 
     def told_export(self, first, last):
-        known = [number for number in range(first, last + 1) if self.day(number).updates]
-        text = HEADER + (self.block if known else "")
-        for number in known:
-            text += self.exported(number)
+        text, held = HEADER, None
+        for number in range(first, last + 1):
+            if self.day(number).updates:
+                details = self.details(number)
+                text += ("" if details == held else self.block(details)) + self.exported(number)
+                held = details
         return rows.answer(rows.OK, (text + "900\n").replace("\n", "\r\n"))
 
     def exported(self, number):
@@ -156,6 +175,9 @@ class Meter:
 
     def heads(self):
         return {(self.nmi, "E1", number, 30, "kWh") for number in self.days}
+
+    def detail_rows(self):
+        return {(self.nmi, "E1", number, HEADER_MOMENT, *stated_details(number), -1) for number in self.stated}
 
     def packs(self):
         return {(self.nmi, "E1", number, update): row_body(readings) for number, day in self.days.items()

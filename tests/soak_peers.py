@@ -10,7 +10,7 @@ import time
 import service_rows as rows
 from checks import check
 from service_rows import CONFLICT, UNPROCESSABLE, refused, told
-from soak_model import COUNT, HEADER, Job, Meter, Register, date_text, day_records
+from soak_model import COUNT, HEADER, Job, Meter, Register, date_text, day_records, stated_details
 
 METERS, PERIODS, VALUES = 3, 20, [number * 12_500 for number in range(-20, 500)]
 FIRST_DAY, FIRST_HOLIDAY, HOLIDAYS = 19_000, 40_000, 3_000
@@ -206,7 +206,8 @@ class Peer:
         return {first + number: (self.later(), self.made_readings()) for number in range(count)}
 
     def file_of(self, meter, days):
-        return HEADER + meter.block + "".join(day_records(number, *day) for number, day in days.items()) + "900\n"
+        """A file of days, each behind the record of its meter."""
+        return HEADER + "".join(meter.block(stated_details(number)) + day_records(number, *day) for number, day in days.items()) + "900\n"
 
     def file_change(self, place, days, known=()):
         """The change that a file of days makes, some of which are known under their updates."""
@@ -215,6 +216,7 @@ class Peer:
 
         def keep():
             meter.days.update(after)
+            meter.stated.update(days)
             self.next_days[place] = max(self.next_days[place], 1 + max(days))
 
         def views():
@@ -278,7 +280,7 @@ class Peer:
         other = list(update[1])
         other[interval - 1] = ("A", "", "", other[interval - 1][3] + 1)
         file = self.file_of(self.meters[place], {**new_day, number: (update[0], other)})
-        self.ask(post("/v1/imports", file), refused(CONFLICT, error="M3", interval=interval, line=4))
+        self.ask(post("/v1/imports", file), refused(CONFLICT, error="M3", interval=interval, line=5))
 
     def faulty(self):
         """A file of a new day that has a fault: no end, another first line, a value that is none, or a line that is too long."""
@@ -380,8 +382,8 @@ class Peer:
         self.ask(get(f"/v1/exports/nem12?{query}&moment=202401030000&sender=MDP1&receiver=RETAILER"), self.meters[place].told_export(first, last))
 
     def streams(self):
-        """The streams of this peer, as they are told."""
-        known = [rows.stream(meter.nmi, "E1", "E1", "1", "N1", meter.nmi[-5:]) for meter in self.meters]
+        """The streams of this peer, as they are told, with the details of their last days."""
+        known = [rows.stream(meter.nmi, "E1", *meter.details(max(meter.days))) for meter in self.meters]
         return known + [rows.stream(register.nmi, "11") for register in self.registers if register.periods]
 
     def tell_streams(self):

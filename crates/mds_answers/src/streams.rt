@@ -10,7 +10,7 @@ use mds_messages::StreamAnswer;
 use serde_json::{Map, Value, json, put};
 use std::alloc::{AllocError, Global};
 
-/// Its names, and its current details.
+/// Its names, and its details.
 impl ToJson for StreamAnswer {
     ghost told_as = { IsStream };
 

@@ -3,8 +3,8 @@ use Rattle.std.proofs.Common.{◌≡◌, ℕ, List, [], ◌∷◌, ◌++◌, Som
 use Rattle.std.proofs.lemmas.List.{append-nil}
 use Rattle.mds_calendar.specs.Calendar.{day_of, moment_of}
 use Rattle.mds_names.specs.declared.stream.Stream.{Stream}
-use Rattle.mds_statements.specs.Statements.{DayStatement, PeriodStatement, Statement}
-use Rattle.mds_statements.specs.Statements.Statement.{HeaderOf, DetailsOf, DayOf, EventOf, PeriodOf}
+use Rattle.mds_statements.specs.Statements.{DayStatement, DetailsStatement, PeriodStatement, Statement}
+use Rattle.mds_statements.specs.Statements.Statement.{HeaderOf, StreamOf, DetailsOf, DayOf, EventOf, PeriodOf}
 use Rattle.mds_nem13.specs.Said.{with_notes}
 use Rattle.mds_check.specs.Report.{day_line, kept_field, period_line, IsReport}
 
@@ -12,7 +12,8 @@ use Rattle.mds_check.specs.Report.{day_line, kept_field, period_line, IsReport}
 report_append : (done more : List Statement) (a b : List ℕ) → IsReport done a → IsReport more b → IsReport (done ++ more) (a ++ b)
 report_append [] more a b h k = subst (λ (t : List ℕ). IsReport more (t ++ b)) (sym h) k
 report_append (HeaderOf header ∷ done) more a b h k = report_append done more a b h k
-report_append (DetailsOf stream ∷ done) more a b h k = report_append done more a b h k
+report_append (StreamOf stream ∷ done) more a b h k = report_append done more a b h k
+report_append (DetailsOf details ∷ done) more a b h k = report_append done more a b h k
 report_append (DayOf day ∷ done) more a b h k = (
   h.0,
   h.1 ++ b,
@@ -32,11 +33,12 @@ report_append (PeriodOf p ∷ done) more a b h k = (
   report_append done more h.2 b h.6 k,
 )
 
--- a day has its line
-pub report_push : (done : List Statement) (day : DayStatement) (date text : List ℕ) → IsReport done text → day_of date ≡ Some day.date
-    → IsReport (done ++ DayOf day ∷ []) (text ++ day_line day date)
-report_push done day date text h is =
-    report_append done (DayOf day ∷ []) text (day_line day date) h (date, [], is, sym (append-nil (day_line day date)), refl)
+-- a day has its line, and its details have none
+pub report_push : (done : List Statement) (details : DetailsStatement) (day : DayStatement) (date text : List ℕ) → IsReport done text
+    → day_of date ≡ Some day.date → IsReport (done ++ DetailsOf details ∷ DayOf day ∷ []) (text ++ day_line day date)
+report_push done details day date text h is =
+    report_append done (DetailsOf details ∷ DayOf day ∷ []) text (day_line day date) h
+    (date, [], is, sym (append-nil (day_line day date)), refl)
 
 -- an accumulation has its line
 pub report_push_period : (done : List Statement) (p : PeriodStatement) (start finish quantity unit text new : List ℕ) (stream : Stream)
@@ -54,7 +56,8 @@ pub report_noted : (done : List Statement) (p : PeriodStatement) (notes : List (
     → IsReport (done ++ PeriodOf p ∷ []) text → IsReport (done ++ PeriodOf (with_notes p notes) ∷ []) text
 report_noted [] p notes text h = h
 report_noted (HeaderOf header ∷ done) p notes text h = report_noted done p notes text h
-report_noted (DetailsOf stream ∷ done) p notes text h = report_noted done p notes text h
+report_noted (StreamOf stream ∷ done) p notes text h = report_noted done p notes text h
+report_noted (DetailsOf details ∷ done) p notes text h = report_noted done p notes text h
 report_noted (DayOf day ∷ done) p notes text h = (h.0, h.1, h.2, h.3, report_noted done p notes h.1 h.4)
 report_noted (EventOf event ∷ done) p notes text h = report_noted done p notes text h
 report_noted (PeriodOf other ∷ done) p notes text h = (h.0, h.1, h.2, h.3, h.4, h.5, report_noted done p notes h.2 h.6)

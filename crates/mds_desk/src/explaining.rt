@@ -420,16 +420,17 @@ new store by `mdstore init`. Take a damaged one back from a backup: `docs/USE.md
 
 ## U2: The store is of an earlier schema
 
-The file is a store of schema 1, and this version of mdstore keeps stores of schema 2. Nothing was
-changed in it. `mdstore --version` tells the schema.
+The file is a store of schema 1 or 2, and this version of mdstore keeps stores of schema 3. Nothing
+was changed in it. `mdstore --version` tells the schema.
 
 Usual causes: a store that an earlier version of mdstore made; such a store from a backup.
 
 Example: `mdstore streams --store week.db` where an earlier version of mdstore made `week.db`.
 
 What to do: stop whatever uses the store, copy it as in `docs/USE.md`, "Backups", and then call
-`mdstore migrate --store PATH`. The migration keeps all versions, and happens whole or not at all.
-While it runs it wants room on the disk for a second copy of the store.
+`mdstore migrate --store PATH`. The migration keeps all versions, and gives each known day the
+details that its stream has. Each of its steps happens whole or not at all. Where it prints `U1`,
+mend the cause and call it again. It wants room on the disk for a second copy of the store.
 
 ## U3: The database is no store of this schema
 
@@ -438,7 +439,8 @@ For `init` it isn't empty, or, with `--sums`, it was made without sums. `mdstore
 schema.
 
 Usual causes: a wrong path; `init` of a store that is there; a file of no bytes, which only `init`
-takes. Or another program made an index, a view or a table in it, or rows in `mds_version`.
+takes. Or another program made an index, a view or a table in it, or rows in `mds_version` or
+`mds_detail`.
 
 Example: `mdstore init --store week.db` where `week.db` is a store already.
 

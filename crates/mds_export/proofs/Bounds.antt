@@ -1,6 +1,7 @@
 -- The rows of the days of a selection are within the bounds of rows that read back, and there are few of them.
 use Rattle.std.proofs.Common.{◌≡◌, ◌≢◌, ◌≤◌, ◌*◌, ℕ, zero, suc, Bool, true, false, ◌&&◌, cond, eqb, List, [], ◌∷◌, ◌++◌, length, map, slice_get, bytes_eq, Option, Some, None, IfSome, IsTrue, refl, sym, ap, subst, ◌∙◌, arith}
 use Rattle.std.specs.List.{All}
+use Rattle.std.specs.Ordering.{eq_by_cmp}
 use Rattle.std.proofs.lemmas.Bool.{and_parts, eqb-true}
 use Rattle.std.proofs.lemmas.List.{length-append, length-map}
 use Rattle.std.proofs.lemmas.List.Elements.{All-append, All-cons, All-head, All-nil, All-tail}
@@ -8,6 +9,8 @@ use Rattle.std.proofs.lemmas.Slice.Eq.{bytes_eq-Decides}
 use Rattle.mds_quantity.specs.Unit.{unit_of, unit_text}
 use Rattle.mds_quantity.specs.declared.unit.Unit.{Unit as MeasureUnit}
 use Rattle.mds_calendar.specs.Length.{is_length}
+use Rattle.mds_terms.specs.Details.{details_cmp}
+use Rattle.mds_terms.proofs.TermOrder.{details_decided}
 use Rattle.mds_marks.specs.Mark.{is_mark}
 use Rattle.mds_marks.specs.Quality.{variable}
 use Rattle.mds_marks.specs.Reading.{ReadingValue, is_lawful, is_reading, is_value}
@@ -86,11 +89,15 @@ one_unit a b e =
     let both : Some a ≡ Some b = sym (unit_reads a) ∙ ap unit_of e ∙ unit_reads b in cc
 
 pub governed_same : (before day : SelectedDay) → is_governed (Some before) day ≡ true
-    → (before.length ≡ day.length) × (before.unit ≡ day.unit)
+    → (before.length ≡ day.length) × (before.unit ≡ day.unit) × (before.details ≡ day.details)
 governed_same before day e =
-    let parts = and_parts (eqb before.length day.length) (bytes_eq (unit_text before.unit) (unit_text day.unit)) e in (
-      eqb-true before.length day.length parts.0,
-      one_unit before.unit day.unit ((bytes_eq-Decides (unit_text before.unit) (unit_text day.unit)).0 parts.1),
+    let length = eqb before.length day.length in
+    let unit = bytes_eq (unit_text before.unit) (unit_text day.unit) in
+    let parts = and_parts (length && unit) (eq_by_cmp details_cmp before.details day.details) e in
+    let form = and_parts length unit parts.0 in (
+      eqb-true before.length day.length form.0,
+      one_unit before.unit day.unit ((bytes_eq-Decides (unit_text before.unit) (unit_text day.unit)).0 form.1),
+      (details_decided before.details day.details).0 parts.1,
     )
 
 -- the length of a day before it is that of an interval

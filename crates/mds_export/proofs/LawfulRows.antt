@@ -58,7 +58,7 @@ lawful_details : (placed : PlacedDay) → IsLawfulStream placed.selected → IsL
 lawful_details placed s d = at (is_governed placed.before placed.day) where
   at : (b : Bool) → All IsLawful (cond b [] (details_row placed ∷ []))
   at true = All-nil IsLawful
-  at false = All-cons IsLawful (details_row placed) [] (s.0, s.1, s.2, d.0) (All-nil IsLawful)
+  at false = All-cons IsLawful (details_row placed) [] (s.0, s.1, d.1, d.0) (All-nil IsLawful)
 
 lawful_placed : (placed : PlacedDay) (rows : List RowValue) → AreDayRows placed rows → IsLawfulStream placed.selected → IsLawfulDay placed.day
     → All IsLawful rows
@@ -66,7 +66,7 @@ lawful_placed placed rows h s d =
     let readings = placed.day.readings.items in
     let spelled = spelled_fewest (marks_of readings) bare_null h.0 h.1 in
     subst (All IsLawful) (sym h.2) (All-append IsLawful (details_rows placed) (day_row placed.day (mark_of_all h.0) ∷ run_rows h.0)
-    (lawful_details placed s d) (lawful_day placed.day h.0 d.1 (lawful_runs readings bare_null 0 h.0 spelled d.1)))
+    (lawful_details placed s d) (lawful_day placed.day h.0 d.2 (lawful_runs readings bare_null 0 h.0 spelled d.2)))
 
 lawful_days : (selected : SelectedStream) (before : Option SelectedDay) (days : List SelectedDay) (rows : List RowValue)
     → AreInTurn AreDayRows (placed_after selected before days) rows → IsLawfulStream selected → All IsLawfulDay days → All IsLawful rows

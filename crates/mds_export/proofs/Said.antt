@@ -31,20 +31,22 @@ name_is : (n : ℕ) (text name : List ℕ) (b : Bool) → cond b (Some text) Non
 name_is n text name true e = cc
 name_is n text name false e = absurd (cc)
 
--- 200: its stream, and the length and the unit of the intervals of its days
+-- 200: its stream, the length and the unit of the intervals of its days, and their details
 pub record Block : Type 0 where
   pub stream : Stream
   pub length : ℕ
   pub unit : MeasureUnit
+  pub details : DetailsValue
 
 pub record SaysBlock (line : List ℕ) (block : Block) : Type 0 where
   pub stream : stream_in line ≡ block.stream
   pub length : length_in line ≡ block.length
   pub count : count_in line ≡ count_of block.length
   pub unit : unit_in line ≡ block.unit
+  pub details : details_in line ≡ block.details
 
 pub block_said : (stream : Stream) (details : DetailsValue) (unit : MeasureUnit) (minutes : ℕ) (line : List ℕ)
-    → Says (DetailsRow stream details unit minutes) line → SaysBlock line (record { stream = stream; length = minutes; unit = unit })
+    → Says (DetailsRow stream details unit minutes) line → SaysBlock line (record { stream = stream; length = minutes; unit = unit; details = details })
 block_said stream details unit minutes line s =
     let nmi = name_is nmi_length (field line 2) stream.nmi (is_name nmi_length (field line 2)) s.0 in
     let suffix = name_is suffix_length (field line 5) stream.suffix (is_name suffix_length (field line 5)) s.3 in
@@ -53,17 +55,14 @@ block_said stream details unit minutes line s =
       length = ap (λ o. unwrap_or o 0) s.7;
       count = ap value_count s.7;
       unit = ap (λ o. unwrap_or o KWh) s.6;
+      details = λ i. record {
+        configuration = s.1 i;
+        register = s.2 i;
+        datastream = s.4 i;
+        meter = s.5 i;
+        next = ap (λ o. unwrap_or o None) s.8 i;
+      };
     }
-
-pub details_said : (stream : Stream) (details : DetailsValue) (unit : MeasureUnit) (minutes : ℕ) (line : List ℕ)
-    → Says (DetailsRow stream details unit minutes) line → details_in line ≡ details
-details_said stream details unit minutes line s = λ i. record {
-  configuration = s.1 i;
-  register = s.2 i;
-  datastream = s.4 i;
-  meter = s.5 i;
-  next = ap (λ o. unwrap_or o None) s.8 i;
-}
 
 -- 400
 pub run_said : (run : Run) (line : List ℕ) → Says (run_row run) line → run_in line ≡ run

@@ -2,7 +2,7 @@
 use Rattle.std.proofs.Common.{◌≡◌, ◌<◌, ◌≤◌, ◌+◌, ℕ, Bool, true, false, ◌&&◌, ltb, List, [], ◌∷◌, ◌++◌, length, map, slice_get, Option, Some, None, IfSome, unwrap_or, refl, sym, ap, subst, ◌∙◌, arith, append_assoc}
 use Rattle.std.specs.Option.{option_map_or}
 use Rattle.std.proofs.lemmas.Bool.Decides.{nat_tests}
-use Rattle.std.proofs.lemmas.List.{append-nil, length_push, map_push}
+use Rattle.std.proofs.lemmas.List.{append-nil, length_push, map-append}
 use Rattle.mds_calendar.specs.Length.{count_of}
 use Rattle.mds_lines.specs.Lines.{most_lines}
 use Rattle.mds_lines.specs.declared.line.Kind.TheVariants as a
@@ -14,14 +14,14 @@ use Rattle.mds_days.specs.RunFaults.{run_fault}
 use Rattle.mds_walk.proofs.Faultless.{faultless_none}
 use Rattle.mds_walk.proofs.Numbered.{no_kind}
 use Rattle.mds_statements.specs.Statements.{DayStatement, HeaderValue, Statement}
-use Rattle.mds_statements.specs.Statements.Statement.{HeaderOf, DetailsOf, DayOf}
+use Rattle.mds_statements.specs.Statements.Statement.{HeaderOf, StreamOf, DetailsOf, DayOf}
 use Rattle.mds_nem12.specs.Faults.{fault_of_run, nem12}
 use Rattle.mds_nem12.specs.Governing.{Governors, governors, has_gap}
 use Rattle.mds_nem12.specs.OpenDays.{IsOpen}
 use Rattle.mds_nem12.specs.Place.{is_in_place}
 use Rattle.mds_marks.specs.Mark.{bare_null}
 use Rattle.mds_nem12.specs.Said.{count_in, date_in, header_in, length_in, mark_in, run_in, stream_in, unit_in, update_in, values_in}
-use Rattle.mds_nem12.specs.Statements.{day_statement, stated_by, statements, stream_statement}
+use Rattle.mds_nem12.specs.Statements.{day_statement, details_statement, stated_by, statements, stream_statement}
 use Rattle.mds_nem12.proofs.Governs.{advance, day_within}
 use Rattle.mds_nem12.proofs.Lasts.{last_or_push}
 use Rattle.mds_nem12.proofs.States.{close, closed_at, open_day, open_push}
@@ -29,15 +29,20 @@ use Rattle.mds_nem12.proofs.Taken.{governs}
 use Rattle.mds_export.specs.ReadBack.{ReadsAs, own_mark}
 use Rattle.mds_export.specs.Placed.{PlacedDay}
 use Rattle.mds_export.specs.Exports.{day_row, details_row, header_row, marks_of, run_row}
-use Rattle.mds_export.specs.Shows.{day_selected, details_selected, unlined}
+use Rattle.mds_export.specs.Shows.{day_selected, details_selected, stream_selected, unlined}
 use Rattle.mds_export.proofs.Bounds.{AreLawfulReadings}
 use Rattle.mds_export.proofs.Restored.{readings_back, written_values}
-use Rattle.mds_export.proofs.Said.{Block, SaysBlock, block_said, details_said, header_said, kind_of_row, run_said}
+use Rattle.mds_export.proofs.Said.{Block, SaysBlock, block_said, header_said, kind_of_row, run_said}
 use Rattle.mds_export.proofs.Sound.{Allows, AreFree, free_push, record_sound, run_sound}
 use Rattle.mds_export.proofs.TextLines.{AreRead}
 
 abbrev pub block_of : PlacedDay → Block
-block_of placed = record { stream = placed.selected.stream; length = placed.day.length; unit = placed.day.unit }
+block_of placed = record {
+  stream = placed.selected.stream;
+  length = placed.day.length;
+  unit = placed.day.unit;
+  details = placed.day.details;
+}
 
 -- Lines were written that have no fault and state this, but for the numbers of lines; after a 200 a 300 may follow.
 pub record Wrote (lines : List (List ℕ)) (said : List Statement) (header : HeaderValue) (block : Option Block) : Type 0 where
@@ -50,11 +55,11 @@ pub record Wrote (lines : List (List ℕ)) (said : List Statement) (header : Hea
   pub day_next : IfSome block (λ _. Allows (governors lines) a.IntervalData)
   pub end_next : Allows (governors lines) a.EndOfData
 
--- what is stated once more
-stated_push : (lines : List (List ℕ)) (said : List Statement) (all : List Statement) (s t : Statement) → map unlined (statements lines) ≡ said
-    → all ≡ statements lines ++ s ∷ [] → unlined s ≡ t → map unlined all ≡ said ++ t ∷ []
-stated_push lines said all s t before e here =
-    ap (map unlined) e ∙ map_push unlined (statements lines) s ∙ ap (λ xs. xs ++ unlined s ∷ []) before ∙ ap (λ x. said ++ x ∷ []) here
+-- what is stated behind
+stated_more : (lines : List (List ℕ)) (said all more told : List Statement) → map unlined (statements lines) ≡ said
+    → all ≡ statements lines ++ more → map unlined more ≡ told → map unlined all ≡ said ++ told
+stated_more lines said all more told before e here =
+    ap (map unlined) e ∙ map-append unlined (statements lines) more ∙ (λ i. before i ++ here i)
 
 -- 100
 pub wrote_header : (header : HeaderValue) (x : List ℕ) → ReadsAs (header_row header) x → Wrote (x ∷ []) (HeaderOf header ∷ []) header None
@@ -66,8 +71,8 @@ wrote_header header x r =
     record {
       free = free_push [] x (faultless_none nem12)
           (record_sound [] x a.Header r.kind_is first refl (r.faultless (count_in (governors []).details) tt) refl) r.short (omega arith);
-      stated = stated_push [] [] (statements (x ∷ [])) (HeaderOf (header_in x)) (HeaderOf header) refl
-          (closed_at [] x (Some a.Header) is refl) (ap HeaderOf said);
+      stated = stated_more [] [] (statements (x ∷ [])) (HeaderOf (header_in x) ∷ []) (HeaderOf header ∷ []) refl
+          (closed_at [] x (Some a.Header) is refl) (ap (λ h. HeaderOf h ∷ []) said);
       gapless = governs (λ g. has_gap g ≡ false) [] x (Some a.Header) is refl;
       headed = governs (λ g. header_in g.header ≡ header) [] x (Some a.Header) is said;
       details = tt;
@@ -85,27 +90,26 @@ passed g k x h = at (ltb k g.day_line) _ (grind (arith, nat_tests)) where
 
 pub wrote_details : (lines : List (List ℕ)) (said : List Statement) (header : HeaderValue) (block : Option Block) (placed : PlacedDay)
     (x : List ℕ) → Wrote lines said header block → ReadsAs (details_row placed) x → length lines + 1 ≤ most_lines
-    → Wrote (lines ++ x ∷ []) (said ++ DetailsOf (details_selected header.moment placed) ∷ []) header (Some (block_of placed))
+    → Wrote (lines ++ x ∷ []) (said ++ StreamOf (stream_selected header.moment placed) ∷ []) header (Some (block_of placed))
 wrote_details lines said header block placed x w r few =
     let is = kind_of_row (details_row placed) x r in
     let g = governors lines in
     let within = day_within lines in
-    let says = block_said placed.selected.stream placed.selected.details placed.day.unit placed.day.length x r.says in
-    let details = details_said placed.selected.stream placed.selected.details placed.day.unit placed.day.length x r.says in
-    let here : unlined (DetailsOf (stream_statement g (length lines + 1) x)) ≡ DetailsOf (details_selected header.moment placed) =
-    λ i. DetailsOf (record {
+    let says = block_said placed.selected.stream placed.day.details placed.day.unit placed.day.length x r.says in
+    let stated = StreamOf (stream_statement g (length lines + 1) x) ∷ [] in
+    let here : map unlined stated ≡ StreamOf (stream_selected header.moment placed) ∷ [] =
+    λ i. StreamOf (record {
       line = 0;
       stream = says.stream i;
       length = says.length i;
       unit = says.unit i;
       moment = ap (λ (h : HeaderValue). h.moment) w.headed i;
-      details = details i;
-    }) in
+      details = says.details i;
+    }) ∷ [] in
     record {
       free = free_push lines x w.free
           (record_sound lines x a.NmiDataDetails r.kind_is w.details_next w.gapless (r.faultless (count_in g.details) tt) refl) r.short few;
-      stated = stated_push lines said (statements (lines ++ x ∷ [])) (DetailsOf (stream_statement g (length lines + 1) x)) _ w.stated
-          (closed_at lines x (Some a.NmiDataDetails) is refl) here;
+      stated = stated_more lines said (statements (lines ++ x ∷ [])) stated _ w.stated (closed_at lines x (Some a.NmiDataDetails) is refl) here;
       gapless = governs (λ g. has_gap g ≡ false) lines x (Some a.NmiDataDetails) is (passed g (length lines + 1) x (omega arith));
       headed = governs (λ g. header_in g.header ≡ header) lines x (Some a.NmiDataDetails) is w.headed;
       details = governs (λ g. SaysBlock g.details (block_of placed)) lines x (Some a.NmiDataDetails) is says;
@@ -127,11 +131,15 @@ day_read placed own line runs = record (day_selected placed) {
   readings = readings_of (length placed.day.readings.items) own runs (written_values placed.day.readings.items);
 }
 
+-- the details of a day, and the day
+abbrev pub with_details : ℕ → PlacedDay → DayStatement → List Statement
+with_details moment placed day = DetailsOf (details_selected moment placed) ∷ DayOf day ∷ []
+
 -- the day in progress
 pub record OnDay (lines : List (List ℕ)) (said : List Statement) (header : HeaderValue) (placed : PlacedDay) (own : Mark) (line : ℕ) (runs : List Run)
     : Type 0 where
   pub free : AreFree lines
-  pub stated : IsOpen lines said line (λ rs. DayOf (day_read placed own line rs))
+  pub stated : IsOpen lines said line (λ rs. with_details header.moment placed (day_read placed own line rs))
   pub headed : header_in (governors lines).header ≡ header
   pub details : SaysBlock (governors lines).details (block_of placed)
   pub here : line ≡ (governors lines).day_line
@@ -157,7 +165,14 @@ on_day lines said header placed mark x w r whole few =
     let first = open_day lines x (statements lines) is refl in
     let own_is : mark_in n x ≡ own_mark mark = ap (λ o. unwrap_or o bare_null) r.says.2 in
     let values : values_in n x ≡ written_values placed.day.readings.items = r.says.1 in
-    let stated_as = λ (k : ℕ) (runs : List Run). DayOf (record {
+    let date : date_in x ≡ placed.day.date = ap (λ o. unwrap_or o 0) r.says.0 in
+    let details : details_statement g x ≡ details_selected header.moment placed = λ i. record {
+      stream = says.stream i;
+      date = date i;
+      moment = ap (λ (h : HeaderValue). h.moment) w.headed i;
+      details = says.details i;
+    } in
+    let stated_as : ℕ → List Run → DayStatement = λ k runs. record {
       line = number;
       stream = stream_in g.details;
       date = date_in x;
@@ -165,21 +180,24 @@ on_day lines said header placed mark x w r whole few =
       unit = unit_in g.details;
       update = unwrap_or (update_in k x) (header_in g.header).moment;
       readings = readings_of k (mark_in k x) runs (values_in k x);
-    }) in
-    let same : (runs : List Run) → DayOf (day_statement g number runs x) ≡ DayOf (day_read placed (own_mark mark) number runs) =
-    λ runs. ap (λ k. stated_as k runs) count ∙ (λ i. DayOf (record {
+    } in
+    let read : (runs : List Run) → stated_as n runs ≡ day_read placed (own_mark mark) number runs = λ runs i. record {
       line = number;
       stream = says.stream i;
-      date = ap (λ o. unwrap_or o 0) r.says.0 i;
+      date = date i;
       length = says.length i;
       unit = says.unit i;
       update = ap (λ o. unwrap_or (unwrap_or o None) (header_in g.header).moment) r.says.3 i;
       readings = readings_of n (own_is i) runs (values i);
-    })) in
+    } in
+    let same : (runs : List Run) → day_statement g number runs x ≡ day_read placed (own_mark mark) number runs =
+    λ runs. ap (λ k. stated_as k runs) count ∙ read runs in
     record {
       free = free_push lines x w.free
           (record_sound lines x a.IntervalData r.kind_is w.day_next w.gapless (r.faultless (count_in g.details) count) refl) r.short few;
-      stated = record { stated = λ runs. first.stated runs ∙ ap (λ t. statements lines ++ t ∷ []) (same runs) };
+      stated = record {
+        stated = λ runs. first.stated runs ∙ (λ i. statements lines ++ DetailsOf (details i) ∷ DayOf (same runs i) ∷ []);
+      };
       headed = governs (λ g. header_in g.header ≡ header) lines x (Some a.IntervalData) is w.headed;
       details = governs (λ g. SaysBlock g.details (block_of placed)) lines x (Some a.IntervalData) is says;
       here = governs (λ g. number ≡ g.day_line) lines x (Some a.IntervalData) is refl;
@@ -251,20 +269,20 @@ pub wrote_day : (lines before : List (List ℕ)) (said : List Statement) (header
     → OnDay lines (statements before) header placed own line runs → map unlined (statements before) ≡ said
     → size_of placed ≡ count_of placed.day.length → AreLawfulReadings placed.day.readings.items → leaves_gap (size_of placed) own runs ≡ false
     → ((k : ℕ) → k < size_of placed → slice_get (marks_of placed.day.readings.items) k ≡ Some (mark_at runs own (1 + k)))
-    → Wrote lines (said ++ DayOf (day_selected placed) ∷ []) header (Some (block_of placed))
+    → Wrote lines (said ++ with_details header.moment placed (day_selected placed)) header (Some (block_of placed))
 wrote_day lines before said header placed own line runs w stated whole lawful gap marked =
     let g = governors lines in
     let n = size_of placed in
     let readings = placed.day.readings.items in
     let count : count_in g.details ≡ n = w.details.count ∙ sym whole in
     let back : readings_of n own runs (written_values readings) ≡ readings = readings_back readings own runs lawful marked in
-    let all : statements lines ≡ statements before ++ DayOf (day_read placed own line runs) ∷ [] =
-    close lines (statements before) line (λ rs. DayOf (day_read placed own line rs)) w.stated w.here
-    ∙ ap (λ rs. statements before ++ DayOf (day_read placed own line rs) ∷ []) w.runs_are in
+    let say = λ (rs : List Run). with_details header.moment placed (day_read placed own line rs) in
+    let all : statements lines ≡ statements before ++ say runs =
+    close lines (statements before) line say w.stated w.here ∙ ap (λ rs. statements before ++ say rs) w.runs_are in
     record {
       free = w.free;
-      stated = stated_push before said (statements lines) (DayOf (day_read placed own line runs)) (DayOf (day_selected placed)) stated all
-          (ap (λ rs. DayOf (record (day_selected placed) { readings = rs })) back);
+      stated = stated_more before said (statements lines) (say runs) (with_details header.moment placed (day_selected placed)) stated all
+          (ap (λ rs. with_details header.moment placed (record (day_selected placed) { readings = rs })) back);
       gapless = gap_none (ltb g.details_line g.day_line) (leaves_gap (count_in g.details) (mark_in (count_in g.details) g.day) g.runs)
           (ap (λ k. leaves_gap k (mark_in k g.day) g.runs) count ∙ (λ i. leaves_gap n (w.own_is i) (w.runs_are i)) ∙ gap);
       headed = w.headed;

@@ -19,7 +19,7 @@ use Rattle.mds_days.specs.RunFaults.{first_of, when}
 use Rattle.mds_walk.proofs.Faultless.{fault_ends}
 use Rattle.mds_walk.specs.Faults.{at_line, end_fault}
 use Rattle.mds_statements.specs.Statements.{HeaderValue, Statement}
-use Rattle.mds_statements.specs.Statements.Statement.{HeaderOf, DetailsOf, DayOf}
+use Rattle.mds_statements.specs.Statements.Statement.{HeaderOf, StreamOf}
 use Rattle.mds_nem12.specs.Faults.{fault_of, nem12}
 use Rattle.mds_nem12.specs.Governing.{governors, has_gap, is_this}
 use Rattle.mds_marks.specs.Mark.{bare_null}
@@ -32,7 +32,7 @@ use Rattle.mds_export.specs.Rows.{RowValue, EndRow}
 use Rattle.mds_statements.specs.Selected.{AreOrderly, IsWhole, days_of, most_days}
 use Rattle.mds_export.specs.Placed.{PlacedDay, is_governed, placed_after, placed_days}
 use Rattle.mds_export.specs.Exports.{AreDayRows, AreFewest, AreInTurn, day_row, details_row, details_rows, header_row, mark_of_all, marks_of, run_row, run_rows}
-use Rattle.mds_export.specs.Shows.{Shows, day_selected, day_stated, details_selected, selection_stated, unlined}
+use Rattle.mds_export.specs.Shows.{Shows, day_selected, day_stated, selection_stated, stream_selected, unlined}
 use Rattle.mds_export.specs.WriterSteps.{IsWritten, IsWrittenExport}
 use Rattle.mds_statements.specs.declared.selected.SelectedDay.{SelectedDay}
 use Rattle.mds_statements.specs.declared.selected.SelectedStream.{SelectedStream}
@@ -42,7 +42,7 @@ use Rattle.mds_export.proofs.InTurn.{turn_split}
 use Rattle.mds_export.proofs.Said.{Block, kind_of_row}
 use Rattle.mds_export.proofs.Sound.{free_push, record_sound}
 use Rattle.mds_export.proofs.Spelled.{spelled_fewest, spelled_own}
-use Rattle.mds_export.proofs.Stated.{Wrote, block_of, on_day, on_runs, wrote_day, wrote_details, wrote_header}
+use Rattle.mds_export.proofs.Stated.{Wrote, block_of, on_day, on_runs, with_details, wrote_day, wrote_details, wrote_header}
 use Rattle.mds_export.proofs.TextLines.{AreRead, lines_read, pieces_of, pieces_text, read_length, read_split}
 use Rattle.mds_export.proofs.Writes.{export_form}
 
@@ -78,7 +78,7 @@ pub record IsFitDay (placed : PlacedDay) (runs : List Run) : Type 0 where
 told_several : (lines : List (List ℕ)) (said : List Statement) (header : HeaderValue) (placed : PlacedDay) (runs : List Run) (x : List ℕ)
     (more : List (List ℕ)) → Wrote lines said header (Some (block_of placed)) → IsFitDay placed runs → ReadsAs (day_row placed.day None) x
     → AreRead (map run_row runs) more → length lines + length (x ∷ more) ≤ most_lines
-    → Wrote (lines ++ x ∷ more) (said ++ DayOf (day_selected placed) ∷ []) header (Some (block_of placed))
+    → Wrote (lines ++ x ∷ more) (said ++ with_details header.moment placed (day_selected placed)) header (Some (block_of placed))
 told_several lines said header placed runs x more w fit r rest few =
     let readings = placed.day.readings.items in
     let n = length readings in
@@ -89,7 +89,7 @@ told_several lines said header placed runs x more w fit r rest few =
     let spelled = spelled_fewest (marks_of readings) variable_mark runs fit.fewest in
     let all = on_runs (lines ++ x ∷ []) (statements lines) header placed variable_mark (length lines + 1) [] runs more day rest fit.whole lawful
     (omega (arith, length_push lines x)) in
-    subst (λ (ls : List (List ℕ)). Wrote ls (said ++ DayOf (day_selected placed) ∷ []) header (Some (block_of placed)))
+    subst (λ (ls : List (List ℕ)). Wrote ls (said ++ with_details header.moment placed (day_selected placed)) header (Some (block_of placed)))
     (append_assoc lines (x ∷ []) more)
     (wrote_day (lines ++ x ∷ [] ++ more) lines said header placed variable_mark (length lines + 1) runs all w.stated fit.whole fit.lawful
     (gap_last (eqb variable_mark.quality.flag variable) (leaves_out n runs) (leaves_out-from_full n runs full)) (λ k lt. spelled.marked k (omega arith) (omega arith)))
@@ -98,7 +98,7 @@ told_several lines said header placed runs x more w fit r rest few =
 told_one : (lines : List (List ℕ)) (said : List Statement) (header : HeaderValue) (placed : PlacedDay) (run : Run) (x : List ℕ)
     → Wrote lines said header (Some (block_of placed)) → IsFitDay placed (run ∷ []) → ReadsAs (day_row placed.day (Some run.mark)) x
     → length lines + 1 ≤ most_lines
-    → Wrote (lines ++ x ∷ []) (said ++ DayOf (day_selected placed) ∷ []) header (Some (block_of placed))
+    → Wrote (lines ++ x ∷ []) (said ++ with_details header.moment placed (day_selected placed)) header (Some (block_of placed))
 told_one lines said header placed run x w fit r few =
     let readings = placed.day.readings.items in
     let n = length readings in
@@ -114,7 +114,7 @@ told_one lines said header placed run x w fit r few =
 day_told : (lines : List (List ℕ)) (said : List Statement) (header : HeaderValue) (placed : PlacedDay) (runs : List Run)
     (xs : List (List ℕ)) → Wrote lines said header (Some (block_of placed)) → IsFitDay placed runs
     → AreRead (day_row placed.day (mark_of_all runs) ∷ run_rows runs) xs → length lines + length xs ≤ most_lines
-    → Wrote (lines ++ xs) (said ++ DayOf (day_selected placed) ∷ []) header (Some (block_of placed))
+    → Wrote (lines ++ xs) (said ++ with_details header.moment placed (day_selected placed)) header (Some (block_of placed))
 day_told lines said header placed runs [] w fit r few = absurd r
 day_told lines said header placed [] (x ∷ more) w fit r few = told_several lines said header placed [] x more w fit r.0 r.1 few
 day_told lines said header placed (run ∷ []) (x ∷ []) w fit r few = told_one lines said header placed run x w fit r.0 few
@@ -126,7 +126,7 @@ day_told lines said header placed (run ∷ next ∷ runs) (x ∷ more) w fit r f
 begun : (b : Bool) (lines : List (List ℕ)) (said : List Statement) (header : HeaderValue) (block : Option Block) (placed : PlacedDay)
     (xs : List (List ℕ)) → Wrote lines said header block → (b ≡ true → block ≡ Some (block_of placed))
     → AreRead (cond b [] (details_row placed ∷ [])) xs → length lines + length xs ≤ most_lines
-    → Wrote (lines ++ xs) (said ++ cond b [] (DetailsOf (details_selected header.moment placed) ∷ [])) header (Some (block_of placed))
+    → Wrote (lines ++ xs) (said ++ cond b [] (StreamOf (stream_selected header.moment placed) ∷ [])) header (Some (block_of placed))
 begun true lines said header block placed [] w same r few =
     wrote_same lines (lines ++ []) said (said ++ []) header (Some (block_of placed)) (sym (append-nil lines)) (sym (append-nil said))
     (subst (λ (b : Option Block). Wrote lines said header b) (same refl) w)
@@ -144,26 +144,26 @@ placed_told lines said header block placed runs xs w same fit r few =
     let b = is_governed placed.before placed.day in
     let parts = read_split (details_rows placed) (day_row placed.day (mark_of_all runs) ∷ run_rows runs) xs r in
     let size = ap length parts.2 ∙ length-append parts.0 parts.1 in
-    let details = cond b [] (DetailsOf (details_selected header.moment placed) ∷ []) in
+    let stream = cond b [] (StreamOf (stream_selected header.moment placed) ∷ []) in
     let one = begun b lines said header block placed parts.0 w same parts.3 (omega arith) in
-    let two = day_told (lines ++ parts.0) (said ++ details) header placed runs parts.1 one fit parts.4 (omega (arith, length-append lines parts.0)) in
+    let two = day_told (lines ++ parts.0) (said ++ stream) header placed runs parts.1 one fit parts.4 (omega (arith, length-append lines parts.0)) in
     wrote_same _ _ _ _ header (Some (block_of placed)) (append_assoc lines parts.0 parts.1 ∙ ap (λ t. lines ++ t) (sym parts.2))
-    (append_assoc said details (DayOf (day_selected placed) ∷ [])) two
+    (append_assoc said stream (with_details header.moment placed (day_selected placed))) two
 
 -- ---- days and streams
 
 -- the last 200 is that of the day before, if there is one
 Agrees : SelectedStream → Option SelectedDay → Option Block → Type 0
 Agrees selected before block =
-    IfSome before (λ day. block ≡ Some (record { stream = selected.stream; length = day.length; unit = day.unit }))
+    IfSome before (λ day. block ≡ Some (block_of (record { selected = selected; before = None; day = day })))
 
 agreed : (selected : SelectedStream) (before : Option SelectedDay) (day : SelectedDay) (block : Option Block) → Agrees selected before block
-    → is_governed before day ≡ true → block ≡ Some (record { stream = selected.stream; length = day.length; unit = day.unit })
+    → is_governed before day ≡ true → block ≡ Some (block_of (record { selected = selected; before = None; day = day }))
 unfolding Agrees
 agreed selected None day block h e = absurd (cc)
 agreed selected (Some before) day block h e =
     let same = governed_same before day e in
-    h ∙ (λ i. Some (record { stream = selected.stream; length = same.0 i; unit = same.1 i }))
+    h ∙ (λ i. Some (record { stream = selected.stream; length = same.0 i; unit = same.1 i; details = same.2 i }))
 
 pub record WroteAll (lines : List (List ℕ)) (said : List Statement) (header : HeaderValue) : Type 0 where
   pub block : Option Block

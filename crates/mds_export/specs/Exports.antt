@@ -1,6 +1,6 @@
--- The rows of the text of a selection (profile): a 100; before the first day of a stream, and before each day whose length or
--- unit isn't that of the day before it, a 200; for each day a 300, and the 400s of the fewest runs that hold its intervals,
--- none where one run holds all; a 900.
+-- The rows of the text of a selection (profile): a 100; before the first day of a stream, and before each day whose length,
+-- unit or details aren't those of the day before it, a 200; for each day a 300, and the 400s of the fewest runs that hold its
+-- intervals, none where one run holds all; a 900.
 use Rattle.std.specs.Prelude.{◌≡◌, if◌then◌else◌, List, [], ◌∷◌, ◌++◌, length, map, Option, Some, None, ℕ}
 use Rattle.mds_marks.specs.Reading.{ReadingValue}
 use Rattle.mds_marks.specs.declared.mark.Mark.{Mark}
@@ -46,7 +46,7 @@ run_rows runs = map run_row runs
 -- the 200 of a day
 abbrev pub details_row : PlacedDay → RowValue
 details_row placed =
-    DetailsRow placed.selected.stream placed.selected.details placed.day.unit placed.day.length
+    DetailsRow placed.selected.stream placed.day.details placed.day.unit placed.day.length
 
 -- it stands before a day that the 200 of the day before doesn't govern
 abbrev pub details_rows : PlacedDay → List RowValue

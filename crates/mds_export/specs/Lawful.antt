@@ -11,15 +11,16 @@ use Rattle.mds_statements.specs.Selected.{days_of}
 use Rattle.mds_statements.specs.declared.selected.SelectedDay.{SelectedDay}
 use Rattle.mds_statements.specs.declared.selected.SelectedStream.{SelectedStream}
 
--- the names of a stream, and the texts of its details
+-- the names of a stream
 abbrev pub IsLawfulStream : SelectedStream → Type 0
 IsLawfulStream selected =
     IsTrue (is_name nmi_length selected.stream.nmi) × IsTrue (is_name suffix_length selected.stream.suffix)
-    × IsTrue (is_details selected.details)
 
--- the length of a day's intervals, and its readings
+-- the length of a day's intervals, the texts of its details, and its readings
 abbrev pub IsLawfulDay : SelectedDay → Type 0
-IsLawfulDay day = IsTrue (is_length day.length) × All (λ reading. IsTrue (is_lawful reading)) day.readings.items
+IsLawfulDay day =
+    IsTrue (is_length day.length) × IsTrue (is_details day.details)
+    × All (λ reading. IsTrue (is_lawful reading)) day.readings.items
 
 pub record AreLawful (header : HeaderValue) (streams : List SelectedStream) : Type 0 where
   pub sender : IsTrue (is_printable header.sender)

@@ -1,8 +1,8 @@
 -- What the text of a selection states, by the definitions that files are read by: just what was selected.
 use Rattle.std.specs.Prelude.{◌≡◌, ℕ, if◌then◌else◌, List, [], ◌∷◌, ◌++◌, map, None}
 use Rattle.std.specs.List.{flat_map}
-use Rattle.mds_statements.specs.Statements.{DayStatement, HeaderValue, Statement, StreamStatement}
-use Rattle.mds_statements.specs.Statements.Statement.{HeaderOf, DetailsOf, DayOf, PeriodOf}
+use Rattle.mds_statements.specs.Statements.{DayStatement, DetailsStatement, HeaderValue, Statement, StreamStatement}
+use Rattle.mds_statements.specs.Statements.Statement.{HeaderOf, StreamOf, DetailsOf, DayOf, PeriodOf}
 use Rattle.mds_nem12.specs.Faults.{fault_of}
 use Rattle.mds_nem12.specs.Statements.{statements_of}
 use Rattle.mds_export.specs.Placed.{PlacedDay, is_governed, placed_days}
@@ -11,7 +11,7 @@ use Rattle.mds_statements.specs.declared.selected.SelectedStream.{SelectedStream
 
 -- a statement, but for the number of its line
 abbrev pub unlined : Statement → Statement
-unlined (DetailsOf stream) = DetailsOf (record stream { line = 0 })
+unlined (StreamOf stream) = StreamOf (record stream { line = 0 })
 unlined (DayOf day) = DayOf (record day { line = 0 })
 unlined (PeriodOf period) = PeriodOf (record period { line = 0 })
 unlined statement = statement
@@ -28,22 +28,31 @@ day_selected placed = record {
   readings = placed.day.readings.items;
 }
 
--- the details of its stream under the moment of the header
-abbrev pub details_selected : ℕ → PlacedDay → StreamStatement
-details_selected moment placed = record {
+-- its stream, with its form and its details under the moment of the header
+abbrev pub stream_selected : ℕ → PlacedDay → StreamStatement
+stream_selected moment placed = record {
   line = 0;
   stream = placed.selected.stream;
   length = placed.day.length;
   unit = placed.day.unit;
   moment = moment;
-  details = placed.selected.details;
+  details = placed.day.details;
 }
 
--- what a day states: itself, and where its length or its unit is new the details once more
+-- the details of the day
+abbrev pub details_selected : ℕ → PlacedDay → DetailsStatement
+details_selected moment placed = record {
+  stream = placed.selected.stream;
+  date = placed.day.date;
+  moment = moment;
+  details = placed.day.details;
+}
+
+-- what a day states: its details and itself, and before them its stream where the length, the unit or the details are new
 abbrev pub day_stated : ℕ → PlacedDay → List Statement
 day_stated moment placed =
-    (if is_governed placed.before placed.day then [] else DetailsOf (details_selected moment placed) ∷ [])
-    ++ DayOf (day_selected placed) ∷ []
+    (if is_governed placed.before placed.day then [] else StreamOf (stream_selected moment placed) ∷ [])
+    ++ DetailsOf (details_selected moment placed) ∷ DayOf (day_selected placed) ∷ []
 
 -- what a selection states under a header
 abbrev pub selection_stated : HeaderValue → List SelectedStream → List Statement

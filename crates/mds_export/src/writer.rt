@@ -130,14 +130,14 @@ fn write_new_details(
     }
     let row = DetailsRow {
         stream: selected.stream,
-        details: &selected.details,
+        details: &day.details,
         unit: day.unit,
         length: day.length,
     };
     write_details(&row, out)
 }
 
-/// Whether the 200 of the day before governs a day too: that has the same length and the same unit.
+/// Whether the 200 of the day before governs a day too: that has the same length, unit and details.
 fn is_governed(before: Option<&SelectedDay>, day: &SelectedDay) -> bool
     ensures { result ≡ is_governed (option_map (λ before. before.now) before.entry) day.now }
 {
@@ -145,7 +145,9 @@ fn is_governed(before: Option<&SelectedDay>, day: &SelectedDay) -> bool
     let _ = day.length.minutes();
     let _ = day.unit.text();
     match before {
-        Some(before) => before.length == day.length && before.unit == day.unit,
+        Some(before) => {
+            before.length == day.length && before.unit == day.unit && before.details == day.details
+        }
         None => false,
     }
 }

@@ -9,7 +9,6 @@ use Rattle.mds_world.specs.Facts.Fact.{HeadIs, VersionIs}
 use Rattle.mds_world.specs.Sets.{◌∈◌}
 use Rattle.mds_world.specs.World.{IsCurrent, IsLawful, World}
 use Rattle.mds_keeper.specs.Books.{BookValue, book_world}
-use Rattle.mds_keeper.specs.declared.day_book.Version.{Version}
 use Rattle.mds_keeper.proofs.BookFacts.{head_in_book, head_of_book}
 use Rattle.mds_fill.specs.Fills.{Finds, IsActualOrFinal, IsBookOf, IsProtected, IsUsable}
 
@@ -56,21 +55,20 @@ same_current w s d book i u v a b is lawful here other =
     one_current (book_world book) book.stream book.day i u v a b lawful here (current_out w s d book i v b is other)
 
 -- whether the current reading of an interval protects it
-pub protects : (w : World) (s : Stream) (d : ℕ) (book : BookValue) (i : ℕ) (version : Version) (b : Bool)
+pub protects : (w : World) (s : Stream) (d : ℕ) (book : BookValue) (i u : ℕ) (r : ReadingValue) (b : Bool)
     → IsBookOf w s d book → IsLawful (book_world book)
-    → IsCurrent (book_world book) book.stream book.day i version.update version.reading
-    → MatchBool b (IsActualOrFinal version.reading.mark.quality.flag)
-    (IsActualOrFinal version.reading.mark.quality.flag → ⊥)
+    → IsCurrent (book_world book) book.stream book.day i u r
+    → MatchBool b (IsActualOrFinal r.mark.quality.flag) (IsActualOrFinal r.mark.quality.flag → ⊥)
     → MatchBool b (IsProtected w s d i) (IsProtected w s d i → ⊥)
-protects w s d book i version true is lawful current flag = record {
-  update = version.update;
-  reading = version.reading;
-  current = current_in w s d book i version.update version.reading is current;
+protects w s d book i u r true is lawful current flag = record {
+  update = u;
+  reading = r;
+  current = current_in w s d book i u r is current;
   flag = flag;
 }
-protects w s d book i version false is lawful current flag = λ p.
-    let same = same_current w s d book i version.update p.update version.reading p.reading is lawful current p.current in
-    flag (subst (λ (r : ReadingValue). IsActualOrFinal r.mark.quality.flag) (sym same) p.flag)
+protects w s d book i u r false is lawful current flag = λ p.
+    let same = same_current w s d book i u p.update r p.reading is lawful current p.current in
+    flag (subst (λ (x : ReadingValue). IsActualOrFinal x.mark.quality.flag) (sym same) p.flag)
 
 -- a day of another length or unit has no usable value
 pub other_form : (w : World) (job : JobContent) (d : ℕ) (book : BookValue) (i : ℕ) → IsBookOf w job.stream d book
@@ -82,32 +80,30 @@ other_form w job d book i is other value usable =
     other (head_of_book book _ (is.facts.whole _ (refl, refl) known)).2
 
 -- nor has one whose current reading isn't A or F
-pub other_flag : (w : World) (job : JobContent) (d : ℕ) (book : BookValue) (i : ℕ) (version : Version)
+pub other_flag : (w : World) (job : JobContent) (d : ℕ) (book : BookValue) (i u : ℕ) (r : ReadingValue)
     → IsBookOf w job.stream d book → IsLawful (book_world book)
-    → IsCurrent (book_world book) book.stream book.day i version.update version.reading
-    → (IsActualOrFinal version.reading.mark.quality.flag → ⊥) → (value : ℤ) → IsUsable w job d i value → ⊥
-other_flag w job d book i version is lawful current flag value usable =
-    let same = same_current w job.stream d book i version.update usable.update version.reading usable.reading is lawful
-    current usable.current in
-    flag (subst (λ (r : ReadingValue). IsActualOrFinal r.mark.quality.flag) (sym same) usable.flag)
+    → IsCurrent (book_world book) book.stream book.day i u r
+    → (IsActualOrFinal r.mark.quality.flag → ⊥) → (value : ℤ) → IsUsable w job d i value → ⊥
+other_flag w job d book i u r is lawful current flag value usable =
+    let same = same_current w job.stream d book i u usable.update r usable.reading is lawful current usable.current in
+    flag (subst (λ (x : ReadingValue). IsActualOrFinal x.mark.quality.flag) (sym same) usable.flag)
 
 -- and any other has its current reading's
-pub usable_is : (w : World) (job : JobContent) (d : ℕ) (book : BookValue) (i : ℕ) (version : Version) (value : Option ℤ)
+pub usable_is : (w : World) (job : JobContent) (d : ℕ) (book : BookValue) (i u : ℕ) (r : ReadingValue) (value : Option ℤ)
     → IsBookOf w job.stream d book → IsLawful (book_world book)
     → ◌≡◌ {A = Option (ℕ × MeasureUnit)} book.head (Some (job.length, job.unit))
-    → IsCurrent (book_world book) book.stream book.day i version.update version.reading
-    → IsActualOrFinal version.reading.mark.quality.flag → value ≡ version.reading.value → Finds (IsUsable w job d i) value
-usable_is w job d book i version (Some value) is lawful form current flag e = record {
+    → IsCurrent (book_world book) book.stream book.day i u r
+    → IsActualOrFinal r.mark.quality.flag → value ≡ r.value → Finds (IsUsable w job d i) value
+usable_is w job d book i u r (Some value) is lawful form current flag e = record {
   known = at (λ t n. HeadIs (head_at t n job.length job.unit) ∈ w) w job.stream d book is
       (is.facts.only _ (head_in_book book (job.length, job.unit) form));
-  update = version.update;
-  reading = version.reading;
-  current = current_in w job.stream d book i version.update version.reading is current;
+  update = u;
+  reading = r;
+  current = current_in w job.stream d book i u r is current;
   flag = flag;
   same = sym e;
 }
-usable_is w job d book i version None is lawful form current flag e = λ value usable.
-    let same = same_current w job.stream d book i version.update usable.update version.reading usable.reading is lawful
-    current usable.current in
-    let none : ◌≡◌ {A = Option ℤ} None (Some value) = e ∙ ap (λ (r : ReadingValue). r.value) same ∙ usable.same in
+usable_is w job d book i u r None is lawful form current flag e = λ value usable.
+    let same = same_current w job.stream d book i u usable.update r usable.reading is lawful current usable.current in
+    let none : ◌≡◌ {A = Option ℤ} None (Some value) = e ∙ ap (λ (x : ReadingValue). x.value) same ∙ usable.same in
     cc

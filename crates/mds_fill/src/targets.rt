@@ -57,7 +57,7 @@ fn is_protected(book: &DayBook, interval: u16) -> bool
     // For the proof: an interval of a book has one current reading.
     book.is_lawful();
     match book.current(interval) {
-        Some(version) => is_actual_or_final(&version.reading),
+        Some(version) => is_actual_or_final(version.mark),
         None => false,
     }
 }

@@ -11,7 +11,7 @@ use mds_jobs::Job;
 use mds_keeper::DayBook;
 use mds_marks::flags::{ACTUAL, FINAL};
 use mds_quantity::Quantity;
-use mds_terms::Reading;
+use mds_terms::Mark;
 
 /// The usable value of an interval of a day.
 pub(crate) fn usable_value(book: &DayBook, job: &Job, interval: u16) -> Option<Quantity>
@@ -26,10 +26,10 @@ pub(crate) fn usable_value(book: &DayBook, job: &Job, interval: u16) -> Option<Q
     let Some(version) = book.current(interval) else {
         return None;
     };
-    if !is_actual_or_final(&version.reading) {
+    if !is_actual_or_final(version.mark) {
         return None;
     }
-    version.reading.value()
+    version.value
 }
 
 /// The usable value of an interval of the candidate at a place.
@@ -67,11 +67,10 @@ fn has_form_of(book: &DayBook, job: &Job) -> bool
     }
 }
 
-/// Whether the flag of a reading is A or F.
-pub(crate) fn is_actual_or_final(reading: &Reading) -> bool
-    ensures { MatchBool result (IsActualOrFinal reading.now.mark.quality.flag)
-        (IsActualOrFinal reading.now.mark.quality.flag → ⊥) }
+/// Whether the flag of a mark is A or F.
+pub(crate) fn is_actual_or_final(mark: &Mark) -> bool
+    ensures { MatchBool result (IsActualOrFinal mark.now.quality.flag)
+        (IsActualOrFinal mark.now.quality.flag → ⊥) }
 {
-    let mark = reading.mark();
     matches!(mark.quality.flag(), ACTUAL | FINAL)
 }

@@ -1,22 +1,16 @@
 -- Calls that put rows, one after another.
-use Rattle.std.proofs.Common.{◌≡◌, ◌++◌, inl, ℕ, false, List, [], ◌∷◌, IfErr, IsTrue, Ok, Err, Result, refl, sym, ap, subst, ◌∙◌, arith}
+use Rattle.std.proofs.Common.{◌≡◌, ◌++◌, ℕ, false, List, [], ◌∷◌, IfErr, IsTrue, Ok, Err, Result, sym, subst, arith}
 use Rattle.std.proofs.lemmas.List.{map-append}
-use Rattle.sqlite.specs.Effect.{Database}
 use Rattle.sqlite.specs.Schema.{Schema}
-use Rattle.sqlite.specs.State.{ExecutesInside, HasCleanDisk, KeepsCommit, State, Survives}
+use Rattle.sqlite.specs.State.{ExecutesInside, HasCleanDisk, State, Survives}
 use Rattle.sqlite.specs.declared.error.Error.{Error}
-use Rattle.sqlite.specs.declared.error.Error.TheVariants.{SqliteFailure}
-use Rattle.sqlite.specs.declared.error.ErrorCode.TheVariants as code
 use Rattle.sqlite.proofs.InsideLemmas.{keeps_then}
-use Rattle.sqlite_catalog.specs.Listing.{IsSound}
-use Rattle.sqlite_trees.specs.declared.error.StoreError.TheVariants.{OutOfMemory}
 use Rattle.sqlite_value.specs.Order.{Row}
 use Rattle.mds_tables.proofs.CallLemmas.{keeps, keeps_same, survives_more, survives_same}
-use Rattle.mds_tables.specs.Causes.{RanOut}
 use Rattle.mds_inserts.specs.Parts.{Part, rows_of}
 use Rattle.mds_inserts.specs.Refusals.{FailsToPut}
-use Rattle.mds_inserts.specs.Writing.{Changes, IsFit, PutsEach, PutsOne, PutsThere, StaysAs}
-use Rattle.mds_inserts.proofs.PutLemmas.{fails_later, fails_more, if_ok, none_there, stays_there, there_then}
+use Rattle.mds_inserts.specs.Writing.{Changes, IsFit, PutsEach, PutsOne, PutsThere}
+use Rattle.mds_inserts.proofs.PutLemmas.{fails_later, fails_more, if_ok, none_there, there_then}
 
 if_err : {X E : Type 0} (r : Result X E) (P Q : E → Type 0) → ((e : E) → P e → Q e) → IfErr r P → IfErr r Q
 if_err (Ok x) P Q f h = tt
@@ -58,17 +52,6 @@ none_put {under} {A} {part} a = record {
   cause = λ clean inside has fit. tt;
   kept = λ clean. keeps_same a;
   survives = survives_same a;
-}
-
--- things are put, and then memory ran out before the next row was tried
-pub memory_lacked : {under : Schema} {A X : Type 0} {part : Part A} {a b : State} {xs all : List A} → PutsEach {X = Unit {0}} under part a b (Ok tt) xs
-    → PutsEach {X = X} under part a b (Err (SqliteFailure code.OutOfMemory)) all
-unfolding RanOut
-memory_lacked front = record {
-  ok = tt;
-  cause = λ clean inside has fit. inl (OutOfMemory, refl, tt);
-  kept = front.kept;
-  survives = front.survives;
 }
 
 -- a row isn't put, and those behind it aren't tried
@@ -114,19 +97,3 @@ module _ {under : Schema} {A : Type 0} {part : Part A} {a b : State} {xs : List 
       (subst (λ rows. Changes {X = X} under (IsFit under a) (PutsThere under part a c (up ++ rest)) rows a c (Err e))
       (sym (map-append {B = ℕ × Row} (λ item. (part.place, part.cells item)) up rest))
       (stopped (rows_of part rest) (more_put some next)))
-
--- ---- behind a statement that was refused
-
-pub stays_put : {under : Schema} {A X : Type 0} {part : Part A} {a b c : State} {items : List A} {r : Result X Error} → (HasCleanDisk b → StaysAs a b)
-    → (HasCleanDisk b → KeepsCommit a b) → Survives a b (λ _. ⊥) → PutsEach under part b c r items → PutsEach under part a c r items
-stays_put {under} {A} {X} {part} {a} {b} {c} {items} {r} same keeps front next = record {
-  ok = if_ok r _ _ (stays_there under part a b c items same next.survives.clean front.limit) next.ok;
-  cause = λ clean inside has fit.
-      let it = same (omega (arith, clean, next.survives.clean)) in
-      let now = it.now_is fit.is_open in
-      if_err r _ _ (λ e fails. fails_later a b c [] (rows_of part items) e front.counts (it.is_open fit.is_open) front.limit now fails)
-      (next.cause clean (it.inside ∙ inside) (ap (λ (d : Database). d.schema) now ∙ has)
-      (record { is_open = it.is_open fit.is_open; sound = subst (λ (d : Database). IsSound under d.trees) (sym now) fit.sound }));
-  kept = λ clean. keeps_then a b c (keeps (omega (arith, clean, next.survives.clean))) (next.kept clean);
-  survives = survives_more a b c front next.survives;
-}

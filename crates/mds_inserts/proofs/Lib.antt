@@ -1,11 +1,4 @@
 pub mod ChangeLemmas
 pub mod CommitLemmas
-pub mod EightCells
-pub mod EightDays
-pub mod EightLemmas
-pub mod ManyRows
 pub mod PutLemmas
-pub mod RowByRow
 pub mod RowLemmas
-pub mod ShortRows
-pub mod WholeDays

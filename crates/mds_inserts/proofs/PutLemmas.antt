@@ -1,8 +1,7 @@
 -- Rows that are put into the tables in a transaction.
-use Rattle.std.proofs.Common.{◌≡◌, ◌≢◌, ◌≤◌, ◌<◌, ◌+◌, ◌++◌, ◌/◌, inl, inr, ℕ, zero, suc, List, [], ◌∷◌, drop, length, map, take, get_or, slice_get, IsPermutation, IsTrue, Some, None, Ok, Err, Result, OnOk, Option, refl, sym, ap, subst, ◌∙◌, arith}
+use Rattle.std.proofs.Common.{◌≡◌, ◌≢◌, ◌≤◌, ◌<◌, ◌+◌, ◌++◌, ◌/◌, inl, inr, ℕ, List, [], ◌∷◌, drop, length, map, take, get_or, slice_get, IsPermutation, IsTrue, Some, None, Ok, Err, Result, OnOk, Option, refl, sym, ap, subst, ◌∙◌, arith}
 use Rattle.std.specs.List.{AllByRecursion}
-use Rattle.std.proofs.lemmas.Grind.{flat_map-append}
-use Rattle.std.proofs.lemmas.List.{append-nil, length-map, map-append, take-append-drop, take_more}
+use Rattle.std.proofs.lemmas.List.{append-nil, map-append, take_more}
 use Rattle.std.proofs.lemmas.List.Sorted.{IsPermutation-refl}
 use Rattle.sqlite.specs.Command.TheVariants.{Insert}
 use Rattle.sqlite.specs.Does.{Does}
@@ -26,41 +25,33 @@ use Rattle.sqlite_trees.specs.Tree.{Trees}
 use Rattle.sqlite_trees.specs.View.{doubt}
 use Rattle.sqlite_value.specs.Order.{Row}
 use Rattle.mds_quantity.specs.Unit.{unit_of, unit_text}
-use Rattle.mds_marks.specs.Quality.{QualityValue, is_quality, quality_of, quality_text}
-use Rattle.mds_marks.specs.Reading.{ReadingValue, is_lawful}
 use Rattle.mds_terms.specs.Event.{EventValue}
 use Rattle.mds_world.specs.Facts.{Fact}
 use Rattle.mds_world.specs.World.{union}
-use Rattle.mds_world.specs.Facts.Fact.{DetailIs, EventIs, HeadIs, HolidayIs}
-use Rattle.mds_world.specs.declared.facts.Detail.{Detail}
+use Rattle.mds_world.specs.Facts.Fact.{EventIs, HeadIs, HolidayIs}
 use Rattle.mds_world.specs.declared.facts.Head.{Head}
-use Rattle.mds_world.specs.declared.facts.Key.{Key}
-use Rattle.mds_keeper.specs.declared.day_book.Version.{Version}
-use Rattle.mds_names.specs.declared.stream.Stream.{Stream}
-use Rattle.mds_keeper.specs.Content as content
-use Rattle.mds_keeper.specs.Content.{day_versions, version_at, versions_of}
-use Rattle.mds_keeper.specs.declared.additions.DayVersions.{DayVersions}
+use Rattle.mds_keeper.specs.Content.{details_of, versions_of}
 use Rattle.mds_keeper.specs.declared.additions.Additions.{Additions}
 use Rattle.mds_tables.proofs.InsertLemmas.{Adds as OneMore, adds, cast_int, simple}
-use Rattle.mds_tables.proofs.OpenTexts.{detail_terms, event_terms, head_terms, holiday_terms, insert_detail, insert_detail_is, insert_detail_plain, insert_event, insert_event_is, insert_event_plain, insert_head, insert_head_is, insert_head_plain, insert_holiday, insert_holiday_is, insert_holiday_plain, insert_job, insert_job_is, insert_job_plain, insert_period, insert_period_is, insert_period_plain, job_terms, period_terms, insert_version, insert_version_is, insert_version_plain, version_terms}
-use Rattle.mds_tables.specs.Cells.{detail_cells, event_cells, head_cells, holiday_cells, optional_cell, version_cells}
-use Rattle.mds_tables.specs.RowFacts.{detail_fact, event_fact, head_fact, holiday_fact, job_fact, period_fact, version_fact}
-use Rattle.mds_tables.specs.Layouts.{Layout, rows_layout}
-use Rattle.mds_tables.specs.Stores.{AddsOf, AreRowsOf, Gained, Gains, HasRows}
-use Rattle.mds_tables.specs.Tables.{More, detail_table, event_table, head_table, holiday_table, job_table, no_more, period_table, schema_1, schema_with, trees_taken, version_table}
+use Rattle.mds_tables.proofs.OpenTexts.{event_terms, head_terms, holiday_terms, insert_event, insert_event_is, insert_event_plain, insert_head, insert_head_is, insert_head_plain, insert_holiday, insert_holiday_is, insert_holiday_plain, insert_job, insert_job_is, insert_job_plain, insert_period, insert_period_is, insert_period_plain, job_terms, period_terms}
+use Rattle.mds_tables.specs.Cells.{event_cells, head_cells, holiday_cells, optional_cell}
+use Rattle.mds_tables.specs.RowFacts.{event_fact, head_fact, holiday_fact, job_fact, period_fact}
+use Rattle.mds_tables.specs.Layouts.{Layout}
+use Rattle.mds_tables.specs.Stores.{AddsOf, AreRowsOf, Gained, Gains}
+use Rattle.mds_tables.specs.Tables.{More, event_table, head_table, holiday_table, job_table, period_table, schema_with, trees_taken}
 use Rattle.mds_inserts.specs.MadeRows.{IsRowOfJob, IsRowOfPeriod}
 use Rattle.mds_inserts.specs.declared.jobs.JobRow.{JobRow}
 use Rattle.mds_inserts.specs.declared.periods.PeriodRow.{PeriodRow}
-use Rattle.mds_inserts.specs.Parts.{Part, detail_part, event_part, head_part, holiday_part, job_part, period_part, rows_of, version_part}
+use Rattle.mds_inserts.specs.Parts.{Part, event_part, head_part, holiday_part, job_part, period_part, rows_of}
 use Rattle.mds_inserts.specs.Refusals.{FailsToPut, RefusesOne, TakesAll, insert_of}
-use Rattle.mds_inserts.specs.Writing.{IsMore, IsSteady, Keeps, KeepsBut, KeepsOthers, Puts, PutsAllOf, PutsRest, PutsRestThere, PutsThere, PutsVersions, PutsVersionsThere, StaysAs, rest_trees}
+use Rattle.mds_inserts.specs.Writing.{IsMore, IsSteady, Keeps, KeepsBut, KeepsOthers, Puts, PutsAllOf, PutsOwn, PutsOwnThere, PutsRest, PutsRestThere, PutsThere, rest_trees}
 use Rattle.mds_tables.proofs.CauseLemmas.{IsWhole, fails_since, fails_until, stopped_as}
 use Rattle.sqlite.specs.declared.error.Error.{Error}
 use Rattle.sqlite_tied.specs.Compute.{everything}
-use Rattle.mds_tables.proofs.FactLemmas.{detail_back, event_back, head_back, version_back}
-use Rattle.mds_inserts.proofs.RowLemmas.{gains_kept, gains_more, gains_one, job_rows_are, kept_gains, more as says_more, of, period_rows_are, say_more, version_bare, world_after}
+use Rattle.mds_tables.proofs.FactLemmas.{event_back, head_back}
+use Rattle.mds_inserts.proofs.RowLemmas.{gains_kept, gains_more, gains_one, job_rows_are, kept_gains, of, own_facts, period_rows_are, say_more, world_after}
 
-cast_optional : (o : Option ℕ) → cast Integer (optional_cell o) ≡ optional_cell o
+pub cast_optional : (o : Option ℕ) → cast Integer (optional_cell o) ≡ optional_cell o
 cast_optional None = cast_int _
 cast_optional (Some n) = cast_int _
 
@@ -72,7 +63,7 @@ module _ (more : More) (table : Table) (at : ℕ) (text : List ℕ) (terms : Lis
     (is : command_of (understood (schema_with more) text) ≡ Insert at (Values terms width))
     (plain : IsPlain (understood (schema_with more) text))
     {A : Type 0} (cells : A → Row) (fact : A → Fact) (read : Row → Fact) where
-  abbrev part : Part A
+  abbrev pub part : Part A
   part = record { place = at; tree = table.tree; cells = cells; fact = fact; read = read }
 
   module _ (old new : State) (item : A) (shape : insert_of at (cells item) ≡ Insert at (Values terms width)) where
@@ -107,7 +98,7 @@ module _ (more : More) (table : Table) (at : ℕ) (text : List ℕ) (terms : Lis
           );
         }
 
-    puts_there : (count : ℕ) → value_rows (cells item ++ []) width (length terms / width) terms ≡ (Null ∷ cells item) ∷ []
+    pub puts_there : (count : ℕ) → value_rows (cells item ++ []) width (length terms / width) terms ≡ (Null ∷ cells item) ∷ []
         → cast_all table.columns (cells item) ≡ cells item
         → ((id : Value) → read (id ∷ cells item) ≡ fact item)
         → (HasCleanDisk new → ExecutesInside 0 text (cells item) old new (Ok count)) → PutsThere (schema_with more) part old new (item ∷ [])
@@ -119,7 +110,7 @@ module _ (more : More) (table : Table) (at : ℕ) (text : List ℕ) (terms : Lis
       said = (says, tt);
     }
 
-    fails_to_put : (e : Error) → IsWhole text (length (cells item)) (understood (schema_with more) text) → old.now.schema ≡ schema_with more
+    pub fails_to_put : (e : Error) → IsWhole text (length (cells item)) (understood (schema_with more) text) → old.now.schema ≡ schema_with more
         → ExecutesInside 0 text (cells item) old new (Err e) → FailsToPut old new (rows_of part (item ∷ [])) old.now e
     fails_to_put e whole has ran =
         let because = λ (stop : Option Error)
@@ -137,24 +128,6 @@ pub puts_head : (more : More) (old new : State) (h : Head) (count : ℕ) → uni
 puts_head more old new h count reads runs =
     puts_there more head_table 1 insert_head head_terms 6 refl (insert_head_is more) (insert_head_plain more) head_cells HeadIs head_fact
     old new h refl count refl (rw (cast_int, cast_int)) (λ id. head_back id h reads) runs
-
-pub puts_version : (more : More) (old new : State) (k : Key) (r : ReadingValue) (count : ℕ)
-    → ((q : QualityValue) → IsTrue (is_quality q.flag q.method) → quality_of (quality_text q) ≡ Some q)
-    → IsTrue (is_lawful r)
-    → (HasCleanDisk new → ExecutesInside 0 insert_version (version_cells k r) old new (Ok count))
-    → PutsThere (schema_with more) version_part old new ((k, r) ∷ [])
-puts_version more old new k r count reads known runs =
-    puts_there more version_table 2 insert_version version_terms 10 refl (insert_version_is more) (insert_version_plain more)
-    (λ (version : Key × ReadingValue). version_cells version.0 version.1) content.version_fact version_fact
-    old new (k, r) refl count refl (rw (cast_int, cast_int, cast_int, cast_optional, cast_int))
-    (λ id. version_back id k r reads known) runs
-
-pub puts_detail : (more : More) (old new : State) (d : Detail) (count : ℕ)
-    → (HasCleanDisk new → ExecutesInside 0 insert_detail (detail_cells d) old new (Ok count))
-    → PutsThere (schema_with more) detail_part old new (d ∷ [])
-puts_detail more old new d count runs =
-    puts_there more detail_table 3 insert_detail detail_terms 9 refl (insert_detail_is more) (insert_detail_plain more) detail_cells DetailIs
-    detail_fact old new d refl count refl (rw (cast_int, cast_optional)) (λ id. detail_back id d) runs
 
 pub puts_event : (more : More) (old new : State) (e : EventValue) (count : ℕ)
     → (HasCleanDisk new → ExecutesInside 0 insert_event (event_cells e) old new (Ok count))
@@ -194,14 +167,6 @@ head_whole : (more : More) → IsWhole insert_head 5 (understood (schema_with mo
 unfolding understood everything
 head_whole more = (omega arith, refl, refl)
 
-version_whole : (more : More) → IsWhole insert_version 9 (understood (schema_with more) insert_version)
-unfolding understood everything
-version_whole more = (omega arith, refl, refl)
-
-detail_whole : (more : More) → IsWhole insert_detail 8 (understood (schema_with more) insert_detail)
-unfolding understood everything
-detail_whole more = (omega arith, refl, refl)
-
 event_whole : (more : More) → IsWhole insert_event 7 (understood (schema_with more) insert_event)
 unfolding understood everything
 event_whole more = (omega arith, refl, refl)
@@ -223,20 +188,6 @@ pub fails_head : (more : More) (old new : State) (h : Head) (e : Error) → old.
 fails_head more old new h e has ran =
     fails_to_put more head_table 1 insert_head head_terms 6 refl (insert_head_is more) (insert_head_plain more) head_cells HeadIs head_fact
     old new h refl e (head_whole more) has ran
-
-pub fails_version : (more : More) (old new : State) (k : Key) (r : ReadingValue) (e : Error) → old.now.schema ≡ schema_with more
-    → ExecutesInside 0 insert_version (version_cells k r) old new (Err e)
-    → FailsToPut old new (rows_of version_part ((k, r) ∷ [])) old.now e
-fails_version more old new k r e has ran =
-    fails_to_put more version_table 2 insert_version version_terms 10 refl (insert_version_is more) (insert_version_plain more)
-    (λ (version : Key × ReadingValue). version_cells version.0 version.1) content.version_fact version_fact
-    old new (k, r) refl e (version_whole more) has ran
-
-pub fails_detail : (more : More) (old new : State) (d : Detail) (e : Error) → old.now.schema ≡ schema_with more
-    → ExecutesInside 0 insert_detail (detail_cells d) old new (Err e) → FailsToPut old new (rows_of detail_part (d ∷ [])) old.now e
-fails_detail more old new d e has ran =
-    fails_to_put more detail_table 3 insert_detail detail_terms 9 refl (insert_detail_is more) (insert_detail_plain more) detail_cells DetailIs
-    detail_fact old new d refl e (detail_whole more) has ran
 
 pub fails_event : (more : More) (old new : State) (event : EventValue) (e : Error) → old.now.schema ≡ schema_with more
     → ExecutesInside 0 insert_event (event_cells event) old new (Err e)
@@ -353,57 +304,9 @@ module _ (under : Schema) {A : Type 0} (part : Part A) where
     said = say_more part xs ys p.said q.said;
   }
 
--- a statement that was refused stands before them
-pub stays_there : (under : Schema) {A : Type 0} (part : Part A) (a b c : State) (items : List A) → (HasCleanDisk b → StaysAs a b)
-    → doubt b.is_clean ≤ doubt c.is_clean → b.step_limit ≡ a.step_limit → PutsThere under part b c items → PutsThere under part a c items
-stays_there under part a b c items same later limit p = record {
-  was_open = λ clean o. (same (omega arith)).was_open (p.was_open clean o);
-  is_open = λ clean o. p.is_open clean ((same (omega arith)).is_open o);
-  inside = λ clean i. p.inside clean ((same (omega arith)).inside ∙ i);
-  puts = λ clean o has sound.
-      let it = same (omega arith) in
-      let now = it.now_is o in
-      let put = p.puts clean (it.is_open o) (ap (λ (d : Database). d.schema) now ∙ has) (subst (λ (d : Database). IsSound under d.trees) (sym now) sound) in
-      record {
-        schema = put.schema;
-        rows = subst (λ (d : Database). Gains part.tree (map part.cells items) d.trees c.now.trees) now put.rows;
-        others = subst (λ (d : Database). KeepsOthers part.tree d.trees c.now.trees under.tables) now put.others;
-        committed = put.committed ∙ it.committed_is o;
-        sound = put.sound;
-        took = subst (λ (d : Database). TakesAll a.step_limit (rows_of part items) d c.now) now (rw limit at (put.took));
-      };
-  said = p.said;
-}
-
 -- the things up to a place, and the one there
 pub one_more : {A : Type 0} (xs : List A) (at : ℕ) (x : A) → at < length xs → x ≡ get_or xs at x → take at xs ++ x ∷ [] ≡ take (at + 1) xs
 one_more xs at x low is = ap (λ y. take at xs ++ y ∷ []) is ∙ sym (take_more xs at x low)
-
--- the versions of days up to one, and those of this one
-pub days_more : (days : List DayVersions) (at : ℕ) (day : DayVersions) → at < length days → day ≡ get_or days at day
-    → versions_of (take at days) ++ day_versions day ≡ versions_of (take (at + 1) days)
-days_more days at day low is =
-    sym (ap versions_of (take_more days at day low ∙ ap (λ y. take at days ++ y ∷ []) (sym is))
-    ∙ flat_map-append day_versions (take at days) (day ∷ [])
-    ∙ ap (λ l. versions_of (take at days) ++ l) (append-nil (day_versions day)))
-
--- those, and the versions of the days behind
-pub days_whole : (days : List DayVersions) (at : ℕ) → versions_of (take at days) ++ versions_of (drop at days) ≡ versions_of days
-days_whole days at = sym (flat_map-append day_versions (take at days) (drop at days)) ∙ ap versions_of (take-append-drop at days)
-
--- where a row of a day stands among its versions
-version_here : (stream : Stream) (day : ℕ) (rows : List (ℕ × Version)) (at : ℕ) (row : ℕ × Version) → row ≡ get_or rows at row
-    → version_at stream day row ≡ get_or (map (version_at stream day) rows) at (version_at stream day row)
-version_here stream day [] at row is = refl
-version_here stream day (r ∷ rows) zero row is = ap (version_at stream day) is
-version_here stream day (r ∷ rows) (suc at) row is = version_here stream day rows at row is
-
--- the versions up to a place, and the one there
-pub versions_more : (stream : Stream) (day : ℕ) (rows : List (ℕ × Version)) (at : ℕ) (row : ℕ × Version) → at < length rows → row ≡ get_or rows at row
-    → take at (map (version_at stream day) rows) ++ version_at stream day row ∷ [] ≡ take (at + 1) (map (version_at stream day) rows)
-versions_more stream day rows at row low is =
-    one_more (map (version_at stream day) rows) at (version_at stream day row) (omega (arith, low, length-map rows (version_at stream day)))
-    (version_here stream day rows at row is)
 
 pub if_ok : {X E : Type 0} (r : Result X E) (A B : Type 0) → (A → B) → OnOk r A → OnOk r B
 if_ok (Ok x) A B f h = f h
@@ -419,140 +322,88 @@ behind_keeps tree low old new (t ∷ ts) behind same =
     (same.0 (λ e. omega (arith, behind.0, low, e)), behind_keeps tree low old new ts behind.1 same.1)
 
 behind_rest : (tree : ℕ) → trees_taken ≤ tree → AllByRecursion (λ at. tree ≢ at) rest_trees
-behind_rest tree high = (
-  λ e. omega (arith, high, e),
-  (λ e. omega (arith, high, e), (λ e. omega (arith, high, e), (λ e. omega (arith, high, e), (λ e. omega (arith, high, e), tt)))),
-)
+behind_rest tree high =
+    (λ e. omega (arith, high, e), (λ e. omega (arith, high, e), (λ e. omega (arith, high, e), (λ e. omega (arith, high, e), tt))))
 
-before_rest : (tree : ℕ) → tree < 6 → AllByRecursion (λ at. tree ≢ at) rest_trees
-before_rest tree low = (
-  λ e. omega (arith, low, e),
-  (λ e. omega (arith, low, e), (λ e. omega (arith, low, e), (λ e. omega (arith, low, e), (λ e. omega (arith, low, e), tt)))),
-)
+before_rest : (tree : ℕ) → tree < 8 → AllByRecursion (λ at. tree ≢ at) rest_trees
+before_rest tree low =
+    (λ e. omega (arith, low, e), (λ e. omega (arith, low, e), (λ e. omega (arith, low, e), (λ e. omega (arith, low, e), tt))))
 
 rest_keeps : (old new : Trees) (tables : List Table) → AllByRecursion (λ (t : Table). trees_taken ≤ t.tree) tables
     → KeepsBut rest_trees old new tables → Keeps old new tables
 rest_keeps old new [] behind same = tt
 rest_keeps old new (t ∷ ts) behind same = (same.0 (behind_rest t.tree behind.0), rest_keeps old new ts behind.1 same.1)
 
-kept_but_rest : (a b c d f h : Trees) (tables : List Table) → KeepsOthers 6 a b tables → KeepsOthers 8 b c tables → KeepsOthers 10 c d tables
-    → KeepsOthers 12 d f tables → KeepsOthers 14 f h tables → KeepsBut rest_trees a h tables
-kept_but_rest a b c d f h [] p q r s u = tt
-kept_but_rest a b c d f h (t ∷ ts) p q r s u = (
-  λ none. u.0 none.1.1.1.1.0 ∙ s.0 none.1.1.1.0 ∙ r.0 none.1.1.0 ∙ q.0 none.1.0 ∙ p.0 none.0,
-  kept_but_rest a b c d f h ts p.1 q.1 r.1 s.1 u.1,
-)
+kept_but_rest : (a b c d f : Trees) (tables : List Table) → KeepsOthers 8 a b tables → KeepsOthers 10 b c tables
+    → KeepsOthers 12 c d tables → KeepsOthers 14 d f tables → KeepsBut rest_trees a f tables
+kept_but_rest a b c d f [] p q r s = tt
+kept_but_rest a b c d f (t ∷ ts) p q r s =
+    (λ none. s.0 none.1.1.1.0 ∙ r.0 none.1.1.0 ∙ q.0 none.1.0 ∙ p.0 none.0, kept_but_rest a b c d f ts p.1 q.1 r.1 s.1)
 
--- what is put behind heads and versions, one part after another
-module _ (more : More) (a b c d f h : State) (added : Additions) (periods : List PeriodRow) (jobs : List JobRow) where
+-- what is put behind heads, versions and details, one part after another
+module _ (more : More) (a b c d f : State) (added : Additions) (periods : List PeriodRow) (jobs : List JobRow) where
   abbrev rest_under : Schema
   rest_under = schema_with more
 
-  rest_put : Puts rest_under detail_part a b added.details.items → Puts rest_under event_part b c added.events.items
-      → Puts rest_under period_part c d periods → Puts rest_under holiday_part d f added.holidays.items → Puts rest_under job_part f h jobs
-      → PutsRest rest_under a h added periods jobs
-  rest_put p q r s u =
+  rest_put : Puts rest_under event_part a b added.events.items → Puts rest_under period_part b c periods
+      → Puts rest_under holiday_part c d added.holidays.items → Puts rest_under job_part d f jobs
+      → PutsRest rest_under a f added periods jobs
+  rest_put p q r s =
       let one = a.now.trees in
       let two = b.now.trees in
       let three = c.now.trees in
       let four = d.now.trees in
-      let five = f.now.trees in
-      let last = h.now.trees in
+      let last = f.now.trees in
       record {
-        schema = u.schema;
-        details = gains_kept 6 _ one two last p.rows
-            (u.others.1.1.1.0 (λ e. omega arith) ∙ s.others.1.1.1.0 (λ e. omega arith)
-            ∙ r.others.1.1.1.0 (λ e. omega arith) ∙ q.others.1.1.1.0 (λ e. omega arith));
-        events = gains_kept 8 _ one three last (kept_gains 8 _ one two three (p.others.1.1.1.1.0 (λ e. omega arith)) q.rows)
-            (u.others.1.1.1.1.0 (λ e. omega arith) ∙ s.others.1.1.1.1.0 (λ e. omega arith) ∙ r.others.1.1.1.1.0 (λ e. omega arith));
-        accumulated = gains_kept 10 _ one four last
-            (kept_gains 10 _ one three four (q.others.1.1.1.1.1.0 (λ e. omega arith) ∙ p.others.1.1.1.1.1.0 (λ e. omega arith)) r.rows)
-            (u.others.1.1.1.1.1.0 (λ e. omega arith) ∙ s.others.1.1.1.1.1.0 (λ e. omega arith));
-        holidays = gains_kept 12 _ one five last
-            (kept_gains 12 _ one four five
-            (r.others.1.1.1.1.1.1.0 (λ e. omega arith) ∙ q.others.1.1.1.1.1.1.0 (λ e. omega arith) ∙ p.others.1.1.1.1.1.1.0 (λ e. omega arith)) s.rows)
-            (u.others.1.1.1.1.1.1.0 (λ e. omega arith));
-        planned = kept_gains 14 _ one five last
-            (s.others.1.1.1.1.1.1.1.0 (λ e. omega arith) ∙ r.others.1.1.1.1.1.1.1.0 (λ e. omega arith)
-            ∙ q.others.1.1.1.1.1.1.1.0 (λ e. omega arith) ∙ p.others.1.1.1.1.1.1.1.0 (λ e. omega arith)) u.rows;
-        others = kept_but_rest one two three four five last rest_under.tables p.others q.others r.others s.others u.others;
-        sound = u.sound;
+        schema = s.schema;
+        events = gains_kept 8 _ one two last p.rows
+            (s.others.1.1.1.1.0 (λ e. omega arith) ∙ r.others.1.1.1.1.0 (λ e. omega arith) ∙ q.others.1.1.1.1.0 (λ e. omega arith));
+        accumulated = gains_kept 10 _ one three last (kept_gains 10 _ one two three (p.others.1.1.1.1.1.0 (λ e. omega arith)) q.rows)
+            (s.others.1.1.1.1.1.0 (λ e. omega arith) ∙ r.others.1.1.1.1.1.0 (λ e. omega arith));
+        holidays = gains_kept 12 _ one four last
+            (kept_gains 12 _ one three four
+            (q.others.1.1.1.1.1.1.0 (λ e. omega arith) ∙ p.others.1.1.1.1.1.1.0 (λ e. omega arith)) r.rows)
+            (s.others.1.1.1.1.1.1.0 (λ e. omega arith));
+        planned = kept_gains 14 _ one four last
+            (r.others.1.1.1.1.1.1.1.0 (λ e. omega arith) ∙ q.others.1.1.1.1.1.1.1.0 (λ e. omega arith)
+            ∙ p.others.1.1.1.1.1.1.1.0 (λ e. omega arith)) s.rows;
+        others = kept_but_rest one two three four last rest_under.tables p.others q.others r.others s.others;
+        sound = s.sound;
       }
 
   pub rest_there : doubt b.is_clean ≤ doubt c.is_clean → doubt c.is_clean ≤ doubt d.is_clean → doubt d.is_clean ≤ doubt f.is_clean
-      → doubt f.is_clean ≤ doubt h.is_clean → PutsThere rest_under detail_part a b added.details.items
-      → PutsThere rest_under event_part b c added.events.items → PutsThere rest_under period_part c d periods
-      → PutsThere rest_under holiday_part d f added.holidays.items → PutsThere rest_under job_part f h jobs
-      → PutsRestThere rest_under a h added periods jobs
-  rest_there bc cd df fh p q r s u = record {
-    was_open = λ clean o.
-        p.was_open (omega arith) (q.was_open (omega arith) (r.was_open (omega arith) (s.was_open (omega arith) (u.was_open clean o))));
-    is_open = λ clean o.
-        u.is_open clean (s.is_open (omega arith) (r.is_open (omega arith) (q.is_open (omega arith) (p.is_open (omega arith) o))));
-    inside = λ clean o.
-        u.inside clean (s.inside (omega arith) (r.inside (omega arith) (q.inside (omega arith) (p.inside (omega arith) o))));
+      → PutsThere rest_under event_part a b added.events.items → PutsThere rest_under period_part b c periods
+      → PutsThere rest_under holiday_part c d added.holidays.items → PutsThere rest_under job_part d f jobs
+      → PutsRestThere rest_under a f added periods jobs
+  rest_there bc cd df p q r s = record {
+    was_open = λ clean o. p.was_open (omega arith) (q.was_open (omega arith) (r.was_open (omega arith) (s.was_open clean o)));
+    is_open = λ clean o. s.is_open clean (r.is_open (omega arith) (q.is_open (omega arith) (p.is_open (omega arith) o)));
+    inside = λ clean o. s.inside clean (r.inside (omega arith) (q.inside (omega arith) (p.inside (omega arith) o)));
     puts = λ clean o has sound.
         let one = p.puts (omega arith) o has sound in
         let o2 = p.is_open (omega arith) o in
         let two = q.puts (omega arith) o2 one.schema one.sound in
         let o3 = q.is_open (omega arith) o2 in
         let three = r.puts (omega arith) o3 two.schema two.sound in
-        let o4 = r.is_open (omega arith) o3 in
-        let four = s.puts (omega arith) o4 three.schema three.sound in
-        let five = u.puts clean (s.is_open (omega arith) o4) four.schema four.sound in
-        rest_put one two three four five;
-    said_details = p.said;
-    said_events = q.said;
-    said_periods = r.said;
-    said_holidays = s.said;
-    said_jobs = u.said;
+        let four = s.puts clean (r.is_open (omega arith) o3) three.schema three.sound in
+        rest_put one two three four;
+    said_events = p.said;
+    said_periods = q.said;
+    said_holidays = r.said;
+    said_jobs = s.said;
   }
 
--- the rows of versions, where each has one
-pub steady_rows : IsSteady no_more HasRows
-steady_rows a b c d versions first same rows last kept = gains_kept 4 _ a c d (kept_gains 4 _ a b c first rows) last
-
-pub versions_there : (a b : State) (versions : List (Key × ReadingValue)) → PutsThere schema_1 version_part a b versions
-    → PutsVersionsThere rows_layout HasRows a b versions
-versions_there a b versions p = record {
-  was_open = p.was_open;
-  is_open = p.is_open;
-  inside = p.inside;
-  puts = λ clean o has sound.
-      let put = p.puts clean o has sound in
-      record {
-        schema = put.schema;
-        rows = put.rows;
-        names = says_more version_part version_bare versions p.said a.now.trees b.now.trees put.rows;
-        others = (
-          put.others.0 (λ e. omega arith),
-          (
-            put.others.1.0 (λ e. omega arith),
-            (
-              put.others.1.1.1.0 (λ e. omega arith),
-              (
-                put.others.1.1.1.1.0 (λ e. omega arith),
-                (
-                  put.others.1.1.1.1.1.0 (λ e. omega arith),
-                  (put.others.1.1.1.1.1.1.0 (λ e. omega arith), (put.others.1.1.1.1.1.1.1.0 (λ e. omega arith), tt)),
-                ),
-              ),
-            ),
-          ),
-        );
-        sound = put.sound;
-      };
-}
-
--- heads, versions and the rest, in any layout
-module _ (layout : Layout) (HasVersions : Gained) (steady : IsSteady layout.more HasVersions) (a b c h : State) (added : Additions)
+-- heads, versions and details, and the rest, in any layout
+module _ (layout : Layout) (HasOwn : Gained) (steady : IsSteady layout.more HasOwn) (a b c h : State) (added : Additions)
     (periods : List PeriodRow) (jobs : List JobRow) (of_periods : AreRowsOf IsRowOfPeriod added.periods.items periods)
     (of_jobs : AreRowsOf IsRowOfJob added.jobs.items jobs) where
   abbrev all_under : Schema
   all_under = schema_with layout.more
 
-  module _ (p : Puts all_under head_part a b added.heads.items) (q : PutsVersions layout HasVersions b c (versions_of added.days.items))
-      (r : PutsRest all_under c h added periods jobs) where
+  abbrev PutsTheOwn : Type 0
+  PutsTheOwn = PutsOwn layout HasOwn b c (versions_of added.days.items) (details_of added.details.items)
+
+  module _ (p : Puts all_under head_part a b added.heads.items) (q : PutsTheOwn) (r : PutsRest all_under c h added periods jobs) where
     heads_kept : Keeps a.now.trees b.now.trees layout.more.tables
     heads_kept = behind_keeps 2 (omega arith) a.now.trees b.now.trees layout.more.tables layout.behind p.others.1.1.1.1.1.1.1.1
 
@@ -574,7 +425,7 @@ module _ (layout : Layout) (HasVersions : Gained) (steady : IsSteady layout.more
         kept_gains 14 _ a.now.trees c.now.trees h.now.trees (q.others.1.1.1.1.1.1.0 ∙ p.others.1.1.1.1.1.1.1.0 (λ e. omega arith)) r.planned
 
     -- Each table has the rows of its part, and no other.
-    adds_all : AddsOf HasVersions a.now.trees h.now.trees added
+    adds_all : AddsOf HasOwn a.now.trees h.now.trees added
     adds_all =
         let one = a.now.trees in
         let two = b.now.trees in
@@ -583,28 +434,28 @@ module _ (layout : Layout) (HasVersions : Gained) (steady : IsSteady layout.more
         record {
           schema = r.others.0 (before_rest 0 (omega arith)) ∙ q.others.0 ∙ p.others.0 (λ e. omega arith);
           heads = gains_kept 2 _ one two last p.rows (r.others.1.0 (before_rest 2 (omega arith)) ∙ q.others.1.0);
-          versions = steady one two three last (versions_of added.days.items) heads_keep_versions heads_kept q.rows rest_keeps_versions rest_kept;
-          details = kept_gains 6 _ one three last (q.others.1.1.0 ∙ p.others.1.1.1.0 (λ e. omega arith)) r.details;
+          own = steady one two three last (versions_of added.days.items) (details_of added.details.items) heads_keep_versions heads_kept q.rows
+              rest_keeps_versions rest_kept;
+          undated = r.others.1.1.1.0 (before_rest 6 (omega arith)) ∙ q.others.1.1.0 ∙ p.others.1.1.1.0 (λ e. omega arith);
           events = kept_gains 8 _ one three last (q.others.1.1.1.0 ∙ p.others.1.1.1.1.0 (λ e. omega arith)) r.events;
           periods = (map period_part.cells periods, period_rows_are added.periods.items periods of_periods, gains_periods);
           holidays = kept_gains 12 _ one three last (q.others.1.1.1.1.1.0 ∙ p.others.1.1.1.1.1.1.0 (λ e. omega arith)) r.holidays;
           jobs = (map job_part.cells jobs, job_rows_are added.jobs.items jobs of_jobs, gains_jobs);
         }
 
-    -- the versions of the layout are more by those that are added
-    names_more : IsMore (layout.versions h.now.trees) (layout.versions a.now.trees) (map content.version_fact (versions_of added.days.items))
+    -- what the layout says by itself is more by the versions and details that are added
+    names_more : IsMore (layout.own h.now.trees) (layout.own a.now.trees) (own_facts added)
     names_more =
-        let facts = map content.version_fact (versions_of added.days.items) in
         ap of (layout.steady c.now.trees h.now.trees rest_keeps_versions rest_kept)
-        ∙ q.names ∙ ap (λ v. union (of v) (of facts)) (layout.steady a.now.trees b.now.trees heads_keep_versions heads_kept)
+        ∙ q.names ∙ ap (λ v. union (of v) (of (own_facts added))) (layout.steady a.now.trees b.now.trees heads_keep_versions heads_kept)
 
   pub all_there : doubt b.is_clean ≤ doubt c.is_clean → doubt c.is_clean ≤ doubt h.is_clean
-      → PutsThere all_under head_part a b added.heads.items → PutsVersionsThere layout HasVersions b c (versions_of added.days.items)
-      → PutsRestThere all_under c h added periods jobs → PutsAllOf layout HasVersions a h added
+      → PutsThere all_under head_part a b added.heads.items
+      → PutsOwnThere layout HasOwn b c (versions_of added.days.items) (details_of added.details.items)
+      → PutsRestThere all_under c h added periods jobs → PutsAllOf layout HasOwn a h added
   all_there bc ch p q r =
       let parts : HasCleanDisk h → IsTrue a.is_open → a.now.schema ≡ all_under → IsSound all_under a.now.trees
-      → Puts all_under head_part a b added.heads.items × PutsVersions layout HasVersions b c (versions_of added.days.items)
-      × PutsRest all_under c h added periods jobs =
+      → Puts all_under head_part a b added.heads.items × PutsTheOwn × PutsRest all_under c h added periods jobs =
       λ clean o has sound.
       let one = p.puts (omega arith) o has sound in
       let o2 = p.is_open (omega arith) o in
@@ -620,8 +471,8 @@ module _ (layout : Layout) (HasVersions : Gained) (steady : IsSteady layout.more
             let rows = adds_all all.0 all.1 all.2 in
             record {
               rows = rows;
-              world = world_after layout HasVersions a.now.trees h.now.trees added periods jobs of_periods of_jobs p.said
-                  (names_more all.0 all.1 all.2) r.said_details r.said_events r.said_periods r.said_holidays r.said_jobs rows
+              world = world_after layout HasOwn a.now.trees h.now.trees added periods jobs of_periods of_jobs p.said
+                  (names_more all.0 all.1 all.2) r.said_events r.said_periods r.said_holidays r.said_jobs rows
                   (gains_periods all.0 all.1 all.2) (gains_jobs all.0 all.1 all.2);
               sound = all.2.sound;
             };

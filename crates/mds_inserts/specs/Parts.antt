@@ -3,7 +3,6 @@ use Rattle.std.specs.Prelude.{◌≡◌, ℕ, List, ◌∷◌, ◌++◌, map, st
 use Rattle.std.specs.List.{AllByRecursion}
 use Rattle.sqlite.specs.declared.types.Value.{Value}
 use Rattle.sqlite_value.specs.Order.{Row}
-use Rattle.mds_marks.specs.Reading.{ReadingValue}
 use Rattle.mds_terms.specs.Event.{EventValue}
 use Rattle.mds_jobs.specs.Bodies.{job_in, parts_of}
 use Rattle.mds_world.specs.Facts.{Fact}
@@ -11,13 +10,11 @@ use Rattle.mds_statements.specs.Bodies.{content_of_body}
 use Rattle.mds_world.specs.Facts.Fact.{DetailIs, EventIs, HeadIs, HolidayIs, JobIs, PeriodIs}
 use Rattle.mds_world.specs.declared.facts.Detail.{Detail}
 use Rattle.mds_world.specs.declared.facts.Head.{Head}
-use Rattle.mds_world.specs.declared.facts.Key.{Key}
-use Rattle.mds_keeper.specs.Content as content
 use Rattle.mds_keeper.specs.declared.additions.Additions.{Additions}
 use Rattle.mds_inserts.specs.declared.jobs.JobRow.{JobRow}
 use Rattle.mds_inserts.specs.declared.periods.PeriodRow.{PeriodRow}
-use Rattle.mds_tables.specs.Cells.{detail_cells, event_cells, head_cells, holiday_cells, job_cells, period_cells, version_cells}
-use Rattle.mds_tables.specs.RowFacts.{detail_fact, event_fact, head_fact, holiday_fact, job_fact, natural, period_fact, version_fact}
+use Rattle.mds_tables.specs.Cells.{detail_cells, event_cells, head_cells, holiday_cells, job_cells, period_cells}
+use Rattle.mds_tables.specs.RowFacts.{detail_fact, event_fact, head_fact, holiday_fact, job_fact, natural, period_fact}
 
 -- How things of one kind are kept. A table has a place in the schema and a tree. Each thing has a row, without a rowid, and a
 -- fact. A row of the table says a fact.
@@ -31,17 +28,9 @@ pub record Part (A : Type 0) : Type 0 where
 abbrev pub head_part : Part Head
 head_part = record { place = 1; tree = 2; cells = head_cells; fact = HeadIs; read = head_fact }
 
-abbrev pub version_part : Part (Key × ReadingValue)
-version_part = record {
-  place = 2;
-  tree = 4;
-  cells = λ version. version_cells version.0 version.1;
-  fact = content.version_fact;
-  read = version_fact;
-}
-
+-- its table stands in schema 3 alone
 abbrev pub detail_part : Part Detail
-detail_part = record { place = 3; tree = 6; cells = detail_cells; fact = DetailIs; read = detail_fact }
+detail_part = record { place = 9; tree = 18; cells = detail_cells; fact = DetailIs; read = detail_fact }
 
 abbrev pub event_part : Part EventValue
 event_part = record { place = 4; tree = 8; cells = event_cells; fact = EventIs; read = event_fact }
@@ -75,16 +64,8 @@ Says part = AllByRecursion (λ item. (id : Value) → part.read (id ∷ part.cel
 abbrev pub rows_of : {A : Type 0} → Part A → List A → List (ℕ × Row)
 rows_of part items = map (λ item. (part.place, part.cells item)) items
 
--- The rows behind those of heads and versions, in the order in which they are put. Those of accumulations and of jobs are given.
+-- The rows behind those of heads, versions and details, in the order in which they are put. Those of accumulations and of jobs are given.
 abbrev pub rest_in : Additions → List PeriodRow → List JobRow → List (ℕ × Row)
 rest_in additions periods jobs =
-    rows_of detail_part additions.details.items
-    ++ (rows_of event_part additions.events.items
-    ++ (rows_of period_part periods
-    ++ (rows_of holiday_part additions.holidays.items ++ rows_of job_part jobs)))
-
--- all rows of additions, where each version has a row
-abbrev pub rows_in : Additions → List PeriodRow → List JobRow → List (ℕ × Row)
-rows_in additions periods jobs =
-    rows_of head_part additions.heads.items
-    ++ (rows_of version_part (content.versions_of additions.days.items) ++ rest_in additions periods jobs)
+    rows_of event_part additions.events.items
+    ++ (rows_of period_part periods ++ (rows_of holiday_part additions.holidays.items ++ rows_of job_part jobs))

@@ -1,5 +1,5 @@
 -- Why rows aren't put, in the library's words.
-use Rattle.std.specs.Prelude.{◌≡◌, ◌⊎◌, ℕ, ◌+◌, Bool, true, false, List, [], ◌∷◌, length, map, None, Option, Some, Ok, Err}
+use Rattle.std.specs.Prelude.{◌≡◌, ◌⊎◌, ℕ, ◌+◌, false, List, [], ◌∷◌, length, map, None, Option, Some, Ok, Err}
 use Rattle.std.specs.List.{range_with_len}
 use Rattle.sqlite.specs.Command.{Command}
 use Rattle.sqlite.specs.Command.TheVariants.{Insert}
@@ -10,8 +10,6 @@ use Rattle.sqlite.specs.Source.TheVariants.{Values}
 use Rattle.sqlite.specs.State.{State}
 use Rattle.sqlite.specs.Term.{col, lit}
 use Rattle.sqlite.specs.declared.error.Error.{Error}
-use Rattle.sqlite.specs.declared.error.Error.TheVariants.{SqliteFailure}
-use Rattle.sqlite.specs.declared.error.ErrorCode.TheVariants as code
 use Rattle.sqlite.specs.declared.types.Value.TheVariants.{Null}
 use Rattle.sqlite_schema.specs.declared.schema.Keys.TheVariants.{Enforced}
 use Rattle.sqlite_value.specs.Order.{Row}
@@ -44,13 +42,3 @@ RefusesOne limit (row ∷ rows) db stop =
 abbrev pub FailsToPut : State → State → List (ℕ × Row) → Database → Error → Type 0
 FailsToPut old new rows db e =
     StoreFails old new (RefusesOne old.step_limit rows db None) e ⊎ RefusesOne old.step_limit rows db (Some e)
-
--- an error by which a store tells that it failed
-abbrev pub is_store_error : Error → Bool
-is_store_error (SqliteFailure code.OutOfMemory) = true
-is_store_error (SqliteFailure code.SystemIoFailure) = true
-is_store_error (SqliteFailure code.DatabaseCorrupt) = true
-is_store_error (SqliteFailure code.DiskFull) = true
-is_store_error (SqliteFailure code.Closed) = true
-is_store_error (SqliteFailure code.TooBig) = true
-is_store_error _ = false

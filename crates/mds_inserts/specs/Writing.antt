@@ -1,5 +1,5 @@
 -- What the parts of a transaction, and all of it, do to the tables.
-use Rattle.std.specs.Prelude.{◌≡◌, ◌≢◌, ℕ, List, [], ◌∷◌, map, IfErr, IsTrue, OnOk, Result}
+use Rattle.std.specs.Prelude.{◌≡◌, ◌≢◌, ℕ, List, [], ◌∷◌, ◌++◌, map, IfErr, IsTrue, OnOk, Result}
 use Rattle.std.specs.FinSet as set
 use Rattle.std.specs.List.{AllByRecursion}
 use Rattle.sqlite.specs.Schema.{Schema}
@@ -12,16 +12,18 @@ use Rattle.sqlite_value.specs.Order.{Row}
 use Rattle.mds_marks.specs.Reading.{ReadingValue}
 use Rattle.mds_world.specs.FactOrder.{fact_cmp}
 use Rattle.mds_world.specs.Facts.{Fact}
+use Rattle.mds_world.specs.Facts.Fact.{DetailIs}
 use Rattle.mds_world.specs.World.{union}
+use Rattle.mds_world.specs.declared.facts.Detail.{Detail}
 use Rattle.mds_world.specs.declared.facts.Key.{Key}
 use Rattle.mds_keeper.specs.Content as content
 use Rattle.mds_keeper.specs.declared.additions.Additions.{Additions}
-use Rattle.mds_tables.specs.Layouts.{Layout, rows_layout, world_with}
-use Rattle.mds_tables.specs.Stores.{AddsOf, Gained, Gains, HasRows}
+use Rattle.mds_tables.specs.Layouts.{Layout, world_with}
+use Rattle.mds_tables.specs.Stores.{AddsOf, Gained, Gains}
 use Rattle.mds_tables.specs.Tables.{More, detail_table, event_table, head_table, holiday_table, job_table, period_table, schema_table, schema_with, version_tree}
 use Rattle.mds_inserts.specs.declared.jobs.JobRow.{JobRow}
 use Rattle.mds_inserts.specs.declared.periods.PeriodRow.{PeriodRow}
-use Rattle.mds_inserts.specs.Parts.{Part, Says, detail_part, event_part, holiday_part, job_part, period_part, rows_of}
+use Rattle.mds_inserts.specs.Parts.{Part, Says, event_part, holiday_part, job_part, period_part, rows_of}
 use Rattle.mds_inserts.specs.Refusals.{FailsToPut, TakesAll}
 
 -- every table but that of a tree is as it was
@@ -55,15 +57,14 @@ module _ (under : Schema) {A : Type 0} (part : Part A) (old new : State) (items 
     pub puts : HasCleanDisk new → IsTrue old.is_open → old.now.schema ≡ under → IsSound under old.now.trees → Puts
     pub said : Says part items
 
--- the trees of what is put behind heads and versions
+-- the trees of what is put behind heads, versions and details
 abbrev pub rest_trees : List ℕ
-rest_trees = detail_part.tree ∷ event_part.tree ∷ period_part.tree ∷ holiday_part.tree ∷ job_part.tree ∷ []
+rest_trees = event_part.tree ∷ period_part.tree ∷ holiday_part.tree ∷ job_part.tree ∷ []
 
 module _ (under : Schema) (old new : State) (additions : Additions) (periods : List PeriodRow) (jobs : List JobRow) where
-  -- the same of all that is put behind heads and versions, where the rows of accumulations and of jobs are given
+  -- the same of all that is put behind heads, versions and details, where the rows of accumulations and of jobs are given
   pub record PutsRest : Type 0 where
     pub schema : new.now.schema ≡ under
-    pub details : Gains detail_part.tree (map detail_part.cells additions.details.items) old.now.trees new.now.trees
     pub events : Gains event_part.tree (map event_part.cells additions.events.items) old.now.trees new.now.trees
     pub accumulated : Gains period_part.tree (map period_part.cells periods) old.now.trees new.now.trees
     pub holidays : Gains holiday_part.tree (map holiday_part.cells additions.holidays.items) old.now.trees new.now.trees
@@ -76,7 +77,6 @@ module _ (under : Schema) (old new : State) (additions : Additions) (periods : L
     pub is_open : HasCleanDisk new → IsTrue old.is_open → IsTrue new.is_open
     pub inside : HasCleanDisk new → IsTrue old.in_transaction → IsTrue new.in_transaction
     pub puts : HasCleanDisk new → IsTrue old.is_open → old.now.schema ≡ under → IsSound under old.now.trees → PutsRest
-    pub said_details : Says detail_part additions.details.items
     pub said_events : Says event_part additions.events.items
     pub said_periods : Says period_part periods
     pub said_holidays : Says holiday_part additions.holidays.items
@@ -90,27 +90,29 @@ IsMore more some facts = set.from_list {R = fact_cmp} more ≡ union (set.from_l
 abbrev pub unversioned : List Table
 unversioned = schema_table ∷ head_table ∷ detail_table ∷ event_table ∷ period_table ∷ holiday_table ∷ job_table ∷ []
 
-module _ (layout : Layout) (HasVersions : Gained) (old new : State) (versions : List (Key × ReadingValue)) where
-  -- the same of versions, in any layout: they are in its tables, and these say them beside those that they said
-  pub record PutsVersions : Type 0 where
+module _ (layout : Layout) (HasOwn : Gained) (old new : State) (versions : List (Key × ReadingValue)) (details : List Detail) where
+  -- the same of versions and details, in any layout: they are in its tables, and these say them beside those that they said
+  pub record PutsOwn : Type 0 where
     pub schema : new.now.schema ≡ schema_with layout.more
-    pub rows : HasVersions old.now.trees new.now.trees versions
-    pub names : IsMore (layout.versions new.now.trees) (layout.versions old.now.trees) (map content.version_fact versions)
+    pub rows : HasOwn old.now.trees new.now.trees versions details
+    pub names : IsMore (layout.own new.now.trees) (layout.own old.now.trees) (map content.version_fact versions ++ map DetailIs details)
     pub others : Keeps old.now.trees new.now.trees unversioned
     pub sound : IsSound (schema_with layout.more) new.now.trees
 
-  pub record PutsVersionsThere : Type 0 where
+  pub record PutsOwnThere : Type 0 where
     pub was_open : HasCleanDisk new → IsTrue new.is_open → IsTrue old.is_open
     pub is_open : HasCleanDisk new → IsTrue old.is_open → IsTrue new.is_open
     pub inside : HasCleanDisk new → IsTrue old.in_transaction → IsTrue new.in_transaction
     pub puts : HasCleanDisk new → IsTrue old.is_open → old.now.schema ≡ schema_with layout.more
-        → IsSound (schema_with layout.more) old.now.trees → PutsVersions
+        → IsSound (schema_with layout.more) old.now.trees → PutsOwn
 
--- What is told of the rows of versions reads mds_version and the tables behind those that every schema has, and no others.
+-- What is told of the rows of versions and details reads mds_version and the tables behind those that every schema has, and no
+-- others.
 abbrev pub IsSteady : More → Gained → Type 0
-IsSteady more HasVersions =
-    (a b c d : Trees) (versions : List (Key × ReadingValue)) → b version_tree ≡ a version_tree → Keeps a b more.tables
-    → HasVersions b c versions → d version_tree ≡ c version_tree → Keeps c d more.tables → HasVersions a d versions
+IsSteady more HasOwn =
+    (a b c d : Trees) (versions : List (Key × ReadingValue)) (details : List Detail) → b version_tree ≡ a version_tree
+    → Keeps a b more.tables → HasOwn b c versions details → d version_tree ≡ c version_tree → Keeps c d more.tables
+    → HasOwn a d versions details
 
 -- the connection is open, and the tables are as the schema says
 pub record IsFit (under : Schema) (state : State) : Type 0 where
@@ -135,18 +137,10 @@ abbrev pub PutsEach : {A X : Type 0} → Schema → Part A → State → State �
 PutsEach under part old new result items =
     Changes under (IsFit under old) (PutsThere under part old new items) (rows_of part items) old new result
 
--- nothing is put, and the transaction goes on
-pub record StaysAs (old new : State) : Type 0 where
-  pub was_open : IsTrue new.is_open → IsTrue old.is_open
-  pub is_open : IsTrue old.is_open → IsTrue new.is_open
-  pub inside : new.in_transaction ≡ old.in_transaction
-  pub now_is : IsTrue old.is_open → new.now ≡ old.now
-  pub committed_is : IsTrue old.is_open → new.committed ≡ old.committed
-
-module _ (layout : Layout) (HasVersions : Gained) where
+module _ (layout : Layout) (HasOwn : Gained) where
   -- All of the additions are in the tables, beside what was there.
   pub record HasAddedOf (additions : Additions) (old new : Trees) : Type 0 where
-    pub rows : AddsOf HasVersions old new additions
+    pub rows : AddsOf HasOwn old new additions
     pub world : world_with layout new ≡ union (world_with layout old) (content.content additions)
     pub sound : IsSound (schema_with layout.more) new
 
@@ -173,14 +167,3 @@ module _ (layout : Layout) (HasVersions : Gained) where
   LeavesWrittenOf old additions left =
       IsTrue old.is_open → old.now.schema ≡ schema_with layout.more → IsSound (schema_with layout.more) old.now.trees
       → HasAddedOf additions old.now.trees left
-
--- ---- the same of the layout of schema 1
-
-abbrev pub PutsAll : State → State → Additions → Type 0
-PutsAll = PutsAllOf rows_layout HasRows
-
-abbrev pub Writes : State → State → Additions → Type 0
-Writes = WritesOf rows_layout HasRows
-
-abbrev pub LeavesWritten : State → Additions → Trees → Type 0
-LeavesWritten = LeavesWrittenOf rows_layout HasRows

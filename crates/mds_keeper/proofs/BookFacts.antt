@@ -234,6 +234,7 @@ lawful_book book each fits = record {
         let m = head_of_book book head h in
         let r = row_for book.head book.rows fits _ m.2 in
         (_, r.0.1.reading, row_in_book book r.0 r.1, sym m.0, sym m.1);
+    detailed = λ detail h. absurd (on_day book _ h);
   };
 }
 
@@ -251,6 +252,7 @@ lawful_day w book lawful day = record {
         let m = head_of_book book head h in
         let v = lawful.closed.versioned head (day.only _ h) in
         (v.0, v.1, day.whole (VersionIs v.0 v.1) (v.3 ∙ m.0, v.4 ∙ m.1) v.2, v.3, v.4);
+    detailed = λ detail h. absurd (on_day book _ h);
   };
 }
 

@@ -12,3 +12,4 @@ pub mod RowsMoved
 pub mod Settled
 pub mod Taken
 pub mod Walks
+pub mod WholeDays

@@ -20,7 +20,7 @@ use Rattle.mds_world.specs.Sets.{◌∈◌}
 use Rattle.mds_world.specs.Stated.{day_facts}
 use Rattle.mds_world.specs.World.{Agrees, IsLawful, World, union}
 use Rattle.mds_keeper.specs.Books.{BookValue, book_world}
-use Rattle.mds_keeper.specs.Content.{content, content_facts, job_fact, period_fact, version_fact, versions_of}
+use Rattle.mds_keeper.specs.Content.{content, content_facts, details_of, job_fact, period_fact, version_fact, versions_of}
 use Rattle.mds_keeper.specs.DayMerges.{AreAscending, DayMergeValue, IfRefused, IsPlan, Settles}
 use Rattle.mds_keeper.specs.Merge.{Breaks, IsRefusal, claim_facts, claim_world, claims_upto, claims_world}
 use Rattle.mds_keeper.specs.declared.additions.Additions.{Additions}
@@ -212,7 +212,7 @@ added_facts : (d : DayMergeValue) (old new : Additions) (counts : MergeCounts) (
 added_facts d old new counts s e =
     let H = map HeadIs old.heads.items in
     let V = map version_fact (versions_of old.days.items) in
-    let D = map DetailIs old.details.items in
+    let D = map DetailIs (details_of old.details.items) in
     let E = map EventIs old.events.items in
     let P = map period_fact old.periods.items in
     let L = map HolidayIs old.holidays.items in
@@ -224,14 +224,14 @@ added_facts d old new counts s e =
     let e2 : H ++ V ≡ [] = nil_left (H ++ V) D e3 in
     let hs : old.heads.items ≡ [] = nil_map HeadIs old.heads.items (nil_left H V e2) in
     let vs : versions_of old.days.items ≡ [] = nil_map version_fact (versions_of old.days.items) (nil_right H V e2) in
-    let ds : old.details.items ≡ [] = nil_map DetailIs old.details.items (nil_right (H ++ V) D e3) in
+    let ds : details_of old.details.items ≡ [] = nil_map DetailIs (details_of old.details.items) (nil_right (H ++ V) D e3) in
     let es : old.events.items ≡ [] = nil_map EventIs old.events.items (nil_right ((H ++ V) ++ D) E e4) in
     let ps : old.periods.items ≡ [] = nil_map period_fact old.periods.items (nil_right (((H ++ V) ++ D) ++ E) P e5) in
     let ls : old.holidays.items ≡ [] = nil_map HolidayIs old.holidays.items (nil_right ((((H ++ V) ++ D) ++ E) ++ P) L e6) in
     let js : old.jobs.items ≡ [] = nil_map job_fact old.jobs.items (nil_right (((((H ++ V) ++ D) ++ E) ++ P) ++ L) J e) in
     let h : new.heads.items ≡ s.heads = s.more_heads ∙ ap (λ l. l ++ s.heads) hs in
     let v : versions_of new.days.items ≡ s.versions = s.more_versions ∙ ap (λ l. l ++ s.versions) vs in
-    let x : new.details.items ≡ [] = ap (λ k. k.items) s.same_details ∙ ds in
+    let x : details_of new.details.items ≡ [] = ap (λ k. details_of k.items) s.same_details ∙ ds in
     let y : new.events.items ≡ [] = ap (λ k. k.items) s.same_events ∙ es in
     let p : new.periods.items ≡ [] = ap (λ k. k.items) s.same_periods ∙ ps in
     let z : new.holidays.items ≡ [] = ap (λ k. k.items) s.same_holidays ∙ ls in

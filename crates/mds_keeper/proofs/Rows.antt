@@ -7,6 +7,7 @@ use Rattle.std.proofs.lemmas.Bool.{cases_lt}
 use Rattle.std.specs.Prelude.{MatchBool, not}
 use Rattle.mds_names.specs.declared.stream.Stream.{Stream}
 use Rattle.mds_marks.specs.Reading.{ReadingValue}
+use Rattle.mds_world.specs.Current.{HasNoVersion}
 use Rattle.mds_world.specs.Facts.{key_at}
 use Rattle.mds_world.specs.Facts.Fact.{VersionIs}
 use Rattle.mds_world.specs.Lists.{Member}
@@ -54,6 +55,13 @@ pub no_row : (w : World) (stream : Stream) (day interval : ℕ) (rows : List (�
 no_row w stream day interval rows v n le update none reading h =
     let m = member_get rows _ ((v.each update reading).1 h) in
     none m.0 (interval, record { update = update; reading = reading }) (omega arith) m.2 refl
+
+-- where there is a row, the interval has a version
+pub has_version : (w : World) (stream : Stream) (day interval : ℕ) (rows : List (ℕ × Version)) → AreVersionsOf w stream day interval rows
+    → 0 < length rows → HasNoVersion w stream day interval → ⊥
+has_version w stream day interval [] v some none = absurd (omega arith)
+has_version w stream day interval (row ∷ rows) v some none =
+    none row.1.update row.1.reading (row_found w stream day interval (row ∷ rows) v 0 row some refl row.1.update refl)
 
 -- one row more
 pub none_more : (rows : List (ℕ × Version)) (n : ℕ) (update : ℕ) (row : ℕ × Version) → n < length rows → row ≡ get_or rows n row → row.1.update ≢ update

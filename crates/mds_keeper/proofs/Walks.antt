@@ -1,6 +1,6 @@
 -- A walk down the rows of a book, side by side with the readings of a claim.
 use Rattle.std.proofs.Common.{◌≡◌, ◌≢◌, ℕ, suc, ◌+◌, ◌<◌, ◌≤◌, List, [], ◌∷◌, ◌++◌, ◌-◌, length, take, take_all, drop, get_or, Option, Some, refl, sym, ap, ◌∙◌, subst, inl, inr, arith, drop-cons, length-append}
-use Rattle.std.specs.Prelude.{Bool, true, false, cond}
+use Rattle.std.specs.Prelude.{Bool, true, false, cond, Ok, Err}
 use Rattle.std.specs.List.{AllPairs, slice_get}
 use Rattle.std.proofs.lemmas.Bool.{cases_lt}
 use Rattle.std.proofs.lemmas.List.{drop_all}
@@ -13,8 +13,8 @@ use Rattle.mds_world.specs.World.{Agrees}
 use Rattle.mds_keeper.specs.Books.{BookValue, book_world}
 use Rattle.mds_keeper.specs.BookRows.{IsBefore}
 use Rattle.mds_keeper.specs.ClaimedUpdates.{ComesBeside}
-use Rattle.mds_keeper.specs.Claims.{Contradicts, IsFirst, Suits, fresh_all, fresh_versions, held_all, held_count, is_held, key_of}
-use Rattle.mds_keeper.specs.DayMergeSteps.{AreCounts, IsFrom, claimed_entries, claimed_readings, row_of}
+use Rattle.mds_keeper.specs.Claims.{Suits, fresh_all, fresh_versions, held_all, held_count, is_held, key_of}
+use Rattle.mds_keeper.specs.DayMergeSteps.{AreCounts, AreHeld, IsFrom, claimed_entries, claimed_readings, row_of}
 use Rattle.mds_keeper.specs.declared.day_book.Version.{Version}
 use Rattle.mds_keeper.proofs.BookFacts.{row_in_book, row_of_book}
 use Rattle.mds_keeper.proofs.BookPlaces.{place_of}
@@ -244,38 +244,50 @@ module _ (b : BookValue) (update : ℕ) (readings : List ReadingValue) (old left
 
     pub walk_stop : ((r : ReadingValue) → slice_get readings i ≡ Some r
         → (other : ReadingValue) × (VersionIs (key_of b (i + 1) update) other ∈ book_world b) × (other ≢ r))
-        → IsFirst (Contradicts (book_world b) b update readings) (Suits (book_world b) b update readings) (i + 1)
-    walk_stop none = let q = none here.0 here.1 in (i, refl, (here.0, q.0, here.1, q.1, q.2), w.suits)
+        → (interval : ℕ) → interval ≡ i + 1 → AreHeld b update readings (Err interval)
+    walk_stop none interval at = let q = none here.0 here.1 in record {
+      held = tt;
+      few = tt;
+      suits = tt;
+      conflict = (i, at, (here.0, q.0, here.1, q.1, q.2), w.suits);
+    }
 
 pub walk_end : (b : BookValue) (update : ℕ) (readings : List ReadingValue) (left : List (ℕ × Version)) (held i : ℕ)
-    → IsWalked b update readings left held i → length readings ≤ i → held ≡ held_count b update 1 readings
-walk_end b update readings left held i w h =
-    let c : held + held_count b update (i + 1) [] ≡ held_count b update 1 readings =
-    ap (λ l. held + held_count b update (i + 1) l) (sym (drop_all i readings h)) ∙ w.counted in
-    omega arith
+    → IsWalked b update readings left held i → i ≡ length readings → AreHeld b update readings (Ok held)
+walk_end b update readings left held i w h = record {
+  held =
+      let c : held + held_count b update (i + 1) [] ≡ held_count b update 1 readings =
+      ap (λ l. held + held_count b update (i + 1) l) (sym (drop_all i readings (omega arith))) ∙ w.counted in
+      omega arith;
+  few = let f = w.few in omega arith;
+  suits = λ k mine other e g. w.suits k (omega (arith, slice_get_within readings k mine e)) mine other e g;
+  conflict = tt;
+}
 
-pub walk_suits : (b : BookValue) (update : ℕ) (readings : List ReadingValue) (left : List (ℕ × Version)) (held i : ℕ)
-    → IsWalked b update readings left held i → length readings ≤ i → (k : ℕ) → Suits (book_world b) b update readings k
-walk_suits b update readings left held i w h k mine other e g =
-    w.suits k (omega (arith, slice_get_within readings k mine e)) mine other e g
+-- ---- a book that has no reading under an update
 
--- ---- a book without rows has no reading
+pub no_rows : (b : BookValue) (update : ℕ) → b.rows ≡ [] → (interval : ℕ) (r : ReadingValue)
+    → VersionIs (key_of b interval update) r ∈ book_world b → ⊥
+no_rows b update none interval r i = subst (Member (row_of interval update r)) none (row_of_book b interval update r i)
 
-module _ (b : BookValue) (update : ℕ) (none : b.rows ≡ []) where
-  not_there : (interval : ℕ) (r : ReadingValue) → VersionIs (key_of b interval update) r ∈ book_world b → ⊥
-  not_there interval r i = subst (Member (row_of interval update r)) none (row_of_book b interval update r i)
-
-  pub none_held : (interval : ℕ) (rs : List ReadingValue) → held_count b update interval rs ≡ 0
+module _ (b : BookValue) (update : ℕ)
+    (none : (interval : ℕ) (r : ReadingValue) → VersionIs (key_of b interval update) r ∈ book_world b → ⊥) where
+  none_held : (interval : ℕ) (rs : List ReadingValue) → held_count b update interval rs ≡ 0
   none_held interval [] = refl
   none_held interval (r ∷ rs) =
-      none_more (is_held b update interval r) (is_false (is_held b update interval r) (not_there interval r)) _ (none_held (interval + 1) rs)
+      none_more (is_held b update interval r) (is_false (is_held b update interval r) (none interval r)) _ (none_held (interval + 1) rs)
     where
       none_more : (t : Bool) → t ≡ false → (n : ℕ) → n ≡ 0 → cond t 1 0 + n ≡ 0
       none_more true e n z = cc
       none_more false e n z = omega arith
 
-  pub none_suits : (rs : List ReadingValue) (k : ℕ) → Suits (book_world b) b update rs k
-  none_suits rs k mine other e i = absurd (not_there (k + 1) other i)
+  pub held_none : (rs : List ReadingValue) → AreHeld b update rs (Ok 0)
+  held_none rs = record {
+    held = sym (none_held 1 rs);
+    few = omega arith;
+    suits = λ k mine other e i. absurd (none (k + 1) other i);
+    conflict = tt;
+  }
 
 -- ---- the counts of all that was claimed
 

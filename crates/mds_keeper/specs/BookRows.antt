@@ -1,5 +1,5 @@
 -- What the rows of a day's book are.
-use Rattle.std.specs.Prelude.{◌≡◌, ◌↔◌, ◌⊎◌, ℕ, ◌<◌, ◌≤◌, List, [], Option, Some, None}
+use Rattle.std.specs.Prelude.{◌≡◌, ◌↔◌, ◌⊎◌, ℕ, ◌<◌, ◌≤◌, List, [], Option, Some, None, IfNone, IfSome}
 use Rattle.std.specs.List.{All, AllPairs}
 use Rattle.mds_calendar.specs.Length.{count_of}
 use Rattle.mds_quantity.specs.declared.unit.Unit.{Unit as MeasureUnit}
@@ -10,7 +10,7 @@ use Rattle.mds_world.specs.Facts.Fact.{VersionIs}
 use Rattle.mds_world.specs.Lists.{Member}
 use Rattle.mds_world.specs.Sets.{◌∈◌}
 use Rattle.mds_world.specs.World.{IsLawful, World}
-use Rattle.mds_keeper.specs.Books.{BookValue, book_world}
+use Rattle.mds_keeper.specs.Books.{BookValue, IsDay, book_world}
 use Rattle.mds_keeper.specs.declared.day_book.Version.{Version}
 
 -- the one row stands before the other: by interval, then by update
@@ -46,3 +46,9 @@ Misfits (Some form) rows =
 -- no two rows are of one interval and update
 abbrev pub OneEach : List (ℕ × Version) → Type 0
 OneEach rows = (a b : ℕ × Version) → Member a rows → Member b rows → a.0 ≡ b.0 → a.1.update ≡ b.1.update → a ≡ b
+
+-- It is a book that says the same, or there is none, and no lawful World has such a day.
+pub record IsMade (said : BookValue) (made : Option BookValue) : Type 0 where
+  pub some : IfSome made (λ book. (book.stream ≡ said.stream) × (book.day ≡ said.day) × (book.head ≡ said.head)
+      × (book_world book ≡ book_world said))
+  pub none : IfNone made ((w : World) → IsLawful w → IsDay w said → ⊥)

@@ -6,8 +6,9 @@ use Rattle.mds_marks.specs.Reading.{ReadingValue}
 use Rattle.mds_names.specs.declared.stream.Stream.{Stream}
 use Rattle.mds_jobs.specs.Jobs.{content_of}
 use Rattle.mds_jobs.specs.declared.job.Job.{Job}
+use Rattle.mds_world.specs.declared.facts.Detail.{Detail}
 use Rattle.mds_world.specs.declared.facts.Key.{Key}
-use Rattle.mds_world.specs.Facts.{Fact, key_at}
+use Rattle.mds_world.specs.Facts.{Fact, detail_at, key_at}
 use Rattle.mds_statements.specs.declared.periods.Period.{Period}
 use Rattle.mds_world.specs.Facts.Fact.{HeadIs, VersionIs, DetailIs, EventIs, PeriodIs, HolidayIs, JobIs}
 use Rattle.mds_world.specs.Lists.{Apart, Member}
@@ -15,6 +16,7 @@ use Rattle.mds_world.specs.Sets.{◌∈◌}
 use Rattle.mds_world.specs.World.{World}
 use Rattle.mds_keeper.specs.declared.additions.Additions.{Additions}
 use Rattle.mds_keeper.specs.declared.additions.DayVersions.{DayVersions}
+use Rattle.mds_keeper.specs.declared.additions.DetailDays.{DetailDays}
 use Rattle.mds_keeper.specs.declared.additions.VersionRows.{VersionRows}
 use Rattle.mds_keeper.specs.declared.additions.VersionRows.TheVariants.{Each, Whole}
 use Rattle.mds_keeper.specs.declared.day_book.Version.{Version}
@@ -51,11 +53,23 @@ period_fact period = PeriodIs period.key period.content
 abbrev pub job_fact : Job × ℕ → Fact
 job_fact job = JobIs job.0.id (content_of job.0) job.1
 
+-- the details of one of these days
+abbrev pub detail_on : DetailDays → ℕ → Detail
+detail_on details day = detail_at details.stream day details.moment details.details
+
+-- those of each of these days
+abbrev pub details_on : DetailDays → List Detail
+details_on details = map (detail_on details) details.days.items
+
+-- the details of days, one after the other
+abbrev pub details_of : List DetailDays → List Detail
+details_of groups = flat_map details_on groups
+
 -- the facts of each list, one list after the other
 abbrev pub content_facts : Additions → List Fact
 content_facts additions =
     map HeadIs additions.heads.items ++ map version_fact (versions_of additions.days.items)
-    ++ map DetailIs additions.details.items ++ map EventIs additions.events.items
+    ++ map DetailIs (details_of additions.details.items) ++ map EventIs additions.events.items
     ++ map period_fact additions.periods.items ++ map HolidayIs additions.holidays.items ++ map job_fact additions.jobs.items
 
 abbrev pub content : Additions → World

@@ -1,5 +1,5 @@
 -- What a merge holds, as a value.
-use Rattle.std.specs.Prelude.{◌≡◌, ◌⊎◌, ◌+◌, ◌≤◌, ℕ, cond, nat_eq, List, [], ◌∷◌, map, Option, Some, None, length, refl}
+use Rattle.std.specs.Prelude.{◌≡◌, ◌⊎◌, ◌+◌, ◌≤◌, ℕ, cond, nat_eq, List, [], ◌∷◌, map, Option, Some, None, Result, IfErr, IfOk, OnOk, length, refl}
 use Rattle.std.specs.Coded.{Coded, code_by, coded×, coded_ℕ, coded_list, coded_option}
 use Rattle.std.specs.FinSet as set
 use Rattle.std.specs.FinSet.{code}
@@ -16,7 +16,7 @@ use Rattle.mds_world.specs.Stated.{day_facts}
 use Rattle.mds_world.specs.World.{Agrees, World, union}
 use Rattle.mds_keeper.specs.Books.{BookValue, book_world}
 use Rattle.mds_keeper.specs.BookRows.{IsBefore}
-use Rattle.mds_keeper.specs.Claims.{fresh_all, held_all, key_of}
+use Rattle.mds_keeper.specs.Claims.{Contradicts, IsFirst, Suits, fresh_all, held_all, held_count, key_of}
 use Rattle.mds_keeper.specs.DayMerges.{DayMergeValue}
 use Rattle.mds_keeper.specs.declared.day_book.Version.{Version}
 
@@ -79,6 +79,14 @@ pub record IsDayMerge (book : BookValue) (form : Option (ℕ × MeasureUnit)) (c
 pub record AreCounts (book : BookValue) (claimed : List (ℕ × List ReadingValue)) (held fresh : ℕ) : Type 0 where
   pub held_are : held ≡ held_all book claimed
   pub fresh_are : fresh ≡ length (fresh_all book claimed)
+
+-- how many of an update's readings the book has, or the first interval of which it has another
+pub record AreHeld (book : BookValue) (update : ℕ) (readings : List ReadingValue) (result : Result ℕ ℕ) : Type 0 where
+  pub held : IfOk result (λ held. held ≡ held_count book update 1 readings)
+  pub few : IfOk result (λ held. held ≤ length readings)
+  pub suits : OnOk result ((k : ℕ) → Suits (book_world book) book update readings k)
+  pub conflict : IfErr result (IsFirst (Contradicts (book_world book) book update readings)
+      (Suits (book_world book) book update readings))
 
 -- the row of a reading
 abbrev pub row_of : ℕ → ℕ → ReadingValue → ℕ × Version

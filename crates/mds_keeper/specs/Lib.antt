@@ -9,6 +9,7 @@ pub mod DayMergeSteps
 pub mod DayMerges
 pub mod Kept
 pub mod KeptRows
+pub mod LentVersions
 pub mod Merge
 pub mod Queries
 pub mod Refusals

@@ -12,11 +12,14 @@ use Rattle.mds_jobs.specs.declared.job.Job.{Job}
 use Rattle.mds_statements.specs.declared.periods.Period.{Period}
 use Rattle.mds_world.specs.Facts.{JobContent, PeriodContent}
 use Rattle.mds_statements.specs.declared.periods.PeriodKey.{PeriodKey}
-use Rattle.mds_world.specs.Facts.Fact.{EventIs, HolidayIs, JobIs, PeriodIs}
+use Rattle.mds_world.specs.Facts.Fact.{DetailIs, EventIs, HolidayIs, JobIs, PeriodIs}
+use Rattle.mds_world.specs.Current.{IsLastDay}
 use Rattle.mds_world.specs.Lists.{Apart, Member}
 use Rattle.mds_world.specs.Sets.{◌∈◌}
 use Rattle.mds_world.specs.World.{IsEventOf, IsKnownDay, IsKnownStream, World}
 use Rattle.mds_keeper.specs.Books.{BookValue, IsDay}
+use Rattle.mds_keeper.specs.Content.{detail_on}
+use Rattle.mds_keeper.specs.declared.additions.DetailDays.{DetailDays}
 
 -- by the bytes of the NMI, and then of the suffix
 abbrev pub stream_cmp : Stream → Stream → Ordering
@@ -26,6 +29,17 @@ stream_cmp a b = ordering_then (slice_cmp nat_cmp a.nmi b.nmi) (slice_cmp nat_cm
 pub record AreKnownStreams (w : World) (streams : List Stream) : Type 0 where
   pub each : (stream : Stream) → Member stream streams ↔ IsKnownStream w stream
   pub ascending : AllPairs (λ a b. stream_cmp a b ≡ Less) streams
+
+-- the last known day of a stream, where it has one
+abbrev pub IsLastDayOf : World → Stream → Option ℕ → Type 0
+IsLastDayOf w stream (Some day) = IsLastDay w stream day
+IsLastDayOf w stream None = (day : ℕ) → IsKnownDay w stream day → ⊥
+
+-- Those of the days that the World doesn't have these details of, ascending, each once.
+pub record AreDaysWithout (w : World) (details : DetailDays) (days : List ℕ) : Type 0 where
+  pub each : (day : ℕ) → Member day days
+      ↔ (Member day details.days.items × (DetailIs (detail_on details day) ∈ w → ⊥))
+  pub ascending : AllPairs (λ a b. a < b) days
 
 -- The events of a day, each once.
 pub record AreEventsOf (w : World) (stream : Stream) (day : ℕ) (events : List EventValue) : Type 0 where

@@ -1,14 +1,16 @@
 //! What is added to a World.
 
-ghost use Rattle.std.specs.Prelude.{◌≡◌, ◌++◌, OnOk};
+ghost use Rattle.std.specs.Prelude.{◌≡◌, ◌++◌, IfOk, OnOk};
+ghost use Rattle.mds_keeper.specs.BookRows.{IsMade};
 ghost use Rattle.mds_keeper.specs.Content.{rows_of, whole_rows};
 
-use crate::day_book::Version;
+use crate::day_book::{DayBook, Version};
 use mds_jobs::Job;
+use mds_quantity::Unit;
 use mds_runs::DayReadings;
 use mds_statements::Period;
-use mds_terms::{Day, Event, Moment, Stream};
-use mds_world::{Detail, Head};
+use mds_terms::{Day, Details, Event, Length, Moment, Stream};
+use mds_world::Head;
 use std::alloc::{AllocError, Global};
 
 /// Versions of a day of a stream.
@@ -48,6 +50,24 @@ impl VersionRows {
             VersionRows::Whole(update, readings) => append_whole(rows, update, &readings),
         }
     }
+
+    /// The book of a day with these versions and this head, where it is known.
+    pub(crate) fn into_book(
+        self,
+        alloc: Global,
+        stream: Stream,
+        day: Day,
+        head: Option<(Length, Unit)>,
+    ) -> Result<Option<DayBook>, AllocError>
+        ensures { IfOk result (IsMade (record { stream = stream; day = day; head = head; rows = rows_of self })) }
+    {
+        match self {
+            VersionRows::Each(versions) => Ok(DayBook::new(stream, day, head, versions)),
+            VersionRows::Whole(update, readings) => {
+                DayBook::of_readings(alloc, stream, day, head, update, readings)
+            }
+        }
+    }
 }
 
 /// Moves versions behind others. Where there are no others they take no memory.
@@ -62,6 +82,19 @@ fn append_each(rows: &mut Vec<(u16, Version)>, more: Vec<(u16, Version)>) -> Res
         rows.push(row)?;
     }
     Ok(())
+}
+
+/// A copy of each reading as a version, from interval 1 on and under one update.
+pub(crate) fn spread(
+    alloc: Global,
+    update: Moment,
+    readings: &DayReadings,
+) -> Result<Vec<(u16, Version)>, AllocError>
+    ensures { IfOk result (λ rows. rows.items ≡ whole_rows update 1 readings.now) }
+{
+    let mut rows = Vec::new(alloc);
+    append_whole(&mut rows, update, readings)?;
+    Ok(rows)
 }
 
 /// Puts a copy of each reading behind versions, from interval 1 on and under one update.
@@ -80,13 +113,23 @@ fn append_whole(
     Ok(())
 }
 
+/// The details that days of a stream have under the moment of one header.
+#[derive(Drop)]
+pub struct DetailDays {
+    pub stream: Stream,
+    pub moment: Moment,
+    pub details: Details,
+    pub days: Vec<Day>,
+}
+
 /// What a change adds to each set that a World has.
 #[derive(Drop)]
 pub struct Additions {
     pub heads: Vec<Head>,
     /// The versions. A day may stand there more than once.
     pub days: Vec<DayVersions>,
-    pub details: Vec<Detail>,
+    /// The details of days. A stream may stand there more than once.
+    pub details: Vec<DetailDays>,
     pub events: Vec<Event>,
     pub periods: Vec<Period>,
     pub holidays: Vec<Day>,
@@ -96,6 +139,7 @@ pub struct Additions {
 
 impl Additions {
     ghost use Rattle.std.specs.Prelude.{◌≡◌, []};
+    ghost use Rattle.mds_keeper.specs.BookRows.{IsMade};
     ghost use Rattle.mds_keeper.specs.Content.{content_facts};
 
     /// Nothing.

@@ -1,115 +1,115 @@
 //! The rows of a book, which its copies may share.
 
-ghost use Rattle.std.specs.Prelude.{◌≡◌, ◌<◌, length, IfOk, OnErr};
+ghost use Rattle.std.specs.Prelude.{◌≡◌, ◌≢◌, ◌<◌, length, IfOk, OnErr, Some};
+ghost use Rattle.mds_keeper.specs.Content.{whole_rows};
+ghost use Rattle.mds_keeper.specs.KeptRows.{kept_rows, kept_whole, lent_rows, lent_whole};
 
 use crate::day_book::Version;
+use mds_runs::DayReadings;
+use mds_terms::Moment;
 use std::alloc::{AllocError, Global};
-use std::marker::Model;
 use std::rc::Rc;
 
 /// Versions, each with the number of its interval. They don't change, so a keeper in memory shares them with its copies. A day that
 /// is asked for then takes no memory.
-#[derive(Drop)]
-pub(crate) struct BookRows {
-    kept: Kept,
-}
-
-/// Whose rows they are.
-enum Kept {
+pub(crate) enum BookRows {
+    /// Each copy has its own.
     Own(Vec<(u16, Version)>),
+    /// Copies have the same ones.
     Shared(Rc<Vec<(u16, Version)>>),
+    /// One of each interval, from 1 on, all under one update. Its readings lie as a file stated them, and copies share them.
+    Whole(Moment, Rc<DayReadings>),
 }
 
 // Written out, so that it is one call for whoever drops a book.
-impl Drop for Kept {
+impl Drop for BookRows {
     fn drop(self) {
         match self {
-            Kept::Own(rows) => drop(rows),
-            Kept::Shared(rows) => drop(rows),
+            BookRows::Own(rows) => drop(rows),
+            BookRows::Shared(rows) => drop(rows),
+            BookRows::Whole(_, readings) => drop(readings),
         }
     }
 }
 
-impl Kept {
-    ghost use Rattle.mds_keeper.specs.KeptRows.{kept_rows};
-
-    /// The same rows, shared.
-    fn into_shared(self, alloc: Global) -> Result<Kept, AllocError>
-        ensures { IfOk result (λ kept. kept_rows kept ≡ kept_rows self) }
-    {
-        match self {
-            Kept::Own(rows) => match Rc::new(alloc, rows) {
-                Ok(rows) => Ok(Kept::Shared(rows)),
-                Err(_) => Err(AllocError),
-            },
-            Kept::Shared(rows) => Ok(Kept::Shared(rows)),
-        }
-    }
-}
-
-impl Model for BookRows {
-    ghost use Rattle.std.specs.Prelude.{ℕ, List};
-    ghost use Rattle.mds_keeper.specs.KeptRows.{kept_rows};
-    ghost use Rattle.mds_keeper.specs.declared.day_book.Version.{Version as AVersion};
-
-    ghost Value = { List (ℕ × AVersion) };
-
-    ghost view = { λ r. kept_rows r.kept };
+/// The rows of a book, lent as they lie.
+#[derive(Clone, Copy)]
+pub(crate) enum LentRows<'a> {
+    /// These.
+    Each(&'a [(u16, Version)]),
+    /// One of each interval, from 1 on, all under one update.
+    Whole(Moment, &'a DayReadings),
 }
 
 impl BookRows {
-    /// These rows, each copy of which is one of its own.
-    pub(crate) fn own(rows: Vec<(u16, Version)>) -> BookRows
-        ensures { result ≡ rows.items }
+    /// One of each interval under an update, kept as they lie.
+    pub(crate) fn whole(
+        alloc: Global,
+        update: Moment,
+        readings: DayReadings,
+    ) -> Result<BookRows, AllocError>
+        ensures { IfOk result (λ rows. (kept_rows rows ≡ whole_rows update 1 readings)
+            × (kept_whole rows ≡ Some (length readings))) }
     {
-        BookRows {
-            kept: Kept::Own(rows),
+        match Rc::new(alloc, readings) {
+            Ok(readings) => Ok(BookRows::Whole(update, readings)),
+            Err(_) => Err(AllocError),
         }
     }
 
-    /// The rows.
-    pub(crate) fn as_slice(&self) -> &[(u16, Version)]
-        ensures { result.now ≡ self.now }
+    /// The rows, as they lie.
+    pub(crate) fn lent(&self) -> LentRows<'_>
+        ensures rows { lent_rows result ≡ kept_rows self.now }
+        ensures whole { lent_whole result ≡ kept_whole self.now }
     {
-        match &self.kept {
-            Kept::Own(rows) => rows.as_slice(),
-            Kept::Shared(rows) => rows.as_ref().as_slice(),
+        match self {
+            BookRows::Own(rows) => LentRows::Each(rows.as_slice()),
+            BookRows::Shared(rows) => LentRows::Each(rows.as_ref().as_slice()),
+            BookRows::Whole(update, readings) => LentRows::Whole(*update, readings.as_ref()),
         }
     }
 
     /// The same rows, shared with each copy from now on.
     pub(crate) fn into_shared(self, alloc: Global) -> Result<BookRows, AllocError>
-        ensures { IfOk result (λ rows. rows ≡ self) }
+        ensures { IfOk result (λ rows. (kept_rows rows ≡ kept_rows self) × (kept_whole rows ≡ kept_whole self)) }
     {
-        let BookRows { kept } = self;
-        Ok(BookRows {
-            kept: kept.into_shared(alloc)?,
-        })
+        match self {
+            BookRows::Own(rows) => match Rc::new(alloc, rows) {
+                Ok(rows) => Ok(BookRows::Shared(rows)),
+                Err(_) => Err(AllocError),
+            },
+            BookRows::Shared(rows) => Ok(BookRows::Shared(rows)),
+            BookRows::Whole(update, readings) => Ok(BookRows::Whole(update, readings)),
+        }
     }
 
-    /// A copy. It takes memory only where there is a row, and where that isn't shared.
+    /// A copy. It takes memory only where there is a row, and none where the rows are shared.
     pub(crate) fn try_clone(&self, alloc: Global) -> Result<BookRows, AllocError>
-        ensures value { IfOk result (λ rows. rows ≡ self.now) }
-        ensures memory { OnErr result (0 < length self.now) }
+        requires { kept_whole self.now ≢ Some 0 }
+        ensures value { IfOk result (λ rows. (kept_rows rows ≡ kept_rows self.now)
+            × (kept_whole rows ≡ kept_whole self.now)) }
+        ensures memory { OnErr result (0 < length (kept_rows self.now)) }
     {
-        if self.as_slice().is_empty() {
-            return Ok(BookRows::own(Vec::new(alloc)));
-        }
-        match &self.kept {
-            Kept::Own(rows) => Ok(BookRows::own(copied(alloc, rows.as_slice())?)),
-            Kept::Shared(rows) => Ok(BookRows {
-                kept: Kept::Shared(rows.clone()?),
-            }),
+        match self {
+            BookRows::Own(rows) => Ok(BookRows::Own(copied(alloc, rows.as_slice())?)),
+            BookRows::Shared(rows) => {
+                if rows.as_ref().is_empty() {
+                    return Ok(BookRows::Own(Vec::new(alloc)));
+                }
+                Ok(BookRows::Shared(rows.clone()?))
+            }
+            BookRows::Whole(update, readings) => Ok(BookRows::Whole(*update, readings.clone()?)),
         }
     }
 }
 
-/// A copy of versions.
+/// A copy of versions. It takes memory only where there is one.
 pub(crate) fn copied(
     alloc: Global,
     rows: &[(u16, Version)],
 ) -> Result<Vec<(u16, Version)>, AllocError>
-    ensures { IfOk result (λ copy. copy.items ≡ rows.now) }
+    ensures value { IfOk result (λ copy. copy.items ≡ rows.now) }
+    ensures memory { OnErr result (0 < length rows.now) }
 {
     let mut copy = Vec::with_capacity(alloc, rows.len())?;
     for (interval, version) in rows {

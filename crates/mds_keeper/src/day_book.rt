@@ -1,18 +1,28 @@
 //! A day of a stream, with all its versions.
 
-ghost use Rattle.std.specs.Prelude.{◌≡◌, ◌≢◌, ◌<◌, ℕ, length, max, map, IfSome, IfNone, IfOk, OnErr};
+ghost use Rattle.std.specs.Prelude.{◌≡◌, ◌≢◌, ◌<◌, ℕ, length, max, map, IfSome, IfNone, IfOk, IsTrue, OnErr, Some};
 ghost use Rattle.std.specs.Bool.{MatchBool};
 ghost use Rattle.std.specs.List.{AllPairs, reduce};
 ghost use Rattle.mds_world.specs.Current.{HasNoVersion, IsLatest};
 ghost use Rattle.mds_world.specs.World.{World, IsCurrent, IsLawful};
 ghost use Rattle.mds_keeper.specs.Books.{BookValue, IsDay, book_world};
-ghost use Rattle.mds_keeper.specs.BookRows.{AreVersionsOf, Fits, IsBefore, Misfits};
+ghost use Rattle.mds_keeper.specs.BookRows.{AreVersionsOf, Fits, IsBefore, IsMade, Misfits};
 ghost use Rattle.mds_keeper.specs.BookOrder.{HasStep, IsInOrder, IsOutside, IsWithin, SameMembers, TwoReadings, row_cmp};
 ghost use Rattle.mds_keeper.specs.BookPlaces.{EndsAt, StartsAt};
+ghost use Rattle.mds_keeper.specs.Content.{rows_of, whole_rows};
+ghost use Rattle.mds_keeper.specs.KeptRows.{AreWhole, lent_rows, lent_whole};
+ghost use Rattle.mds_keeper.specs.LentVersions.{IsUnder, lent_reading};
+ghost use Rattle.mds_marks.specs.Reading.{ReadingValue};
+ghost use Rattle.mds_world.specs.Facts.{key_at};
+ghost use Rattle.mds_world.specs.Facts.Fact.{VersionIs};
+ghost use Rattle.mds_world.specs.Sets.{◌∈◌};
 
-use crate::book_rows::{BookRows, copied};
+use crate::additions::{VersionRows, spread};
+use crate::book_rows::{BookRows, LentRows, copied};
+use crate::lent_version::LentVersion;
 use mds_marks::Reading;
 use mds_quantity::Unit;
+use mds_runs::DayReadings;
 use mds_terms::{Day, Length, Moment, Stream};
 use std::alloc::{AllocError, Global};
 use std::cmp::Ordering;
@@ -39,12 +49,14 @@ pub struct DayBook {
 impl Model for DayBook {
     ghost use Rattle.mds_keeper.specs.Books.{BookValue};
     ghost use Rattle.mds_keeper.specs.BookRows.{IsBook};
+    ghost use Rattle.mds_keeper.specs.KeptRows.{AreWhole, kept_rows, kept_whole};
 
     ghost Value = { BookValue };
 
-    ghost view = { λ b. record { stream = b.stream; day = b.day; head = b.head; rows = b.rows } };
+    ghost view = { λ b. record { stream = b.stream; day = b.day; head = b.head; rows = kept_rows b.rows } };
 
-    ghost invariant = { λ b. IsBook (record { stream = b.stream; day = b.day; head = b.head; rows = b.rows }) };
+    ghost invariant = { λ b. IsBook (record { stream = b.stream; day = b.day; head = b.head; rows = kept_rows b.rows })
+        × AreWhole b.head (kept_whole b.rows) };
 }
 
 impl DayBook {
@@ -74,8 +86,50 @@ impl DayBook {
             stream,
             day,
             head,
-            rows: BookRows::own(rows),
+            rows: BookRows::Own(rows),
         })
+    }
+
+    /// The same day of versions that come in either form. Those that are one of each of the head's intervals are kept as they
+    /// lie. It fails only for want of memory.
+    pub fn of_rows(
+        alloc: Global,
+        stream: Stream,
+        day: Day,
+        head: Option<(Length, Unit)>,
+        rows: VersionRows,
+    ) -> Result<Option<DayBook>, AllocError>
+        ensures some { IfOk result (λ made. IfSome made (λ book. (book.stream ≡ stream) × (book.day ≡ day) × (book.head ≡ head)
+            × (book_world book
+            ≡ book_world (record { stream = stream; day = day; head = head; rows = rows_of rows })))) }
+        ensures none { IfOk result (λ made. IfNone made ((w : World) → IsLawful w
+            → IsDay w (record { stream = stream; day = day; head = head; rows = rows_of rows }) → ⊥)) }
+    {
+        rows.into_book(alloc, stream, day, head)
+    }
+
+    /// The same day of a version of each interval, from 1 on, all under one update.
+    pub(crate) fn of_readings(
+        alloc: Global,
+        stream: Stream,
+        day: Day,
+        head: Option<(Length, Unit)>,
+        update: Moment,
+        readings: DayReadings,
+    ) -> Result<Option<DayBook>, AllocError>
+        ensures { IfOk result (IsMade (record { stream = stream; day = day; head = head; rows = whole_rows update 1 readings })) }
+    {
+        if !are_whole(&head, readings.len()) {
+            let versions = spread(alloc, update, &readings)?;
+            return Ok(DayBook::new(stream, day, head, versions));
+        }
+        let rows = BookRows::whole(alloc, update, readings)?;
+        Ok(Some(DayBook {
+            stream,
+            day,
+            head,
+            rows,
+        }))
     }
 
     /// A law: what a book says is a lawful World.
@@ -109,20 +163,32 @@ impl DayBook {
 
     /// The current version of an interval: that of the greatest update. `None` where it has none,
     /// and its reading is bare N.
-    pub fn current(&self, interval: u16) -> Option<&Version>
+    pub fn current(&self, interval: u16) -> Option<LentVersion<'_>>
         ensures some { IfSome result (λ version. IsCurrent (book_world self.now) self.now.stream self.now.day interval
-            version.now.update version.now.reading) }
+            version.update (lent_reading version)) }
         ensures none { IfNone result (HasNoVersion (book_world self.now) self.now.stream self.now.day interval) }
     {
-        let rows = self.rows.as_slice();
-        let end = end_of(rows, interval);
-        let Some((number, version)) = rows[..end].last() else {
-            return None;
-        };
-        if *number == interval {
-            Some(version)
-        } else {
-            None
+        match self.lent_rows() {
+            LentRows::Each(rows) => last_of(rows, interval),
+            LentRows::Whole(update, readings) => lent_at(update, readings, interval),
+        }
+    }
+
+    /// The version of an interval under an update. `None` where it has none.
+    pub fn under(&self, interval: u16, update: Moment) -> Option<LentVersion<'_>>
+        ensures some { IfSome result (λ version. (version.update ≡ update)
+            × (VersionIs (key_at self.now.stream self.now.day interval update) (lent_reading version) ∈ book_world self.now)) }
+        ensures none { IfNone result ((reading : ReadingValue)
+            → VersionIs (key_at self.now.stream self.now.day interval update) reading ∈ book_world self.now → ⊥) }
+    {
+        match self.lent_rows() {
+            LentRows::Each(rows) => row_under(rows, interval, update),
+            LentRows::Whole(of_all, readings) => {
+                if of_all != update {
+                    return None;
+                }
+                lent_at(update, readings, interval)
+            }
         }
     }
 
@@ -133,37 +199,42 @@ impl DayBook {
         ensures none { IfNone result ((interval : ℕ)
             → HasNoVersion (book_world self.now) self.now.stream self.now.day interval) }
     {
-        greatest_update(self.rows.as_slice())
+        match self.lent_rows() {
+            LentRows::Each(rows) => greatest_update(rows),
+            LentRows::Whole(update, _) => Some(update),
+        }
     }
 
-    /// The versions of an interval, by ascending update, each with the interval's number.
-    pub fn versions(&self, interval: u16) -> &[(u16, Version)]
-        ensures { AreVersionsOf (book_world self.now) self.now.stream self.now.day interval result.now }
+    /// Copies of the versions of an interval, by ascending update, each with the interval's number. They take memory only where
+    /// there is one.
+    pub fn versions(&self, alloc: Global, interval: u16) -> Result<Vec<(u16, Version)>, AllocError>
+        ensures value { IfOk result
+            (λ rows. AreVersionsOf (book_world self.now) self.now.stream self.now.day interval rows.items) }
+        ensures memory { OnErr result (HasNoVersion (book_world self.now) self.now.stream self.now.day interval → ⊥) }
     {
-        let rows = self.rows.as_slice();
-        &rows[start_of(rows, interval)..end_of(rows, interval)]
+        match self.lent_rows() {
+            LentRows::Each(rows) => copied(alloc, rows_at(rows, interval)),
+            LentRows::Whole(update, readings) => copied_at(alloc, update, readings, interval),
+        }
     }
 
-    /// All its versions, by interval and then by update, each with the interval's number.
-    pub fn rows(&self) -> &[(u16, Version)]
-        ensures { result.now ≡ self.now.rows }
+    /// All its versions as they lie, by interval and then by update.
+    pub(crate) fn lent_rows(&self) -> LentRows<'_>
+        ensures value { lent_rows result ≡ self.now.rows }
+        ensures ascending { AllPairs IsBefore (lent_rows result) }
+        ensures whole { AreWhole self.now.head (lent_whole result) }
     {
-        self.rows.as_slice()
-    }
-
-    /// The same, which ascend.
-    pub(crate) fn ascending_rows(&self) -> &[(u16, Version)]
-        ensures value { result.now ≡ self.now.rows }
-        ensures ascending { AllPairs IsBefore result.now }
-    {
-        self.rows.as_slice()
+        self.rows.lent()
     }
 
     /// A copy of all its versions, which is the caller's own.
     pub fn copied_rows(&self, alloc: Global) -> Result<Vec<(u16, Version)>, AllocError>
         ensures { IfOk result (λ rows. rows.items ≡ self.now.rows) }
     {
-        copied(alloc, self.rows.as_slice())
+        match self.lent_rows() {
+            LentRows::Each(rows) => copied(alloc, rows),
+            LentRows::Whole(update, readings) => spread(alloc, update, readings),
+        }
     }
 
     /// The same day, whose copies share its versions from now on.
@@ -196,6 +267,106 @@ impl DayBook {
             rows: self.rows.try_clone(alloc)?,
         })
     }
+}
+
+/// A version, lent.
+fn lent(version: &Version) -> LentVersion<'_>
+    ensures { (result.update ≡ version.now.update) × (lent_reading result ≡ version.now.reading) }
+{
+    LentVersion {
+        update: version.update,
+        mark: version.reading.mark(),
+        value: version.reading.value(),
+    }
+}
+
+/// The version of an interval that stands last, among rows that ascend.
+fn last_of(rows: &[(u16, Version)], interval: u16) -> Option<LentVersion<'_>>
+    requires { AllPairs IsBefore rows.now }
+    ensures some { (book : BookValue) → book.rows ≡ rows.now → IfSome result (λ version.
+        IsCurrent (book_world book) book.stream book.day interval version.update (lent_reading version)) }
+    ensures none { (book : BookValue) → book.rows ≡ rows.now
+        → IfNone result (HasNoVersion (book_world book) book.stream book.day interval) }
+{
+    let end = end_of(rows, interval);
+    let Some((number, version)) = rows[..end].last() else {
+        return None;
+    };
+    if *number == interval {
+        Some(lent(version))
+    } else {
+        None
+    }
+}
+
+/// The version of an interval under an update, among rows that ascend.
+fn row_under(rows: &[(u16, Version)], interval: u16, update: Moment) -> Option<LentVersion<'_>>
+    requires { AllPairs IsBefore rows.now }
+    ensures { (book : BookValue) → book.rows ≡ rows.now → IsUnder book interval update result }
+{
+    for row in rows_at(rows, interval) {
+        if row.1.update.seconds() == update.seconds() {
+            return Some(lent(&row.1));
+        }
+    }
+    None
+}
+
+/// The version of an interval where each has one, all under one update.
+fn lent_at(update: Moment, readings: &DayReadings, interval: u16) -> Option<LentVersion<'_>>
+    ensures { (book : BookValue) → book.rows ≡ whole_rows update 1 readings.now → IsUnder book interval update result }
+{
+    let at = usize::from(interval).checked_sub(1)?;
+    if at >= readings.len() {
+        return None;
+    }
+    // For the proof: each reading is lawful.
+    readings.are_lawful();
+    Some(LentVersion {
+        update,
+        mark: readings.mark(at),
+        value: readings.value(at),
+    })
+}
+
+/// A copy of the version of an interval, with its number, where each has one, all under one update.
+fn copied_at(
+    alloc: Global,
+    update: Moment,
+    readings: &DayReadings,
+    interval: u16,
+) -> Result<Vec<(u16, Version)>, AllocError>
+    ensures value { (book : BookValue) → book.rows ≡ whole_rows update 1 readings.now → IfOk result (λ rows.
+        AreVersionsOf (book_world book) book.stream book.day interval rows.items) }
+    ensures memory { (book : BookValue) → book.rows ≡ whole_rows update 1 readings.now
+        → OnErr result (HasNoVersion (book_world book) book.stream book.day interval → ⊥) }
+{
+    let mut rows = Vec::new(alloc);
+    let Some(version) = lent_at(update, readings, interval) else {
+        return Ok(rows);
+    };
+    let reading = version.reading()?;
+    rows.push((interval, Version { update, reading }))?;
+    Ok(rows)
+}
+
+/// Whether there is a head, and as many readings as it has intervals.
+fn are_whole(head: &Option<(Length, Unit)>, count: usize) -> bool
+    ensures { IsTrue result → AreWhole head.now (Some count) }
+{
+    match head {
+        Some((length, _)) => length.count() == count,
+        None => false,
+    }
+}
+
+/// The rows of an interval, among rows that ascend.
+fn rows_at(rows: &[(u16, Version)], interval: u16) -> &[(u16, Version)]
+    requires { AllPairs IsBefore rows.now }
+    ensures { (book : BookValue) → book.rows ≡ rows.now
+        → AreVersionsOf (book_world book) book.stream book.day interval result.now }
+{
+    &rows[start_of(rows, interval)..end_of(rows, interval)]
 }
 
 /// Where the rows of an interval begin, among rows that ascend.

@@ -12,15 +12,16 @@ ghost use Rattle.mds_world.specs.Sets.{◌∈◌};
 ghost use Rattle.mds_world.specs.World.{Agrees, union};
 ghost use Rattle.mds_keeper.specs.Books.{book_world};
 ghost use Rattle.mds_keeper.specs.BookRows.{IsBefore};
-ghost use Rattle.mds_keeper.specs.Content.{versions_of};
+ghost use Rattle.mds_keeper.specs.Content.{versions_of, whole_rows};
 ghost use Rattle.mds_keeper.specs.declared.day_merge.Stop.TheVariants.{Memory, Refused};
 ghost use Rattle.mds_keeper.specs.declared.refusal.RefusalCode.TheVariants.{VersionConflict};
 ghost use Rattle.mds_keeper.specs.DayMerges.{DayMergeValue, AreAscending, IfRefused, IsPlan, Settles};
-ghost use Rattle.mds_keeper.specs.Claims.{Contradicts, IsFirst, Suits, BreaksForm, SuitsForm, AreShort, fresh_all, fresh_heads, fresh_versions, held_all, held_count, is_held, key_of};
-ghost use Rattle.mds_keeper.specs.DayMergeSteps.{AreCounts, AreInBook, IsFrom, IsInBook, claimed_entries, claimed_readings, readings_under, row_of};
+ghost use Rattle.mds_keeper.specs.Claims.{IsFirst, BreaksForm, SuitsForm, AreShort, fresh_all, fresh_heads, fresh_versions, held_all, held_count, is_held, key_of};
+ghost use Rattle.mds_keeper.specs.DayMergeSteps.{AreCounts, AreHeld, AreInBook, IsFrom, IsInBook, claimed_entries, claimed_readings, readings_under, row_of};
 ghost use Rattle.mds_keeper.specs.Merge.{Breaks, IsRefusal, claim_world, claims_upto, claims_world};
 
 use crate::additions::{Additions, DayVersions, VersionRows};
+use crate::book_rows::LentRows;
 use crate::claim::Claim;
 use crate::claimed::{ClaimedUpdate, ClaimedUpdates};
 use crate::day_book::{DayBook, Version};
@@ -122,29 +123,14 @@ fn conflict(line: u64, interval: u16) -> Stop
     Stop::Refused(Refusal::at_place(RefusalCode::VersionConflict, line, interval))
 }
 
-/// The reading that a book has of an interval under an update.
-fn reading_in(book: &DayBook, interval: u16, update: Moment) -> Option<&Reading>
-    ensures some { IfSome result
-        (λ reading. VersionIs (key_of book.now interval update) reading.now ∈ book_world book.now) }
-    ensures none { IfNone result ((reading : ReadingValue)
-        → VersionIs (key_of book.now interval update) reading ∈ book_world book.now → ⊥) }
-{
-    for row in book.versions(interval) {
-        if row.1.update.seconds() == update.seconds() {
-            return Some(&row.1.reading);
-        }
-    }
-    None
-}
-
 /// Whether a book has this reading of an interval under an update.
 fn has_reading(book: &DayBook, interval: u16, update: Moment, reading: &Reading) -> bool
     ensures { result ≡ is_held book.now update interval reading.now }
 {
     // For the proof: what a book says is a lawful World.
     book.is_lawful();
-    match reading_in(book, interval, update) {
-        Some(held) => held.is_same(reading),
+    match book.under(interval, update) {
+        Some(held) => held.is_of(reading),
         None => false,
     }
 }
@@ -215,20 +201,58 @@ fn count_at(
     }
 }
 
-/// How many of the readings a book has under the update, or the first interval of which it has
-/// another. It goes down the rows of the book and the readings side by side.
+/// How many of the readings a book has under the update, or the first interval of which it has another.
 fn count_held(book: &DayBook, update: Moment, readings: &DayReadings) -> Result<u64, u16>
-    requires { length readings.now ≤ 1440 }
-    ensures held { IfOk result (λ held. held ≡ held_count book.now update 1 readings.now) }
-    ensures few { IfOk result (λ held. held ≤ length readings.now) }
-    ensures suits { OnOk result ((k : ℕ) → Suits (book_world book.now) book.now update readings.now k) }
-    ensures conflict { IfErr result (IsFirst (Contradicts (book_world book.now) book.now update readings.now)
-        (Suits (book_world book.now) book.now update readings.now)) }
+    requires few { length readings.now ≤ 1440 }
+    requires whole { (known : ℕ × MeasureUnit) → book.now.head ≡ Some known
+        → length readings.now ≡ count_of known.0 }
+    ensures { AreHeld book.now update readings.now result }
 {
-    let mut left = book.ascending_rows();
-    if left.is_empty() {
+    match book.lent_rows() {
+        LentRows::Each(rows) => count_in_rows(book, rows, update, readings),
+        LentRows::Whole(of_all, known) => {
+            if of_all != update {
+                return Ok(0);
+            }
+            count_in_whole(book, update, known, readings)
+        }
+    }
+}
+
+/// The same of a book that has these readings, one of each interval under the update, and no others.
+fn count_in_whole(
+    book: &DayBook,
+    update: Moment,
+    known: &DayReadings,
+    readings: &DayReadings,
+) -> Result<u64, u16>
+    requires known { book.now.rows ≡ whole_rows update 1 known.now }
+    requires as_many { length known.now ≡ length readings.now }
+    requires few { length readings.now ≤ 1440 }
+    ensures { AreHeld book.now update readings.now result }
+{
+    match difference_between(known, readings) {
+        Some(interval) => Err(interval),
+        None => Ok(readings.len() as u64),
+    }
+}
+
+/// The same of a book that has these rows. It goes down the rows and the readings side by side.
+fn count_in_rows(
+    book: &DayBook,
+    rows: &[(u16, Version)],
+    update: Moment,
+    readings: &DayReadings,
+) -> Result<u64, u16>
+    requires rows { rows.now ≡ book.now.rows }
+    requires ascending { AllPairs IsBefore rows.now }
+    requires few { length readings.now ≤ 1440 }
+    ensures { AreHeld book.now update readings.now result }
+{
+    if rows.is_empty() {
         return Ok(0);
     }
+    let mut left = rows;
     let mut held: u64 = 0;
     for i in 0..readings.len() {
         let interval = (i + 1) as u16;
@@ -246,6 +270,8 @@ fn count_held(book: &DayBook, update: Moment, readings: &DayReadings) -> Result<
 fn difference_in(book: &DayBook, update: Moment, readings: &DayReadings) -> Option<u16>
     requires as_many { length (readings_under update book.now.rows) ≡ length readings.now }
     requires few { length readings.now ≤ 1440 }
+    requires whole { (known : ℕ × MeasureUnit) → book.now.head ≡ Some known
+        → length readings.now ≡ count_of known.0 }
     requires kept { IsInBook book.now update }
     ensures some { IfSome result (IsFirst (λ k. slice_get (readings_under update book.now.rows) k ≢ slice_get readings.now k)
         (λ k. slice_get (readings_under update book.now.rows) k ≡ slice_get readings.now k)) }
@@ -284,6 +310,8 @@ fn difference(
 ) -> Option<u16>
     requires as_many { length (claimed_readings book.now update claimed.now) ≡ length readings.now }
     requires few { length readings.now ≤ 1440 }
+    requires whole { (known : ℕ × MeasureUnit) → book.now.head ≡ Some known
+        → length readings.now ≡ count_of known.0 }
     requires kept { IsNone claimed.now → IsInBook book.now update }
     ensures some { IfSome result
         (IsFirst (λ k. slice_get (claimed_readings book.now update claimed.now) k ≢ slice_get readings.now k)
@@ -307,7 +335,7 @@ fn kept_of(book: &DayBook, update: Moment, held: u64, readings: DayReadings) -> 
 {
     // For the proof: what a book says is a lawful World, and its rows ascend.
     book.is_lawful();
-    book.ascending_rows();
+    book.lent_rows();
     let has_all = held == readings.len() as u64;
     if has_all {
         return None;

@@ -2,20 +2,19 @@
 
 ghost use Rattle.std.specs.Prelude.{◌≡◌, ◌↔◌, IsTrue, IfOk};
 ghost use Rattle.mds_world.specs.Current.{IsCurrentDetails};
-ghost use Rattle.mds_world.specs.Facts.Fact.{DetailIs, EventIs};
+ghost use Rattle.mds_world.specs.Facts.Fact.{EventIs};
 ghost use Rattle.mds_world.specs.Sets.{◌∈◌};
 ghost use Rattle.mds_world.specs.World.{World, IsLawful, union};
 ghost use Rattle.mds_keeper.specs.Books.{IsDay};
 ghost use Rattle.mds_keeper.specs.Content.{AreNew, content};
 ghost use Rattle.mds_keeper.specs.Kept.{Adds, Asks, Kept};
-ghost use Rattle.mds_keeper.specs.Queries.{AreEventsOf, AreDaysOf, AreHolidays, AreKnownStreams, ArePeriodsOf, IsContentOf, IsJobOf};
+ghost use Rattle.mds_keeper.specs.Queries.{AreEventsOf, AreDaysOf, AreDaysWithout, AreHolidays, AreKnownStreams, ArePeriodsOf, IsContentOf, IsJobOf, IsLastDayOf};
 
-use crate::additions::Additions;
+use crate::additions::{Additions, DetailDays};
 use crate::day_book::DayBook;
 use mds_jobs::{Job, JobId};
 use mds_statements::{Period, PeriodContent, PeriodKey};
 use mds_terms::{Day, Details, Event, Stream};
-use mds_world::Detail;
 use std::alloc::{AllocError, AllocFailed};
 
 /// The store can't answer now.
@@ -56,13 +55,17 @@ pub trait Keeper {
     fn streams(&mut self) -> Result<Vec<Stream>, Unavailable>
         ensures { Asks (kept self.old) (kept self.new) result (λ w streams. AreKnownStreams w streams.items) };
 
-    /// The current details of a stream.
-    fn details(&mut self, stream: Stream) -> Result<Details, Unavailable>
-        ensures { Asks (kept self.old) (kept self.new) result (λ w. IsCurrentDetails w stream) };
+    /// The last known day of a stream. `None` where it has none.
+    fn last_day(&mut self, stream: Stream) -> Result<Option<Day>, Unavailable>
+        ensures { Asks (kept self.old) (kept self.new) result (λ w. IsLastDayOf w stream) };
 
-    /// Whether these details are kept, current or not.
-    fn has_details(&mut self, detail: &Detail) -> Result<bool, Unavailable>
-        ensures { Asks (kept self.old) (kept self.new) result (λ w has. IsTrue has ↔ (DetailIs detail.now ∈ w)) };
+    /// The current details of a day of a stream, which need not be known: its own, or those of the nearest earlier day that has some.
+    fn details(&mut self, stream: Stream, day: Day) -> Result<Details, Unavailable>
+        ensures { Asks (kept self.old) (kept self.new) result (λ w. IsCurrentDetails w stream day) };
+
+    /// Those of the days that don't have these details yet, current or not. They are ascending, each once.
+    fn days_without(&mut self, details: &DetailDays) -> Result<Vec<Day>, Unavailable>
+        ensures { Asks (kept self.old) (kept self.new) result (λ w days. AreDaysWithout w details.now days.items) };
 
     /// The events of a day, each once.
     fn events(&mut self, stream: Stream, day: Day) -> Result<Vec<Event>, Unavailable>

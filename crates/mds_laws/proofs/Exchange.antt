@@ -6,7 +6,7 @@ use Rattle.std.specs.declared.vec.Vec.{Vec}
 use Rattle.mds_marks.specs.Reading.{ReadingValue}
 use Rattle.mds_records.specs.declared.file.FileKind.{FileKind}
 use Rattle.mds_statements.specs.Statements.{Statement}
-use Rattle.mds_statements.specs.Statements.Statement.{HeaderOf, DetailsOf, DayOf, EventOf, PeriodOf}
+use Rattle.mds_statements.specs.Statements.Statement.{HeaderOf, StreamOf, DetailsOf, DayOf, EventOf, PeriodOf}
 use Rattle.mds_world.specs.declared.facts.Head.{Head}
 use Rattle.mds_world.specs.declared.facts.Key.{Key}
 use Rattle.mds_world.specs.Facts.{Fact, JobContent}
@@ -41,6 +41,7 @@ use Rattle.mds_laws.proofs.Seen.{AreAlike, back, job_refusal, new_job, substitut
 day_of_version : (s : Statement) (key : Key) (reading : ReadingValue) → Member (VersionIs key reading) (facts_of s)
     → (head : Head) × Member (HeadIs head) (facts_of s) × (head.stream ≡ key.stream) × (head.day ≡ key.day)
 day_of_version (HeaderOf header) key reading m = absurd m
+day_of_version (StreamOf stream) key reading m = absurd m
 day_of_version (DetailsOf details) key reading (inl e) = cc
 day_of_version (DetailsOf details) key reading (inr m) = absurd m
 day_of_version (DayOf day) key reading (inl e) = cc
@@ -55,6 +56,7 @@ day_of_version (PeriodOf period) key reading (inr m) = absurd m
 
 no_holiday : (s : Statement) (day : ℕ) → Member (HolidayIs day) (facts_of s) → ⊥
 no_holiday (HeaderOf header) day m = m
+no_holiday (StreamOf stream) day m = m
 no_holiday (DetailsOf details) day (inl e) = cc
 no_holiday (DetailsOf details) day (inr m) = m
 no_holiday (DayOf of_day) day (inl e) = cc

@@ -7,23 +7,25 @@ use Rattle.mds_calendar.specs.Length.{count_of, is_length}
 use Rattle.mds_marks.specs.Reading.{ReadingValue}
 use Rattle.mds_records.specs.declared.file.FileKind.{FileKind}
 use Rattle.mds_records.specs.declared.file.FileKind.TheVariants.{Nem12, Nem13}
+use Rattle.mds_world.specs.declared.facts.Detail.{Detail}
 use Rattle.mds_world.specs.declared.facts.Head.{Head}
 use Rattle.mds_world.specs.declared.facts.Key.{Key}
-use Rattle.mds_world.specs.Facts.{Fact, JobContent, head_at}
-use Rattle.mds_world.specs.Facts.Fact.{HeadIs, VersionIs, JobIs}
-use Rattle.mds_world.proofs.Lawful.{wider_head, wider_version}
+use Rattle.mds_world.specs.Facts.{Fact, JobContent, detail_at, head_at}
+use Rattle.mds_world.specs.Facts.Fact.{HeadIs, VersionIs, DetailIs, JobIs}
+use Rattle.mds_world.proofs.Lawful.{wider_day, wider_head, wider_version}
 use Rattle.mds_world.proofs.Lists.{flat_in}
 use Rattle.mds_world.specs.Lists.{Member}
 use Rattle.mds_world.proofs.Members.{in_union, union_left, union_right}
 use Rattle.mds_world.specs.Sets.{◌∈◌}
 use Rattle.mds_world.specs.Stated.{facts_of, stated, versions_from}
-use Rattle.mds_world.specs.World.{Agrees, HasHead, HasVersion, IsLawful, World, union}
-use Rattle.mds_statements.specs.Statements.{DayStatement, Statement, days_in, days_of}
-use Rattle.mds_statements.specs.Statements.Statement.{HeaderOf, DetailsOf, DayOf, EventOf, PeriodOf}
+use Rattle.mds_world.specs.World.{Agrees, HasHead, HasVersion, IsKnownDay, IsLawful, World, union}
+use Rattle.mds_statements.specs.Statements.{DayStatement, DetailsStatement, Statement, days_in, days_of}
+use Rattle.mds_statements.specs.Statements.Statement.{HeaderOf, StreamOf, DetailsOf, DayOf, EventOf, PeriodOf}
 use Rattle.mds_nem12.proofs.Orderly.{days_have_lengths, days_whole}
 use Rattle.mds_keeper.proofs.Taken.{from_versions}
 use Rattle.std.proofs.lemmas.List.Elements.{All-nil}
 use Rattle.mds_service.proofs.FileKinds.{no_days}
+use Rattle.mds_service.proofs.StatedDetails.{HasDay, details_have_days}
 use Rattle.mds_service.specs.Imports.{IsWholeDay}
 use Rattle.mds_service.specs.Machine.{fault_in, stated_in}
 use Rattle.mds_laws.proofs.Members as members
@@ -43,6 +45,9 @@ head_of day = head_at day.stream day.date day.length day.unit
 same_head : (x y : Head) → HeadIs x ≡ HeadIs y → x ≡ y
 same_head x y e = cc
 
+same_detail : (x y : Detail) → DetailIs x ≡ DetailIs y → x ≡ y
+same_detail x y e = cc
+
 first_version : (day : DayStatement) → 0 < length day.readings
     → (key : Key) × (reading : ReadingValue) × Member (VersionIs key reading) (facts_of (DayOf day))
     × (key.stream ≡ day.stream) × (key.day ≡ day.date)
@@ -60,6 +65,7 @@ has_intervals minutes h = grind (arith, nat_tests)
 
 pub no_job : (s : Statement) (id : List ℕ) (content : JobContent) (n : ℕ) → Member (JobIs id content n) (facts_of s) → ⊥
 no_job (HeaderOf header) id content n m = m
+no_job (StreamOf stream) id content n m = m
 no_job (DetailsOf details) id content n (inl e) = cc
 no_job (DetailsOf details) id content n (inr m) = m
 no_job (DayOf day) id content n (inl e) = cc
@@ -70,7 +76,8 @@ no_job (EventOf event) id content n (inr m) = m
 no_job (PeriodOf period) id content n (inl e) = cc
 no_job (PeriodOf period) id content n (inr m) = m
 
-module _ (w : World) (xs : List Statement) (sound : All IsWholeDay (days_of xs)) where
+module _ (w : World) (xs : List Statement) (sound : All IsWholeDay (days_of xs))
+    (beside : (details : DetailsStatement) → Member (DetailsOf details) xs → HasDay xs details) where
   whole : World
   whole = union w (stated xs)
 
@@ -92,6 +99,7 @@ module _ (w : World) (xs : List Statement) (sound : All IsWholeDay (days_of xs))
   headed : (s : Statement) (key : Key) (reading : ReadingValue) → Member s xs
       → Member (VersionIs key reading) (facts_of s) → HasHead whole key
   headed (HeaderOf header) key reading m n = absurd n
+  headed (StreamOf stream) key reading m n = absurd n
   headed (DetailsOf details) key reading m (inl e) = cc
   headed (DetailsOf details) key reading m (inr n) = absurd n
   headed (DayOf day) key reading m (inl e) = cc
@@ -115,6 +123,7 @@ module _ (w : World) (xs : List Statement) (sound : All IsWholeDay (days_of xs))
 
   versioned : (s : Statement) (head : Head) → Member s xs → Member (HeadIs head) (facts_of s) → HasVersion whole head
   versioned (HeaderOf header) head m n = absurd n
+  versioned (StreamOf stream) head m n = absurd n
   versioned (DetailsOf details) head m (inl e) = cc
   versioned (DetailsOf details) head m (inr n) = absurd n
   versioned (DayOf day) head m (inl e) =
@@ -135,6 +144,27 @@ module _ (w : World) (xs : List Statement) (sound : All IsWholeDay (days_of xs))
   versioned (PeriodOf period) head m (inl e) = cc
   versioned (PeriodOf period) head m (inr n) = absurd n
 
+  detailed : (s : Statement) (detail : Detail) → Member s xs → Member (DetailIs detail) (facts_of s)
+      → IsKnownDay whole detail.stream detail.day
+  detailed (HeaderOf header) detail m n = absurd n
+  detailed (StreamOf stream) detail m n = absurd n
+  detailed (DetailsOf details) detail m (inl e) =
+      let day = beside details m in
+      let same = same_detail detail (detail_at details.stream details.date details.moment details.details) e in (
+        head_of day.0,
+        more (HeadIs (head_of day.0)) (DayOf day.0) day.1 (inl refl),
+        day.2 ∙ sym (ap (λ (x : Detail). x.stream) same),
+        day.3 ∙ sym (ap (λ (x : Detail). x.day) same),
+      )
+  detailed (DetailsOf details) detail m (inr n) = absurd n
+  detailed (DayOf day) detail m (inl e) = cc
+  detailed (DayOf day) detail m (inr n) =
+      let v = from_versions day.stream day.date day.update 1 day.readings _ n in let e = v.3 in cc
+  detailed (EventOf event) detail m (inl e) = cc
+  detailed (EventOf event) detail m (inr n) = absurd n
+  detailed (PeriodOf period) detail m (inl e) = cc
+  detailed (PeriodOf period) detail m (inr n) = absurd n
+
   job_where : (id : List ℕ) (content : JobContent) (n : ℕ) → JobIs id content n ∈ whole → JobIs id content n ∈ w
   job_where id content n h = elim (whence (JobIs id content n) h) [
     | inl a ↦ a
@@ -154,6 +184,10 @@ module _ (w : World) (xs : List Statement) (sound : All IsWholeDay (days_of xs))
         | inl a ↦ wider_version w whole old head (lawful.closed.versioned head a)
         | inr b ↦ versioned b.0 head b.1 b.2
       ];
+      detailed = λ detail h. elim (whence (DetailIs detail) h) [
+        | inl a ↦ wider_day w whole old detail.stream detail.day (lawful.closed.detailed detail a)
+        | inr b ↦ detailed b.0 detail b.1 b.2
+      ];
     };
   }
 
@@ -161,4 +195,4 @@ pub lawful_with_file : (w : World) (kind : FileKind) (text : List ℕ) → fault
     → Agrees (union w (stated (stated_in kind text))) → IsLawful (union w (stated (stated_in kind text)))
 unfolding whole
 lawful_with_file w kind text well lawful agrees =
-    lawful_with w (stated_in kind text) (days_are_whole kind text well) lawful agrees
+    lawful_with w (stated_in kind text) (days_are_whole kind text well) (details_have_days kind text) lawful agrees

@@ -21,7 +21,6 @@ pub mod PutBeside
 pub mod Returned
 pub mod ReturnedCounts
 pub mod ReturnedDays
-pub mod ReturnedDetails
 pub mod ReturnedFacts
 pub mod ReturnedReadings
 pub mod ReturnedWorlds

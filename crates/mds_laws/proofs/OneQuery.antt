@@ -1,6 +1,7 @@
 -- Answers that tell the same, and what each query tells is determined.
 use Rattle.std.specs.Prelude.{◌≡◌, ◌⊎◌, ℕ, ◌+◌, ◌<◌, List, [], ◌∷◌, map}
 use Rattle.std.proofs.Common.{sym, ap, ◌∙◌, subst, inl, inr, arith, refl}
+use Rattle.std.proofs.Math.Nat.{le_antisymm}
 use Rattle.std.specs.Cmp.{IsTotalOrder, nat_cmp_total, on_total, then_total}
 use Rattle.std.specs.Cmp.Lexicographic.{nat_list_cmp_total}
 use Rattle.std.specs.List.{All}
@@ -10,12 +11,14 @@ use Rattle.std.specs.declared.vec.Vec.{Vec}
 use Rattle.std.proofs.lemmas.List.Elements.{All-head, All-tail}
 use Rattle.mds_calendar.specs.Length.{count_of}
 use Rattle.mds_names.specs.declared.stream.Stream.{Stream}
+use Rattle.mds_terms.specs.Details.{DetailsValue}
 use Rattle.mds_terms.specs.Event.{event_cmp}
 use Rattle.mds_terms.specs.TermOrder.{event_total}
 use Rattle.mds_statements.specs.declared.periods.Period.{Period}
 use Rattle.mds_statements.specs.declared.periods.PeriodKey.{PeriodKey}
 use Rattle.mds_world.specs.declared.facts.Head.{Head}
-use Rattle.mds_world.specs.Current.{IsCurrentDetails}
+use Rattle.mds_world.proofs.Details.{one_details}
+use Rattle.mds_world.specs.Current.{IsCurrentDetails, IsLastDay, IsStreamDetails}
 use Rattle.mds_world.specs.World.{Agrees, IsKnownDay, World}
 use Rattle.mds_keeper.specs.Queries.{period_cmp, stream_cmp}
 use Rattle.mds_keeper.specs.declared.day_book.Version.{Version}
@@ -32,7 +35,6 @@ use Rattle.mds_laws.specs.Determined.{AreSame, AreSamePeriods, AreSameVersions, 
 use Rattle.mds_laws.proofs.OneList.{not_both_less, one_ascending, one_by_places, same_first}
 use Rattle.mds_laws.proofs.OneRefusal.{one_refusal}
 use Rattle.mds_laws.proofs.OneSelection.{stream_total}
-use Rattle.mds_laws.proofs.ReturnedDetails.{one_details}
 use Rattle.mds_laws.proofs.ReturnedReadings.{one_latest, one_value}
 
 -- answers that are such tell the same
@@ -197,12 +199,25 @@ module _ (w : World) (s : Stream) where
 
 -- ---- the streams
 
+-- a stream has one last known day
+one_last_day : (w : World) (stream : Stream) (a b : ℕ) → IsLastDay w stream a → IsLastDay w stream b → a ≡ b
+one_last_day w stream a b x y = le_antisymm (y.last a x.known) (x.last b y.known)
+
+-- and one current details of that day
+one_stream_details : (w : World) (stream : Stream) (d e : DetailsValue) → IsStreamDetails w stream d
+    → IsStreamDetails w stream e → d ≡ e
+one_stream_details w stream d e (inl (a, last, x)) (inl (b, other, y)) =
+    one_details w stream b d e (subst (λ day. IsCurrentDetails w stream day d) (one_last_day w stream a b last other) x) y
+one_stream_details w stream d e (inl (a, last, x)) (inr (none, y)) = absurd (none a last.known)
+one_stream_details w stream d e (inr (none, x)) (inl (b, last, y)) = absurd (none b last.known)
+one_stream_details w stream d e (inr (none, x)) (inr (never, y)) = x ∙ sym y
+
 module _ (w : World) where
   abbrev stream_of : StreamAnswer → Stream
   stream_of answer = answer.stream
 
   abbrev HasDetails : StreamAnswer → Type 0
-  HasDetails answer = IsCurrentDetails w answer.stream answer.details
+  HasDetails answer = IsStreamDetails w answer.stream answer.details
 
   with_details : (xs ys : List StreamAnswer) → map stream_of xs ≡ map stream_of ys → All HasDetails xs → All HasDetails ys
       → xs ≡ ys
@@ -211,8 +226,8 @@ module _ (w : World) where
   with_details (x ∷ xs) [] e a b = cc
   with_details (x ∷ xs) (y ∷ ys) e a b =
       let same = same_first x.stream y.stream (map stream_of xs) (map stream_of ys) e in
-      let details : x.details ≡ y.details = one_details w y.stream x.details y.details
-      (subst (λ s. IsCurrentDetails w s x.details) same.0 (All-head HasDetails x xs a)) (All-head HasDetails y ys b) in
+      let details : x.details ≡ y.details = one_stream_details w y.stream x.details y.details
+      (subst (λ s. IsStreamDetails w s x.details) same.0 (All-head HasDetails x xs a)) (All-head HasDetails y ys b) in
       let rest = with_details xs ys same.1 (All-tail HasDetails x xs a) (All-tail HasDetails y ys b) in
       λ i. record { stream = same.0 i; details = details i } ∷ rest i
 

@@ -4,12 +4,15 @@ use Rattle.std.proofs.Common.{sym, ap, ◌∙◌, subst, arith, refl}
 use Rattle.std.specs.Cmp.{IsTotalOrder, on_total, then_total}
 use Rattle.std.specs.Cmp.Lexicographic.{nat_list_cmp_total}
 use Rattle.std.specs.List.{All}
+use Rattle.std.specs.Ordering.{eq_by_cmp}
 use Rattle.std.specs.declared.cmp.Ordering.TheVariants.{Less}
 use Rattle.std.proofs.lemmas.List.Elements.{All-head, All-tail}
 use Rattle.mds_calendar.specs.Length.{count_of}
 use Rattle.mds_quantity.specs.Unit.{unit_text}
 use Rattle.mds_names.specs.declared.stream.Stream.{Stream}
+use Rattle.mds_terms.specs.Details.{details_cmp}
 use Rattle.mds_world.specs.declared.facts.Head.{Head}
+use Rattle.mds_world.proofs.Details.{one_details}
 use Rattle.mds_world.specs.Current.{IsCurrentDetails, IsLatest, IsReading}
 use Rattle.mds_world.specs.World.{Agrees, World}
 use Rattle.mds_statements.specs.Statements.{HeaderValue}
@@ -24,7 +27,6 @@ use Rattle.mds_ranges.proofs.Pairs.{map_pairs}
 use Rattle.mds_ranges.specs.Selections.{AreSelectedDays, IsSelectedDay, IsSelectedStream, IsSelection}
 use Rattle.mds_laws.specs.Determined.{OneByOne}
 use Rattle.mds_laws.proofs.OneList.{both_fit, not_both_less, one_ascending, one_by_places, same_first}
-use Rattle.mds_laws.proofs.ReturnedDetails.{one_details}
 use Rattle.mds_laws.proofs.ReturnedReadings.{one_latest, one_value}
 
 -- Two days, and two streams, that are the same but for where their readings and days lie.
@@ -32,12 +34,12 @@ record IsSameDay (a b : SelectedDay) : Type 0 where
   date : a.date ≡ b.date
   length : a.length ≡ b.length
   unit : a.unit ≡ b.unit
+  details : a.details ≡ b.details
   update : a.update ≡ b.update
   readings : a.readings.items ≡ b.readings.items
 
 record IsSameStream (a b : SelectedStream) : Type 0 where
   stream : a.stream ≡ b.stream
-  details : a.details ≡ b.details
   days : OneByOne IsSameDay a.days.items b.days.items
 
 -- the date of a day, and the stream of a selected one
@@ -59,6 +61,9 @@ module _ (w : World) (agrees : Agrees w) where
         date = date;
         length = length;
         unit = ap (λ (h : Head). h.unit) head;
+        details = one_details w t b.date a.details b.details
+            (subst (λ d. IsCurrentDetails w t d a.details) date (subst (λ z. IsCurrentDetails w z a.date a.details) same x.details))
+            y.details;
         update = one_latest w t b.date a.update b.update
             (subst (λ d. IsLatest w t d a.update) date (subst (λ z. IsLatest w z a.date a.update) same x.update)) y.update;
         readings = one_by_places a.readings.items b.readings.items
@@ -101,10 +106,8 @@ module _ (w : World) (agrees : Agrees w) where
         → IsSelectedStream w first last b → IsSameStream a b
     stream_at a b same x y = record {
       stream = same;
-      details = one_details w b.stream a.details b.details (subst (λ s. IsCurrentDetails w s a.details) same x.details)
-          y.details;
       days = days_at a.stream b.stream a.days.items b.days.items same
-          (one_dates a.stream b.stream first last a.days.items b.days.items same x.days y.days) x.days.each y.days.each;
+          (one_dates a.stream b.stream first last a.days.items b.days.items same x y) x.each y.each;
     }
 
     streams_at : (xs ys : List SelectedStream)
@@ -145,7 +148,6 @@ one_selection w agrees nmi suffixes first last xs ys a b =
 -- two days of streams that have the same rows
 record IsSamePlaced (p q : PlacedDay) : Type 0 where
   stream : p.selected.stream ≡ q.selected.stream
-  details : p.selected.details ≡ q.selected.details
   governed : is_governed p.before p.day ≡ is_governed q.before q.day
   same : IsSameDay p.day q.day
 
@@ -156,7 +158,7 @@ rows_of p q rows s (runs, fewest, is) =
       subst (λ readings. AreFewest (marks_of readings) runs) d.readings fewest,
       is ∙ (λ i.
           (if s.governed i then []
-          else DetailsRow (s.stream i) (s.details i) (d.unit i) (d.length i) ∷ [])
+          else DetailsRow (s.stream i) (d.details i) (d.unit i) (d.length i) ∷ [])
           ++ DayRow (d.date i) (d.readings i) (mark_of_all runs) (d.update i) ∷ run_rows runs),
     )
 
@@ -183,17 +185,18 @@ governed_by None (Some b) x y m s = absurd m
 governed_by (Some a) None x y m s = absurd m
 governed_by (Some a) (Some b) x y m s =
     λ i. (m.length i == s.length i) && bytes_eq (unit_text (m.unit i)) (unit_text (s.unit i))
+    && eq_by_cmp details_cmp (m.details i) (s.details i)
 
 placed_same : (s t : SelectedStream) (a b : Option SelectedDay) (xs ys : List SelectedDay) → s.stream ≡ t.stream
-    → s.details ≡ t.details → IsSameBefore a b → OneByOne IsSameDay xs ys
+    → IsSameBefore a b → OneByOne IsSameDay xs ys
     → OneByOne IsSamePlaced (placed_after s a xs) (placed_after t b ys)
 unfolding IsSameBefore
-placed_same s t a b [] [] stream details m same = tt
-placed_same s t a b [] (y ∷ ys) stream details m same = absurd same
-placed_same s t a b (x ∷ xs) [] stream details m same = absurd same
-placed_same s t a b (x ∷ xs) (y ∷ ys) stream details m (one, same) = (
-  record { stream = stream; details = details; governed = governed_by a b x y m one; same = one },
-  placed_same s t (Some x) (Some y) xs ys stream details one same,
+placed_same s t a b [] [] stream m same = tt
+placed_same s t a b [] (y ∷ ys) stream m same = absurd same
+placed_same s t a b (x ∷ xs) [] stream m same = absurd same
+placed_same s t a b (x ∷ xs) (y ∷ ys) stream m (one, same) = (
+  record { stream = stream; governed = governed_by a b x y m one; same = one },
+  placed_same s t (Some x) (Some y) xs ys stream one same,
 )
 
 all_placed : (xs ys : List SelectedStream) → OneByOne IsSameStream xs ys → OneByOne IsSamePlaced (placed_days xs) (placed_days ys)
@@ -203,7 +206,7 @@ all_placed [] (y ∷ ys) m = absurd m
 all_placed (x ∷ xs) [] m = absurd m
 all_placed (x ∷ xs) (y ∷ ys) (s, m) =
     both_fit IsSamePlaced (placed_after x None x.days.items) (placed_after y None y.days.items) (placed_days xs)
-    (placed_days ys) (placed_same x y None None x.days.items y.days.items s.stream s.details tt s.days) (all_placed xs ys m)
+    (placed_days ys) (placed_same x y None None x.days.items y.days.items s.stream tt s.days) (all_placed xs ys m)
 
 -- an export has one text
 pub one_export : (w : World) → Agrees w → (nmi : List ℕ) (suffixes : List (List ℕ)) (first last : ℕ) (header : HeaderValue)

@@ -3,7 +3,7 @@ use Rattle.std.specs.Prelude.{◌≡◌, List, refl}
 use Rattle.std.proofs.Common.{subst, inl, inr}
 use Rattle.mds_records.specs.declared.file.FileKind.TheVariants.{Nem12, Nem13}
 use Rattle.mds_statements.specs.Statements.{PeriodStatement, Statement}
-use Rattle.mds_statements.specs.Statements.Statement.{HeaderOf, DetailsOf, DayOf, EventOf, PeriodOf}
+use Rattle.mds_statements.specs.Statements.Statement.{HeaderOf, StreamOf, DetailsOf, DayOf, EventOf, PeriodOf}
 use Rattle.mds_statements.specs.declared.periods.PeriodKey.{PeriodKey}
 use Rattle.mds_world.specs.Facts.{PeriodContent}
 use Rattle.mds_world.specs.Facts.Fact.{PeriodIs}
@@ -26,6 +26,7 @@ use Rattle.mds_laws.proofs.Members.{in_stated}
 of_period : (s : Statement) (key : PeriodKey) (content : PeriodContent) → Member (PeriodIs key content) (facts_of s)
     → (period : PeriodStatement) × (s ≡ PeriodOf period)
 of_period (HeaderOf header) key content m = absurd m
+of_period (StreamOf stream) key content m = absurd m
 of_period (DetailsOf details) key content (inl e) = cc
 of_period (DetailsOf details) key content (inr m) = absurd m
 of_period (DayOf day) key content (inl e) = cc

@@ -2,7 +2,7 @@
 use Rattle.std.specs.Prelude.{◌≡◌, List, [], ◌∷◌, map}
 use Rattle.std.proofs.Common.{sym, ap, ◌∙◌, subst, inl, inr, refl}
 use Rattle.mds_statements.specs.Statements.{Statement}
-use Rattle.mds_statements.specs.Statements.Statement.{HeaderOf, DetailsOf, DayOf, EventOf, PeriodOf}
+use Rattle.mds_statements.specs.Statements.Statement.{HeaderOf, StreamOf, DetailsOf, DayOf, EventOf, PeriodOf}
 use Rattle.mds_world.specs.FactOrder.{exact, total}
 use Rattle.mds_world.specs.Facts.{Fact}
 use Rattle.mds_world.proofs.Lists.{in_map, map_in}
@@ -31,6 +31,7 @@ together_in (w ∷ ws) f x (inr m) h = union_right w (together ws) f (together_i
 -- no fact turns on a line
 without_line : (s : Statement) → facts_of (unplaced s) ≡ facts_of s
 without_line (HeaderOf header) = refl
+without_line (StreamOf stream) = refl
 without_line (DetailsOf details) = refl
 without_line (DayOf day) = refl
 without_line (EventOf event) = refl

@@ -6,6 +6,7 @@ use Rattle.std.specs.declared.vec.Vec.{Vec}
 use Rattle.mds_records.specs.declared.file.FileKind.TheVariants.{Nem12}
 use Rattle.mds_statements.specs.Delivered.{header_value}
 use Rattle.mds_world.specs.Counts.{added_by, known_by}
+use Rattle.mds_world.specs.Current.{HasSameDetails}
 use Rattle.mds_world.specs.FactOrder.{exact, total}
 use Rattle.mds_world.proofs.Sets.{union_comm, union_empty}
 use Rattle.mds_world.specs.Stated.{stated}
@@ -16,7 +17,7 @@ use Rattle.mds_messages.specs.declared.answer.Answer.{Answer}
 use Rattle.mds_messages.specs.declared.answer.Answer.TheVariants as told
 use Rattle.mds_service.specs.Machine.{ImportStep, Step, stated_in}
 use Rattle.mds_laws.specs.AnyOrder.{IsImported}
-use Rattle.mds_laws.specs.Returns.{HasSameDetails, IsAskedFor, IsSameDay, ReturnsToAnEmptyStore, ReturnsToItsStore}
+use Rattle.mds_laws.specs.Returns.{IsAskedFor, IsSameDay, ReturnsToAnEmptyStore, ReturnsToItsStore}
 use Rattle.mds_laws.proofs.AnyOrder.{file_taken}
 use Rattle.mds_laws.proofs.ReturnedDays.{comes_back_alone, comes_back_home}
 use Rattle.mds_laws.proofs.ReturnedFacts.{states_the_selection}
@@ -62,7 +63,7 @@ returns_to_an_empty_store w same filled nmi suffixes first last header text answ
       in_it.0,
       (λ stream day. subst (λ v. IsKnownDay v stream day ↔ IsAskedFor w nmi suffixes.items first last stream day) (sym is)
           (back.1 stream day)),
-      (λ stream day asked. subst (λ v. IsSameDay w v stream day × HasSameDetails w v stream) (sym is)
+      (λ stream day asked. subst (λ v. IsSameDay w v stream day × HasSameDetails w v stream day) (sym is)
           (back.2 stream day asked)),
     )
 
@@ -82,7 +83,6 @@ returns_to_its_store w same returned nmi suffixes first last header text answer 
       counts.0,
       counts.1,
       counts.2,
-      (λ i. counts.3 i + counts.4 i) ∙ (λ i. added_by w (read i) + known_by w (read i)) ∙ back.3 ∙ sym states.1,
-      (λ stream day. subst (λ v. IsSameDay w v stream day) (sym is) (back.1 stream day)),
-      (λ stream. subst (λ v. HasSameDetails w v stream) (sym is) (back.2 stream)),
+      (λ i. counts.3 i + counts.4 i) ∙ (λ i. added_by w (read i) + known_by w (read i)) ∙ back.2 ∙ sym states.1,
+      (λ stream day. subst (λ v. IsSameDay w v stream day × HasSameDetails w v stream day) (sym is) (back.1 stream day)),
     )

@@ -12,7 +12,7 @@ use Rattle.std.proofs.lemmas.List.Concat.{length-flat_map}
 use Rattle.std.proofs.lemmas.List.{map-append}
 use Rattle.mds_names.specs.declared.stream.Stream.{Stream}
 use Rattle.mds_statements.specs.Statements.{DayStatement, HeaderValue, Statement, days_in, days_of}
-use Rattle.mds_statements.specs.Statements.Statement.{HeaderOf, DetailsOf, DayOf, EventOf, PeriodOf}
+use Rattle.mds_statements.specs.Statements.Statement.{HeaderOf, StreamOf, DetailsOf, DayOf, EventOf, PeriodOf}
 use Rattle.mds_world.specs.Counts.{added_by, countable, counted, is_counted, known_by}
 use Rattle.mds_world.specs.FactOrder.{exact, fact_cmp, total}
 use Rattle.mds_world.specs.Facts.{Fact}
@@ -28,7 +28,7 @@ use Rattle.mds_world.proofs.Worlds.{known_or_added}
 use Rattle.mds_keeper.proofs.Taken.{from_versions}
 use Rattle.mds_statements.specs.Selected.{stream_cmp}
 use Rattle.mds_export.specs.Placed.{PlacedDay, is_governed, placed_after, placed_days}
-use Rattle.mds_export.specs.Shows.{day_selected, day_stated, details_selected, selection_stated}
+use Rattle.mds_export.specs.Shows.{day_selected, day_stated, details_selected, selection_stated, stream_selected}
 use Rattle.mds_statements.specs.declared.selected.SelectedDay.{SelectedDay}
 use Rattle.mds_statements.specs.declared.selected.SelectedStream.{SelectedStream}
 use Rattle.mds_ranges.proofs.Pairs.{pairs_head, pairs_tail}
@@ -78,6 +78,7 @@ version_of : (xs : List Statement) (s : Statement) → Member s xs
     → ((key : _) (content : _) → PeriodIs key content ∈ stated xs → ⊥) → (f : Fact) → Member f (facts_of s)
     → is_counted f ≡ true → Member f (flat_map versions_of (days_of xs))
 version_of xs (HeaderOf header) m none f n c = absurd n
+version_of xs (StreamOf stream) m none f n c = absurd n
 version_of xs (DetailsOf details) m none f (inl e) c = let wrong : is_counted f ≡ false = ap is_counted e in cc
 version_of xs (DetailsOf details) m none f (inr n) c = absurd n
 version_of xs (DayOf day) m none f (inl e) c = let wrong : is_counted f ≡ false = ap is_counted e in cc
@@ -99,6 +100,7 @@ counts_in xs f m =
     of_day : (s : Statement) (day : DayStatement) (f : Fact) → Member day (days_in s) → Member f (versions_of day)
         → Member f (facts_of s)
     of_day (HeaderOf header) day f m n = absurd m
+    of_day (StreamOf stream) day f m n = absurd m
     of_day (DetailsOf details) day f m n = absurd m
     of_day (DayOf x) day f (inl e) n = inr (subst (λ (d : DayStatement). Member f (versions_of d)) e n)
     of_day (DayOf x) day f (inr m) n = absurd m
@@ -122,10 +124,10 @@ counted_days xs none apart =
 -- ---- the days of a selection
 
 -- a day's statements have one day
-days_if : (b : Bool) (details : _) (day : DayStatement)
-    → days_of ((if b then [] else DetailsOf details ∷ []) ++ DayOf day ∷ []) ≡ day ∷ []
-days_if true details day = refl
-days_if false details day = refl
+days_if : (b : Bool) (stream : _) (details : _) (day : DayStatement)
+    → days_of ((if b then [] else StreamOf stream ∷ []) ++ DetailsOf details ∷ DayOf day ∷ []) ≡ day ∷ []
+days_if true stream details day = refl
+days_if false stream details day = refl
 
 -- so the days of all are those that were placed
 days_stated : (moment : ℕ) (placed : List PlacedDay)
@@ -133,7 +135,8 @@ days_stated : (moment : ℕ) (placed : List PlacedDay)
 days_stated moment [] = refl
 days_stated moment (p ∷ placed) =
     flat_map-append days_in (day_stated moment p) (flat_map (day_stated moment) placed)
-    ∙ (λ i. days_if (is_governed p.before p.day) (details_selected moment p) (day_selected p) i ++ days_stated moment placed i)
+    ∙ (λ i. days_if (is_governed p.before p.day) (stream_selected moment p) (details_selected moment p) (day_selected p) i
+    ++ days_stated moment placed i)
 
 -- the place of a placed day
 abbrev spot_of : PlacedDay → Stream × ℕ

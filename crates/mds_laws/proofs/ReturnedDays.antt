@@ -10,11 +10,12 @@ use Rattle.mds_statements.specs.Statements.{HeaderValue}
 use Rattle.mds_world.specs.declared.facts.Detail.{Detail}
 use Rattle.mds_world.specs.declared.facts.Head.{Head}
 use Rattle.mds_world.specs.declared.facts.Key.{Key}
-use Rattle.mds_world.specs.Current.{HasNoVersion, IsCurrentDetails, IsLatest, IsReading, no_reading}
+use Rattle.mds_world.specs.Current.{HasNoVersion, HasSameDetails, IsCurrentDetails, IsLatest, IsReading, no_reading}
 use Rattle.mds_world.specs.Facts.{head_at, key_at}
 use Rattle.mds_world.specs.Facts.Fact.{HeadIs, VersionIs}
 use Rattle.mds_world.proofs.Lists.{in_map, map_in}
 use Rattle.mds_world.specs.Lists.{Member}
+use Rattle.mds_world.proofs.Returned.{details_alone, details_beside}
 use Rattle.mds_world.specs.Sets.{◌∈◌}
 use Rattle.mds_world.specs.Stated.{stated}
 use Rattle.mds_world.specs.World.{HasHead, IsKnownDay, IsLawful, World}
@@ -24,10 +25,9 @@ use Rattle.mds_statements.specs.declared.selected.SelectedStream.{SelectedStream
 use Rattle.mds_ranges.proofs.Pairs.{all_member}
 use Rattle.mds_ranges.specs.Selections.{IsSelectedDay, IsSelectedStream, IsSelection}
 use Rattle.mds_laws.proofs.ReturnedCounts.{intervals_counted}
-use Rattle.mds_laws.proofs.ReturnedDetails.{details_alone, same_details, same_details_home}
-use Rattle.mds_laws.proofs.ReturnedFacts.{IsChosen, detail_stated, detail_whence, head_of, head_stated, head_whence, key_of, no_period, version_stated, version_whence}
+use Rattle.mds_laws.proofs.ReturnedFacts.{IsChosen, detail_of, detail_stated, detail_whence, head_of, head_stated, head_whence, key_of, no_period, version_stated, version_whence}
 use Rattle.mds_laws.proofs.ReturnedReadings.{ComesFrom, agrees_alone, agrees_home, current_alone, same_day_home, same_readings}
-use Rattle.mds_laws.specs.Returns.{HasSameDetails, IsAskedFor, IsSameDay}
+use Rattle.mds_laws.specs.Returns.{IsAskedFor, IsSameDay}
 use Rattle.mds_laws.proofs.ReturnedWorlds.{ComesBackAlone, ComesBackHome}
 
 module _ (w : World) (nmi : List ℕ) (suffixes : List (List ℕ)) (first last : ℕ) (header : HeaderValue)
@@ -40,7 +40,7 @@ module _ (w : World) (nmi : List ℕ) (suffixes : List (List ℕ)) (first last :
   day_is : (selected : SelectedStream) (day : SelectedDay) → IsChosen streams selected day
       → IsSelectedDay w selected.stream day
   day_is selected day chosen =
-      all_member (IsSelectedDay w selected.stream) selected.days.items day (stream_is selected chosen.0).days.each chosen.1
+      all_member (IsSelectedDay w selected.stream) selected.days.items day (stream_is selected chosen.0).each chosen.1
 
   -- a version of a day that is selected is of one of its intervals
   headed : (key : Key) (reading : ReadingValue) → VersionIs key reading ∈ stated (selection_stated header streams)
@@ -64,7 +64,7 @@ module _ (w : World) (nmi : List ℕ) (suffixes : List (List ℕ)) (first last :
       )
 
   -- what is stated comes from the World
-  comes_from : ComesFrom w (stated (selection_stated header streams)) header.moment
+  comes_from : ComesFrom w (stated (selection_stated header streams))
   comes_from = record {
     heads = λ head h.
         let v = head_whence header streams head h in
@@ -77,11 +77,9 @@ module _ (w : World) (nmi : List ℕ) (suffixes : List (List ℕ)) (first last :
         subst (λ (x : Key). IsReading w x.stream x.day x.interval reading) (sym v.5)
         ((day_is v.0 v.1 v.3).readings.each v.2 reading v.4);
     headed = headed;
-    moments = λ detail h.
-        let v = detail_whence header streams detail h in ap (λ (x : Detail). x.moment) v.2;
     details = λ detail h.
         let v = detail_whence header streams detail h in
-        subst (λ (x : Detail). IsCurrentDetails w x.stream x.details) (sym v.2) (stream_is v.0 v.1).details;
+        subst (λ (x : Detail). IsCurrentDetails w x.stream x.day x.details) (sym v.3) (day_is v.0 v.1 v.2).details;
     periods = no_period header streams;
   }
 
@@ -92,7 +90,7 @@ module _ (w : World) (nmi : List ℕ) (suffixes : List (List ℕ)) (first last :
       → IsAskedFor w nmi suffixes first last selected.stream day.date
   asked selected day chosen =
       let named = (is.named selected.stream).0 (map_in (λ (x : SelectedStream). x.stream) streams selected chosen.0) in
-      let known = ((stream_is selected chosen.0).days.known day.date).0
+      let known = ((stream_is selected chosen.0).known day.date).0
       (map_in (λ (x : SelectedDay). x.date) selected.days.items day chosen.1) in
       (named.0, named.1, known.0, known.1, known.2)
 
@@ -104,7 +102,7 @@ module _ (w : World) (nmi : List ℕ) (suffixes : List (List ℕ)) (first last :
       let s = in_map (λ (x : SelectedStream). x.stream) streams stream ((is.named stream).1 (named, among)) in
       let there : IsKnownDay w s.0.stream day = subst (λ z. IsKnownDay w z day) s.2 known in
       let d = in_map (λ (x : SelectedDay). x.date) s.0.days.items day
-      (((stream_is s.0 s.1).days.known day).1 (low, high, there)) in
+      (((stream_is s.0 s.1).known day).1 (low, high, there)) in
       (s.0, d.0, (s.1, d.1), sym s.2, sym d.2)
 
   -- a day that is known in what is stated was asked for
@@ -181,7 +179,7 @@ module _ (w : World) (nmi : List ℕ) (suffixes : List (List ℕ)) (first last :
           q,
           subst (λ n. IsReading w selected.stream day.date n q) z ((day_is selected day chosen).readings.each k q at),
           subst (λ n. IsReading (stated (selection_stated header streams)) selected.stream day.date n q) z
-              (current_alone w (stated (selection_stated header streams)) header.moment lawful comes_from
+              (current_alone w (stated (selection_stated header streams)) lawful comes_from
               (key_of selected day (k + 1)) q (version_stated header streams selected day chosen k q at)),
         )
     | inr more ↦ (
@@ -205,27 +203,26 @@ module _ (w : World) (nmi : List ℕ) (suffixes : List (List ℕ)) (first last :
     readings = λ interval r.
         let q = reading_both selected day chosen interval in
         same_readings w (stated (selection_stated header streams)) selected.stream day.date interval q.0 lawful.agrees
-        (agrees_alone w (stated (selection_stated header streams)) header.moment lawful comes_from) q.1 q.2 r;
+        (agrees_alone w (stated (selection_stated header streams)) lawful comes_from) q.1 q.2 r;
   }
 
-  -- and its stream has the same details
+  -- and has the same details
   details_same : (selected : SelectedStream) (day : SelectedDay) → IsChosen streams selected day
-      → HasSameDetails w (stated (selection_stated header streams)) selected.stream
+      → HasSameDetails w (stated (selection_stated header streams)) selected.stream day.date
   details_same selected day chosen =
-      same_details w (stated (selection_stated header streams)) selected.stream selected.details
-      (stream_is selected chosen.0).details
-      (details_alone w (stated (selection_stated header streams)) header.moment comes_from selected.stream
-      (header.moment, selected.details) (detail_stated header streams selected day chosen))
+      details_alone w (stated (selection_stated header streams)) comes_from.details (detail_of header selected day)
+      (detail_stated header streams selected day chosen)
 
   -- so it is with each day that was asked for
   both_same : (stream : Stream) (day : ℕ) → IsAskedFor w nmi suffixes first last stream day
       → IsSameDay w (stated (selection_stated header streams)) stream day
-      × HasSameDetails w (stated (selection_stated header streams)) stream
+      × HasSameDetails w (stated (selection_stated header streams)) stream day
   both_same stream day a =
       let c = chosen_of stream day a in (
         subst (λ z. IsSameDay w (stated (selection_stated header streams)) stream z) c.4
             (subst (λ z. IsSameDay w (stated (selection_stated header streams)) z c.1.date) c.3 (day_alone c.0 c.1 c.2)),
-        subst (λ z. HasSameDetails w (stated (selection_stated header streams)) z) c.3 (details_same c.0 c.1 c.2),
+        subst (λ z. HasSameDetails w (stated (selection_stated header streams)) stream z) c.4
+            (subst (λ z. HasSameDetails w (stated (selection_stated header streams)) z c.1.date) c.3 (details_same c.0 c.1 c.2)),
       )
 
 -- ---- the law
@@ -234,7 +231,7 @@ module _ (w : World) (nmi : List ℕ) (suffixes : List (List ℕ)) (first last :
 pub comes_back_alone : ComesBackAlone
 comes_back_alone w nmi suffixes first last header streams lawful is =
     let from = comes_from w nmi suffixes first last header streams lawful is in (
-      agrees_alone w (stated (selection_stated header streams)) header.moment lawful from,
+      agrees_alone w (stated (selection_stated header streams)) lawful from,
       (λ stream day. (
         known_back w nmi suffixes first last header streams lawful is stream day,
         asked_back w nmi suffixes first last header streams lawful is stream day,
@@ -247,9 +244,8 @@ pub comes_back_home : ComesBackHome
 comes_back_home w nmi suffixes first last header streams lawful is =
     let from = comes_from w nmi suffixes first last header streams lawful is in
     let back = stated (selection_stated header streams) in (
-      agrees_home w back header.moment lawful from,
-      same_day_home w back header.moment lawful from,
-      same_details_home w back header.moment from,
+      agrees_home w back lawful from,
+      (λ stream day. (same_day_home w back lawful from stream day, details_beside w back from.details stream day)),
       intervals_counted w header streams is.ascending
-          (λ s m. (stream_is w nmi suffixes first last header streams lawful is s m).days.ascending),
+          (λ s m. (stream_is w nmi suffixes first last header streams lawful is s m).ascending),
     )

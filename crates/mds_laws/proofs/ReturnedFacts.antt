@@ -6,21 +6,21 @@ use Rattle.std.specs.List.{flat_map, sum_by}
 use Rattle.std.proofs.lemmas.List.Sums.{sum_by-append}
 use Rattle.mds_marks.specs.Reading.{ReadingValue}
 use Rattle.mds_statements.specs.Statements.{DayStatement, HeaderValue, PeriodContent, Statement, days_in, days_of}
-use Rattle.mds_statements.specs.Statements.Statement.{HeaderOf, DetailsOf, DayOf, EventOf, PeriodOf}
+use Rattle.mds_statements.specs.Statements.Statement.{HeaderOf, StreamOf, DetailsOf, DayOf, EventOf, PeriodOf}
 use Rattle.mds_statements.specs.declared.periods.PeriodKey.{PeriodKey}
 use Rattle.mds_nem12.specs.Statements.{statements_of}
 use Rattle.mds_world.specs.declared.facts.Detail.{Detail}
 use Rattle.mds_world.specs.declared.facts.Head.{Head}
 use Rattle.mds_world.specs.declared.facts.Key.{Key}
-use Rattle.mds_world.specs.Facts.{Fact, head_at, key_at}
+use Rattle.mds_world.specs.Facts.{Fact, detail_at, head_at, key_at}
 use Rattle.mds_world.specs.Facts.Fact.{HeadIs, VersionIs, DetailIs, PeriodIs}
-use Rattle.mds_world.proofs.Lists.{append_left, append_right, flat_in, in_flat, member_append}
+use Rattle.mds_world.proofs.Lists.{append_right, flat_in, in_flat, member_append}
 use Rattle.mds_world.specs.Lists.{Member}
 use Rattle.mds_world.specs.Sets.{◌∈◌}
 use Rattle.mds_world.specs.Stated.{day_facts, facts_of, stated}
 use Rattle.mds_keeper.proofs.Taken.{from_versions, to_versions}
 use Rattle.mds_export.specs.Placed.{PlacedDay, is_governed, placed_after, placed_days}
-use Rattle.mds_export.specs.Shows.{day_selected, day_stated, details_selected, selection_stated, unlined}
+use Rattle.mds_export.specs.Shows.{day_selected, day_stated, details_selected, selection_stated, stream_selected, unlined}
 use Rattle.mds_statements.specs.declared.selected.SelectedDay.{SelectedDay}
 use Rattle.mds_statements.specs.declared.selected.SelectedStream.{SelectedStream}
 use Rattle.mds_laws.specs.Returns.{intervals_in}
@@ -36,6 +36,7 @@ size_of day = length day.readings
 -- a statement states the same without its line
 same_facts : (s : Statement) → facts_of (unlined s) ≡ facts_of s
 same_facts (HeaderOf header) = refl
+same_facts (StreamOf stream) = refl
 same_facts (DetailsOf details) = refl
 same_facts (DayOf day) = refl
 same_facts (EventOf event) = refl
@@ -49,6 +50,7 @@ facts_unlined (x ∷ xs) = λ i. same_facts x i ++ facts_unlined xs i
 -- and it has as many intervals
 same_size : (s : Statement) → sum_by size_of (days_in (unlined s)) ≡ sum_by size_of (days_in s)
 same_size (HeaderOf header) = refl
+same_size (StreamOf stream) = refl
 same_size (DetailsOf details) = refl
 same_size (DayOf day) = refl
 same_size (EventOf event) = refl
@@ -91,19 +93,11 @@ to_placed selected before (x ∷ days) day (inl e) =
 to_placed selected before (x ∷ days) day (inr m) =
     let r = to_placed selected (Some x) days day m in (r.0, inr r.1)
 
--- the first day of a stream has none before it
-first_placed : (selected : SelectedStream) (days : List SelectedDay) (day : SelectedDay) → Member day days
-    → (front : SelectedDay)
-    × Member (record { selected = selected; before = None; day = front }) (placed_after selected None days)
-first_placed selected [] day m = absurd m
-first_placed selected (x ∷ days) day m = (x, inl refl)
-
 -- ---- facts
 
--- the details of a selected stream under the moment of the header
-abbrev pub detail_of : HeaderValue → SelectedStream → Detail
-detail_of header selected =
-    record { stream = selected.stream; moment = header.moment; details = selected.details }
+-- the details of a selected day under the moment of the header
+abbrev pub detail_of : HeaderValue → SelectedStream → SelectedDay → Detail
+detail_of header selected day = detail_at selected.stream day.date header.moment day.details
 
 -- the head of a selected day
 abbrev pub head_of : SelectedStream → SelectedDay → Head
@@ -131,12 +125,12 @@ same_head x y e = cc
 same_detail : (x y : Detail) → DetailIs x ≡ DetailIs y → x ≡ y
 same_detail x y e = cc
 
--- a fact of a day that is selected, or of the details of its stream
+-- a fact of a day that is selected, or of its details
 pub record Origin (header : HeaderValue) (streams : List SelectedStream) (f : Fact) : Type 0 where
   pub selected : SelectedStream
   pub day : SelectedDay
   pub chosen : IsChosen streams selected day
-  pub is : (f ≡ DetailIs (detail_of header selected)) ⊎ Member f (facts_of_day selected day)
+  pub is : (f ≡ DetailIs (detail_of header selected day)) ⊎ Member f (facts_of_day selected day)
 
 -- a statement that is there under a test is that one
 member_if : (b : Bool) (x s : Statement) → Member s (if b then [] else x ∷ []) → s ≡ x
@@ -164,25 +158,29 @@ module _ (header : HeaderValue) (streams : List SelectedStream) where
   by_statement : (p : PlacedDay) → Member p (placed_days streams) → (s : Statement)
       → Member s (day_stated header.moment p) → (f : Fact) → Member f (facts_of s) → Origin header streams f
   by_statement p mp s ms f mf =
-      elim (member_append s (if is_governed p.before p.day then [] else DetailsOf (details_selected header.moment p) ∷ [])
-      (DayOf (day_selected p) ∷ []) ms) [
+      elim (member_append s (if is_governed p.before p.day then [] else StreamOf (stream_selected header.moment p) ∷ [])
+      (DetailsOf (details_selected header.moment p) ∷ DayOf (day_selected p) ∷ []) ms) [
         | inl a ↦
-            let e = member_if (is_governed p.before p.day) (DetailsOf (details_selected header.moment p)) s a in
-            let n : Member f (DetailIs (detail_of header p.selected) ∷ []) = subst (λ t. Member f (facts_of t)) e mf in
-            record {
+            let e = member_if (is_governed p.before p.day) (StreamOf (stream_selected header.moment p)) s a in
+            absurd (subst (λ t. Member f (facts_of t)) e mf)
+        | inr b ↦ elim b [
+          | inl e ↦
+              let n : Member f (DetailIs (detail_of header p.selected p.day) ∷ []) = subst (λ t. Member f (facts_of t)) e mf in
+              record {
+                selected = p.selected;
+                day = p.day;
+                chosen = of_placed p mp;
+                is = elim n [ inl q ↦ inl q | inr q ↦ absurd q ];
+              }
+          | inr c ↦ elim c [
+            | inl e ↦ record {
               selected = p.selected;
               day = p.day;
               chosen = of_placed p mp;
-              is = elim n [ inl q ↦ inl q | inr q ↦ absurd q ];
+              is = inr (subst (λ t. Member f (facts_of t)) e mf);
             }
-        | inr b ↦ elim b [
-          | inl e ↦ record {
-            selected = p.selected;
-            day = p.day;
-            chosen = of_placed p mp;
-            is = inr (subst (λ t. Member f (facts_of t)) e mf);
-          }
-          | inr q ↦ absurd q
+            | inr q ↦ absurd q
+          ]
         ]
       ]
 
@@ -238,13 +236,13 @@ module _ (header : HeaderValue) (streams : List SelectedStream) where
         ]
       ]
 
-  -- details are those of a selected stream
+  -- details are those of a selected day
   pub detail_whence : (detail : Detail) → DetailIs detail ∈ stated (selection_stated header streams)
-      → (selected : SelectedStream) × Member selected streams × (detail ≡ detail_of header selected)
+      → (selected : SelectedStream) × (day : SelectedDay) × IsChosen streams selected day × (detail ≡ detail_of header selected day)
   detail_whence detail h =
       let o = origin (DetailIs detail) h in
       elim o.is [
-        | inl e ↦ (o.selected, o.chosen.0, same_detail detail (detail_of header o.selected) e)
+        | inl e ↦ (o.selected, o.day, o.chosen, same_detail detail (detail_of header o.selected o.day) e)
         | inr m ↦ elim m [
           | inl e ↦ cc
           | inr n ↦
@@ -280,8 +278,8 @@ module _ (header : HeaderValue) (streams : List SelectedStream) where
       stated_in (selection_stated header streams) f (DayOf (day_selected p))
       (inr (flat_in (day_stated header.moment) (placed_days streams) (DayOf (day_selected p)) p stands
       (append_right (DayOf (day_selected p))
-      (if is_governed p.before p.day then [] else DetailsOf (details_selected header.moment p) ∷ [])
-      (DayOf (day_selected p) ∷ []) (inl refl)))) m
+      (if is_governed p.before p.day then [] else StreamOf (stream_selected header.moment p) ∷ [])
+      (DetailsOf (details_selected header.moment p) ∷ DayOf (day_selected p) ∷ []) (inr (inl refl))))) m
 
   -- so its head is
   pub head_stated : (selected : SelectedStream) (day : SelectedDay) → IsChosen streams selected day
@@ -298,13 +296,14 @@ module _ (header : HeaderValue) (streams : List SelectedStream) where
       (day_in selected day chosen (VersionIs (key_of selected day (1 + k)) reading)
       (inr (to_versions selected.stream day.date day.update 1 day.readings.items k reading at)))
 
-  -- a stream that has a day states its details
+  -- and so are its details
   pub detail_stated : (selected : SelectedStream) (day : SelectedDay) → IsChosen streams selected day
-      → DetailIs (detail_of header selected) ∈ stated (selection_stated header streams)
+      → DetailIs (detail_of header selected day) ∈ stated (selection_stated header streams)
   detail_stated selected day chosen =
-      let r = first_placed selected selected.days.items day chosen.1 in
-      let p : PlacedDay = record { selected = selected; before = None; day = r.0 } in
+      let r = to_placed selected None selected.days.items day chosen.1 in
+      let p : PlacedDay = record { selected = selected; before = r.0; day = day } in
       let s : Statement = DetailsOf (details_selected header.moment p) in
-      stated_in (selection_stated header streams) (DetailIs (detail_of header selected)) s
+      stated_in (selection_stated header streams) (DetailIs (detail_of header selected day)) s
       (inr (flat_in (day_stated header.moment) (placed_days streams) s p (placed_of selected chosen.0 p r.1)
-      (append_left s (s ∷ []) (DayOf (day_selected p) ∷ []) (inl refl)))) (inl refl)
+      (append_right s (if is_governed p.before p.day then [] else StreamOf (stream_selected header.moment p) ∷ [])
+      (s ∷ DayOf (day_selected p) ∷ []) (inl refl)))) (inl refl)

@@ -9,10 +9,9 @@ use Rattle.mds_marks.specs.Reading.{ReadingValue}
 use Rattle.mds_statements.specs.Statements.{PeriodContent}
 use Rattle.mds_statements.specs.declared.periods.PeriodKey.{PeriodKey}
 use Rattle.std.specs.Cmp.{Equal-is, tied_itself}
-use Rattle.mds_world.specs.declared.facts.Detail.{Detail}
 use Rattle.mds_world.specs.declared.facts.Head.{Head}
 use Rattle.mds_world.specs.declared.facts.Key.{Key}
-use Rattle.mds_world.specs.Current.{HasNoVersion, IsCurrentDetails, IsLatest, IsReading, no_reading}
+use Rattle.mds_world.specs.Current.{DetailsComeFrom, HasNoVersion, IsLatest, IsReading, no_reading}
 use Rattle.mds_world.specs.FactOrder.{exact, fact_cmp, total}
 use Rattle.mds_world.specs.Facts.{Fact, head_at, key_at}
 use Rattle.mds_world.specs.Facts.Fact.{HeadIs, VersionIs, DetailIs, EventIs, PeriodIs, HolidayIs, JobIs}
@@ -25,16 +24,15 @@ use Rattle.mds_world.proofs.Worlds.{one_reading}
 use Rattle.mds_laws.specs.Returns.{IsSameDay}
 
 -- Facts that come back to a World: heads that it has, current readings under the latest update of their day, and current
--- details, all under one moment.
-pub record ComesFrom (w back : World) (moment : ℕ) : Type 0 where
+-- details.
+pub record ComesFrom (w back : World) : Type 0 where
   pub heads : (head : Head) → HeadIs head ∈ back → HeadIs head ∈ w
   pub latest : (key : Key) (reading : ReadingValue) → VersionIs key reading ∈ back
       → IsLatest w key.stream key.day key.update
   pub readings : (key : Key) (reading : ReadingValue) → VersionIs key reading ∈ back
       → IsReading w key.stream key.day key.interval reading
   pub headed : (key : Key) (reading : ReadingValue) → VersionIs key reading ∈ back → HasHead back key
-  pub moments : (detail : Detail) → DetailIs detail ∈ back → detail.moment ≡ moment
-  pub details : (detail : Detail) → DetailIs detail ∈ back → IsCurrentDetails w detail.stream detail.details
+  pub details : DetailsComeFrom w back
   pub periods : (key : PeriodKey) (content : PeriodContent) → PeriodIs key content ∈ back → ⊥
 
 -- a day has one latest update
@@ -117,7 +115,7 @@ found_in made sorts (f ∷ facts) = elim (sorts f) [
 ]
 
 -- and so does a World
-pub found : {K : Type 0} (made : K → Fact) → Sorts made → (w : World)
+found : {K : Type 0} (made : K → Fact) → Sorts made → (w : World)
     → ((k : K) × (made k ∈ w)) ⊎ ((k : K) → made k ∈ w → ⊥)
 found made sorts w = elim (found_in made sorts (set.items w)) [
   | inl a ↦ inl (a.0, items_of w (made a.0) a.1)
@@ -125,7 +123,7 @@ found made sorts w = elim (found_in made sorts (set.items w)) [
 ]
 
 -- a kind that its facts can be read back by sorts all facts
-pub sorts_by : {K : Type 0} (made : K → Fact) (read : Fact → K) → ((k : K) → read (made k) ≡ k) → Sorts made
+sorts_by : {K : Type 0} (made : K → Fact) (read : Fact → K) → ((k : K) → read (made k) ≡ k) → Sorts made
 sorts_by made read again f = elim (same_fact f (made (read f))) [
   | inl a ↦ inl (read f, a)
   | inr b ↦ inr (λ k e. b (e ∙ ap made (sym (again k) ∙ ap read (sym e))))
@@ -150,7 +148,7 @@ version_or_none w stream day interval =
 
 -- ---- what comes back agrees
 
-module _ (w back : World) (moment : ℕ) (lawful : IsLawful w) (from : ComesFrom w back moment) where
+module _ (w back : World) (lawful : IsLawful w) (from : ComesFrom w back) where
   -- it agrees by itself
   pub agrees_alone : Agrees back
   agrees_alone = record {

@@ -3,7 +3,7 @@ use Rattle.std.specs.Prelude.{◌≡◌, ◌⊎◌, None, List, [], ◌∷◌, m
 use Rattle.std.specs.FinSet as set
 use Rattle.std.specs.List.{All, sum_by}
 use Rattle.mds_statements.specs.Statements.{Statement}
-use Rattle.mds_statements.specs.Statements.Statement.{HeaderOf, DetailsOf, DayOf, EventOf, PeriodOf}
+use Rattle.mds_statements.specs.Statements.Statement.{HeaderOf, StreamOf, DetailsOf, DayOf, EventOf, PeriodOf}
 use Rattle.mds_world.specs.Lists.{Member}
 use Rattle.mds_world.specs.Stated.{facts_of, stated}
 use Rattle.mds_world.specs.World.{Agrees, World, union}
@@ -64,7 +64,8 @@ SameFactsEndAlike =
 -- a statement without its line
 abbrev pub unplaced : Statement → Statement
 unplaced (HeaderOf header) = HeaderOf header
-unplaced (DetailsOf of_stream) = DetailsOf (record of_stream { line = 0 })
+unplaced (StreamOf of_stream) = StreamOf (record of_stream { line = 0 })
+unplaced (DetailsOf of_day) = DetailsOf of_day
 unplaced (DayOf day) = DayOf (record day { line = 0 })
 unplaced (EventOf event) = EventOf event
 unplaced (PeriodOf period) = PeriodOf (record period { line = 0 })
@@ -74,7 +75,7 @@ abbrev pub IsAmong : List Statement → Statement → Type 0
 IsAmong statements it = Member (unplaced it) (map unplaced statements)
 
 -- The parts of a file. What they state the file states, with days whole and under the same header and details. Each of its
--- statements that states a fact is in one of them: all but the header.
+-- statements that states a fact is in one of them: all but the header and the 200s.
 pub record AreParts (whole : List Statement) (parts : List (List Statement)) : Type 0 where
   pub just : (part : List Statement) (it : Statement) → Member part parts → Member it part → IsAmong whole it
   pub all : (it : Statement) → Member it whole

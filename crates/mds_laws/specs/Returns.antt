@@ -8,11 +8,10 @@ use Rattle.std.specs.declared.vec.Vec.{Vec}
 use Rattle.mds_quantity.specs.declared.unit.Unit.{Unit as MeasureUnit}
 use Rattle.mds_names.specs.declared.stream.Stream.{Stream}
 use Rattle.mds_marks.specs.Reading.{ReadingValue}
-use Rattle.mds_terms.specs.Details.{DetailsValue}
 use Rattle.mds_records.specs.declared.file.FileKind.TheVariants.{Nem12}
 use Rattle.mds_statements.specs.Statements.{Statement, days_of}
 use Rattle.mds_statements.specs.declared.blocks.Header.{Header}
-use Rattle.mds_world.specs.Current.{IsCurrentDetails, IsDayReading, IsFormOf}
+use Rattle.mds_world.specs.Current.{HasSameDetails, IsDayReading, IsFormOf}
 use Rattle.mds_world.specs.Lists.{Member}
 use Rattle.mds_world.specs.World.{IsKnownDay, IsLawful, World}
 use Rattle.mds_messages.specs.declared.request.Request.TheVariants as asked
@@ -33,17 +32,12 @@ pub record IsSameDay (a b : World) (stream : Stream) (day : ℕ) : Type 0 where
   pub readings : (interval : ℕ) (reading : ReadingValue)
       → IsDayReading a stream day interval reading ↔ IsDayReading b stream day interval reading
 
--- a stream has the same current details in both
-abbrev pub HasSameDetails : World → World → Stream → Type 0
-HasSameDetails a b stream =
-    (details : DetailsValue) → IsCurrentDetails a stream details ↔ IsCurrentDetails b stream details
-
 -- the number of intervals of the days that are stated
 abbrev pub intervals_in : List Statement → ℕ
 intervals_in statements = sum_by (λ day. length day.readings) (days_of statements)
 
 -- A store without anything takes in an export of a lawful World, where it has an answer. It knows then just the days that were
--- asked for, each with the same head and the same current readings. Their streams have the same current details.
+-- asked for, each with the same head, the same current details and the same current readings.
 abbrev pub ReturnsToAnEmptyStore : Type 0
 ReturnsToAnEmptyStore =
     (w same filled : World) (nmi : List ℕ) (suffixes : Vec (List ℕ) Global) (first last : ℕ) (header : Header)
@@ -54,10 +48,10 @@ ReturnsToAnEmptyStore =
     × ((stream : Stream) (day : ℕ)
     → IsKnownDay filled stream day ↔ IsAskedFor w nmi suffixes.items first last stream day)
     × ((stream : Stream) (day : ℕ) → IsAskedFor w nmi suffixes.items first last stream day
-    → IsSameDay w filled stream day × HasSameDetails w filled stream)
+    → IsSameDay w filled stream day × HasSameDetails w filled stream day)
 
--- The store that it came from takes it in, where it has an answer. Each day has then the head and the current readings that it
--- had, and each stream the current details. What is added and what is known are together as many as its intervals.
+-- The store that it came from takes it in, where it has an answer. Each day has then the head, the current details and the current
+-- readings that it had. What is added and what is known are together as many as its intervals.
 abbrev pub ReturnsToItsStore : Type 0
 ReturnsToItsStore =
     (w same returned : World) (nmi : List ℕ) (suffixes : Vec (List ℕ) Global) (first last : ℕ) (header : Header)
@@ -66,5 +60,4 @@ ReturnsToItsStore =
     → Step same (asked.Import Nem12 text) answer returned → IsGiven answer
     → (added known : ℕ) × (answer ≡ told.Imported added known)
     × (added + known ≡ intervals_in (stated_in Nem12 text.items))
-    × ((stream : Stream) (day : ℕ) → IsSameDay w returned stream day)
-    × ((stream : Stream) → HasSameDetails w returned stream)
+    × ((stream : Stream) (day : ℕ) → IsSameDay w returned stream day × HasSameDetails w returned stream day)

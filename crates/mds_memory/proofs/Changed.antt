@@ -1,6 +1,7 @@
 -- Days to which heads and versions are added.
-use Rattle.std.proofs.Common.{◌≡◌, ℕ, List, [], ◌∷◌, ◌++◌, true, false, Option, Some, None, length, refl, sym, ap, ◌∙◌, subst, inl, inr, arith, append_assoc}
+use Rattle.std.proofs.Common.{◌≡◌, ◌≤◌, ◌+◌, ℕ, List, [], ◌∷◌, ◌++◌, true, false, Option, Some, None, length, take, drop, refl, sym, ap, ◌∙◌, subst, inl, inr, append_assoc}
 use Rattle.std.specs.Prelude.{◌⊎◌, cond, map, IsSome}
+use Rattle.std.specs.List.{slice_get}
 use Rattle.std.specs.BTreeMap.{BTreeMap, IsOrdered, get, insert_entry, is_at}
 use Rattle.std.specs.FinSet as set
 use Rattle.std.specs.Cmp.{tied_itself}
@@ -8,13 +9,12 @@ use Rattle.std.specs.Map.{lookup}
 use Rattle.std.specs.Ordering.{is_eq}
 use Rattle.std.specs.declared.cmp.Ordering.TheVariants.{Less, Equal, Greater}
 use Rattle.std.proofs.lemmas.Grind.{flat_map-append}
-use Rattle.std.proofs.lemmas.List.{append-nil, map-append}
+use Rattle.std.proofs.lemmas.List.{append-nil, map-append, take-append-drop, take_all, take_more}
+use Rattle.std.proofs.lemmas.Option.{get_or_from_slice_get, slice_get_within}
 use Rattle.std.proofs.lemmas.Simd.{map-map}
 use Rattle.mds_quantity.specs.declared.unit.Unit.{Unit as MeasureUnit}
 use Rattle.mds_names.specs.declared.stream.Stream.{Stream}
-use Rattle.mds_marks.specs.Reading.{ReadingValue}
 use Rattle.mds_world.specs.declared.facts.Head.{Head}
-use Rattle.mds_world.specs.declared.facts.Key.{Key}
 use Rattle.mds_world.specs.declared.facts.StreamDay.{StreamDay}
 use Rattle.mds_world.specs.Facts.{Fact}
 use Rattle.mds_world.specs.Facts.Fact.{HeadIs, VersionIs, DetailIs, EventIs, PeriodIs, HolidayIs, JobIs}
@@ -25,8 +25,8 @@ use Rattle.mds_world.specs.Sets.{◌∈◌}
 use Rattle.mds_world.specs.World.{IsLawful, IsOn, World, union}
 use Rattle.mds_keeper.specs.Books.{BookValue, IsDay, book_facts, book_world, head_facts, row_fact}
 use Rattle.mds_keeper.specs.Content.{day_versions, rows_of, version_at, version_fact, versions_of}
-use Rattle.mds_memory.specs.Stored.{AreOfTheirDays, IsChange, days_world, place_cmp}
-use Rattle.mds_memory.specs.StoredSteps.{AreBooks, AreChanged, AreLawfulDays, Holds, rows_book}
+use Rattle.mds_memory.specs.Stored.{AreOfTheirDays, IsChange, days_world, last_number, place_cmp}
+use Rattle.mds_memory.specs.StoredSteps.{AreBooks, AreChanged, AreLawfulDays, GetsHead, Holds, rows_book}
 use Rattle.mds_keeper.specs.declared.additions.DayVersions.{DayVersions}
 use Rattle.mds_keeper.specs.declared.day_book.Version.{Version}
 use Rattle.mds_memory.specs.declared.stored_days.InHand.{InHand}
@@ -84,15 +84,6 @@ out_stays k q o n e s =
       | Greater ↦ λ c. inl s
     ] refl in
     elim t [ inl a ↦ inl (subst IsSome (sym e) a) | inr b ↦ inr b ]
-
-pub changed_start : (w : World) (closed : Pending) → closed.entries ≡ [] → IsOrdered place_cmp closed
-    → AreChanged w [] closed None
-changed_start w closed e ordered = record {
-  each = λ place rows g o. let h = sym (ap (λ es. lookup (is_at (place_cmp place)) es) e) ∙ g in cc;
-  hand = tt;
-  all = λ f m. absurd m;
-  ordered = ordered;
-}
 
 pub changed_close : (w : World) (more : List Fact) (old new : Pending) (hand : InHand)
     → ((q : StreamDay) → get place_cmp new q ≡ cond (is_eq (place_cmp hand.place q)) (Some hand.rows) (get place_cmp old q))
@@ -179,6 +170,32 @@ changed_push w more facts closed hand new a e on h = record {
   ordered = a.ordered;
 }
 
+-- the same facts in another order
+holds_same : (w : World) (old new : List Fact) → ((f : Fact) → Member f old → Member f new)
+    → ((f : Fact) → Member f new → Member f old) → (place : StreamDay) (rows : Rows) → Holds w old place rows → Holds w new place rows
+holds_same w old new to from place rows h = record {
+  whole = λ f on k. h.whole f on (elim k [ inl a ↦ inl a | inr m ↦ inr (from f m) ]);
+  only = λ f m. elim (h.only f m) [ inl k ↦ inl k | inr n ↦ inr (to f n) ];
+}
+
+changed_same : (w : World) (old new : List Fact) (closed : Pending) (hand : InHand) → ((f : Fact) → Member f old → Member f new)
+    → ((f : Fact) → Member f new → Member f old) → AreChanged w old closed (Some hand) → AreChanged w new closed (Some hand)
+changed_same w old new closed hand to from a = record {
+  each = λ place rows g o. holds_same w old new to from place rows (a.each place rows g o);
+  hand = holds_same w old new to from hand.place hand.rows a.hand;
+  all = λ f m. a.all f (from f m);
+  ordered = a.ordered;
+}
+
+swapped : (a b c : List Fact) (f : Fact) → Member f ((a ++ b) ++ c) → Member f ((a ++ c) ++ b)
+swapped a b c f m = elim (member_append f (a ++ b) c m) [
+  | inl n ↦ elim (member_append f a b n) [
+    | inl x ↦ append_left f (a ++ c) b (append_left f a c x)
+    | inr x ↦ append_right f (a ++ c) b x
+  ]
+  | inr n ↦ append_left f (a ++ c) b (append_right f a c n)
+]
+
 not_in_head : (stream : Stream) (day : ℕ) (head : Option (ℕ × MeasureUnit)) (f : Fact) → ((h : Head) → f ≡ HeadIs h → ⊥)
     → Member f (head_facts stream day head) → ⊥
 not_in_head stream day None f n m = m
@@ -206,7 +223,7 @@ holds_old w more head old new (JobIs id content count) one here stays on k m = a
 -- What a day holds with one more head, that of the day, which agrees with what is known.
 pub holds_head : (w : World) (more : List Fact) (head : Head) (old new : Rows)
     → ((h : Head) → (HeadIs h ∈ w) ⊎ Member (HeadIs h) more → h.stream ≡ head.stream → h.day ≡ head.day → h ≡ head)
-    → new.head ≡ Some (head.length, head.unit) → new.versions ≡ old.versions
+    → new.head ≡ Some (head.length, head.unit) → new.rows ≡ old.rows
     → Holds w more (record { stream = head.stream; day = head.day }) old
     → Holds w (more ++ HeadIs head ∷ []) (record { stream = head.stream; day = head.day }) new
 holds_head w more head old new one e v h =
@@ -217,7 +234,7 @@ holds_head w more head old new one e v h =
     let stays : (f : Fact) → ((x : Head) → f ≡ HeadIs x → ⊥) → Member f (book_facts (rows_book place old)) → Member f (book_facts (rows_book place new)) =
     λ f n m. elim (member_append f (head_facts head.stream head.day old.head) _ m) [
       | inl a ↦ absurd (not_in_head head.stream head.day old.head f n a)
-      | inr b ↦ append_right f (head_facts head.stream head.day new.head) _ (subst (λ x. Member f (map (row_fact head.stream head.day) x.items)) (sym v) b)
+      | inr b ↦ append_right f (head_facts head.stream head.day new.head) _ (subst (λ x. Member f (map (row_fact head.stream head.day) (rows_of x))) (sym v) b)
     ] in
     let known : (f : Fact) → (f ∈ w) ⊎ Member f (more ++ HeadIs head ∷ []) → ((f ∈ w) ⊎ Member f more) ⊎ (f ≡ HeadIs head) =
     λ f k. elim k [
@@ -237,7 +254,7 @@ holds_head w more head old new one e v h =
           | inl s ↦ inr (append_right f more (HeadIs head ∷ []) (inl s))
           | inr z ↦ absurd z
         ]
-        | inr b ↦ elim (h.only f (append_right f (head_facts head.stream head.day old.head) _ (subst (λ x. Member f (map (row_fact head.stream head.day) x.items)) v b))) [
+        | inr b ↦ elim (h.only f (append_right f (head_facts head.stream head.day old.head) _ (subst (λ x. Member f (map (row_fact head.stream head.day) (rows_of x))) v b))) [
           | inl k ↦ inl k
           | inr n ↦ inr (append_left f more (HeadIs head ∷ []) n)
         ]
@@ -246,18 +263,18 @@ holds_head w more head old new one e v h =
 
 -- the same with more versions of the day
 pub holds_versions : (w : World) (more : List Fact) (place : StreamDay) (rows : List (ℕ × Version)) (old new : Rows)
-    → new.head ≡ old.head → new.versions.items ≡ old.versions.items ++ rows
+    → new.head ≡ old.head → rows_of new.rows ≡ rows_of old.rows ++ rows
     → Holds w more place old → Holds w (more ++ map (row_fact place.stream place.day) rows) place new
 holds_versions w more place rows old new e v h =
     let g : ℕ × Version → Fact = row_fact place.stream place.day in
-    let put : (row : ℕ × Version) → Member row (old.versions.items ++ rows) → Member (g row) (book_facts (rows_book place new)) =
+    let put : (row : ℕ × Version) → Member row (rows_of old.rows ++ rows) → Member (g row) (book_facts (rows_book place new)) =
     λ row m. append_right (g row) (head_facts place.stream place.day new.head) _
-    (map_in g new.versions.items row (subst (λ l. Member row l) (sym v) m)) in
+    (map_in g (rows_of new.rows) row (subst (λ l. Member row l) (sym v) m)) in
     let grown : (f : Fact) → Member f (book_facts (rows_book place old)) → Member f (book_facts (rows_book place new)) =
     λ f m. elim (member_append f (head_facts place.stream place.day old.head) _ m) [
       | inl a ↦ append_left f (head_facts place.stream place.day new.head) _ (subst (λ o. Member f (head_facts place.stream place.day o)) (sym e) a)
-      | inr b ↦ let r = in_map g old.versions.items f b in
-          subst (λ x. Member x (book_facts (rows_book place new))) (sym r.2) (put r.0 (append_left r.0 old.versions.items rows r.1))
+      | inr b ↦ let r = in_map g (rows_of old.rows) f b in
+          subst (λ x. Member x (book_facts (rows_book place new))) (sym r.2) (put r.0 (append_left r.0 (rows_of old.rows) rows r.1))
     ] in
     record {
       whole = λ f on k. elim k [
@@ -265,7 +282,7 @@ holds_versions w more place rows old new e v h =
         | inr m ↦ elim (member_append f more (map g rows) m) [
           | inl n ↦ grown f (h.whole f on (inr n))
           | inr n ↦ let r = in_map g rows f n in
-              subst (λ x. Member x (book_facts (rows_book place new))) (sym r.2) (put r.0 (append_right r.0 old.versions.items rows r.1))
+              subst (λ x. Member x (book_facts (rows_book place new))) (sym r.2) (put r.0 (append_right r.0 (rows_of old.rows) rows r.1))
         ]
       ];
       only = λ f m.
@@ -273,9 +290,9 @@ holds_versions w more place rows old new e v h =
           elim (h.only f n) [ inl k ↦ inl k | inr x ↦ inr (append_left f more (map g rows) x) ] in
           elim (member_append f (head_facts place.stream place.day new.head) _ m) [
             | inl a ↦ from (append_left f (head_facts place.stream place.day old.head) _ (subst (λ o. Member f (head_facts place.stream place.day o)) e a))
-            | inr b ↦ let r = in_map g new.versions.items f b in
-                elim (member_append r.0 old.versions.items rows (subst (λ l. Member r.0 l) v r.1)) [
-                  | inl n ↦ from (append_right f (head_facts place.stream place.day old.head) _ (subst (λ x. Member x (map g old.versions.items)) (sym r.2) (map_in g old.versions.items r.0 n)))
+            | inr b ↦ let r = in_map g (rows_of new.rows) f b in
+                elim (member_append r.0 (rows_of old.rows) rows (subst (λ l. Member r.0 l) v r.1)) [
+                  | inl n ↦ from (append_right f (head_facts place.stream place.day old.head) _ (subst (λ x. Member x (map g (rows_of old.rows))) (sym r.2) (map_in g (rows_of old.rows) r.0 n)))
                   | inr n ↦ inr (append_right f more (map g rows) (subst (λ x. Member x (map g rows)) (sym r.2) (map_in g rows r.0 n)))
                 ]
           ];
@@ -339,7 +356,7 @@ day_holds w place rows d = record {
 -- what is kept of a day, copied
 pub holds_kept : (days : BTreeMap StreamDay BookValue) (place : StreamDay) (book : BookValue) (rows : Rows)
     → AreOfTheirDays days → lookup (is_at (place_cmp place)) days.entries ≡ Some book → rows.head ≡ book.head
-    → rows.versions.items ≡ book.rows → Holds (days_world days) [] place rows
+    → rows_of rows.rows ≡ book.rows → Holds (days_world days) [] place rows
 holds_kept days place book rows t e h v =
     let at = day_there days place book t e in
     let same : book ≡ rows_book place rows =
@@ -347,7 +364,7 @@ holds_kept days place book rows t e h v =
     day_holds (days_world days) place rows (subst (IsDay (days_world days)) same (day_found days place book t e))
 
 pub holds_none : (days : BTreeMap StreamDay BookValue) (place : StreamDay) (rows : Rows) → AreOfTheirDays days
-    → lookup (is_at (place_cmp place)) days.entries ≡ None → rows.head ≡ None → rows.versions.items ≡ []
+    → lookup (is_at (place_cmp place)) days.entries ≡ None → rows.head ≡ None → rows_of rows.rows ≡ []
     → Holds (days_world days) [] place rows
 holds_none days place rows t e h v =
     let empty : book_world (rows_book place rows) ≡ set.empty =
@@ -371,6 +388,7 @@ making_start closed left books l e o = record {
   some = λ x m. subst (λ es. Member x es) l m;
   theirs = record {
     theirs = λ place book m. absurd (subst (λ es. Member (place, book) es) e m);
+    early = λ place book m. absurd (subst (λ es. Member (place, book) es) e m);
     ordered = o;
   };
 }
@@ -385,9 +403,9 @@ making_lawful closed left rest books place rows lawful a l none =
 pub making_step : (closed : Pending) (left rest : List (StreamDay × Rows)) (books new : BTreeMap StreamDay BookValue)
     (place : StreamDay) (rows : Rows) (book : BookValue) → AreMaking closed left books → left ≡ (place, rows) ∷ rest
     → new.entries ≡ insert_entry place_cmp books.entries place book → IsOrdered place_cmp new
-    → (book.stream ≡ place.stream) × (book.day ≡ place.day) → book_world book ≡ book_world (rows_book place rows)
-    → AreMaking closed rest new
-making_step closed left rest books new place rows book a l e o at w =
+    → (book.stream ≡ place.stream) × (book.day ≡ place.day) → place.day ≤ last_number
+    → book_world book ≡ book_world (rows_book place rows) → AreMaking closed rest new
+making_step closed left rest books new place rows book a l e o at low w =
     let here : Member (place, rows) closed.entries =
     a.some (place, rows) (subst (λ es. Member (place, rows) es) (sym l) (inl refl)) in
     let put : Member (place, book) new.entries =
@@ -419,6 +437,10 @@ making_step closed left rest books new place rows book a l e o at w =
           | inl q ↦ (ap (λ x. x.1.stream) q ∙ at.0 ∙ ap (λ x. x.0.stream) (sym q), ap (λ x. x.1.day) q ∙ at.1 ∙ ap (λ x. x.0.day) (sym q))
           | inr n ↦ a.theirs.theirs p b n
         ];
+        early = λ p b m. elim (only (p, b) m) [
+          | inl q ↦ subst (λ x. x.0.day ≤ last_number) (sym q) low
+          | inr n ↦ a.theirs.early p b n
+        ];
         ordered = o;
       };
     }
@@ -440,64 +462,69 @@ push_on : {A : Type 0} (ys : List A) (x : A) (s : List A) → (ys ++ x ∷ []) +
 push_on [] x s = refl
 push_on (y ∷ ys) x s = ap (λ l. y ∷ l) (push_on ys x s)
 
-nothing_on : {A : Type 0} (ys : List A) → ys ++ [] ≡ ys
-nothing_on [] = refl
-nothing_on (y ∷ ys) = ap (λ l. y ∷ l) (nothing_on ys)
-
 map_push : {A B : Type 0} (f : A → B) (xs : List A) (x : A) → map f (xs ++ x ∷ []) ≡ map f xs ++ f x ∷ []
 map_push f [] x = refl
 map_push f (y ∷ ys) x = ap (λ l. f y ∷ l) (map_push f ys x)
 
-then_push : {A : Type 0} (xs ys : List A) (x : A) → (xs ++ ys) ++ x ∷ [] ≡ xs ++ (ys ++ x ∷ [])
-then_push [] ys x = refl
-then_push (y ∷ xs) ys x = ap (λ l. y ∷ l) (then_push xs ys x)
-
 pub split_step : {A : Type 0} (ys r s xs : List A) (x : A) → ys ++ r ≡ xs → r ≡ x ∷ s → (ys ++ x ∷ []) ++ s ≡ xs
 split_step ys r s xs x e f = push_on ys x s ∙ ap (λ l. ys ++ l) (sym f) ∙ e
 
-pub none_left : {A : Type 0} (xs : List A) (n : ℕ) → n ≡ length xs → n ≡ 0 → xs ≡ []
-none_left [] n e z = refl
-none_left (x ∷ xs) n e z = absurd (omega (arith, e, z))
+taken_in : {A : Type 0} (xs : List A) (n : ℕ) (x : A) → Member x (take n xs) → Member x xs
+taken_in xs n x m = subst (λ l. Member x l) (take-append-drop n xs) (append_left x (take n xs) (drop n xs) m)
 
-pub split_end : {A : Type 0} (ys r xs : List A) → ys ++ r ≡ xs → r ≡ [] → ys ≡ xs
-split_end ys r xs e f = sym (nothing_on ys) ∙ ap (λ l. ys ++ l) (sym f) ∙ e
+take_next : {A : Type 0} (xs : List A) (n : ℕ) (x : A) → slice_get xs n ≡ Some x → take (n + 1) xs ≡ take n xs ++ x ∷ []
+take_next xs n x e =
+    take_more xs n x (slice_get_within xs n x e) ∙ ap (λ y. take n xs ++ y ∷ []) (get_or_from_slice_get xs n x x e)
 
-pub fronts_start : (w : World) (heads yielded : List Head) (closed : Pending) (hand : Option InHand) → yielded ≡ heads
-    → AreChanged w (map HeadIs yielded) closed hand
-    → AreChanged w (map HeadIs heads ++ map version_fact []) closed hand
-fronts_start w heads yielded closed hand e a =
-    subst (λ l. AreChanged w l closed hand) (ap (λ l. map HeadIs l) e ∙ sym (nothing_on (map HeadIs heads))) a
+-- what is put so far is among all that is added
+among : (heads : List Head) (n : ℕ) (days yielded rest : List DayVersions) → yielded ++ rest ≡ days → (f : Fact)
+    → Member f (map HeadIs (take n heads) ++ map version_fact (versions_of yielded))
+    → Member f (map HeadIs heads ++ map version_fact (versions_of days))
+among heads n days yielded rest split f m = elim (member_append f (map HeadIs (take n heads)) _ m) [
+  | inl a ↦ let r = in_map HeadIs (take n heads) f a in
+      append_left f (map HeadIs heads) _ (subst (λ x. Member x (map HeadIs heads)) (sym r.2) (map_in HeadIs heads r.0 (taken_in heads n r.0 r.1)))
+  | inr b ↦ append_right f (map HeadIs heads) _ (subst (λ l. Member f (map version_fact (versions_of l))) split
+      (subst (λ l. Member f l) (sym (ap (map version_fact) (flat_map-append day_versions yielded rest)
+      ∙ map-append version_fact (versions_of yielded) (versions_of rest)))
+      (append_left f (map version_fact (versions_of yielded)) _ b)))
+]
 
--- a head is put into the day in hand
-pub head_pushed : (w : World) (heads yielded rest : List Head) (versions : List (Key × ReadingValue)) (head : Head) (closed : Pending)
-    (hand new : InHand) → IsLawful (union w (set.from_list (map HeadIs heads ++ map version_fact versions)))
-    → (yielded ++ head ∷ []) ++ rest ≡ heads → hand.place ≡ record { stream = head.stream; day = head.day }
-    → AreChanged w (map HeadIs yielded) closed (Some hand) → new.place ≡ hand.place
-    → new.rows.head ≡ Some (head.length, head.unit) → new.rows.versions ≡ hand.rows.versions
-    → AreChanged w (map HeadIs (yielded ++ head ∷ [])) closed (Some new)
-head_pushed w heads yielded rest versions head closed hand new lawful split at a p h v =
+-- the next head is put into the day in hand
+pub head_put : (w : World) (heads : List Head) (days yielded rest : List DayVersions) (n : ℕ) (head : Head) (closed : Pending)
+    (hand new : InHand) → IsLawful (union w (set.from_list (map HeadIs heads ++ map version_fact (versions_of days))))
+    → yielded ++ rest ≡ days → slice_get heads n ≡ Some head → hand.place ≡ record { stream = head.stream; day = head.day }
+    → AreChanged w (map HeadIs (take n heads) ++ map version_fact (versions_of yielded)) closed (Some hand) → new.place ≡ hand.place
+    → new.rows.head ≡ Some (head.length, head.unit) → new.rows.rows ≡ hand.rows.rows
+    → AreChanged w (map HeadIs (take (n + 1) heads) ++ map version_fact (versions_of yielded)) closed (Some new)
+head_put w heads days yielded rest n head closed hand new lawful split is at a p h v =
     let place : StreamDay = record { stream = head.stream; day = head.day } in
-    let all : World = union w (set.from_list (map HeadIs heads ++ map version_fact versions)) in
-    let among : (x : Head) → Member x (yielded ++ head ∷ []) → HeadIs x ∈ all = λ x m.
-    union_right w _ (HeadIs x) (list_in _ (HeadIs x) (append_left (HeadIs x) (map HeadIs heads) (map version_fact versions)
-    (map_in HeadIs heads x (subst (λ l. Member x l) split (append_left x (yielded ++ head ∷ []) rest m))))) in
-    let known : (x : Head) → (HeadIs x ∈ w) ⊎ Member (HeadIs x) (map HeadIs yielded) → HeadIs x ∈ all = λ x k. elim k [
-      | inl i ↦ union_left w _ (HeadIs x) i
-      | inr m ↦ let r = in_map HeadIs yielded (HeadIs x) m in
-          subst (λ f. f ∈ all) (sym r.2) (among r.0 (append_left r.0 yielded (head ∷ []) r.1))
+    let all : List Fact = map HeadIs heads ++ map version_fact (versions_of days) in
+    let front : List Fact = map HeadIs (take n heads) in
+    let rows : List Fact = map version_fact (versions_of yielded) in
+    let same : map HeadIs (take (n + 1) heads) ≡ front ++ HeadIs head ∷ [] =
+    ap (map HeadIs) (take_next heads n head is) ∙ map_push HeadIs (take n heads) head in
+    let known : (f : Fact) → (f ∈ w) ⊎ Member f (front ++ rows) → f ∈ union w (set.from_list all) = λ f k. elim k [
+      | inl i ↦ union_left w _ f i
+      | inr m ↦ union_right w _ f (list_in all f (among heads n days yielded rest split f m))
     ] in
-    let one : (x : Head) → (HeadIs x ∈ w) ⊎ Member (HeadIs x) (map HeadIs yielded) → x.stream ≡ head.stream → x.day ≡ head.day → x ≡ head =
-    λ x k s d. lawful.agrees.one_head x head (known x k) (among head (append_right head yielded (head ∷ []) (inl refl))) s d in
-    let holds : Holds w (map HeadIs yielded ++ HeadIs head ∷ []) place new.rows =
-    holds_head w (map HeadIs yielded) head hand.rows new.rows one h v (subst (λ k. Holds w (map HeadIs yielded) k hand.rows) at a.hand) in
+    let here : HeadIs head ∈ union w (set.from_list all) =
+    union_right w _ (HeadIs head) (list_in all (HeadIs head) (append_left (HeadIs head) (map HeadIs heads) _
+    (map_in HeadIs heads head (taken_in heads (n + 1) head (subst (λ l. Member head l) (sym (take_next heads n head is))
+    (append_right head (take n heads) (head ∷ []) (inl refl))))))) in
+    let one : (x : Head) → (HeadIs x ∈ w) ⊎ Member (HeadIs x) (front ++ rows) → x.stream ≡ head.stream → x.day ≡ head.day → x ≡ head =
+    λ x k s d. lawful.agrees.one_head x head (known (HeadIs x) k) here s d in
+    let holds : Holds w ((front ++ rows) ++ HeadIs head ∷ []) place new.rows =
+    holds_head w (front ++ rows) head hand.rows new.rows one h v (subst (λ k. Holds w (front ++ rows) k hand.rows) at a.hand) in
     let on : (f : Fact) → Member f (HeadIs head ∷ []) → IsOn hand.place.stream hand.place.day f = λ f m. elim m [
       | inl s ↦ subst (IsOn hand.place.stream hand.place.day) (sym s)
           (subst (λ (k : StreamDay). IsOn k.stream k.day (HeadIs head)) (sym at) (refl, refl))
       | inr z ↦ absurd z
     ] in
-    subst (λ l. AreChanged w l closed (Some new)) (sym (map_push HeadIs yielded head))
-    (changed_push w (map HeadIs yielded) (HeadIs head ∷ []) closed hand new a p on
-    (subst (λ k. Holds w (map HeadIs yielded ++ HeadIs head ∷ []) k new.rows) (sym at) holds))
+    subst (λ l. AreChanged w (l ++ rows) closed (Some new)) (sym same)
+    (changed_same w ((front ++ rows) ++ HeadIs head ∷ []) ((front ++ HeadIs head ∷ []) ++ rows) closed new
+    (swapped front rows (HeadIs head ∷ [])) (swapped front (HeadIs head ∷ []) rows)
+    (changed_push w (front ++ rows) (HeadIs head ∷ []) closed hand new a p on
+    (subst (λ k. Holds w ((front ++ rows) ++ HeadIs head ∷ []) k new.rows) (sym at) holds)))
 
 -- the facts of one more day
 day_push : (yielded : List DayVersions) (day : DayVersions)
@@ -509,10 +536,10 @@ day_push yielded day =
     ∙ ap (λ l. map version_fact (versions_of yielded) ++ l) (map-map version_fact (version_at day.stream day.day) (rows_of day.rows))
 
 -- versions are put into the day in hand
-pub versions_pushed : (w : World) (front : List Fact) (yielded : List DayVersions) (day : DayVersions) (closed : Pending) (hand new : InHand)
+versions_pushed : (w : World) (front : List Fact) (yielded : List DayVersions) (day : DayVersions) (closed : Pending) (hand new : InHand)
     → hand.place ≡ record { stream = day.stream; day = day.day }
     → AreChanged w (front ++ map version_fact (versions_of yielded)) closed (Some hand) → new.place ≡ hand.place
-    → new.rows.head ≡ hand.rows.head → new.rows.versions.items ≡ hand.rows.versions.items ++ rows_of day.rows
+    → new.rows.head ≡ hand.rows.head → rows_of new.rows.rows ≡ rows_of hand.rows.rows ++ rows_of day.rows
     → AreChanged w (front ++ map version_fact (versions_of (yielded ++ day ∷ []))) closed (Some new)
 versions_pushed w front yielded day closed hand new at a p h v =
     let more : List Fact = front ++ map version_fact (versions_of yielded) in
@@ -529,10 +556,30 @@ versions_pushed w front yielded day closed hand new at a p h v =
     subst (λ l. AreChanged w l closed (Some new)) same
     (changed_push w more facts closed hand new a p on (subst (λ k. Holds w (more ++ facts) k new.rows) (sym at) holds))
 
--- where all is put and nothing is left in hand
-pub changed_all : (w : World) (front : List Fact) (yielded rest days : List DayVersions) (n : ℕ) (closed : Pending)
-    (hand now : Option InHand) → yielded ++ rest ≡ days → n ≡ length rest → n ≡ 0 → hand ≡ now
-    → AreChanged w (front ++ map version_fact (versions_of yielded)) closed hand → AreChanged w (front ++ map version_fact (versions_of days)) closed now
-changed_all w front yielded rest days n closed hand now split len zero at a =
-    subst (λ h. AreChanged w (front ++ map version_fact (versions_of days)) closed h) at
-    (subst (λ l. AreChanged w (front ++ map version_fact (versions_of l)) closed hand) (split_end _ _ _ split (none_left _ _ len zero)) a)
+-- a day's versions are put into the day in hand, behind the next head where that is the day's
+pub day_put : (w : World) (heads : List Head) (days yielded rest : List DayVersions) (n m : ℕ) (day : DayVersions) (closed : Pending)
+    (hand : InHand) (headed : Rows) (new : InHand)
+    → IsLawful (union w (set.from_list (map HeadIs heads ++ map version_fact (versions_of days))))
+    → yielded ++ day ∷ rest ≡ days → hand.place ≡ record { stream = day.stream; day = day.day }
+    → AreChanged w (map HeadIs (take n heads) ++ map version_fact (versions_of yielded)) closed (Some hand)
+    → GetsHead heads n (record { stream = day.stream; day = day.day }) hand.rows headed m → new.place ≡ hand.place
+    → new.rows.head ≡ headed.head → rows_of new.rows.rows ≡ rows_of headed.rows ++ rows_of day.rows
+    → AreChanged w (map HeadIs (take m heads) ++ map version_fact (versions_of (yielded ++ day ∷ []))) closed (Some new)
+day_put w heads days yielded rest n m day closed hand headed new lawful split at a g p h v =
+    let mid : InHand = record { place = hand.place; rows = headed } in
+    let now : ℕ → InHand → Type 0 = λ k x. AreChanged w (map HeadIs (take k heads) ++ map version_fact (versions_of yielded)) closed (Some x) in
+    let b : now m mid = elim g [
+      | inl s ↦ subst (λ k. now k mid) (sym s.1) (subst (λ r. now n (record { place = hand.place; rows = r })) (sym s.0) a)
+      | inr s ↦ subst (λ k. now k mid) (sym s.5)
+          (head_put w heads days yielded (day ∷ rest) n s.0 closed hand mid lawful split s.1 (at ∙ s.2) a refl s.3 s.4)
+    ] in
+    versions_pushed w (map HeadIs (take m heads)) yielded day closed mid new at b p h v
+
+-- where all heads are put
+pub changed_all : (w : World) (heads : List Head) (n : ℕ) (days : List DayVersions) (closed : Pending) (hand now : Option InHand)
+    → length heads ≤ n → hand ≡ now
+    → AreChanged w (map HeadIs (take n heads) ++ map version_fact (versions_of days)) closed hand
+    → AreChanged w (map HeadIs heads ++ map version_fact (versions_of days)) closed now
+changed_all w heads n days closed hand now ends at a =
+    subst (λ h. AreChanged w (map HeadIs heads ++ map version_fact (versions_of days)) closed h) at
+    (subst (λ l. AreChanged w (map HeadIs l ++ map version_fact (versions_of days)) closed hand) (take_all n heads ends) a)

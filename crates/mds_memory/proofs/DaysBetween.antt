@@ -16,6 +16,7 @@ use Rattle.mds_world.specs.Facts.Fact.{HeadIs}
 use Rattle.mds_world.proofs.Lists.{append_left, flat_in, in_flat, in_map, map_in}
 use Rattle.mds_world.specs.Lists.{Member}
 use Rattle.mds_world.proofs.Sets.{both_and, split_and}
+use Rattle.mds_world.specs.World.{IsKnownDay}
 use Rattle.mds_keeper.specs.Books.{BookValue, IsDay}
 use Rattle.mds_keeper.specs.Queries.{AreDaysOf, stream_cmp}
 use Rattle.mds_memory.specs.Stored.{AreOfTheirDays, days_world, place_cmp}
@@ -27,7 +28,7 @@ use Rattle.mds_memory.proofs.Runs.{IsRun, nothing_left}
 use Rattle.mds_memory.proofs.StoredDays.{Kept, day_at, days_in, fact_on, in_days}
 use Rattle.mds_memory.proofs.Streams.{has_head, head_there}
 
-abbrev Entry : Type 0
+abbrev pub Entry : Type 0
 Entry = StreamDay × BookValue
 
 abbrev place : Stream → ℕ → StreamDay
@@ -115,14 +116,14 @@ is_between stream first last p s f l =
     (subst (λ r. is_le (ordering_then r (nat_cmp first p.day)) ≡ true) tied (le_is first p.day f))
     (subst (λ r. not (is_lt (ordering_then r (nat_cmp last p.day))) ≡ true) tied (not_less_is last p.day l))
 
-in_between : (days : Kept) (stream : Stream) (first last : ℕ) (e : Entry) → Member e (between days stream first last)
+pub in_between : (days : Kept) (stream : Stream) (first last : ℕ) (e : Entry) → Member e (between days stream first last)
     → Member e days.entries × ((e.0.stream ≡ stream) × (first ≤ e.0.day) × (e.0.day ≤ last))
 in_between days stream first last e m =
     let r = up.in_filter (λ x. range_contains place_cmp (Included (place stream first)) (Included (place stream last)) x.0)
     days.entries e m in
     (r.0, lies_between stream first last e.0 r.1)
 
-between_in : (days : Kept) (stream : Stream) (first last : ℕ) (e : Entry) → Member e days.entries → e.0.stream ≡ stream
+pub between_in : (days : Kept) (stream : Stream) (first last : ℕ) (e : Entry) → Member e days.entries → e.0.stream ≡ stream
     → first ≤ e.0.day → e.0.day ≤ last → Member e (between days stream first last)
 between_in days stream first last e m s f l =
     up.filter_in (λ x. range_contains place_cmp (Included (place stream first)) (Included (place stream last)) x.0)
@@ -149,21 +150,40 @@ one_ascends e = by (is_some e.1.head)
     by true = ((λ q m. absurd m), tt)
     by false = tt
 
-between_ascends : (days : Kept) (stream : Stream) (first last : ℕ) → IsOrdered place_cmp days
+pub between_ascends : (days : Kept) (stream : Stream) (first last : ℕ) → IsOrdered place_cmp days
     → Ascends (λ (e f : Entry). place_cmp e.0 f.0) (between days stream first last)
 between_ascends days stream first last o =
     up.filtered (λ x. range_contains place_cmp (Included (place stream first)) (Included (place stream last)) x.0)
     (λ e f. place_cmp e.0 f.0) days.entries
     (runs.entries_ascend place_cmp days.entries (up.from_sorted place_cmp (keys_of days.entries) o))
 
-less_means : (a b : ℕ) → nat_cmp a b ≡ Less → a < b
+pub less_means : (a b : ℕ) → nat_cmp a b ≡ Less → a < b
 less_means a b e = subst (λ r. MatchOrdering r (a < b) (a ≡ b) (b < a)) e (ranks a b)
 
 -- within a stream days compare by their dates
-in_stream : (stream : Stream) (a b : StreamDay) → a.stream ≡ stream → b.stream ≡ stream → place_cmp a b ≡ nat_cmp a.day b.day
+pub in_stream : (stream : Stream) (a b : StreamDay) → a.stream ≡ stream → b.stream ≡ stream → place_cmp a b ≡ nat_cmp a.day b.day
 in_stream stream a b p q =
     ap (λ r. ordering_then r (nat_cmp a.day b.day))
     ((λ i. stream_cmp (p i) (q i)) ∙ tied_itself stream_total stream)
+
+-- an entry that has a head is of a known day
+pub is_known : (days : Kept) (stream : Stream) (day : ℕ) (e : Entry) → AreOfTheirDays days → Member e days.entries
+    → e.0.stream ≡ stream → e.0.day ≡ day → is_some e.1.head ≡ true → IsKnownDay (days_world days) stream day
+is_known days stream day e t m s d some =
+    let h = head_there e.1.stream e.1.day e.1.head some in
+    let there = append_left (HeadIs h.0) _ _ h.1 in
+    let on = fact_on e.1 (HeadIs h.0) there in
+    let at = t.theirs e.0 e.1 m in
+    (h.0, days_in days (HeadIs h.0) e m there, on.0 ∙ at.0 ∙ s, on.1 ∙ at.1 ∙ d)
+
+-- and each known day has one
+pub known_entry : (days : Kept) (stream : Stream) (day : ℕ) → AreOfTheirDays days → IsKnownDay (days_world days) stream day
+    → (e : Entry) × Member e days.entries × (e.0.stream ≡ stream) × (e.0.day ≡ day) × (is_some e.1.head ≡ true)
+known_entry days stream day t k =
+    let r = in_days days (HeadIs k.0) k.1 in
+    let at = t.theirs r.0.0 r.0.1 r.1 in
+    let on = fact_on r.0.1 (HeadIs k.0) r.2 in
+    (r.0, r.1, sym at.0 ∙ sym on.0 ∙ k.2, sym at.1 ∙ sym on.1 ∙ k.3, has_head r.0.1 k.0 r.2)
 
 pub days_done : (days : Kept) (stream : Stream) (first last : ℕ) (books : List BookValue) (left : List Entry)
     → AreOfTheirDays days → IsRun known_at IsAny (between days stream first last) books left → left ≡ []
@@ -191,28 +211,13 @@ days_done days stream first last books left t so e =
             let i = in_between days stream first last r.0 r.1 in
             let at = t.theirs r.0.0 r.0.1 i.0 in
             let d : r.0.0.day ≡ day = sym (b.2 ∙ ap (λ v. v.day) r.2 ∙ at.1) in
-            let h = head_there r.0.1.stream r.0.1.day r.0.1.head r.3 in (
-              subst (λ n. first ≤ n) d i.1.1,
-              subst (λ n. n ≤ last) d i.1.2,
-              (
-                h.0,
-                days_in days (HeadIs h.0) r.0 i.0 (append_left (HeadIs h.0) _ _ h.1),
-                (fact_on r.0.1 (HeadIs h.0) (append_left (HeadIs h.0) _ _ h.1)).0 ∙ at.0 ∙ i.1.0,
-                (fact_on r.0.1 (HeadIs h.0) (append_left (HeadIs h.0) _ _ h.1)).1 ∙ at.1 ∙ d,
-              ),
-            )),
+            (subst (λ n. first ≤ n) d i.1.1, subst (λ n. n ≤ last) d i.1.2, is_known days stream day r.0 t i.0 i.1.0 d r.3)),
         (λ k.
-            let h = k.2 in
-            let r = in_days days (HeadIs h.0) h.1 in
-            let at = t.theirs r.0.0 r.0.1 r.1 in
-            let on = fact_on r.0.1 (HeadIs h.0) r.2 in
-            let s : r.0.0.stream ≡ stream = sym at.0 ∙ sym on.0 ∙ h.2 in
-            let d : r.0.0.day ≡ day = sym at.1 ∙ sym on.1 ∙ h.3 in
-            let m = between_in days stream first last r.0 r.1 s (subst (λ n. first ≤ n) (sym d) k.0) (subst (λ n. n ≤ last) (sym d) k.1) in
+            let r = known_entry days stream day t k.2 in
+            let m = between_in days stream first last r.0 r.1 r.2 (subst (λ n. first ≤ n) (sym r.3) k.0) (subst (λ n. n ≤ last) (sym r.3) k.1) in
             let b : Member r.0.1 books =
-            subst (Member r.0.1) (sym taken)
-            (flat_in known_at all r.0.1 r.0 m (of_known r.0 (has_head r.0.1 h.0 r.2))) in
-            subst (λ n. Member n (map (λ v. v.day) books)) (at.1 ∙ d) (map_in (λ v. v.day) books r.0.1 b)),
+            subst (Member r.0.1) (sym taken) (flat_in known_at all r.0.1 r.0 m (of_known r.0 r.4)) in
+            subst (λ n. Member n (map (λ v. v.day) books)) ((t.theirs r.0.0 r.0.1 r.1).1 ∙ r.3) (map_in (λ v. v.day) books r.0.1 b)),
       );
       ascending = λ i j d l m. less_means _ _ (up.pairs by_day books
           (subst (Ascends by_day) (sym taken) (runs.taken_ascends known_at (λ e f. place_cmp e.0 f.0) by_day all

@@ -1,5 +1,5 @@
 -- Maps by their entries.
-use Rattle.std.proofs.Common.{◌≡◌, List, [], ◌∷◌, true, false, Some, None, refl, sym, ap, ◌∙◌, inl, inr}
+use Rattle.std.proofs.Common.{◌≡◌, List, [], ◌∷◌, true, false, Option, Some, None, refl, sym, ap, ◌∙◌, inl, inr}
 use Rattle.std.specs.Prelude.{◌⊎◌, cond}
 use Rattle.std.specs.BTreeMap.{insert_entry, is_at}
 use Rattle.std.specs.Cmp.{IsTotalOrder, tied_itself}
@@ -111,3 +111,12 @@ module _ {K X : Type 0} (c : K → K → Ordering) (exact : (a b : K) → c a b 
       let r : c k k ≡ Less = ap (λ y. c y.0 k) b ∙ l in
       let t = tied_itself total k in cc
   one_entry (x ∷ es) s k v w (inr a) (inr b) = one_entry es (sorted_tail c x.0 (keys_of es) s) k v w a b
+
+  -- and a look-up gives what stands there
+  pub gets : (es : List (K × X)) → IsStrictlySortedBy c (keys_of es) → (k : K) (v : X) → Member (k, v) es
+      → lookup (is_at (c k)) es ≡ Some v
+  gets es s k v m = by (lookup (is_at (c k)) es) refl
+    where
+      by : (found : Option X) → lookup (is_at (c k)) es ≡ found → found ≡ Some v
+      by None e = absurd (not_absent es k v m e)
+      by (Some w) e = ap Some (one_entry es s k w v (found_in es k w e) m)

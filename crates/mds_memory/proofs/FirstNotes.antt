@@ -1,4 +1,4 @@
--- The notes of a stream, and of a day, stand side by side, from a first one on.
+-- The notes of a day stand side by side, from a first one on.
 use Rattle.std.specs.Prelude.{◌≡◌, ◌<◌, ℕ, true, false, List, [], ◌∷◌, Option, None, Some}
 use Rattle.std.proofs.Common.{ap, subst, sym, refl, ◌∙◌, arith}
 use Rattle.std.specs.Cmp.{IsTotalOrder, tied_itself, then_total, on_total, nat_cmp_total, ranks}
@@ -9,16 +9,12 @@ use Rattle.std.specs.Ordering.{is_gt, is_le, nat_cmp, ordering_reverse, ordering
 use Rattle.std.specs.declared.cmp.Ordering.{Ordering}
 use Rattle.std.specs.declared.cmp.Ordering.TheVariants.{Less, Equal, Greater}
 use Rattle.mds_names.specs.declared.stream.Stream.{Stream}
-use Rattle.mds_terms.specs.Details.{DetailsValue, details_cmp}
 use Rattle.mds_terms.specs.Event.{EventValue, event_cmp}
-use Rattle.mds_world.specs.Current.{no_details}
-use Rattle.mds_world.specs.declared.facts.Detail.{Detail}
 use Rattle.mds_world.specs.World.{IsEventOf}
-use Rattle.mds_keeper.specs.Queries.{stream_cmp}
-use Rattle.mds_memory.specs.StoredNotes.{HasDetailsOf, IsEventNoteOf, IsHolidayNote, first_of_day}
+use Rattle.mds_memory.specs.StoredNotes.{IsEventNoteOf, IsHolidayNote, first_of_day}
 use Rattle.mds_memory.specs.declared.stored_notes.Note.{Note}
-use Rattle.mds_memory.specs.declared.stored_notes.Note.TheVariants.{Details, Event, Holiday}
-use Rattle.mds_memory.proofs.NoteOrder.{note_cmp, stream_exact, tie}
+use Rattle.mds_memory.specs.declared.stored_notes.Note.TheVariants.{Event, Holiday}
+use Rattle.mds_memory.proofs.NoteOrder.{note_cmp, tie}
 
 -- what is neither before nor after is the same
 pub between : {K : Type 0} {R : K → K → Ordering} → IsTotalOrder R → IsAntisymmetric R → (x y : K)
@@ -65,49 +61,9 @@ pub empty_least : (xs : List ℕ) → is_le (slice_cmp nat_cmp [] xs) ≡ true
 empty_least [] = refl
 empty_least (x ∷ xs) = refl
 
-none_least : (n : Option ℕ) → is_le (option_cmp nat_cmp None n) ≡ true
+pub none_least : (n : Option ℕ) → is_le (option_cmp nat_cmp None n) ≡ true
 none_least None = refl
 none_least (Some n) = refl
-
-details_least : (d : DetailsValue) → is_le (details_cmp no_details d) ≡ true
-unfolding details_cmp
-details_least d =
-    le_then (slice_cmp nat_cmp [] d.configuration) _ (empty_least d.configuration)
-    (le_then (slice_cmp nat_cmp [] d.register) _ (empty_least d.register)
-    (le_then (slice_cmp nat_cmp [] d.datastream) _ (empty_least d.datastream)
-    (le_then (slice_cmp nat_cmp [] d.meter) _ (empty_least d.meter) (none_least d.next))))
-
-pub stream_total : IsTotalOrder stream_cmp
-stream_total = then_total (on_total (λ s. s.nmi) nat_list_cmp_total) (on_total (λ s. s.suffix) nat_list_cmp_total)
-
--- the note before all details of a stream
-abbrev pub first_of : Stream → Note
-first_of stream = Details (record { stream = stream; moment = 0; details = no_details })
-
-least_at : (stream : Stream) (d : Detail) → d.stream ≡ stream → is_le (note_cmp (first_of stream) (Details d)) ≡ true
-least_at stream d e =
-    le_then (stream_cmp stream d.stream) _
-    (tied_le _ (ap (stream_cmp stream) e ∙ tied_itself stream_total stream))
-    (le_then (nat_cmp 0 d.moment) _ (zero_least d.moment) (details_least d.details))
-
-pub details_from : (stream : Stream) (q : Note) → HasDetailsOf stream q → is_le (note_cmp (first_of stream) q) ≡ true
-details_from stream q h = subst (λ n. is_le (note_cmp (first_of stream) n) ≡ true) (sym h.1) (least_at stream h.0 h.2)
-
-pub details_within : (stream : Stream) (x q : Note) → is_le (note_cmp (first_of stream) x) ≡ true
-    → note_cmp x q ≡ Less → HasDetailsOf stream q → HasDetailsOf stream x
-details_within stream (Event e) q l b h =
-    let wrong : note_cmp (Event e) (Details h.0) ≡ Less = subst (λ n. note_cmp (Event e) n ≡ Less) h.1 b in
-    cc
-details_within stream (Holiday day) q l b h =
-    let wrong : note_cmp (Holiday day) (Details h.0) ≡ Less = subst (λ n. note_cmp (Holiday day) n ≡ Less) h.1 b in
-    cc
-details_within stream (Details d) q l b h =
-    let below : note_cmp (Details d) (Details h.0) ≡ Less = subst (λ n. note_cmp (Details d) n ≡ Less) h.1 b in
-    let up : is_gt (stream_cmp d.stream h.0.stream) ≡ false =
-    first_not_gt (stream_cmp d.stream h.0.stream) _ (less_not_gt _ below) in
-    let down : is_gt (stream_cmp stream d.stream) ≡ false =
-    first_not_gt (stream_cmp stream d.stream) _ (le_not_gt _ l) in
-    (d, refl, between stream_total stream_exact d.stream stream (subst (λ s. is_gt (stream_cmp d.stream s) ≡ false) h.2 up) down)
 
 -- the stream and the day of an event
 abbrev DayKey : Type 0
@@ -167,7 +123,6 @@ events_from stream day q h =
 
 pub events_within : (stream : Stream) (day : ℕ) (x q : Note) → is_le (note_cmp (Event (first_of_day stream day)) x) ≡ true
     → note_cmp x q ≡ Less → IsEventNoteOf stream day q → IsEventNoteOf stream day x
-events_within stream day (Details d) q l b h = cc l
 events_within stream day (Holiday date) q l b h =
     let wrong : note_cmp (Holiday date) (Event h.0) ≡ Less = subst (λ n. note_cmp (Holiday date) n ≡ Less) h.1 b in
     cc
@@ -188,6 +143,5 @@ holidays_from q h = subst (λ n. is_le (note_cmp (Holiday 0) n) ≡ true) (sym h
 
 pub holidays_within : (x q : Note) → is_le (note_cmp (Holiday 0) x) ≡ true → note_cmp x q ≡ Less → IsHolidayNote q
     → IsHolidayNote x
-holidays_within (Details d) q l b h = cc l
 holidays_within (Event e) q l b h = cc l
 holidays_within (Holiday day) q l b h = (day, refl)

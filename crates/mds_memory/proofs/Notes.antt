@@ -1,33 +1,27 @@
 -- Notes as members of a World.
-use Rattle.std.specs.Prelude.{◌≡◌, ◌↔◌, ◌⊎◌, ◌<◌, ◌+◌, ℕ, length, slice_index_or, take, Bool, true, false, cond, IsTrue, List, [], ◌∷◌, ◌++◌, map}
-use Rattle.std.proofs.Common.{sym, ap, subst, inl, inr, refl, suc, zero, arith, ◌∙◌}
-use Rattle.std.proofs.lemmas.List.{append-nil, take_more}
-use mathlib.Core.Bool.{true≢false}
+use Rattle.std.specs.Prelude.{◌≡◌, ◌↔◌, ◌⊎◌, ℕ, length, Bool, true, cond, IsTrue, List, [], ◌∷◌, ◌++◌, map}
+use Rattle.std.proofs.Common.{sym, ap, subst, inl, inr, refl, arith, ◌∙◌}
+use Rattle.std.proofs.lemmas.List.{append-nil}
 use Rattle.std.specs.BTreeMap.{is_at}
 use Rattle.std.specs.BTreeSet.{BTreeSet, contains}
-use Rattle.std.specs.Cmp.{Equal-is, tied_itself}
 use Rattle.std.specs.FinSet as set
 use Rattle.std.specs.List.{list_any}
 use Rattle.mds_world.specs.Facts.{Fact}
-use Rattle.mds_world.proofs.Lists.{append_left, append_right, in_map, map_in, member_append}
+use Rattle.mds_world.proofs.Lists.{in_map, map_in}
 use Rattle.mds_world.specs.Lists.{Member}
 use Rattle.mds_world.proofs.Members.{in_list, in_union, list_in, same_by, union_left, union_right}
-use Rattle.mds_world.proofs.Sets.{or_left, or_right, split_or}
 use Rattle.mds_world.specs.Sets.{◌∈◌}
 use Rattle.mds_world.specs.World.{union}
 use Rattle.mds_memory.specs.Stored.{note_fact, notes_world}
 use Rattle.mds_memory.specs.declared.stored_notes.Note.{Note}
-use Rattle.mds_memory.specs.declared.stored_notes.Note.TheVariants.{Details, Event, Holiday}
+use Rattle.mds_memory.specs.declared.stored_notes.Note.TheVariants.{Event, Holiday}
+use Rattle.mds_memory.proofs.Keys as keys
+use Rattle.mds_memory.proofs.Keys.{AreWithout, found, finds}
 use Rattle.mds_memory.proofs.NoteOrder.{exact, note_cmp, total}
 
 one_note : (a b : Note) → note_fact a ≡ note_fact b → a ≡ b
-one_note (Details a) (Details b) e = cc
-one_note (Details a) (Event b) e = cc
-one_note (Details a) (Holiday b) e = cc
-one_note (Event a) (Details b) e = cc
 one_note (Event a) (Event b) e = cc
 one_note (Event a) (Holiday b) e = cc
-one_note (Holiday a) (Details b) e = cc
 one_note (Holiday a) (Event b) e = cc
 one_note (Holiday a) (Holiday b) e = cc
 
@@ -43,75 +37,20 @@ in_notes notes n h =
 pub notes_in : (notes : BTreeSet Note) (n : Note) → Member n notes.keys → note_fact n ∈ notes_world notes
 notes_in notes n m = list_in _ (note_fact n) (map_in note_fact notes.keys n m)
 
--- a look-up finds just what is there
-pub is_here : (q k : Note) → is_at (note_cmp q) k ≡ true → q ≡ k
-is_here q k h = exact q k ((Equal-is (note_cmp q k)).0 h)
-
-pub here_is : (q k : Note) → q ≡ k → is_at (note_cmp q) k ≡ true
-here_is q k e = subst (λ x. is_at (note_cmp q) x ≡ true) e ((Equal-is (note_cmp q q)).1 (tied_itself total q))
-
-pub found : (q : Note) (ks : List Note) → list_any (is_at (note_cmp q)) ks ≡ true → Member q ks
-found q [] h = cc
-found q (k ∷ ks) h = elim (split_or (is_at (note_cmp q) k) _ h) [
-  | inl a ↦ inl (is_here q k a)
-  | inr b ↦ inr (found q ks b)
-]
-
-pub finds : (q : Note) (ks : List Note) → Member q ks → list_any (is_at (note_cmp q)) ks ≡ true
-finds q [] m = absurd m
-finds q (k ∷ ks) (inl e) = or_left (is_at (note_cmp q) k) _ (here_is q k e)
-finds q (k ∷ ks) (inr m) = or_right (is_at (note_cmp q) k) _ (finds q ks m)
-
 pub has : (notes : BTreeSet Note) (n : Note) (b : Bool) → b ≡ list_any (is_at (note_cmp n)) notes.keys
     → IsTrue b ↔ (note_fact n ∈ notes_world notes)
 has notes n b e = (
-  λ t. notes_in notes n (found n notes.keys (sym e ∙ t)),
-  λ h. e ∙ finds n notes.keys (in_notes notes n h),
+  λ t. notes_in notes n (found note_cmp exact total n notes.keys (sym e ∙ t)),
+  λ h. e ∙ finds note_cmp exact total n notes.keys (in_notes notes n h),
 )
 
--- the notes after one more is inserted
+-- the notes after a copy of one more is inserted
 pub inserted : (old new : BTreeSet Note) (copy note : Note) → copy ≡ note
     → ((q : Note) → contains note_cmp new q ≡ cond (is_at (note_cmp copy) q) true (contains note_cmp old q))
     → (q : Note) → Member q new.keys ↔ (Member q old.keys ⊎ (q ≡ note))
-inserted old new copy note same h q = (
-  (λ m. by (is_at (note_cmp copy) q) refl (sym (finds q new.keys m) ∙ h q)),
-  (λ e. elim e [
-    | inl m ↦ found q new.keys (h q ∙ kept (is_at (note_cmp copy) q) (finds q old.keys m))
-    | inr i ↦ found q new.keys
-        (h q ∙ ap (λ b. cond b true (contains note_cmp old q)) (here_is copy q (same ∙ sym i)))
-  ]),
-)
-  where
-    kept : (b : Bool) → contains note_cmp old q ≡ true → cond b true (contains note_cmp old q) ≡ true
-    kept true e = refl
-    kept false e = e
-
-    by : (b : Bool) → is_at (note_cmp copy) q ≡ b → true ≡ cond b true (contains note_cmp old q)
-        → Member q old.keys ⊎ (q ≡ note)
-    by true e t = inr (sym (is_here copy q e) ∙ same)
-    by false e t = inl (found q old.keys (sym t))
-
--- the notes after one is removed
-pub removed : (old new : BTreeSet Note) (note : Note)
-    → ((q : Note) → contains note_cmp new q ≡ cond (is_at (note_cmp note) q) false (contains note_cmp old q))
-    → (q : Note) → Member q new.keys ↔ (Member q old.keys × (q ≡ note → ⊥))
-removed old new note h q = (
-  (λ m. by (is_at (note_cmp note) q) refl (sym (finds q new.keys m) ∙ h q)),
-  (λ p. found q new.keys (h q ∙ other (is_at (note_cmp note) q) refl p.1 ∙ finds q old.keys p.0)),
-)
-  where
-    other : (b : Bool) → is_at (note_cmp note) q ≡ b → (q ≡ note → ⊥)
-        → cond b false (contains note_cmp old q) ≡ contains note_cmp old q
-    other true e n = absurd (n (sym (is_here note q e)))
-    other false e n = refl
-
-    by : (b : Bool) → is_at (note_cmp note) q ≡ b → true ≡ cond b false (contains note_cmp old q)
-        → Member q old.keys × (q ≡ note → ⊥)
-    by true e t = cc
-    by false e t = (
-      found q old.keys (sym t),
-      (λ i. absurd (true≢false (sym (here_is note q (sym i)) ∙ e))),
-    )
+inserted old new copy note same h =
+    subst (λ n. (q : Note) → Member q new.keys ↔ (Member q old.keys ⊎ (q ≡ n))) same
+    (keys.inserted note_cmp exact total old new copy h)
 
 -- sets with the same notes are one World
 pub same_notes : (a b : BTreeSet Note) → ((q : Note) → Member q a.keys ↔ Member q b.keys)
@@ -139,72 +78,24 @@ more_notes old new more h = same_by _ _
           subst (λ k. k ∈ notes_world new) (sym r.2) (notes_in new r.0 ((h r.0).1 (inr r.1)))
     ])
 
--- one more of a list
-pub taken_more : {K : Type 0} (xs : List K) (i : ℕ) (x : K) → i < length xs → x ≡ slice_index_or xs i x → (q : K)
-    → Member q (take (i + 1) xs) ↔ (Member q (take i xs) ⊎ (q ≡ x))
-taken_more xs i x l is q = (
-  (λ m. elim (member_append q (take i xs) _ (subst (Member q) (take_more xs i x l) m)) [
-    | inl n ↦ inl n
-    | inr n ↦ elim n [ inl e ↦ inr (e ∙ sym is) | inr z ↦ absurd z ]
-  ]),
-  (λ e. subst (Member q) (sym (take_more xs i x l)) (elim e [
-    | inl n ↦ append_left q (take i xs) _ n
-    | inr n ↦ append_right q (take i xs) _ (inl (n ∙ is))
-  ])),
-)
-
--- what is there without the first of a list
-abbrev pub AreWithout : List Note → List Note → List Note → Type 0
-AreWithout new old out = (q : Note) → Member q new ↔ (Member q old × (Member q out → ⊥))
-
-pub out_more : (old : List Note) (mid new : BTreeSet Note) (xs : List Note) (i : ℕ) (x : Note) → i < length xs
-    → x ≡ slice_index_or xs i x → AreWithout mid.keys old (take i xs)
-    → ((q : Note) → contains note_cmp new q ≡ cond (is_at (note_cmp x) q) false (contains note_cmp mid q))
-    → AreWithout new.keys old (take (i + 1) xs)
-out_more old mid new xs i x l is before h q =
-    let r = removed mid new x h q in
-    let t = taken_more xs i x l is q in (
-      (λ m.
-          let p = r.0 m in
-          let b = (before q).0 p.0 in
-          (b.0, (λ n. elim (t.0 n) [ inl k ↦ b.1 k | inr e ↦ p.1 e ]))),
-      (λ p. r.1 ((before q).1 (p.0, (λ n. p.1 (t.1 (inl n)))), (λ e. p.1 (t.1 (inr e))))),
-    )
-
--- what is there with the first of a list
-abbrev pub AreWith : List Note → List Note → List Note → Type 0
-AreWith new old more = (q : Note) → Member q new ↔ (Member q old ⊎ Member q more)
-
-pub in_more : (old mid new : List Note) (xs : List Note) (i : ℕ) (x : Note) → i < length xs
-    → x ≡ slice_index_or xs i x → AreWith mid old (take i xs) → ((q : Note) → Member q new ↔ (Member q mid ⊎ (q ≡ x)))
-    → AreWith new old (take (i + 1) xs)
-in_more old mid new xs i x l is before h q =
-    let t = taken_more xs i x l is q in (
-      (λ m. elim ((h q).0 m) [
-        | inl n ↦ elim ((before q).0 n) [ inl k ↦ inl k | inr k ↦ inr (t.1 (inl k)) ]
-        | inr e ↦ inr (t.1 (inr e))
-      ]),
-      (λ p. elim p [
-        | inl n ↦ (h q).1 (inl ((before q).1 (inl n)))
-        | inr n ↦ elim (t.0 n) [ inl k ↦ (h q).1 (inl ((before q).1 (inr k))) | inr e ↦ (h q).1 (inr e) ]
-      ]),
-    )
-
--- what was put in and taken out again
-pub as_before : (old mid new : List Note) (out : List Note) → AreWith mid old out → AreWithout new mid out
-    → ((q : Note) → Member q out → Member q old → ⊥) → (q : Note) → Member q new ↔ Member q old
-as_before old mid new out with without apart q = (
+-- what was put in is taken out again
+pub taken_back : (old mid new : BTreeSet Note) (more : List Note)
+    → notes_world mid ≡ union (notes_world old) (set.from_list (map note_fact more)) → AreWithout new.keys mid.keys more
+    → ((note : Note) → Member note more → note_fact note ∈ notes_world old → ⊥) → notes_world new ≡ notes_world old
+taken_back old mid new more put out absent = same_notes new old (λ q. (
   (λ m.
-      let p = (without q).0 m in
-      elim ((with q).0 p.0) [ inl n ↦ n | inr n ↦ absurd (p.1 n) ]),
-  (λ m. (without q).1 ((with q).1 (inl m), (λ n. apart q n m))),
-)
-
-pub in_take : (i : ℕ) (xs : List Note) (q : Note) → Member q (take i xs) → Member q xs
-in_take zero xs q m = absurd m
-in_take (suc i) [] q m = absurd m
-in_take (suc i) (x ∷ xs) q (inl e) = inl e
-in_take (suc i) (x ∷ xs) q (inr m) = inr (in_take i xs q m)
+      let p = (out q).0 m in
+      elim (in_union _ _ (note_fact q) (subst (λ w. note_fact q ∈ w) put (notes_in mid q p.0))) [
+        | inl k ↦ in_notes old q k
+        | inr k ↦
+            let r = in_map note_fact more (note_fact q) (in_list _ (note_fact q) k) in
+            absurd (p.1 (subst (λ n. Member n more) (sym (one_note q r.0 r.2)) r.1))
+      ]),
+  (λ m. (out q).1 (
+    in_notes mid q (subst (λ w. note_fact q ∈ w) (sym put) (union_left _ _ (note_fact q) (notes_in old q m))),
+    (λ n. absent q n (notes_in old q m)),
+  )),
+))
 
 -- the next one moves from what is left to the end of the notes
 pub moved : {A : Type 0} (f : A → Fact) (g : A → Note) → ((a : A) → note_fact (g a) ≡ f a) → (old new : List Note)

@@ -1,6 +1,6 @@
 -- Maps of days by their entries.
 use Rattle.std.proofs.Common.{◌≡◌, List, true, false, Option, Some, None, refl, sym, subst}
-use Rattle.std.specs.Prelude.{◌⊎◌, is_some, IfOk, Result, Ok, Err}
+use Rattle.std.specs.Prelude.{◌⊎◌, is_some, IfNone, IfOk, IfSome, Result, Ok, Err}
 use Rattle.std.specs.BTreeMap.{insert_entry, is_at}
 use Rattle.std.specs.Cmp.{IsTotalOrder}
 use Rattle.std.specs.Cmp.Lexicographic.{slice_cmp}
@@ -42,6 +42,14 @@ if_ok_at (Err z) x P e p = tt
 pub if_ok_map : {X E : Type 0} (r : Result X E) (P Q : X → Type 0) → ((x : X) → P x → Q x) → IfOk r P → IfOk r Q
 if_ok_map (Ok y) P Q f p = f y p
 if_ok_map (Err z) P Q f p = tt
+
+pub if_none_at : {X : Type 0} (o : Option X) (P : Type 0) → o ≡ None → IfNone o P → P
+if_none_at None P e p = p
+if_none_at (Some x) P e p = cc
+
+pub if_some_at : {X : Type 0} (o : Option X) (x : X) (P : X → Type 0) → o ≡ Some x → IfSome o P → P x
+if_some_at None x P e p = cc
+if_some_at (Some y) x P e p = let same : y ≡ x = cc in subst P same p
 
 pub is_absent : {X : Type 0} (o : Option X) → false ≡ is_some o → o ≡ None
 is_absent None e = refl

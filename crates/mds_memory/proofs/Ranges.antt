@@ -1,32 +1,26 @@
 -- What a run through the notes from a first one on has found.
-use Rattle.std.specs.Prelude.{◌≡◌, ◌<◌, ℕ, true, List, [], ◌∷◌, ◌++◌, map, Option, None, Some, IfNone, IfSome}
-use Rattle.std.specs.Borrow.{Bor}
+use Rattle.std.specs.Prelude.{◌≡◌, ◌<◌, ℕ, true, List, [], ◌∷◌, ◌++◌, map}
 use Rattle.std.proofs.Common.{ap, subst, sym, refl, inl, inr, ◌∙◌}
 use Rattle.std.specs.BTreeMap.Range.{range_contains}
 use Rattle.std.specs.BTreeSet.{BTreeSet, IsOrdered, keys_between}
 use Rattle.std.specs.Cmp.{ranks, tied_itself}
-use Rattle.std.specs.Ordering.{MatchOrdering, is_le, nat_cmp, ordering_then}
+use Rattle.std.specs.Ordering.{MatchOrdering, is_le, nat_cmp}
 use Rattle.std.specs.declared.cmp.Ordering.TheVariants.{Less}
 use Rattle.std.specs.declared.ops.Bound.TheVariants.{Included, Unbounded}
 use Rattle.mds_names.specs.declared.stream.Stream.{Stream}
-use Rattle.mds_terms.specs.Details.{DetailsValue, details_cmp}
 use Rattle.mds_terms.specs.Event.{EventValue}
-use Rattle.mds_world.specs.Current.{IsGreatestDetail}
-use Rattle.mds_world.specs.declared.facts.Detail.{Detail}
-use Rattle.mds_world.specs.Facts.Fact.{DetailIs}
-use Rattle.mds_world.proofs.Lists.{append_left, append_right, in_map, map_in, member_append}
+use Rattle.mds_world.proofs.Lists.{append_left, in_map, map_in, member_append}
 use Rattle.mds_world.specs.Lists.{Apart, Member}
 use Rattle.mds_world.proofs.Sets.{both_and, split_and}
-use Rattle.mds_world.specs.Sets.{◌∈◌}
 use Rattle.mds_world.specs.World.{IsEventOf}
 use Rattle.mds_keeper.specs.Queries.{AreEventsOf, AreHolidays}
 use Rattle.mds_memory.specs.Stored.{notes_world}
-use Rattle.mds_memory.specs.StoredNotes.{HasDetailsOf, IsEventNoteOf, IsHolidayNote, first_of_day}
+use Rattle.mds_memory.specs.StoredNotes.{IsEventNoteOf, IsHolidayNote, first_of_day}
 use Rattle.mds_memory.specs.declared.stored_notes.Note.{Note}
-use Rattle.mds_memory.specs.declared.stored_notes.Note.TheVariants.{Details, Event, Holiday}
+use Rattle.mds_memory.specs.declared.stored_notes.Note.TheVariants.{Event, Holiday}
 use Rattle.mds_memory.proofs.Ascending as up
 use Rattle.mds_memory.proofs.Ascending.{Ascends}
-use Rattle.mds_memory.proofs.FirstNotes.{details_from, details_within, events_from, events_within, first_of, holidays_from, holidays_within, stream_total}
+use Rattle.mds_memory.proofs.FirstNotes.{events_from, events_within, holidays_from, holidays_within}
 use Rattle.mds_memory.proofs.NoteOrder.{note_cmp, total}
 use Rattle.mds_memory.proofs.Notes.{in_notes, notes_in}
 use Rattle.mds_memory.proofs.Runs as runs
@@ -121,80 +115,6 @@ one_event notes stream day old new left rest note event copy so next is of same 
       ];
     }
 
--- ---- the details of a stream
-
--- the last of those seen
-abbrev pub IsLast : Stream → List Note → Option (Bor Detail) → Type 0
-IsLast stream seen None = seen ≡ []
-IsLast stream seen (Some d) = (front : List Note) × (seen ≡ front ++ Details d.now ∷ []) × (d.now.stream ≡ stream)
-
-pub record IsRun (notes : BTreeSet Note) (stream : Stream) (last : Option (Bor Detail)) (left : List Note) : Type 0 where
-  pub seen : List Note
-  pub run : seen ++ left ≡ from notes (first_of stream)
-  pub is_last : IsLast stream seen last
-
-pub one_detail : (notes : BTreeSet Note) (stream : Stream) (last : Option (Bor Detail)) (left rest : List Note)
-    (note : Note) (detail : Bor Detail) → IsRun notes stream last left → left ≡ note ∷ rest
-    → note ≡ Details detail.now → detail.now.stream ≡ stream → IsRun notes stream (Some detail) rest
-one_detail notes stream last left rest note detail so next is of = record {
-  seen = so.seen ++ Details detail.now ∷ [];
-  run =
-      across_push so.seen (Details detail.now) rest ∙ ap (λ n. so.seen ++ n ∷ rest) (sym is)
-      ∙ ap (λ ns. so.seen ++ ns) (sym next) ∙ so.run;
-  is_last = (so.seen, refl, of);
-}
-
-all_details : (notes : BTreeSet Note) (stream : Stream) (seen left : List Note) → IsOrdered note_cmp notes
-    → seen ++ left ≡ from notes (first_of stream) → HasStopped (HasDetailsOf stream) left
-    → (moment : ℕ) (other : DetailsValue)
-    → DetailIs (record { stream = stream; moment = moment; details = other }) ∈ notes_world notes
-    → Member (Details (record { stream = stream; moment = moment; details = other })) seen
-all_details notes stream seen left o e stop moment other h =
-    let d : Detail = record { stream = stream; moment = moment; details = other } in
-    all_found (HasDetailsOf stream) notes (first_of stream) seen left o e stop
-    (details_within stream) (details_from stream) (Details d) (in_notes notes (Details d) h) (d, refl, refl)
-
-pub no_detail : (notes : BTreeSet Note) (stream : Stream) (left : List Note) → IsOrdered note_cmp notes
-    → IsRun notes stream None left → HasStopped (HasDetailsOf stream) left → (moment : ℕ) (other : DetailsValue)
-    → DetailIs (record { stream = stream; moment = moment; details = other }) ∈ notes_world notes → ⊥
-no_detail notes stream left o so stop moment other h =
-    subst (Member (Details (record { stream = stream; moment = moment; details = other }))) so.is_last
-    (all_details notes stream so.seen left o so.run stop moment other h)
-
-pub greatest_detail : (notes : BTreeSet Note) (stream : Stream) (last : Bor Detail) (left : List Note)
-    → IsOrdered note_cmp notes → IsRun notes stream (Some last) left → HasStopped (HasDetailsOf stream) left
-    → IsGreatestDetail (notes_world notes) stream last.now.moment last.now.details
-greatest_detail notes stream last left o so stop =
-    let d : Detail = last.now in
-    let e : Detail = record { stream = stream; moment = d.moment; details = d.details } in
-    let same : d ≡ e =
-    (λ i. record { stream = so.is_last.2 i; moment = d.moment; details = d.details }) in
-    let ends : so.seen ≡ so.is_last.0 ++ Details e ∷ [] =
-    so.is_last.1 ∙ ap (λ x. so.is_last.0 ++ Details x ∷ []) same in
-    let a : Ascends note_cmp (so.is_last.0 ++ Details e ∷ []) =
-    subst (Ascends note_cmp) ends
-    (up.front note_cmp so.seen left (subst (Ascends note_cmp) (sym so.run) (ascending notes (first_of stream) o))) in
-    record {
-      held = notes_in notes (Details e)
-          (from_in notes (first_of stream) (Details e)
-          (subst (Member (Details e)) so.run
-          (append_left (Details e) so.seen left
-          (subst (Member (Details e)) (sym ends) (append_right (Details e) so.is_last.0 (Details e ∷ []) (inl refl))))));
-      greatest = λ moment other h.
-          let n : Detail = record { stream = stream; moment = moment; details = other } in
-          let m = subst (Member (Details n)) ends (all_details notes stream so.seen left o so.run stop moment other h) in
-          let rest = ordering_then (nat_cmp moment d.moment) (details_cmp other d.details) in
-          let plain : note_cmp (Details n) (Details e) ≡ rest =
-          ap (λ r. ordering_then r rest) (tied_itself stream_total stream) in
-          elim (member_append (Details n) so.is_last.0 (Details e ∷ []) m) [
-            | inl k ↦ ap is_le (sym plain ∙ up.across note_cmp so.is_last.0 (Details e ∷ []) a _ (Details e) k (inl refl))
-            | inr k ↦ elim k [
-              | inl i ↦ ap is_le (sym plain ∙ ap (λ x. note_cmp x (Details e)) i ∙ tied_itself total (Details e))
-              | inr z ↦ absurd z
-            ]
-          ];
-    }
-
 pub events_begin : (notes : BTreeSet Note) (stream : Stream) (day : ℕ) (events : List EventValue) (first : Note)
     (left : List Note) → events ≡ [] → first ≡ Event (first_of_day stream day) → left ≡ from notes first
     → AreSoFar notes stream day events left
@@ -202,24 +122,6 @@ events_begin notes stream day events first left none is all = record {
   run = ap (λ es. map Event es ++ left) none ∙ all ∙ ap (from notes) is;
   of_day = λ e m. absurd (subst (Member e) none m);
 }
-
-pub details_begin : (notes : BTreeSet Note) (stream : Stream) (first : Note) (left : List Note)
-    → first ≡ first_of stream → left ≡ from notes first → IsRun notes stream None left
-details_begin notes stream first left is all =
-    record { seen = []; run = all ∙ ap (from notes) is; is_last = refl }
-
-pub last_some : (notes : BTreeSet Note) (stream : Stream) (last : Option (Bor Detail)) (left : List Note)
-    → IsOrdered note_cmp notes → IsRun notes stream last left → HasStopped (HasDetailsOf stream) left
-    → IfSome last (λ d. IsGreatestDetail (notes_world notes) stream d.now.moment d.now.details)
-last_some notes stream None left o so stop = tt
-last_some notes stream (Some d) left o so stop = greatest_detail notes stream d left o so stop
-
-pub last_none : (notes : BTreeSet Note) (stream : Stream) (last : Option (Bor Detail)) (left : List Note)
-    → IsOrdered note_cmp notes → IsRun notes stream last left → HasStopped (HasDetailsOf stream) left
-    → IfNone last ((moment : ℕ) (other : DetailsValue)
-    → DetailIs (record { stream = stream; moment = moment; details = other }) ∈ notes_world notes → ⊥)
-last_none notes stream None left o so stop = no_detail notes stream left o so stop
-last_none notes stream (Some d) left o so stop = tt
 
 -- ---- the holidays
 

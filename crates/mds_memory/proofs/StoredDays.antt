@@ -1,10 +1,11 @@
 -- Days that are kept, as a World.
-use Rattle.std.proofs.Common.{◌≡◌, ℕ, List, [], ◌∷◌, Option, Some, None, refl, sym, ap, ◌∙◌, subst, inl, inr}
+use Rattle.std.proofs.Common.{◌≡◌, ◌≤◌, ℕ, List, [], ◌∷◌, Option, Some, None, refl, sym, ap, ◌∙◌, subst, inl, inr}
 use Rattle.std.specs.Prelude.{◌⊎◌}
 use Rattle.std.specs.List.Sorted.{IsStrictlySortedBy}
 use Rattle.std.specs.BTreeMap.{BTreeMap, IsOrdered, insert_entry, is_at}
 use Rattle.std.specs.FinSet as set
 use Rattle.std.specs.Map.{keys_of, lookup}
+use Rattle.std.specs.Option.{unwrap_or}
 use Rattle.mds_quantity.specs.declared.unit.Unit.{Unit as MeasureUnit}
 use Rattle.mds_names.specs.declared.stream.Stream.{Stream}
 use Rattle.mds_world.specs.declared.facts.StreamDay.{StreamDay}
@@ -18,7 +19,7 @@ use Rattle.mds_world.proofs.Sets.{not_in_empty}
 use Rattle.mds_world.specs.Sets.{◌∈◌}
 use Rattle.mds_world.specs.World.{IsLawful, IsOn, World, union}
 use Rattle.mds_keeper.specs.Books.{BookValue, IsDay, book_facts, book_world, head_facts, row_fact}
-use Rattle.mds_memory.specs.Stored.{AreOfTheirDays, HasRoom, IsChange, days_world, place_cmp}
+use Rattle.mds_memory.specs.Stored.{AreOfTheirDays, HasRoom, IsChange, days_world, last_number, place_cmp}
 use Rattle.mds_keeper.specs.declared.day_book.Version.{Version}
 use Rattle.mds_memory.proofs.Places.{found_in, insert_here, insert_only, insert_other, not_absent, one_entry}
 
@@ -128,6 +129,7 @@ pub put_theirs : (old changed now : Kept) (left : List (StreamDay × BookValue))
     → IsOrdered place_cmp now → AreOfTheirDays now
 put_theirs old changed now left p o t s = record {
   theirs = λ place book m. elim (p.only (place, book) m) [ inl a ↦ o.theirs place book a | inr b ↦ t.theirs place book b ];
+  early = λ place book m. elim (p.only (place, book) m) [ inl a ↦ o.early place book a | inr b ↦ t.early place book b ];
   ordered = s;
 }
 
@@ -172,6 +174,7 @@ nothing_lawful = record {
   closed = record {
     headed = λ key reading x. absurd (not_in_empty total exact (VersionIs key reading) x);
     versioned = λ head x. absurd (not_in_empty total exact (HeadIs head) x);
+    detailed = λ detail x. absurd (not_in_empty total exact (DetailIs detail) x);
   };
 }
 
@@ -184,10 +187,6 @@ bare_is stream day rows e none = none set.empty nothing_lawful (subst (λ r. IsD
   whole = λ f on h. h;
   only = λ f h. h;
 }))
-
-pub bare_world : (book : BookValue) (stream : Stream) (day : ℕ) (rows : List (ℕ × Version)) → rows ≡ []
-    → book_world book ≡ book_world (bare stream day rows) → book_world book ≡ set.empty
-bare_world book stream day rows e w = w ∙ ap (λ r. book_world (bare stream day r)) e
 
 pub says_nothing : (book : BookValue) (f : Fact) → book_world book ≡ set.empty → Member f (book_facts book) → ⊥
 says_nothing book f e m = not_in_empty total exact f (subst (λ w. f ∈ w) e (list_in (book_facts book) f m))
@@ -244,26 +243,11 @@ room_start old changed left e = record {
   room = λ place book m. inl (subst (λ ks. Member place ks) (sym e) (key_of changed.entries place book m));
 }
 
-pub room_there : (old changed now : Kept) (left rest : List StreamDay) (k : StreamDay) (b : BookValue)
-    → IsRoom old changed left now → left ≡ k ∷ rest → lookup (is_at (place_cmp k)) now.entries ≡ Some b
-    → IsRoom old changed rest now
-room_there old changed now left rest k b r l e = record {
-  same = r.same;
-  theirs = r.theirs;
-  room = λ place book m. elim (r.room place book m) [
-    | inl a ↦ elim (subst (λ ks. Member place ks) l a) [
-      | inl q ↦ inr (b, subst (λ p. Member (p, b) now.entries) (sym q) (found_in now.entries k b e))
-      | inr n ↦ inl n
-    ]
-    | inr n ↦ inr n
-  ];
-}
-
-pub room_added : (old changed now new : Kept) (left rest : List StreamDay) (k : StreamDay) (b : BookValue)
+room_added : (old changed now new : Kept) (left rest : List StreamDay) (k : StreamDay) (b : BookValue)
     → IsRoom old changed left now → left ≡ k ∷ rest → lookup (is_at (place_cmp k)) now.entries ≡ None
     → new.entries ≡ insert_entry place_cmp now.entries k b → IsOrdered place_cmp new
-    → (b.stream ≡ k.stream) × (b.day ≡ k.day) → book_world b ≡ set.empty → IsRoom old changed rest new
-room_added old changed now new left rest k b r l none es ordered at empty =
+    → (b.stream ≡ k.stream) × (b.day ≡ k.day) → k.day ≤ last_number → book_world b ≡ set.empty → IsRoom old changed rest new
+room_added old changed now new left rest k b r l none es ordered at low empty =
     let keeps : (e : StreamDay × BookValue) → Member e now.entries → Member e new.entries = λ e m.
     elim (insert_other now.entries k b e m) [
       | inl n ↦ subst (λ xs. Member e xs) (sym es) n
@@ -284,6 +268,10 @@ room_added old changed now new left rest k b r l none es ordered at empty =
           | inl q ↦ (ap (λ e. e.1.stream) q ∙ at.0 ∙ sym (ap (λ e. e.0.stream) q), ap (λ e. e.1.day) q ∙ at.1 ∙ sym (ap (λ e. e.0.day) q))
           | inr n ↦ (r.theirs t).theirs place book n
         ];
+        early = λ place book m. elim (only (place, book) m) [
+          | inl q ↦ subst (λ e. e.0.day ≤ last_number) (sym q) low
+          | inr n ↦ (r.theirs t).early place book n
+        ];
         ordered = ordered;
       };
       room = λ place book m. elim (r.room place book m) [
@@ -295,6 +283,52 @@ room_added old changed now new left rest k b r l none es ordered at empty =
       ];
     }
 
+-- the day has a place, and is put again as it was
+room_kept : (old changed now new : Kept) (left rest : List StreamDay) (k : StreamDay) (v : BookValue)
+    → IsRoom old changed left now → left ≡ k ∷ rest → lookup (is_at (place_cmp k)) now.entries ≡ Some v
+    → new.entries ≡ insert_entry place_cmp now.entries k v → IsOrdered place_cmp now → IsOrdered place_cmp new
+    → IsRoom old changed rest new
+room_kept old changed now new left rest k v r l some es was ordered =
+    let there : Member (k, v) now.entries = found_in now.entries k v some in
+    let keeps : (e : StreamDay × BookValue) → Member e now.entries → Member e new.entries = λ e m.
+    elim (insert_other now.entries k v e m) [
+      | inl n ↦ subst (λ xs. Member e xs) (sym es) n
+      | inr q ↦ let w = one_entry now.entries was k e.1 v (subst (λ p. Member (p, e.1) now.entries) q m) there in
+          subst (λ xs. Member e xs) (sym es) (subst (λ x. Member x (insert_entry place_cmp now.entries k v)) (λ i. (sym q i, sym w i))
+          (insert_here now.entries k v))
+    ] in
+    let only : (e : StreamDay × BookValue) → Member e new.entries → Member e now.entries = λ e m.
+    elim (insert_only now.entries k v e (subst (λ xs. Member e xs) es m)) [
+      | inl q ↦ subst (λ x. Member x now.entries) (sym q) there
+      | inr n ↦ n
+    ] in
+    record {
+      same = same_by _ _ (λ f h. let d = in_days new f h in days_in now f d.0 (only d.0 d.1) d.2)
+          (λ f h. let d = in_days now f h in days_in new f d.0 (keeps d.0 d.1) d.2) ∙ r.same;
+      theirs = λ t. record {
+        theirs = λ place book m. (r.theirs t).theirs place book (only (place, book) m);
+        early = λ place book m. (r.theirs t).early place book (only (place, book) m);
+        ordered = ordered;
+      };
+      room = λ place book m. elim (r.room place book m) [
+        | inl a ↦ elim (subst (λ ks. Member place ks) l a) [
+          | inl q ↦ inr (v, subst (λ p. Member (p, v) new.entries) (sym q) (keeps (k, v) there))
+          | inr n ↦ inl n
+        ]
+        | inr n ↦ inr (n.0, keeps (place, n.0) n.1)
+      ];
+    }
+
+-- the day has a place now
+pub room_put : (old changed now new : Kept) (left rest : List StreamDay) (k : StreamDay) (b : BookValue) (o : Option BookValue)
+    → IsRoom old changed left now → left ≡ k ∷ rest → lookup (is_at (place_cmp k)) now.entries ≡ o
+    → new.entries ≡ insert_entry place_cmp now.entries k (unwrap_or o b) → IsOrdered place_cmp now → IsOrdered place_cmp new
+    → (b.stream ≡ k.stream) × (b.day ≡ k.day) → k.day ≤ last_number → book_world b ≡ set.empty → IsRoom old changed rest new
+room_put old changed now new left rest k b None r l e es was ordered at low empty =
+    room_added old changed now new left rest k b r l e es ordered at low empty
+room_put old changed now new left rest k b (Some v) r l e es was ordered at low empty =
+    room_kept old changed now new left rest k v r l e es was ordered
+
 pub room_end : (old changed now : Kept) (left : List StreamDay) → IsRoom old changed left now → left ≡ []
     → HasRoom now changed
 room_end old changed now left r e = λ place book m. elim (r.room place book m) [
@@ -305,16 +339,10 @@ room_end old changed now left r e = λ place book m. elim (r.room place book m) 
 pub theirs_same : (old new : Kept) → new.entries ≡ old.entries → AreOfTheirDays old → AreOfTheirDays new
 theirs_same old new e t = record {
   theirs = λ place book m. t.theirs place book (subst (λ es. Member (place, book) es) e m);
+  early = λ place book m. t.early place book (subst (λ es. Member (place, book) es) e m);
   ordered = subst (λ es. IsStrictlySortedBy place_cmp (keys_of es)) (sym e) t.ordered;
 }
 
 pub day_there : (days : Kept) (place : StreamDay) (book : BookValue) → AreOfTheirDays days
     → lookup (is_at (place_cmp place)) days.entries ≡ Some book → (book.stream ≡ place.stream) × (book.day ≡ place.day)
 day_there days place book t e = t.theirs place book (found_in days.entries place book e)
-
--- days that change while there is room for them
-pub put_over : (old room new changed : Kept) (w : World)
-    → ((v : World) → IsChange (days_world room) v changed → days_world new ≡ union (days_world room) v)
-    → days_world room ≡ days_world old → IsChange (days_world old) w changed → days_world new ≡ union (days_world old) w
-put_over old room new changed w put same change =
-    put w (subst (λ x. IsChange x w changed) (sym same) change) ∙ ap (λ x. union x w) same

@@ -26,7 +26,7 @@ use Rattle.mds_keeper.specs.Content.{job_fact}
 use Rattle.mds_keeper.specs.Queries.{IsJobOf}
 use Rattle.mds_memory.specs.Stored.{AreOfTheirIds, HasPlaces, id_cmp, jobs_world, kept_facts}
 use Rattle.mds_memory.proofs.Entries as entries
-use Rattle.mds_memory.proofs.Notes.{taken_more}
+use Rattle.mds_memory.proofs.Keys.{taken_more}
 
 abbrev pub Jobs : Type 0
 Jobs = BTreeMap (List ℕ) (Option (Job × ℕ))

@@ -35,7 +35,7 @@ use Rattle.mds_memory.proofs.Ascending.{Ascends}
 use Rattle.mds_memory.proofs.Entries as entries
 use Rattle.mds_memory.proofs.FirstNotes.{between, empty_least, first_not_gt, le_not_gt, le_then, less_not_gt, tied_le, zero_least}
 use Rattle.mds_memory.proofs.NoteOrder.{tie}
-use Rattle.mds_memory.proofs.Notes.{taken_more}
+use Rattle.mds_memory.proofs.Keys.{taken_more}
 use Rattle.mds_memory.proofs.Places.{stream_exact, stream_total}
 use Rattle.mds_memory.proofs.Runs as runs
 use Rattle.mds_memory.proofs.Runs.{HasStopped, IsRun}

@@ -20,18 +20,19 @@ use Rattle.mds_world.proofs.Lists.{append_left, append_right, in_map, member_app
 use Rattle.mds_world.specs.Lists.{Member}
 use Rattle.mds_keeper.specs.Books.{BookValue, book_facts, head_facts, row_fact}
 use Rattle.mds_keeper.specs.Queries.{AreKnownStreams, stream_cmp}
-use Rattle.mds_memory.specs.Stored.{AreDetailStreams, AreHeadStreams, AreOfTheirDays, ArePeriodStreams, days_world, key_cmp, notes_world, periods_world, place_cmp, stored_world}
+use Rattle.mds_memory.specs.Stored.{AreHeadStreams, AreOfTheirDays, ArePeriodStreams, days_world, key_cmp, periods_world, place_cmp, stored_world}
 use Rattle.mds_memory.specs.StoredNotes.{IsAtEnd, PutsLast}
 use Rattle.mds_keeper.specs.declared.day_book.Version.{Version}
 use Rattle.mds_memory.specs.declared.stored_notes.Note.{Note}
 use Rattle.mds_memory.proofs.Ascending as up
 use Rattle.mds_memory.proofs.Ascending.{Ascends}
-use Rattle.mds_memory.proofs.DetailStreams.{at_last, ends_at, get_member, less_or_tied}
+use Rattle.mds_memory.proofs.LastStreams.{at_last, ends_at, get_member, less_or_tied}
 use Rattle.mds_memory.proofs.FirstNotes.{first_not_gt, less_not_gt}
-use Rattle.mds_memory.proofs.Kept.{days_in_whole, detail_same, of_days, of_periods, periods_in_whole}
+use Rattle.mds_memory.proofs.Kept.{days_in_whole, of_days, of_periods, periods_in_whole}
 use Rattle.mds_memory.proofs.Places.{stream_exact, stream_total}
 use Rattle.mds_memory.proofs.Runs.{across_push, entries_ascend, nothing_left}
 use Rattle.mds_memory.proofs.StoredDays.{Kept, days_in, fact_on, in_days}
+use Rattle.mds_memory.proofs.StoredDetails.{Meters}
 use Rattle.mds_memory.proofs.StoredJobs.{Jobs}
 use Rattle.mds_memory.proofs.StoredPeriods.{Periods, Place, kept_at, periods_in}
 
@@ -435,29 +436,23 @@ end_of_b a b left_a left_b out new so none n =
       ascending = r.ascending;
     }
 
-pub known_streams : (days : Kept) (notes : BTreeSet Note) (jobs : Jobs) (periods : Periods)
-    (of_heads of_details of_keys others streams : List Stream) → AreHeadStreams (days_world days) of_heads
-    → AreDetailStreams (notes_world notes) of_details → ArePeriodStreams (periods_world periods) of_keys
-    → ((s : Stream) → Member s others ↔ (Member s of_details ⊎ Member s of_keys))
-    → ((s : Stream) → Member s streams ↔ (Member s of_heads ⊎ Member s others))
-    → AllPairs (λ x y. stream_cmp x y ≡ Less) streams → AreKnownStreams (stored_world days notes jobs periods) streams
-known_streams days notes jobs periods hs ds ps os streams h d p both each up = record {
+pub known_streams : (days : Kept) (meters : Meters) (notes : BTreeSet Note) (jobs : Jobs) (periods : Periods)
+    (of_heads of_keys streams : List Stream) → AreHeadStreams (days_world days) of_heads
+    → ArePeriodStreams (periods_world periods) of_keys
+    → ((s : Stream) → Member s streams ↔ (Member s of_heads ⊎ Member s of_keys))
+    → AllPairs (λ x y. stream_cmp x y ≡ Less) streams
+    → AreKnownStreams (stored_world days meters notes jobs periods) streams
+known_streams days meters notes jobs periods hs ps streams h p both up = record {
   each = λ s. (
-    (λ m. elim ((each s).0 m) [
-      | inl n ↦ let r = (h.each s).0 n in inl (r.0, days_in_whole days notes jobs periods _ r.1, r.2)
-      | inr n ↦ elim ((both s).0 n) [
-        | inl k ↦ let r = (d.each s).0 k in inr (inl (r.0, (detail_same days notes jobs periods r.0).0 r.1, r.2))
-        | inr k ↦ let r = (p.each s).0 k in inr (inr (r.0, r.1, periods_in_whole days notes jobs periods _ r.2, r.3))
-      ]
+    (λ m. elim ((both s).0 m) [
+      | inl n ↦ let r = (h.each s).0 n in inl (r.0, days_in_whole days meters notes jobs periods _ r.1, r.2)
+      | inr n ↦ let r = (p.each s).0 n in inr (r.0, r.1, periods_in_whole days meters notes jobs periods _ r.2, r.3)
     ]),
-    (λ k. elim k [
-      | inl r ↦ (each s).1 (inl ((h.each s).1
-          (r.0, of_days days notes jobs periods r.0.stream r.0.day (HeadIs r.0) (refl, refl) r.1, r.2)))
-      | inr q ↦ (each s).1 (inr ((both s).1 (elim q [
-        | inl r ↦ inl ((d.each s).1 (r.0, (detail_same days notes jobs periods r.0).1 r.1, r.2))
-        | inr r ↦ inr ((p.each s).1 (r.0, r.1, of_periods days notes jobs periods r.0 r.1 r.2, r.3))
-      ])))
-    ]),
+    (λ k. (both s).1 (elim k [
+      | inl r ↦ inl ((h.each s).1
+          (r.0, of_days days meters notes jobs periods r.0.stream r.0.day (HeadIs r.0) (refl, refl) r.1, r.2))
+      | inr r ↦ inr ((p.each s).1 (r.0, r.1, of_periods days meters notes jobs periods r.0 r.1 r.2, r.3))
+    ])),
   );
   ascending = up;
 }

@@ -1,4 +1,5 @@
 pub mod Stored
+pub mod StoredDetails
 pub mod StoredNotes
 pub mod StoredPeriods
 pub mod StoredSteps

@@ -1,5 +1,5 @@
 -- What a keeper in memory keeps, as a World.
-use Rattle.std.specs.Prelude.{◌≡◌, ◌↔◌, ℕ, List, [], ◌∷◌, Option, Some, None, map}
+use Rattle.std.specs.Prelude.{◌≡◌, ◌↔◌, ◌≤◌, ℕ, List, [], ◌∷◌, Option, Some, None, map}
 use Rattle.std.specs.List.{flat_map, AllPairs}
 use Rattle.std.specs.BTreeMap.{BTreeMap, IsOrdered}
 use Rattle.std.specs.BTreeSet.{BTreeSet}
@@ -12,22 +12,22 @@ use Rattle.mds_jobs.specs.declared.job.Job.{Job}
 use Rattle.mds_names.specs.declared.stream.Stream.{Stream}
 use Rattle.mds_statements.specs.declared.periods.Period.{Period}
 use Rattle.mds_statements.specs.declared.periods.PeriodKey.{PeriodKey}
-use Rattle.mds_world.specs.declared.facts.Detail.{Detail}
 use Rattle.mds_world.specs.declared.facts.Head.{Head}
 use Rattle.mds_world.specs.declared.facts.StreamDay.{StreamDay}
 use Rattle.mds_world.specs.Facts.{Fact, PeriodContent}
-use Rattle.mds_world.specs.Facts.Fact.{HeadIs, DetailIs, EventIs, PeriodIs, HolidayIs}
+use Rattle.mds_world.specs.Facts.Fact.{HeadIs, EventIs, PeriodIs, HolidayIs}
 use Rattle.mds_world.specs.Lists.{Member}
 use Rattle.mds_world.specs.Sets.{◌∈◌}
 use Rattle.mds_world.specs.World.{IsLawful, IsOn, World, union}
 use Rattle.mds_keeper.specs.Books.{BookValue, book_facts, book_world}
 use Rattle.mds_keeper.specs.Content.{job_fact}
 use Rattle.mds_keeper.specs.Queries.{period_cmp, stream_cmp}
+use Rattle.mds_memory.specs.StoredDetails.{details_world}
+use Rattle.mds_memory.specs.declared.stored_details.MeterDetails.{MeterDetails}
 use Rattle.mds_memory.specs.declared.stored_notes.Note.{Note}
-use Rattle.mds_memory.specs.declared.stored_notes.Note.TheVariants.{Details, Event, Holiday}
+use Rattle.mds_memory.specs.declared.stored_notes.Note.TheVariants.{Event, Holiday}
 
 abbrev pub note_fact : Note → Fact
-note_fact (Details detail) = DetailIs detail
 note_fact (Event event) = EventIs event
 note_fact (Holiday day) = HolidayIs day
 
@@ -53,19 +53,24 @@ place_facts key (Some content) = PeriodIs key content ∷ []
 abbrev pub periods_world : BTreeMap PeriodKey (Option PeriodContent) → World
 periods_world periods = set.from_list (flat_map (λ entry. place_facts entry.0 entry.1) periods.entries)
 
-abbrev pub stored_world : BTreeMap StreamDay BookValue → BTreeSet Note → BTreeMap (List ℕ) (Option (Job × ℕ))
-    → BTreeMap PeriodKey (Option PeriodContent) → World
-stored_world days notes jobs periods =
-    union (union (union (days_world days) (notes_world notes)) (jobs_world jobs)) (periods_world periods)
+abbrev pub stored_world : BTreeMap StreamDay BookValue → BTreeMap MeterDetails (BTreeSet ℕ) → BTreeSet Note
+    → BTreeMap (List ℕ) (Option (Job × ℕ)) → BTreeMap PeriodKey (Option PeriodContent) → World
+stored_world days details notes jobs periods =
+    union (union (union (union (days_world days) (details_world details)) (notes_world notes)) (jobs_world jobs)) (periods_world periods)
 
 -- by stream, and then by date
 abbrev pub place_cmp : StreamDay → StreamDay → Ordering
 place_cmp a b = ordering_then (stream_cmp a.stream b.stream) (nat_cmp a.day b.day)
 
--- each book is of the day that it stands under, and no two days are one
+-- the number of the last day that there is, 31 December 9999
+abbrev pub last_number : ℕ
+last_number = 2_932_896
+
+-- each book is of the day that it stands under, no day is behind the last one, and no two days are one
 pub record AreOfTheirDays (days : BTreeMap StreamDay BookValue) : Type 0 where
   pub theirs : (place : StreamDay) (book : BookValue) → Member (place, book) days.entries
       → (book.stream ≡ place.stream) × (book.day ≡ place.day)
+  pub early : (place : StreamDay) (book : BookValue) → Member (place, book) days.entries → place.day ≤ last_number
   pub ordered : IsOrdered place_cmp days
 
 -- the order of the ids of jobs
@@ -82,9 +87,9 @@ abbrev pub key_cmp : PeriodKey → PeriodKey → Ordering
 key_cmp a b = ordering_then (stream_cmp a.stream b.stream) (period_cmp a b)
 
 -- what is stored is lawful, each day stands in its place, each job under its id, and no two accumulations are of one key
-pub record IsStored (days : BTreeMap StreamDay BookValue) (notes : BTreeSet Note)
+pub record IsStored (days : BTreeMap StreamDay BookValue) (details : BTreeMap MeterDetails (BTreeSet ℕ)) (notes : BTreeSet Note)
     (jobs : BTreeMap (List ℕ) (Option (Job × ℕ))) (periods : BTreeMap PeriodKey (Option PeriodContent)) : Type 0 where
-  pub lawful : IsLawful (stored_world days notes jobs periods)
+  pub lawful : IsLawful (stored_world days details notes jobs periods)
   pub theirs : AreOfTheirDays days
   pub ids : AreOfTheirIds jobs
   pub keys : IsOrdered key_cmp periods
@@ -115,11 +120,6 @@ HasKeys periods more =
 
 pub record AreHeadStreams (w : World) (streams : List Stream) : Type 0 where
   pub each : (stream : Stream) → Member stream streams ↔ ((head : Head) × (HeadIs head ∈ w) × (head.stream ≡ stream))
-  pub ascending : AllPairs (λ a b. stream_cmp a b ≡ Less) streams
-
-pub record AreDetailStreams (w : World) (streams : List Stream) : Type 0 where
-  pub each : (stream : Stream) → Member stream streams
-      ↔ ((detail : Detail) × (DetailIs detail ∈ w) × (detail.stream ≡ stream))
   pub ascending : AllPairs (λ a b. stream_cmp a b ≡ Less) streams
 
 pub record ArePeriodStreams (w : World) (streams : List Stream) : Type 0 where

@@ -2,14 +2,9 @@
 use Rattle.std.specs.Prelude.{◌≡◌, ◌⊎◌, ◌-◌, ℕ, List, [], ◌∷◌, ◌++◌, length, slice_get, None, Some}
 use Rattle.mds_names.specs.declared.stream.Stream.{Stream}
 use Rattle.mds_terms.specs.Event.{EventValue}
-use Rattle.mds_world.specs.declared.facts.Detail.{Detail}
 use Rattle.mds_world.specs.World.{IsEventOf}
 use Rattle.mds_memory.specs.declared.stored_notes.Note.{Note}
-use Rattle.mds_memory.specs.declared.stored_notes.Note.TheVariants.{Details, Event, Holiday}
-
--- the note has details of the stream
-abbrev pub HasDetailsOf : Stream → Note → Type 0
-HasDetailsOf stream note = (detail : Detail) × (note ≡ Details detail) × (detail.stream ≡ stream)
+use Rattle.mds_memory.specs.declared.stored_notes.Note.TheVariants.{Event, Holiday}
 
 -- the note is an event of the day
 abbrev pub IsEventNoteOf : Stream → ℕ → Note → Type 0

@@ -1,12 +1,15 @@
 -- What days will hold while heads and versions are added to them.
-use Rattle.std.specs.Prelude.{◌≡◌, ◌⊎◌, List, Option, Some, None, IfSome, IsSome}
+use Rattle.std.specs.Prelude.{◌≡◌, ◌+◌, ◌⊎◌, ℕ, List, Option, Some, None, IfSome, IsSome}
+use Rattle.std.specs.List.{slice_get}
 use Rattle.std.specs.BTreeMap.{BTreeMap, IsOrdered, get}
+use Rattle.mds_world.specs.declared.facts.Head.{Head}
 use Rattle.mds_world.specs.declared.facts.StreamDay.{StreamDay}
 use Rattle.mds_world.specs.Facts.{Fact}
 use Rattle.mds_world.specs.Lists.{Member}
 use Rattle.mds_world.specs.Sets.{◌∈◌}
 use Rattle.mds_world.specs.World.{IsLawful, IsOn, World}
 use Rattle.mds_keeper.specs.Books.{BookValue, IsDay, book_facts, book_world}
+use Rattle.mds_keeper.specs.Content.{rows_of}
 use Rattle.mds_memory.specs.Stored.{place_cmp}
 use Rattle.mds_memory.specs.declared.stored_days.InHand.{InHand}
 use Rattle.mds_memory.specs.declared.stored_days.Rows.{Rows}
@@ -16,7 +19,7 @@ rows_book place rows = record {
   stream = place.stream;
   day = place.day;
   head = rows.head;
-  rows = rows.versions.items;
+  rows = rows_of rows.rows;
 }
 
 -- just what a World and more facts say of the day
@@ -24,6 +27,13 @@ pub record Holds (w : World) (more : List Fact) (place : StreamDay) (rows : Rows
   pub whole : (f : Fact) → IsOn place.stream place.day f → (f ∈ w) ⊎ Member f more
       → Member f (book_facts (rows_book place rows))
   pub only : (f : Fact) → Member f (book_facts (rows_book place rows)) → (f ∈ w) ⊎ Member f more
+
+-- The head at a place among heads joins what a day will hold, or it isn't of that day. The last is the place of the next head.
+abbrev pub GetsHead : List Head → ℕ → StreamDay → Rows → Rows → ℕ → Type 0
+GetsHead heads at place old new next =
+    ((new ≡ old) × (next ≡ at))
+    ⊎ ((head : Head) × (slice_get heads at ≡ Some head) × (place ≡ record { stream = head.stream; day = head.day })
+    × (new.head ≡ Some (head.length, head.unit)) × (new.rows ≡ old.rows) × (next ≡ at + 1))
 
 -- another day than that in hand
 abbrev pub IsOther : Option InHand → StreamDay → Type 0

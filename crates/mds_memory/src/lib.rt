@@ -4,6 +4,7 @@
 mod laws;
 mod memory;
 mod stored_days;
+mod stored_details;
 mod stored_jobs;
 mod stored_notes;
 mod stored_periods;

@@ -1,27 +1,34 @@
 //! A keeper in memory.
 
-ghost use Rattle.std.specs.Prelude.{◌≡◌, ◌↔◌, ◌⊎◌, IfOk};
+ghost use Rattle.std.specs.Prelude.{◌≡◌, ◌↔◌, ◌⊎◌, IfOk, OnErr, OnOk, map};
 ghost use Rattle.std.specs.FinSet as set;
 ghost use Rattle.std.specs.List.{AllPairs};
 ghost use Rattle.std.specs.declared.cmp.Ordering.TheVariants.{Less};
 ghost use Rattle.mds_names.specs.declared.stream.Stream.{Stream as AStream};
-ghost use Rattle.mds_world.specs.Lists.{Member};
-ghost use Rattle.mds_world.specs.World.{IsLawful};
+ghost use Rattle.mds_world.specs.Facts.Fact.{DetailIs};
+ghost use Rattle.mds_world.specs.Lists.{Apart, Member};
+ghost use Rattle.mds_world.specs.Sets.{◌∈◌};
+ghost use Rattle.mds_world.specs.World.{IsLawful, union};
+ghost use Rattle.mds_world.specs.declared.facts.Detail.{Detail};
 ghost use Rattle.mds_keeper.specs.Queries.{stream_cmp};
-ghost use Rattle.mds_memory.specs.Stored.{AreHeadStreams, AreOfTheirDays, days_world};
+ghost use Rattle.mds_memory.specs.Stored.{AreHeadStreams, AreOfTheirDays, days_world, note_fact, notes_world};
+ghost use Rattle.mds_memory.specs.StoredDetails.{all_details, details_world};
+ghost use Rattle.mds_memory.specs.declared.stored_notes.Note.{Note as ANote};
 
-use crate::stored_days::{changed_days, day_of, days_of, has_head, make_room, put_days};
+use crate::stored_days::{changed_days, day_of, days_of, has_head, last_day, make_room, put_days};
+use crate::stored_details::{
+    MeterDays, MeterDetails, current_details, days_without, insert_details, meters_of,
+};
 use crate::stored_jobs::{job_of, make_places, put_jobs};
 use crate::stored_notes::{
-    Note, current_details, detail_streams, events_of, has_details, has_event, holidays_of,
-    insert_notes, notes_of, push_new,
+    Note, events_of, has_event, holidays_of, insert_notes, notes_of, push_new, take_out,
 };
 use crate::stored_periods::{content_of, make_keys, period_streams, periods_of, put_periods};
 use mds_jobs::{Job, JobId};
-use mds_keeper::{Additions, DayBook, Keeper, Unavailable};
+use mds_keeper::{Additions, DayBook, DetailDays, Keeper, Unavailable};
 use mds_statements::{Period, PeriodContent, PeriodKey};
 use mds_terms::{Day, Details, Event, Stream};
-use mds_world::{Detail, StreamDay};
+use mds_world::StreamDay;
 use std::alloc::{AllocError, Global};
 use std::cmp::Ordering;
 use std::collections::{BTreeMap, BTreeSet};
@@ -33,7 +40,9 @@ pub struct MemoryKeeper {
     alloc: Global,
     /// The days by stream and date. One that has neither head nor version stands for nothing.
     days: BTreeMap<StreamDay, DayBook>,
-    /// All details, events and holidays.
+    /// The details of meters, each with the days that have them. Details without a day stand for nothing.
+    details: BTreeMap<MeterDetails, BTreeSet<Day>>,
+    /// All events and holidays.
     notes: BTreeSet<Note>,
     /// The substitution jobs by their ids. A place without a job stands for nothing.
     jobs: BTreeMap<JobId, Option<(Job, u64)>>,
@@ -51,9 +60,9 @@ impl Model for MemoryKeeper {
 
     ghost coded = { code coded_fact };
 
-    ghost view = { λ k. stored_world k.days k.notes k.jobs k.periods };
+    ghost view = { λ k. stored_world k.days k.details k.notes k.jobs k.periods };
 
-    ghost invariant = { λ k. IsStored k.days k.notes k.jobs k.periods };
+    ghost invariant = { λ k. IsStored k.days k.details k.notes k.jobs k.periods };
 }
 
 impl MemoryKeeper {
@@ -65,6 +74,7 @@ impl MemoryKeeper {
         MemoryKeeper {
             alloc,
             days: BTreeMap::new(alloc),
+            details: BTreeMap::new(alloc),
             notes: BTreeSet::new(alloc),
             jobs: BTreeMap::new(alloc),
             periods: BTreeMap::new(alloc),
@@ -90,19 +100,21 @@ impl Keeper for MemoryKeeper {
 
     fn streams(&mut self) -> Result<Vec<Stream>, Unavailable> {
         let of_days = head_streams(self.alloc, &self.days)?;
-        let of_details = detail_streams(self.alloc, &self.notes)?;
         let of_periods = period_streams(self.alloc, &self.periods)?;
-        let others = merged(self.alloc, &of_details, &of_periods)?;
-        let streams = merged(self.alloc, &of_days, &others)?;
+        let streams = merged(self.alloc, &of_days, &of_periods)?;
         Ok(streams)
     }
 
-    fn details(&mut self, stream: Stream) -> Result<Details, Unavailable> {
-        Ok(current_details(self.alloc, &self.notes, stream)?)
+    fn last_day(&mut self, stream: Stream) -> Result<Option<Day>, Unavailable> {
+        Ok(last_day(&self.days, stream))
     }
 
-    fn has_details(&mut self, detail: &Detail) -> Result<bool, Unavailable> {
-        Ok(has_details(&self.notes, detail)?)
+    fn details(&mut self, stream: Stream, day: Day) -> Result<Details, Unavailable> {
+        Ok(current_details(self.alloc, &self.details, stream, day)?)
+    }
+
+    fn days_without(&mut self, details: &DetailDays) -> Result<Vec<Day>, Unavailable> {
+        Ok(days_without(self.alloc, &self.details, details)?)
     }
 
     fn events(&mut self, stream: Stream, day: Day) -> Result<Vec<Event>, Unavailable> {
@@ -140,17 +152,50 @@ impl Keeper for MemoryKeeper {
             holidays,
             jobs,
         } = additions;
-        let notes = notes_of(self.alloc, details, events, holidays)?;
+        let meters = meters_of(self.alloc, details)?;
+        let notes = notes_of(self.alloc, events, holidays)?;
         let changed = changed_days(self.alloc, &self.days, heads, days)?;
         make_room(self.alloc, &mut self.days, &changed)?;
         make_places(&mut self.jobs, &jobs)?;
         make_keys(&mut self.periods, &periods)?;
-        insert_notes(&mut self.notes, &notes)?;
+        insert_both(
+            self.alloc,
+            &mut self.details,
+            &meters,
+            &mut self.notes,
+            &notes,
+        )?;
         put_days(&mut self.days, changed);
         put_jobs(&mut self.jobs, jobs);
         put_periods(&mut self.periods, periods);
         Ok(())
     }
+}
+
+/// Adds details and notes that aren't there yet: all, or none where there is no memory.
+fn insert_both(
+    alloc: Global,
+    details: &mut BTreeMap<MeterDetails, BTreeSet<Day>>,
+    meters: &[MeterDays],
+    notes: &mut BTreeSet<Note>,
+    more: &[Note],
+) -> Result<(), AllocError>
+    requires details { Apart (all_details meters.now)
+        × ((detail : Detail) → Member detail (all_details meters.now) → DetailIs detail ∈ details_world details.old → ⊥) }
+    requires notes { Apart (map note_fact more.now)
+        × ((note : ANote) → Member note more.now → note_fact note ∈ notes_world notes.old → ⊥) }
+    ensures ok_details { OnOk result (details_world details.new
+        ≡ union (details_world details.old) (set.from_list (map DetailIs (all_details meters.now)))) }
+    ensures ok_notes { OnOk result
+        (notes_world notes.new ≡ union (notes_world notes.old) (set.from_list (map note_fact more.now))) }
+    ensures err { OnErr result ((details_world details.new ≡ details_world details.old) × (notes_world notes.new ≡ notes_world notes.old)) }
+{
+    insert_notes(notes, more)?;
+    let Ok(_) = insert_details(alloc, details, meters) else {
+        take_out(notes, more);
+        return Err(AllocError);
+    };
+    Ok(())
 }
 
 /// The streams that have a head, ascending, each once.

@@ -1,22 +1,27 @@
 //! The days that are kept in memory.
 
-ghost use Rattle.std.specs.Prelude.{◌≡◌, ◌<◌, ◌++◌, [], length, IfOk, OnOk, OnErr, List, Some, None, is_some, map};
+ghost use Rattle.std.specs.Prelude.{◌≡◌, ◌<◌, ◌≤ℤ◌, ◌++◌, [], length, pos, unsigned_abs, IfOk, OnOk, OnErr, List, Some, None, is_some, map};
+ghost use Rattle.std.specs.BTreeMap.{IsOrdered, get, insert_entry};
 ghost use Rattle.std.specs.FinSet as set;
+ghost use Rattle.std.specs.Option.{unwrap_or};
 ghost use Rattle.mds_world.specs.Facts.{Fact};
 ghost use Rattle.mds_world.specs.Facts.Fact.{HeadIs};
 ghost use Rattle.mds_world.specs.World.{IsLawful, World, union};
 ghost use Rattle.mds_keeper.specs.Books.{IsDay, book_world};
-ghost use Rattle.mds_keeper.specs.Content.{version_fact, versions_of};
-ghost use Rattle.mds_keeper.specs.Queries.{AreDaysOf};
-ghost use Rattle.mds_memory.specs.Stored.{AreOfTheirDays, HasRoom, IsChange, days_world};
-ghost use Rattle.mds_memory.specs.StoredSteps.{AreBooks, AreChanged, AreLawfulDays, Holds};
+ghost use Rattle.mds_keeper.specs.Content.{rows_of, version_fact, versions_of};
+ghost use Rattle.mds_keeper.specs.Queries.{AreDaysOf, IsLastDayOf};
+ghost use Rattle.mds_memory.specs.Stored.{AreOfTheirDays, HasRoom, IsChange, days_world, last_number, place_cmp};
+ghost use Rattle.mds_memory.specs.StoredSteps.{AreBooks, AreChanged, AreLawfulDays, GetsHead, Holds};
 
-use mds_keeper::{DayBook, DayVersions, Version};
+use mds_keeper::{DayBook, DayVersions, VersionRows};
 use mds_quantity::Unit;
 use mds_terms::{Day, Length, Stream};
 use mds_world::{Head, StreamDay};
 use std::alloc::{AllocError, Global};
 use std::collections::BTreeMap;
+
+/// The number of the last day that there is, 31 December 9999.
+const LAST: i64 = 2_932_896;
 
 /// The book of a day. Where none is kept, nothing is known of the day.
 pub(crate) fn day_of(
@@ -63,6 +68,33 @@ pub(crate) fn days_of(
     Ok(books)
 }
 
+/// The last known day of a stream.
+pub(crate) fn last_day(days: &BTreeMap<StreamDay, DayBook>, stream: Stream) -> Option<Day>
+    requires { AreOfTheirDays days.now }
+    ensures { IsLastDayOf (days_world days.now) stream result }
+{
+    let first = place_at(&stream, 0);
+    let last = place_at(&stream, LAST);
+    for (place, book) in days.range(first..=last).rev() {
+        // A place without a head stands for nothing.
+        if has_head(book) {
+            return Some(place.day);
+        }
+    }
+    None
+}
+
+/// The place of a day of a stream, by its number.
+fn place_at(stream: &Stream, number: i64) -> StreamDay
+    requires { (pos 0 ≤ℤ number) × (number ≤ℤ pos last_number) }
+    ensures { result ≡ record { stream = stream.now; day = unsigned_abs number } }
+{
+    StreamDay {
+        stream: *stream,
+        day: Day::from_number(number).unwrap(),
+    }
+}
+
 /// Whether the day is known.
 pub(crate) fn has_head(book: &DayBook) -> bool
     ensures { result ≡ is_some book.now.head }
@@ -85,7 +117,7 @@ fn unknown_day(alloc: Global, place: &StreamDay) -> DayBook
 #[derive(Drop)]
 struct Rows {
     head: Option<(Length, Unit)>,
-    versions: Vec<(u16, Version)>,
+    rows: VersionRows,
 }
 
 /// The day that is being changed.
@@ -111,29 +143,82 @@ pub(crate) fn changed_days(
     // What is added to a day mostly stands together, so the day in hand is kept out of the map.
     let mut closed: BTreeMap<StreamDay, Rows> = BTreeMap::new(alloc);
     let mut in_hand: Option<InHand> = None;
-    for head in heads {
-        let place = StreamDay {
-            stream: head.stream,
-            day: head.day,
-        };
-        let mut hand = opened(alloc, days, &mut closed, in_hand, &place)?;
-        hand.rows.head = Some((head.length, head.unit));
-        in_hand = Some(hand);
-    }
+    // How many heads are put. Those of new days mostly stand in the order of the versions.
+    let mut put: usize = 0;
     for added in versions {
         let place = StreamDay {
             stream: added.stream,
             day: added.day,
         };
-        let mut hand = opened(alloc, days, &mut closed, in_hand, &place)?;
-        added.rows.append_to(&mut hand.rows.versions)?;
-        in_hand = Some(hand);
+        let hand = opened(alloc, days, &mut closed, in_hand, &place)?;
+        let (headed, behind) = with_head(&heads, put, &place, hand.rows);
+        put = behind;
+        let rows = with_more(alloc, headed, added.rows)?;
+        in_hand = Some(InHand { place, rows });
+    }
+    for i in put..heads.len() {
+        let head = &heads[i];
+        let place = place_of(head);
+        let hand = opened(alloc, days, &mut closed, in_hand, &place)?;
+        let rows = of_head(head, hand.rows);
+        in_hand = Some(InHand { place, rows });
     }
     let Some(hand) = in_hand else {
         return books_of(alloc, closed);
     };
     close(&mut closed, hand)?;
     books_of(alloc, closed)
+}
+
+/// The place of the day of a head.
+fn place_of(head: &Head) -> StreamDay
+    ensures { result ≡ record { stream = head.now.stream; day = head.now.day } }
+{
+    StreamDay {
+        stream: head.stream,
+        day: head.day,
+    }
+}
+
+/// What a day will hold with this head.
+fn of_head(head: &Head, rows: Rows) -> Rows
+    ensures { (result.head ≡ Some (head.now.length, head.now.unit)) × (result.rows ≡ rows.rows) }
+{
+    Rows {
+        head: Some((head.length, head.unit)),
+        rows: rows.rows,
+    }
+}
+
+/// What a day will hold with the head at this place, where that is its own, and the place of the
+/// next head.
+fn with_head(heads: &Vec<Head>, at: usize, place: &StreamDay, rows: Rows) -> (Rows, usize)
+    ensures { GetsHead heads.now.items at place.now rows result.0 result.1 }
+{
+    let Some(head) = heads.get(at) else {
+        return (rows, at);
+    };
+    if place_of(head) != *place {
+        return (rows, at);
+    }
+    (of_head(head, rows), at + 1)
+}
+
+/// What a day will hold with more versions. Where it had none, these stay as they lie.
+fn with_more(alloc: Global, old: Rows, more: VersionRows) -> Result<Rows, AllocError>
+    ensures { IfOk result (λ new. (new.head ≡ old.head) × (rows_of new.rows ≡ rows_of old.rows ++ rows_of more)) }
+{
+    let Rows { head, rows } = old;
+    let mut versions = Vec::new(alloc);
+    rows.append_to(&mut versions)?;
+    if versions.is_empty() {
+        return Ok(Rows { head, rows: more });
+    }
+    more.append_to(&mut versions)?;
+    Ok(Rows {
+        head,
+        rows: VersionRows::Each(versions),
+    })
 }
 
 /// Goes on to the day of this place. It takes the day out of those that were changed before, or
@@ -208,12 +293,12 @@ fn kept_rows(
     let Some(book) = days.get(place) else {
         return Ok(Rows {
             head: None,
-            versions: Vec::new(alloc),
+            rows: VersionRows::Each(Vec::new(alloc)),
         });
     };
     Ok(Rows {
         head: book.head(),
-        versions: book.copied_rows(alloc)?,
+        rows: VersionRows::Each(book.copied_rows(alloc)?),
     })
 }
 
@@ -227,7 +312,10 @@ fn books_of(
 {
     let mut books = BTreeMap::new(alloc);
     for (place, rows) in closed {
-        let Some(book) = DayBook::new(place.stream, place.day, rows.head, rows.versions) else {
+        // For the proof: a day's number is at most that of the last day.
+        let _ = place.day.number();
+        let Some(book) = DayBook::of_rows(alloc, place.stream, place.day, rows.head, rows.rows)?
+        else {
             unreachable!();
         };
         // Whoever asks for the day gets a copy, and all copies share its versions.
@@ -248,10 +336,29 @@ pub(crate) fn make_room(
     ensures room { OnOk result (HasRoom days.new changed.now) }
 {
     for place in changed.keys() {
-        if !days.contains_key(place) {
-            days.insert(*place, unknown_day(alloc, place))?;
-        }
+        // For the proof: a day's number is at most that of the last day.
+        let _ = place.day.number();
+        add_place(days, place, unknown_day(alloc, place))?;
     }
+    Ok(())
+}
+
+/// Puts this book in the place of a day that has none.
+fn add_place(
+    days: &mut BTreeMap<StreamDay, DayBook>,
+    place: &StreamDay,
+    book: DayBook,
+) -> Result<(), AllocError>
+    ensures ok { OnOk result (days.new.entries ≡ insert_entry place_cmp days.old.entries place.now
+        (unwrap_or (get place_cmp days.old place.now) book)) }
+    ensures err { OnErr result (days.new.entries ≡ days.old.entries) }
+    ensures was_ordered { IsOrdered place_cmp days.old }
+    ensures ordered { OnOk result (IsOrdered place_cmp days.new) }
+{
+    let Ok(entry) = days.entry(*place) else {
+        return Err(AllocError);
+    };
+    entry.or_insert(book);
     Ok(())
 }
 

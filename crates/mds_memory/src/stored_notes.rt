@@ -1,28 +1,24 @@
-//! The details, events and holidays that are kept in memory.
+//! The events and holidays that are kept in memory.
 
 ghost use Rattle.std.specs.Prelude.{◌≡◌, ◌↔◌, ◌⊎◌, ◌++◌, IsTrue, IfNone, IfOk, IfSome, OnOk, OnErr, ℕ, map};
 ghost use Rattle.std.specs.FinSet as set;
-ghost use Rattle.mds_terms.specs.Details.{DetailsValue};
-ghost use Rattle.mds_world.specs.Current.{IsCurrentDetails, IsGreatestDetail, no_details};
-ghost use Rattle.mds_world.specs.Facts.Fact.{DetailIs, EventIs, HolidayIs};
+ghost use Rattle.mds_world.specs.Facts.Fact.{EventIs, HolidayIs};
 ghost use Rattle.mds_world.specs.Lists.{Apart, Member};
 ghost use Rattle.mds_world.specs.Sets.{◌∈◌};
 ghost use Rattle.mds_world.specs.World.{IsEventOf, union};
 ghost use Rattle.mds_keeper.specs.Queries.{AreEventsOf, AreHolidays};
-ghost use Rattle.mds_memory.specs.Stored.{AreDetailStreams, note_fact, notes_world};
-ghost use Rattle.mds_memory.specs.StoredNotes.{HasDetailsOf, IsAtEnd, IsEventNoteOf, PutsLast, first_of_day};
+ghost use Rattle.mds_memory.specs.Stored.{note_fact, notes_world};
+ghost use Rattle.mds_memory.specs.StoredNotes.{IsAtEnd, IsEventNoteOf, PutsLast, first_of_day};
 ghost use Rattle.mds_memory.specs.declared.stored_notes.Note.{Note as ANote};
-ghost use Rattle.mds_memory.specs.declared.stored_notes.Note.TheVariants.{Details as DetailsNote, Event as EventNote, Holiday as HolidayNote};
+ghost use Rattle.mds_memory.specs.declared.stored_notes.Note.TheVariants.{Event as EventNote, Holiday as HolidayNote};
 
-use mds_terms::{Day, Details, Event, EventRef, Moment, PrintableText, Stream};
-use mds_world::Detail;
+use mds_terms::{Day, Event, EventRef, PrintableText, Stream};
 use std::alloc::{AllocError, Global};
 use std::collections::BTreeSet;
 
 /// What is kept beside days, jobs and accumulations.
 #[derive(PartialEq, Eq, PartialOrd, Ord, Drop)]
 pub(crate) enum Note {
-    Details(Detail),
     Event(Event),
     Holiday(Day),
 }
@@ -33,20 +29,8 @@ impl Note {
         ensures { IfOk result (λ note. note ≡ self.now) }
     {
         match self {
-            Note::Details(detail) => Ok(Note::Details(detail.try_clone()?)),
             Note::Event(event) => Ok(Note::Event(event.try_clone()?)),
             Note::Holiday(day) => Ok(Note::Holiday(*day)),
-        }
-    }
-
-    /// Its details, where it has details of this stream.
-    fn details_of(&self, stream: &Stream) -> Option<&Detail>
-        ensures some { IfSome result (λ detail. (self.now ≡ DetailsNote detail.now) × (detail.now.stream ≡ stream.now)) }
-        ensures none { IfNone result (HasDetailsOf stream.now self.now → ⊥) }
-    {
-        match self {
-            Note::Details(detail) if detail.stream == *stream => Some(detail),
-            _ => None,
         }
     }
 
@@ -65,21 +49,16 @@ impl Note {
     }
 }
 
-/// Details, events and holidays as notes.
+/// Events and holidays as notes.
 pub(crate) fn notes_of(
     alloc: Global,
-    details: Vec<Detail>,
     events: Vec<Event>,
     holidays: Vec<Day>,
 ) -> Result<Vec<Note>, AllocError>
-    ensures { IfOk result (λ notes. map note_fact notes.items
-        ≡ map DetailIs details.items ++ map EventIs events.items ++ map HolidayIs holidays.items) }
+    ensures { IfOk result (λ notes. map note_fact notes.items ≡ map EventIs events.items ++ map HolidayIs holidays.items) }
 {
-    let count = details.len().saturating_add(events.len());
-    let mut notes = Vec::with_capacity(alloc, count.saturating_add(holidays.len()))?;
-    for detail in details {
-        notes.push(Note::Details(detail))?;
-    }
+    let count = events.len().saturating_add(holidays.len());
+    let mut notes = Vec::with_capacity(alloc, count)?;
     for event in events {
         notes.push(Note::Event(event))?;
     }
@@ -121,72 +100,12 @@ fn insert_copy(notes: &mut BTreeSet<Note>, note: &Note) -> Result<(), AllocError
 }
 
 /// Takes notes out, which needs no memory.
-fn take_out(notes: &mut BTreeSet<Note>, some: &[Note])
+pub(crate) fn take_out(notes: &mut BTreeSet<Note>, some: &[Note])
     ensures { (q : ANote) → Member q notes.new.keys ↔ (Member q notes.old.keys × (Member q some.now → ⊥)) }
 {
     for note in some {
         notes.remove(note);
     }
-}
-
-/// The current details of a stream.
-pub(crate) fn current_details(
-    alloc: Global,
-    notes: &BTreeSet<Note>,
-    stream: Stream,
-) -> Result<Details, AllocError>
-    ensures { IfOk result (IsCurrentDetails (notes_world notes.now) stream) }
-{
-    match last_detail(alloc, notes, &stream) {
-        Some(detail) => detail.details.try_clone(),
-        None => Ok(empty_details(alloc)),
-    }
-}
-
-/// The last of the stream's details.
-fn last_detail<'a>(alloc: Global, notes: &'a BTreeSet<Note>, stream: &Stream) -> Option<&'a Detail>
-    ensures some { IfSome result (λ detail.
-        IsGreatestDetail (notes_world notes.now) stream.now detail.now.moment detail.now.details) }
-    ensures none { IfNone result ((moment : ℕ) (other : DetailsValue)
-        → DetailIs (record { stream = stream.now; moment = moment; details = other }) ∈ notes_world notes.now → ⊥) }
-{
-    let mut last = None;
-    for note in notes.range(first_detail(alloc, stream)..) {
-        let Some(detail) = note.details_of(stream) else {
-            break;
-        };
-        last = Some(detail);
-    }
-    last
-}
-
-/// The note of a stream's details that stands before all others.
-fn first_detail(alloc: Global, stream: &Stream) -> Note
-    ensures { result ≡ DetailsNote (record { stream = stream.now; moment = 0; details = no_details }) }
-{
-    Note::Details(Detail {
-        stream: *stream,
-        moment: Moment::from_seconds(0).unwrap(),
-        details: empty_details(alloc),
-    })
-}
-
-/// Details of which nothing is known. They take no memory.
-#[tactic(auto, unfolding(mds_terms::specs::Details::details_of))]
-fn empty_details(alloc: Global) -> Details
-    ensures { result ≡ no_details }
-{
-    Details::read(alloc, b"", b"", b"", b"", b"")
-        .unwrap()
-        .unwrap()
-}
-
-/// Whether these details are among the notes.
-pub(crate) fn has_details(notes: &BTreeSet<Note>, detail: &Detail) -> Result<bool, AllocError>
-    ensures { IfOk result (λ has. IsTrue has ↔ (DetailIs detail.now ∈ notes_world notes.now)) }
-{
-    let note = Note::Details(detail.try_clone()?);
-    Ok(has_note(notes, &note))
 }
 
 /// The events of a day, each once.
@@ -258,23 +177,6 @@ fn first_holiday() -> Note
     ensures { result ≡ HolidayNote 0 }
 {
     Note::Holiday(Day::from_number(0).unwrap())
-}
-
-/// The streams that have details, ascending, each once.
-pub(crate) fn detail_streams(
-    alloc: Global,
-    notes: &BTreeSet<Note>,
-) -> Result<Vec<Stream>, AllocError>
-    ensures { IfOk result (λ streams. AreDetailStreams (notes_world notes.now) streams.items) }
-{
-    let mut streams = Vec::new(alloc);
-    for note in notes {
-        let Note::Details(detail) = note else {
-            break;
-        };
-        push_new(&mut streams, &detail.stream)?;
-    }
-    Ok(streams)
 }
 
 /// Appends a stream, unless it is the last.

@@ -73,6 +73,6 @@ pub struct PeriodAnswer {
 #[derive(Drop)]
 pub struct StreamAnswer {
     pub stream: Stream,
-    /// The current details.
+    /// Those of its last known day, and five empty ones where it has none.
     pub details: Details,
 }

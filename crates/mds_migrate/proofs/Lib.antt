@@ -1,7 +1,12 @@
-pub mod First
+pub mod Asking
+pub mod DatingLemmas
+pub mod DatingOrder
+pub mod DatingSteps
+pub mod DatingTexts
 pub mod HeadLemmas
 pub mod PackingLemmas
 pub mod PackingTexts
 pub mod StatementLemmas
 pub mod StatementTexts
 pub mod Steps
+pub mod Taking

@@ -24,16 +24,17 @@ use Rattle.mds_keeper.specs.Content as content
 use Rattle.mds_keeper.specs.declared.day_book.Version.{Version}
 use Rattle.mds_tables.specs.Cells.{day_cells}
 use Rattle.mds_tables.specs.RowFacts.{head_fact, natural_at, stream_in, version_fact, versions_in}
-use Rattle.mds_tables.specs.Stores.{FindsOf, Selects}
-use Rattle.mds_tables.specs.Tables.{head_columns, head_tree, version_columns, version_tree}
+use Rattle.mds_tables.specs.Stores.{Selects}
+use Rattle.mds_tables.specs.Tables.{More, head_columns, head_tree, schema_with, version_columns, version_tree}
+use Rattle.mds_inserts.specs.Writing.{KeepsOthers}
 use Rattle.mds_inserts.proofs.RowLemmas.{of}
 use Rattle.mds_selects.specs.Shown.{AreVersionsIn}
 use Rattle.mds_selects.proofs.Listed.{listed, tells, told, version_on}
 use Rattle.mds_pack_rows.specs.PackFacts.{pack_facts, pack_versions}
-use Rattle.mds_pack_rows.specs.PackTables.{pack_tree, packs, schema_2}
-use Rattle.mds_pack_rows.specs.PacksLayout.{packs_layout}
-use Rattle.mds_pack_rows.specs.Putting.{GoesOn, IsThere, PutsFacts}
-use Rattle.mds_pack_rows.proofs.PutLemmas.{as_rows, puts_none, puts_since, puts_then, there_after, there_before}
+use Rattle.mds_pack_rows.specs.PackTables.{Behind, pack_tree, packs_then}
+use Rattle.mds_pack_rows.specs.PacksLayout.{packs_over}
+use Rattle.mds_pack_rows.specs.Putting.{ChangesPacks, FindsThere, GoesOn, IsThere, PutsFacts}
+use Rattle.mds_pack_rows.proofs.PutLemmas.{as_rows, is_database, others_of, puts_none, puts_since, puts_then, there_after, there_before}
 use Rattle.mds_migrate.specs.Migrating.{Packs}
 use Rattle.mds_migrate.specs.Packing.{AreOfDays, IsOfDay, PacksDays}
 use Rattle.mds_migrate.proofs.HeadLemmas.{has_head}
@@ -61,16 +62,17 @@ module _ (shown : Row) (head : Head) (is : head_fact (Null ∷ shown) ≡ HeadIs
       let same : IsOfDay shown f ≡ IsOn head.stream head.day f = λ i. IsOn (shown_stream i) (shown_day i) f in
       ((λ p. subst (λ T. T) same p), (λ p. subst (λ T. T) (sym same) p))
 
-  module _ (low : head.day < 2 ^ 63) (trees : Trees) (sound : IsSound schema_2 trees) (rows : List Row)
-      (sel : Selects version_tree (day_cells head.stream head.day) version_columns trees rows) (vs : List (ℕ × Version))
+  module _ (rest : Behind) (low : head.day < 2 ^ 63) (trees : Trees) (sound : IsSound (schema_with (packs_then rest.more)) trees)
+      (rows : List Row) (sel : Selects version_tree (day_cells head.stream head.day) version_columns trees rows) (vs : List (ℕ × Version))
       (are : AreVersionsIn rows vs) where
     of_one_day : AreOfDays trees (shown ∷ []) (map (row_fact head.stream head.day) vs)
     of_one_day f =
         let s = head.stream in
         let day = head.day in
-        let on = version_on packs_layout s day low trees sound in
+        let layout = packs_over 2 rest in
+        let on = version_on layout s day low trees sound in
         let to = told version_fact version_tree (day_cells s day) version_columns trees rows sel (λ r. refl) (IsOn s day) on in
-        let list = listed packs_layout s day low trees sound rows vs are (λ g t. (to g t).1) f in (
+        let list = listed layout s day low trees sound rows vs are (λ g t. (to g t).1) f in (
           (λ m.
               let t = to f (list.1 m) in
               let n = t.0 in
@@ -106,15 +108,20 @@ of_both trees xs ys one two p q f = (
   ]),
 )
 
+-- every table but mds_pack is kept, under the schema that there was
+kept_others : (a b : State) (there : IsThere a b) → ChangesPacks a b
+    → KeepsOthers pack_tree a.now.trees b.now.trees (schema_with (packs_then there.rest.more)).tables
+kept_others a b there it = others_of pack_tree (schema_with (packs_then there.rest.more)) a b there.schema it.others
+
 module _ (a b c : State) (later : doubt b.is_clean ≤ doubt c.is_clean) where
-  packs_then : (xs ys : List Row) → PacksDays a b xs → PacksDays b c ys → PacksDays a c (xs ++ ys)
-  packs_then xs ys p q = record {
+  packs_both : (xs ys : List Row) → PacksDays a b xs → PacksDays b c ys → PacksDays a c (xs ++ ys)
+  packs_both xs ys p q = record {
     facts = p.facts ++ q.facts;
     puts = puts_then a b c later p.facts q.facts p.puts q.puts;
     are = λ there.
         let before = there_before a b c later there in
         let first = (p.puts.1 before).0 in
-        let same : b.now.trees version_tree ≡ a.now.trees version_tree = first.others.1.1.0 (λ e. omega arith) in
+        let same : b.now.trees version_tree ≡ a.now.trees version_tree = (kept_others a b before first).1.1.0 (λ e. omega arith) in
         let more : AreOfDays a.now.trees ys q.facts =
         subst (λ rows. (f : Fact) → Member f q.facts ↔ (Member f (map version_fact rows) × ((head : Row) × Member head ys × IsOfDay head f)))
         same (q.are (there_after a b c later there first)) in
@@ -125,14 +132,15 @@ module _ (a b c : State) (later : doubt b.is_clean ≤ doubt c.is_clean) where
       → PacksDays a b (take k heads) → PacksDays b c (head ∷ []) → PacksDays a c (take (k + 1) heads)
   packs_next heads k head low is p q =
       let front : take (k + 1) heads ≡ take k heads ++ head ∷ [] = take_more heads k head low ∙ ap (λ x. take k heads ++ x ∷ []) (sym is) in
-      subst (PacksDays a c) (sym front) (packs_then (take k heads) (head ∷ []) p q)
+      subst (PacksDays a c) (sym front) (packs_both (take k heads) (head ∷ []) p q)
 
 -- ---- behind a query, which changes nothing
 
-module _ (a b c : State) (later : doubt b.is_clean ≤ doubt c.is_clean) (same : HasCleanDisk b → a.now.schema ≡ schema_2 → IsUnchanged a b) where
+module _ (a b c : State) (later : doubt b.is_clean ≤ doubt c.is_clean)
+    (same : HasCleanDisk b → (rest : More) → a.now.schema ≡ schema_with (packs_then rest) → IsUnchanged a b) where
   module _ (there : IsThere a c) where
     abbrev still : IsUnchanged a b
-    still = same (omega (arith, there.clean, later)) there.schema
+    still = same (omega (arith, there.clean, later)) there.rest.more there.schema
 
     now_is : b.now ≡ a.now
     now_is = still.0.now_is
@@ -141,8 +149,9 @@ module _ (a b c : State) (later : doubt b.is_clean ≤ doubt c.is_clean) (same :
     there_now = record {
       clean = there.clean;
       is_open = still.0.is_open;
+      rest = there.rest;
       schema = ap (λ (d : Database). d.schema) now_is ∙ there.schema;
-      sound = subst (λ (d : Database). IsSound schema_2 d.trees) (sym now_is) there.sound;
+      sound = subst (λ (d : Database). IsSound (schema_with (packs_then there.rest.more)) d.trees) (sym now_is) there.sound;
     }
 
   pub packs_since : GoesOn a b → (heads : List Row) → PacksDays b c heads → PacksDays a c heads
@@ -153,37 +162,35 @@ module _ (a b c : State) (later : doubt b.is_clean ≤ doubt c.is_clean) (same :
   }
 
   -- what a query over the tables showed, it shows of them where the connection was there
-  shows_there : IsThere a c → (Shows : Trees → Type 0) → (HasCleanDisk b → FindsOf packs_layout a b Shows) → Shows a.now.trees
-  shows_there there Shows finds =
-      (finds (omega (arith, there.clean, later))).shows there.schema
-      (subst (λ schema. IsSound schema a.now.trees) (sym there.schema) there.sound)
+  shows_there : IsThere a c → (Shows : Trees → Type 0) → (HasCleanDisk b → FindsThere a b Shows) → Shows a.now.trees
+  shows_there there Shows finds = (finds (omega (arith, there.clean, later))).shows there.rest.more there.schema (is_database a c there)
 
   -- The versions of a day were asked for, and then put.
   pub packs_day : GoesOn a b → (shown : Row) (head : Head) → head_fact (Null ∷ shown) ≡ HeadIs head → head.day < 2 ^ 63
       → (rows : List Row) (vs : List (ℕ × Version)) → AreVersionsIn rows vs
-      → (HasCleanDisk b → FindsOf packs_layout a b (λ trees. Selects version_tree (day_cells head.stream head.day) version_columns trees rows))
+      → (HasCleanDisk b → FindsThere a b (λ trees. Selects version_tree (day_cells head.stream head.day) version_columns trees rows))
       → PutsFacts b c (map content.version_fact (map (content.version_at head.stream head.day) vs)) → PacksDays a c (shown ∷ [])
   packs_day first shown head is low rows vs are finds puts =
       let facts = map (row_fact head.stream head.day) vs in
       record {
         facts = facts;
         puts = puts_since a b c later same first facts (subst (PutsFacts b c) (sym (as_rows head.stream head.day vs)) puts);
-        are = λ there. of_one_day shown head is low a.now.trees there.sound rows
+        are = λ there. of_one_day shown head is there.rest low a.now.trees there.sound rows
             (shows_there there (λ trees. Selects version_tree (day_cells head.stream head.day) version_columns trees rows) finds) vs are;
       }
 
 -- ---- all heads
 
 -- the versions of the days of all heads are those of mds_version
-of_all : (trees : Trees) → IsSound schema_2 trees → (heads : List Row) → Selects head_tree [] head_columns trees heads → (facts : List Fact)
+of_all : (more : More) (trees : Trees) → IsSound (schema_with more) trees → (heads : List Row) → Selects head_tree [] head_columns trees heads → (facts : List Fact)
     → AreOfDays trees heads facts → of facts ≡ of (versions_in trees)
-of_all trees sound heads sel facts are =
+of_all more trees sound heads sel facts are =
     same_by (of facts) (of (versions_in trees))
     (λ f m. list_in (versions_in trees) f ((are f).0 (in_list facts f m)).0)
     (λ f m.
     let it = in_list (versions_in trees) f m in
     let n = in_map version_fact (trees version_tree) f it in
-    let found = has_head packs trees sound n.0 n.1 in
+    let found = has_head more trees sound n.0 n.1 in
     let shown = map (column found.0) head_columns in
     let on : IsOfDay shown f = subst (IsOfDay shown) (sym n.2) found.2 in
     list_in facts f ((are f).1 (it, (shown, (sel shown).1 (found.0, found.1, refl, refl), on))))
@@ -198,12 +205,12 @@ packs_all a c heads p there none sel =
     record {
       changes = it.0;
       same = it.1 ∙ ap (λ w. union w facts) was ∙ union_comm total exact (of []) facts ∙ union_empty total exact facts
-          ∙ of_all a.now.trees there.sound heads sel p.facts (p.are there);
+          ∙ of_all (packs_then there.rest.more) a.now.trees there.sound heads sel p.facts (p.are there);
     }
 
 -- the same behind the query that showed them
 pub packs_every : (a b c : State) → doubt b.is_clean ≤ doubt c.is_clean → (heads : List Row)
-    → (HasCleanDisk b → FindsOf packs_layout a b (λ trees. Selects head_tree [] head_columns trees heads)) → PacksDays a c heads
+    → (HasCleanDisk b → FindsThere a b (λ trees. Selects head_tree [] head_columns trees heads)) → PacksDays a c heads
     → IsThere a c → a.now.trees pack_tree ≡ [] → Packs a c
 packs_every a b c later heads finds p there none =
     packs_all a c heads p there none

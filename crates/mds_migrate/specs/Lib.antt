@@ -1,3 +1,5 @@
+pub mod Dating
 pub mod Migrated
 pub mod Migrating
+pub mod OldDetails
 pub mod Packing

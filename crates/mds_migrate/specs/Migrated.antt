@@ -1,71 +1,123 @@
--- What a migration leaves (profile).
-use Rattle.std.specs.Prelude.{◌≡◌, [], ◌∷◌, pos, IsTrue}
+-- What a step of a migration leaves (profile): from schema 1 to schema 2, or from schema 2 to schema 3.
+use Rattle.std.specs.Prelude.{◌≡◌, ◌⊎◌, [], ◌∷◌, pos, IsTrue}
 use Rattle.sqlite.specs.Effect.{Database}
+use Rattle.sqlite.specs.Schema.{Schema}
 use Rattle.sqlite.specs.State.{HasCleanDisk, KeepsCommit, State}
 use Rattle.sqlite_catalog.specs.Listing.{IsSound}
 use Rattle.sqlite_trees.specs.Tree.{Trees}
 use Rattle.mds_tables.specs.Layouts.{rows_layout, world_with}
-use Rattle.mds_tables.specs.Stores.{IsStore, IsStoreOf, versions_said}
-use Rattle.mds_tables.specs.Tables.{schema_1, version_tree}
+use Rattle.mds_tables.specs.Stores.{AreOpen, IsStore, versions_said}
+use Rattle.mds_tables.specs.Tables.{detail_tree, schema_1, version_tree}
+use Rattle.mds_pack_rows.specs.DailyLayout.{world_3}
+use Rattle.mds_pack_rows.specs.DailyTables.{schema_3}
 use Rattle.mds_pack_rows.specs.PackTables.{schema_2}
-use Rattle.mds_pack_rows.specs.PacksLayout.{packs_layout}
+use Rattle.mds_pack_rows.specs.PacksLayout.{world_2}
+use Rattle.mds_pack_store.specs.Daily.{IsDailyStore}
 use Rattle.mds_pack_store.specs.Packed.{IsPackStore}
-use Rattle.mds_migrate.specs.declared.migrating.Migrated.{Migrated}
-use Rattle.mds_migrate.specs.declared.migrating.Migrated.TheVariants.{AlreadyCurrent, Done}
-use Rattle.mds_migrate.specs.declared.migrating.MigrateFault.{MigrateFault}
-use Rattle.mds_migrate.specs.declared.migrating.MigrateFault.TheVariants.{OtherSchema, Unavailable}
+use Rattle.mds_migrate.specs.OldDetails.{Becomes}
+use Rattle.mds_migrate.specs.declared.outcome.Migrated.{Migrated}
+use Rattle.mds_migrate.specs.declared.outcome.Migrated.TheVariants.{AlreadyCurrent, Done}
+use Rattle.mds_migrate.specs.declared.outcome.MigrateFault.{MigrateFault}
+use Rattle.mds_migrate.specs.declared.outcome.MigrateFault.TheVariants.{OtherSchema, Unavailable}
 
--- a sound store of schema 1
-pub record IsFirst (db : Database) : Type 0 where
-  pub store : IsStore db
-  pub sound : IsSound schema_1 db.trees
-
--- The tables of schema 2 name the World that those of schema 1 named. mds_schema says 2, and no version has a row of its own.
-pub record HasMigrated (old new : Trees) : Type 0 where
-  pub world : world_with packs_layout new ≡ world_with rows_layout old
+-- The tables of schema 2 name the World that those of schema 1 named, and the details of streams are as they were. mds_schema says 2,
+-- and no version has a row of its own.
+pub record HasPacked (old new : Trees) : Type 0 where
+  pub world : world_2 new ≡ world_with rows_layout old
+  pub details : new detail_tree ≡ old detail_tree
   pub version : versions_said new ≡ pos 2 ∷ []
   pub unversioned : new version_tree ≡ []
   pub sound : IsSound schema_2 new
 
--- all steps, one after another, as the transaction sees them
-pub record TakesOn (old new : State) : Type 0 where
-  pub was_open : HasCleanDisk new → IsTrue new.is_open → IsTrue old.is_open
-  pub is_open : HasCleanDisk new → IsTrue old.is_open → IsTrue new.is_open
-  pub inside : HasCleanDisk new → IsTrue old.in_transaction → IsTrue new.in_transaction
-  pub schema : HasCleanDisk new → IsTrue old.is_open → IsFirst old.now → new.now.schema ≡ schema_2
-  pub migrated : HasCleanDisk new → IsTrue old.is_open → IsFirst old.now → HasMigrated old.now.trees new.now.trees
+-- The tables of schema 3 name the World that those of schema 2 become. mds_schema says 3, and neither versions nor details of
+-- streams have rows of their own.
+pub record HasDated (old new : Trees) : Type 0 where
+  pub becomes : Becomes old (world_3 new)
+  pub version : versions_said new ≡ pos 3 ∷ []
+  pub unversioned : new version_tree ≡ []
+  pub undated : new detail_tree ≡ []
+  pub sound : IsSound schema_3 new
 
--- the same, committed
-pub record WritesMigrated (old new : State) : Type 0 where
-  pub is_open : IsTrue old.is_open → IsTrue new.is_open
-  pub schema : IsTrue old.is_open → IsFirst old.now → new.committed.schema ≡ schema_2
-  pub migrated : IsTrue old.is_open → IsFirst old.now → HasMigrated old.now.trees new.committed.trees
+-- A step: from databases that are such stores, and have this schema, to another schema, and what becomes of their trees.
+pub record Step : Type 1 where
+  pub From : Database → Type 0
+  pub under : Schema
+  pub fits : (db : Database) → From db → db.schema ≡ under
+  pub to : Schema
+  pub Has : Trees → Trees → Type 0
 
--- what a crash may leave of the transaction
-abbrev pub LeavesWritten : State → Trees → Type 0
-LeavesWritten old left = IsTrue old.is_open → IsFirst old.now → HasMigrated old.now.trees left
+abbrev pub packing : Step
+packing = record { From = IsStore; under = schema_1; fits = λ db store. store.schema; to = schema_2; Has = HasPacked }
 
--- The store of schema 1 is one of schema 2 that keeps the same World, all versions included.
-pub record IsMigrated (old new : State) : Type 0 where
-  pub was_open : IsTrue old.is_open
-  pub was : IsStore old.committed
-  pub is_open : IsTrue new.is_open
-  pub store : IsStoreOf packs_layout new.committed
-  pub migrated : HasMigrated old.committed.trees new.committed.trees
+abbrev pub dating : Step
+dating = record { From = IsPackStore; under = schema_2; fits = λ db is. is.store.schema; to = schema_3; Has = HasDated }
+
+module _ (step : Step) where
+  -- while the disk is honest and the connection open, what is committed is a store that the step is for
+  abbrev pub HoldsFrom : State → Type 0
+  HoldsFrom s = HasCleanDisk s → IsTrue s.is_open → step.From s.committed
+
+  -- such a store, which is sound
+  pub record IsFor (db : Database) : Type 0 where
+    pub store : step.From db
+    pub sound : IsSound step.under db.trees
+
+  -- all parts of the step, one after another, as the transaction sees them
+  pub record TakesOn (old new : State) : Type 0 where
+    pub was_open : HasCleanDisk new → IsTrue new.is_open → IsTrue old.is_open
+    pub is_open : HasCleanDisk new → IsTrue old.is_open → IsTrue new.is_open
+    pub inside : HasCleanDisk new → IsTrue old.in_transaction → IsTrue new.in_transaction
+    pub schema : HasCleanDisk new → IsTrue old.is_open → IsFor old.now → new.now.schema ≡ step.to
+    pub taken : HasCleanDisk new → IsTrue old.is_open → IsFor old.now → step.Has old.now.trees new.now.trees
+
+  -- the same, committed
+  pub record Writes (old new : State) : Type 0 where
+    pub is_open : IsTrue old.is_open → IsTrue new.is_open
+    pub schema : IsTrue old.is_open → IsFor old.now → new.committed.schema ≡ step.to
+    pub taken : IsTrue old.is_open → IsFor old.now → step.Has old.now.trees new.committed.trees
+
+  -- what a crash may leave of the transaction
+  abbrev pub LeavesWritten : State → Trees → Type 0
+  LeavesWritten old left = IsTrue old.is_open → IsFor old.now → step.Has old.now.trees left
+
+  -- The store became one of the next schema.
+  pub record IsTaken (old new : State) : Type 0 where
+    pub was_open : IsTrue old.is_open
+    pub was : step.From old.committed
+    pub is_open : IsTrue new.is_open
+    pub schema : new.committed.schema ≡ step.to
+    pub taken : step.Has old.committed.trees new.committed.trees
+
+  -- What a crash may leave of a step that wasn't told: the store of the next schema, whole.
+  pub record LeavesTaken (old : State) (left : Trees) : Type 0 where
+    pub was_open : IsTrue old.is_open
+    pub was : step.From old.committed
+    pub taken : step.Has old.committed.trees left
+
+-- one of the two steps was done, as the store asked for it
+abbrev pub IsMigrated : State → State → Type 0
+IsMigrated old new = IsTaken packing old new ⊎ IsTaken dating old new
+
+-- what one step makes of a store
+abbrev pub TakesOne : Database → Database → Type 0
+TakesOne old new = (IsPackStore old × HasDated old.trees new.trees) ⊎ (IsStore old × HasPacked old.trees new.trees)
+
+-- What all steps make of a store: the days of one of schema 2 were given details, and one of schema 1 was packed before.
+abbrev pub TakesSteps : Database → Database → Type 0
+TakesSteps old new =
+    (IsPackStore old × HasDated old.trees new.trees)
+    ⊎ (IsStore old × ((between : Trees) × HasPacked old.trees between × HasDated between new.trees))
+
+abbrev pub LeavesMigrated : State → Trees → Type 0
+LeavesMigrated old left = LeavesTaken packing old left ⊎ LeavesTaken dating old left
 
 -- what a migration answers
 abbrev pub Answered : State → State → Migrated → Type 0
 Answered old new Done = IsMigrated old new
-Answered old new AlreadyCurrent = IsPackStore old.committed × KeepsCommit old new
+Answered old new AlreadyCurrent = IsDailyStore old.committed × AreOpen old new × KeepsCommit old new
 
--- Nothing was changed. U3 only where the database is a store of neither schema.
+-- Nothing was changed. U3 only where the database is a store of none of the schemas.
 abbrev pub IsRefused : State → State → MigrateFault → Type 0
-IsRefused old new OtherSchema = KeepsCommit old new × (IsStore old.now → ⊥) × (IsPackStore old.now → ⊥)
+IsRefused old new OtherSchema =
+    KeepsCommit old new × (IsStore old.now → ⊥) × (IsPackStore old.now → ⊥) × (IsDailyStore old.now → ⊥)
 IsRefused old new Unavailable = KeepsCommit old new
-
--- What a crash may leave of a migration that wasn't told: the store of schema 2, whole.
-pub record LeavesMigrated (old : State) (left : Trees) : Type 0 where
-  pub was_open : IsTrue old.is_open
-  pub was : IsStore old.committed
-  pub store : IsStoreOf packs_layout (record { schema = schema_2; trees = left })
-  pub migrated : HasMigrated old.committed.trees left

@@ -1,8 +1,12 @@
-//! A store of schema 1 becomes one of packed days, in one transaction.
+//! A store of an earlier schema becomes one of the next, each step in one transaction.
 #![tactic(auto)]
 
+mod dating;
 mod migrating;
+mod outcome;
 mod packing;
 mod statements;
+mod step;
 
-pub use migrating::{MigrateFault, Migrated, migrate};
+pub use migrating::{migrate, migrate_all};
+pub use outcome::{MigrateFault, Migrated};

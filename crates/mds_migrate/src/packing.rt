@@ -1,24 +1,42 @@
-//! The versions of all days, packed.
+//! The step from schema 1 to schema 2: the versions of all days are packed.
 
 ghost use Rattle.std.specs.Prelude.{◌≡◌, [], ◌∷◌, IfOk, OnOk};
 ghost use Rattle.sqlite.specs.Held.{state};
 ghost use Rattle.sqlite.specs.State.{HasCleanDisk, KeepsCommit, Survives};
 ghost use Rattle.mds_tables.specs.Cells.{day_cells as day_columns};
-ghost use Rattle.mds_tables.specs.Stores.{FindsOf, Selects};
-ghost use Rattle.mds_tables.specs.Tables.{head_columns, head_tree, version_columns, version_tree};
+ghost use Rattle.mds_tables.specs.Stores.{Selects};
+ghost use Rattle.mds_tables.specs.Tables.{More, head_columns, head_tree, schema_with, version_columns, version_tree};
+ghost use Rattle.mds_migrate.specs.Migrated.{packing};
 ghost use Rattle.mds_migrate.specs.Migrating.{Packs};
 ghost use Rattle.mds_migrate.specs.Packing.{PacksDays};
-ghost use Rattle.mds_pack_rows.specs.PackTables.{pack_tree, schema_2};
-ghost use Rattle.mds_pack_rows.specs.PacksLayout.{packs_layout};
-ghost use Rattle.mds_pack_rows.specs.Putting.{GoesOn, IsThere};
+ghost use Rattle.mds_pack_rows.specs.PackTables.{pack_tree, packs_then};
+ghost use Rattle.mds_pack_rows.specs.Putting.{FindsThere, GoesOn, IsThere};
 
+use crate::statements::{clear_versions, raise_version};
+use crate::step::Stage;
 use mds_keeper::{DayVersions, Unavailable, VersionRows};
-use mds_pack_rows::put_day;
+use mds_pack_rows::{make_pack, put_day};
 use mds_selects::{all_versions, head_in};
 use mds_tables::day_cells;
 use mds_terms::{Day, Stream};
 use sqlite::{Alter, Row, Transaction};
 use std::alloc::Global;
+
+/// From a row for each version to packed days.
+pub(crate) struct Packing;
+
+impl Stage for Packing {
+    ghost step = { packing };
+
+    fn take_on<S: Alter>(alloc: Global, tx: &mut Transaction<'_, S>) -> Result<(), Unavailable> {
+        let Ok(_) = make_pack(tx) else {
+            return Err(Unavailable);
+        };
+        pack_days(alloc, tx)?;
+        clear_versions(tx)?;
+        raise_version(tx, 2)
+    }
+}
 
 /// Packs the versions of all days, where no day is packed yet. It is unavailable where a day has a version of an interval that its
 /// length doesn't have, or a row that the store didn't write.
@@ -42,17 +60,20 @@ pub(crate) fn pack_days<S: Alter>(
 }
 
 /// All heads.
-fn all_heads<S: Alter>(tx: &mut Transaction<'_, S>) -> Result<Vec<Row>, Unavailable>
+pub(crate) fn all_heads<S: Alter>(tx: &mut Transaction<'_, S>) -> Result<Vec<Row>, Unavailable>
     ensures same_reference { tx.new.conn.ghost_name ≡ tx.old.conn.ghost_name }
     ensures ok { HasCleanDisk (state S.Store tx.new.conn.now)
-        → IfOk result (λ rows. FindsOf packs_layout (state S.Store tx.old.conn.now) (state S.Store tx.new.conn.now)
+        → IfOk result (λ rows. FindsThere (state S.Store tx.old.conn.now) (state S.Store tx.new.conn.now)
         (λ trees. Selects head_tree [] head_columns trees rows.items)) }
     ensures goes_on { OnOk result (GoesOn (state S.Store tx.old.conn.now) (state S.Store tx.new.conn.now)) }
-    ensures kept { HasCleanDisk (state S.Store tx.new.conn.now) → (state S.Store tx.old.conn.now).now.schema ≡ schema_2
+    ensures kept { HasCleanDisk (state S.Store tx.new.conn.now) → (rest : More) → (state S.Store tx.old.conn.now).now.schema ≡ schema_with (packs_then rest)
         → KeepsCommit (state S.Store tx.old.conn.now) (state S.Store tx.new.conn.now) }
     ensures survives { Survives (state S.Store tx.old.conn.now) (state S.Store tx.new.conn.now) (λ _. ⊥) }
 {
-    match tx.query_all("SELECT nmi, suffix, day, length, unit FROM mds_head", &[]) {
+    match tx.query_all(
+        "SELECT nmi, suffix, day, length, unit FROM mds_head ORDER BY nmi, suffix",
+        &[],
+    ) {
         Ok(rows) => Ok(rows),
         Err(_) => Err(Unavailable),
     }
@@ -66,10 +87,10 @@ fn version_rows<S: Alter>(
 ) -> Result<Vec<Row>, Unavailable>
     ensures same_reference { tx.new.conn.ghost_name ≡ tx.old.conn.ghost_name }
     ensures ok { HasCleanDisk (state S.Store tx.new.conn.now)
-        → IfOk result (λ rows. FindsOf packs_layout (state S.Store tx.old.conn.now) (state S.Store tx.new.conn.now)
+        → IfOk result (λ rows. FindsThere (state S.Store tx.old.conn.now) (state S.Store tx.new.conn.now)
         (λ trees. Selects version_tree (day_columns stream.now day) version_columns trees rows.items)) }
     ensures goes_on { OnOk result (GoesOn (state S.Store tx.old.conn.now) (state S.Store tx.new.conn.now)) }
-    ensures kept { HasCleanDisk (state S.Store tx.new.conn.now) → (state S.Store tx.old.conn.now).now.schema ≡ schema_2
+    ensures kept { HasCleanDisk (state S.Store tx.new.conn.now) → (rest : More) → (state S.Store tx.old.conn.now).now.schema ≡ schema_with (packs_then rest)
         → KeepsCommit (state S.Store tx.old.conn.now) (state S.Store tx.new.conn.now) }
     ensures survives { Survives (state S.Store tx.old.conn.now) (state S.Store tx.new.conn.now) (λ _. ⊥) }
 {

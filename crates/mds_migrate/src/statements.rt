@@ -1,11 +1,12 @@
-//! The statements that leave schema 1 behind.
+//! The statements that leave a schema behind.
 
-ghost use Rattle.std.specs.Prelude.{◌≡◌, [], ◌∷◌, pos, OnOk};
+ghost use Rattle.std.specs.Prelude.{◌≡◌, ℤ, [], ◌∷◌, OnOk};
 ghost use Rattle.sqlite.specs.Held.{state};
 ghost use Rattle.sqlite.specs.State.{HasCleanDisk, KeepsCommit, Survives};
 ghost use Rattle.sqlite.specs.Values.{bound};
 ghost use Rattle.sqlite.specs.declared.types.Value.TheVariants.{Int};
 ghost use Rattle.mds_tables.specs.Stores.{versions_said};
+ghost use Rattle.mds_tables.specs.Tables.{detail_tree, version_tree};
 ghost use Rattle.mds_migrate.specs.Migrating.{Clears, Raises, RaisesRow};
 ghost use Rattle.mds_pack_rows.specs.Putting.{GoesOn, IsThere};
 
@@ -19,7 +20,7 @@ pub(crate) fn clear_versions<S: Alter>(tx: &mut Transaction<'_, S>) -> Result<()
     ensures same_reference { tx.new.conn.ghost_name ≡ tx.old.conn.ghost_name }
     ensures goes_on { OnOk result (GoesOn (state S.Store tx.old.conn.now) (state S.Store tx.new.conn.now)) }
     ensures ok { OnOk result (IsThere (state S.Store tx.old.conn.now) (state S.Store tx.new.conn.now)
-        → Clears (state S.Store tx.old.conn.now) (state S.Store tx.new.conn.now)) }
+        → Clears version_tree (state S.Store tx.old.conn.now) (state S.Store tx.new.conn.now)) }
     ensures kept { IsThere (state S.Store tx.old.conn.now) (state S.Store tx.new.conn.now)
         → KeepsCommit (state S.Store tx.old.conn.now) (state S.Store tx.new.conn.now) }
     ensures survives { Survives (state S.Store tx.old.conn.now) (state S.Store tx.new.conn.now) (λ _. ⊥) }
@@ -37,12 +38,39 @@ pub(crate) fn clear_versions<S: Alter>(tx: &mut Transaction<'_, S>) -> Result<()
     }
 }
 
-/// Lets mds_schema say 2 where it says 1. Unavailable where it has not just one row.
-pub(crate) fn raise_version<S: Alter>(tx: &mut Transaction<'_, S>) -> Result<(), Unavailable>
+/// Takes all rows away from mds_detail. Unavailable where one is left.
+pub(crate) fn clear_details<S: Alter>(tx: &mut Transaction<'_, S>) -> Result<(), Unavailable>
     ensures same_reference { tx.new.conn.ghost_name ≡ tx.old.conn.ghost_name }
     ensures goes_on { OnOk result (GoesOn (state S.Store tx.old.conn.now) (state S.Store tx.new.conn.now)) }
     ensures ok { OnOk result (IsThere (state S.Store tx.old.conn.now) (state S.Store tx.new.conn.now)
-        → versions_said (state S.Store tx.old.conn.now).now.trees ≡ pos 1 ∷ [] → Raises (state S.Store tx.old.conn.now) (state S.Store tx.new.conn.now)) }
+        → Clears detail_tree (state S.Store tx.old.conn.now) (state S.Store tx.new.conn.now)) }
+    ensures kept { IsThere (state S.Store tx.old.conn.now) (state S.Store tx.new.conn.now)
+        → KeepsCommit (state S.Store tx.old.conn.now) (state S.Store tx.new.conn.now) }
+    ensures survives { Survives (state S.Store tx.old.conn.now) (state S.Store tx.new.conn.now) (λ _. ⊥) }
+{
+    let Ok(_) = tx.execute("DELETE FROM mds_detail", &[]) else {
+        return Err(Unavailable);
+    };
+    let Ok(left) = tx.query_all("SELECT moment FROM mds_detail", &[]) else {
+        return Err(Unavailable);
+    };
+    if left.is_empty() {
+        Ok(())
+    } else {
+        Err(Unavailable)
+    }
+}
+
+/// Lets mds_schema say this number where it says one. Unavailable where it has not just one row.
+pub(crate) fn raise_version<S: Alter>(
+    tx: &mut Transaction<'_, S>,
+    number: i64,
+) -> Result<(), Unavailable>
+    ensures same_reference { tx.new.conn.ghost_name ≡ tx.old.conn.ghost_name }
+    ensures goes_on { OnOk result (GoesOn (state S.Store tx.old.conn.now) (state S.Store tx.new.conn.now)) }
+    ensures ok { OnOk result (IsThere (state S.Store tx.old.conn.now) (state S.Store tx.new.conn.now)
+        → (said : ℤ) → versions_said (state S.Store tx.old.conn.now).now.trees ≡ said ∷ []
+        → Raises number (state S.Store tx.old.conn.now) (state S.Store tx.new.conn.now)) }
     ensures kept { IsThere (state S.Store tx.old.conn.now) (state S.Store tx.new.conn.now)
         → KeepsCommit (state S.Store tx.old.conn.now) (state S.Store tx.new.conn.now) }
     ensures survives { Survives (state S.Store tx.old.conn.now) (state S.Store tx.new.conn.now) (λ _. ⊥) }
@@ -51,24 +79,28 @@ pub(crate) fn raise_version<S: Alter>(tx: &mut Transaction<'_, S>) -> Result<(),
         return Err(Unavailable);
     };
     match rows.as_slice() {
-        [row] => replace_version(tx, row),
+        [row] => replace_version(tx, row, number),
         _ => Err(Unavailable),
     }
 }
 
-/// A rowid.
-fn id_cells<'a>(id: i64) -> [ValueRef<'a>; 1]
-    ensures { bound result ≡ Int id ∷ [] }
+/// A rowid, and a number.
+fn id_cells<'a>(id: i64, number: i64) -> [ValueRef<'a>; 2]
+    ensures { bound result ≡ Int id ∷ Int number ∷ [] }
 {
-    [ValueRef::Int(id)]
+    [ValueRef::Int(id), ValueRef::Int(number)]
 }
 
-/// Lets the row of mds_schema say 2 whose rowid is shown. Unavailable where there isn't just one.
-fn replace_version<S: Alter>(tx: &mut Transaction<'_, S>, shown: &Row) -> Result<(), Unavailable>
+/// Lets the row of mds_schema say this number whose rowid is shown. Unavailable where there isn't just one.
+fn replace_version<S: Alter>(
+    tx: &mut Transaction<'_, S>,
+    shown: &Row,
+    number: i64,
+) -> Result<(), Unavailable>
     ensures same_reference { tx.new.conn.ghost_name ≡ tx.old.conn.ghost_name }
     ensures goes_on { OnOk result (GoesOn (state S.Store tx.old.conn.now) (state S.Store tx.new.conn.now)) }
     ensures ok { OnOk result (IsThere (state S.Store tx.old.conn.now) (state S.Store tx.new.conn.now)
-        → RaisesRow (state S.Store tx.old.conn.now) (state S.Store tx.new.conn.now) shown.now) }
+        → RaisesRow number (state S.Store tx.old.conn.now) (state S.Store tx.new.conn.now) shown.now) }
     ensures kept { HasCleanDisk (state S.Store tx.new.conn.now) → KeepsCommit (state S.Store tx.old.conn.now) (state S.Store tx.new.conn.now) }
     ensures survives { Survives (state S.Store tx.old.conn.now) (state S.Store tx.new.conn.now) (λ _. ⊥) }
 {
@@ -76,8 +108,8 @@ fn replace_version<S: Alter>(tx: &mut Transaction<'_, S>, shown: &Row) -> Result
         return Err(Unavailable);
     };
     let Ok(count) = tx.execute(
-        "UPDATE mds_schema SET version = 2 WHERE rowid = ?1",
-        &id_cells(id),
+        "UPDATE mds_schema SET version = ?2 WHERE rowid = ?1",
+        &id_cells(id, number),
     ) else {
         return Err(Unavailable);
     };

@@ -5,7 +5,7 @@ use Rattle.std.proofs.lemmas.List.{append-nil, length_push}
 use Rattle.mds_lines.specs.declared.line.Kind.{Kind}
 use Rattle.mds_lines.specs.declared.line.Kind.TheVariants as a
 use Rattle.mds_statements.specs.Statements.{PeriodStatement, Statement}
-use Rattle.mds_statements.specs.Statements.Statement.{HeaderOf, DetailsOf, DayOf, EventOf, PeriodOf}
+use Rattle.mds_statements.specs.Statements.Statement.{HeaderOf, StreamOf, DetailsOf, DayOf, EventOf, PeriodOf}
 use Rattle.mds_walk.specs.Governing.{is_this, last_kind_of, record_kind}
 use Rattle.mds_walk.specs.Said.{header_in, is_headed}
 use Rattle.mds_walk.proofs.Numbered.{last_kind_push, no_kind}
@@ -108,7 +108,8 @@ closed_ready before x moment done k = record { headed = k.headed; moment_is = k.
 headed_more : (front more : List Statement) → is_headed front ≡ true → is_headed (front ++ more) ≡ true
 headed_more [] more e = absurd (cc)
 headed_more (HeaderOf header ∷ rest) more e = refl
-headed_more (DetailsOf stream ∷ rest) more e = absurd (cc)
+headed_more (StreamOf stream ∷ rest) more e = absurd (cc)
+headed_more (DetailsOf details ∷ rest) more e = absurd (cc)
 headed_more (DayOf day ∷ rest) more e = absurd (cc)
 headed_more (EventOf event ∷ rest) more e = absurd (cc)
 headed_more (PeriodOf period ∷ rest) more e = absurd (cc)

@@ -7,7 +7,7 @@ use Rattle.std.proofs.lemmas.List.Elements.{All-append, All-cons, All-head, All-
 use Rattle.std.proofs.lemmas.List.Splits.{length-slice_split, slice_split_at, slice_split_none}
 use Rattle.mds_lines.specs.Lines.{comma, field, line_feed, split}
 use Rattle.mds_statements.specs.Statements.{PeriodContent, PeriodStatement, Statement}
-use Rattle.mds_statements.specs.Statements.Statement.{HeaderOf, DetailsOf, DayOf, EventOf, PeriodOf}
+use Rattle.mds_statements.specs.Statements.Statement.{HeaderOf, StreamOf, DetailsOf, DayOf, EventOf, PeriodOf}
 use Rattle.mds_terms.specs.Parts.{joined}
 use Rattle.mds_walk.specs.Said.{is_headed}
 use Rattle.mds_walk.proofs.Longer.{split_both}
@@ -91,6 +91,7 @@ told_period accumulations [] a period told headed e = absurd (cc)
 told_period accumulations (HeaderOf header ∷ more) a period told headed e =
     map_push (λ b. PeriodOf (period_of b)) accumulations a
     ∙ ap (λ t. t ++ PeriodOf (period_of a) ∷ []) told ∙ ap (λ p. more ++ PeriodOf p ∷ []) e
+told_period accumulations (StreamOf x ∷ more) a period told headed e = absurd (cc)
 told_period accumulations (DetailsOf x ∷ more) a period told headed e = absurd (cc)
 told_period accumulations (DayOf x ∷ more) a period told headed e = absurd (cc)
 told_period accumulations (EventOf x ∷ more) a period told headed e = absurd (cc)
@@ -144,6 +145,7 @@ told_note accumulations new (HeaderOf header ∷ more) period x xs told headed b
           ap periods_of b.1 ∙ map_push (λ c. PeriodOf (period_of c)) front b.0
           ∙ ap (λ t. t ++ PeriodOf (period_of b.0) ∷ []) parts.0
           ∙ ap (λ p. more ++ PeriodOf p ∷ []) (noted last b.0 x xs b.2 ∙ ap (λ p. with_notes p ((x ∷ xs) ∷ [])) same)
+told_note accumulations new (StreamOf s ∷ more) period x xs told headed becomes = absurd (cc)
 told_note accumulations new (DetailsOf s ∷ more) period x xs told headed becomes = absurd (cc)
 told_note accumulations new (DayOf s ∷ more) period x xs told headed becomes = absurd (cc)
 told_note accumulations new (EventOf s ∷ more) period x xs told headed becomes = absurd (cc)

@@ -1,5 +1,5 @@
 -- A body says how many intervals its day has.
-use Rattle.std.proofs.Common.{◌≡◌, ℕ, Bool, true, false, cond, not, ◌&&◌, nat_eq, nat_lt, List, [], ◌∷◌, drop, length, Option, Some, None, Ok, Err, Result, IfOk, IfSome, option_map, refl, sym, ap, ◌∙◌}
+use Rattle.std.proofs.Common.{◌≡◌, ℕ, Bool, true, false, cond, not, ◌&&◌, nat_eq, nat_lt, List, [], ◌∷◌, drop, length, map, Option, Some, None, Ok, Err, Result, IfOk, IfSome, option_map, refl, sym, ap, ◌∙◌}
 use Rattle.std.specs.Int.{w16}
 use Rattle.std.proofs.lemmas.Bool.{eqb-true}
 use Rattle.mds_marks.specs.Reading.{ReadingValue}
@@ -74,3 +74,11 @@ pub all_said : {V E : Type 0} (view : V → List (Option ReadingValue)) (count :
 all_said view count body (Ok (Some v)) is = says count body (view v) (sym is)
 all_said view count body (Ok None) is = tt
 all_said view count body (Err e) is = tt
+
+-- and what one gives that reads a whole day
+pub all_whole : {E : Type 0} (count : ℕ) (body : List ℕ) (r : Result (Option (List ReadingValue)) E)
+    → IfOk r (λ o. IfSome o (λ readings. unpacked count body ≡ Some (map (λ reading. Some reading) readings)))
+    → IfOk r (λ o. IfSome o (λ readings. readings_in body ≡ Some (map (λ reading. Some reading) readings)))
+all_whole count body (Ok (Some readings)) is = says count body (map (λ reading. Some reading) readings) is
+all_whole count body (Ok None) is = tt
+all_whole count body (Err e) is = tt

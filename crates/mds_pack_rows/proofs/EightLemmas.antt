@@ -1,17 +1,19 @@
 -- Eight new days whose rows one statement puts.
-use Rattle.std.proofs.Common.{◌≡◌, ◌≤◌, ◌<◌, ◌+◌, ◌/◌, ◌++◌, ℕ, Bool, List, [], ◌∷◌, get_or, length, map, take, IsTrue, IfOk, IfSome, Ok, Err, None, Some, Option, Result, refl, sym, ap, subst, ◌∙◌, arith}
+use Rattle.std.proofs.Common.{◌≡◌, ◌≤◌, ◌<◌, ◌+◌, ◌*◌, ◌/◌, ◌++◌, ℕ, zero, suc, Bool, List, [], ◌∷◌, drop, get_or, length, map, take, IsTrue, IfOk, IfSome, Ok, Err, None, Some, Option, Result, refl, sym, ap, subst, ◌∙◌, arith}
 use Rattle.std.proofs.lemmas.Grind.{flat_map-append}
-use Rattle.std.proofs.lemmas.List.{append-nil, map-append, take_more}
+use Rattle.std.proofs.lemmas.List.{append-nil, map-append, take-append-drop, take_more}
+use Rattle.std.proofs.Math.Seq.{take-add}
 use Rattle.std.specs.List.{flat_map}
+use Rattle.std.specs.Simd.{first_chunks}
 use Rattle.sqlite.specs.Command.TheVariants.{Insert}
 use Rattle.sqlite.specs.Does.{Does}
-use Rattle.sqlite.specs.Effect.{Database, value_rows}
+use Rattle.sqlite.specs.Effect.{Database, IsDatabase, value_rows}
 use Rattle.sqlite.specs.Listing.{understood}
 use Rattle.sqlite.specs.Source.TheVariants.{Values}
 use Rattle.sqlite.specs.State.{ExecutesInside, HasCleanDisk, State, mode_of}
 use Rattle.sqlite.specs.declared.types.Value.TheVariants.{Null}
 use Rattle.sqlite.proofs.Callers.{runs_as, statement_of}
-use Rattle.sqlite_catalog.specs.Listing.{IsSound}
+use Rattle.sqlite_rules.proofs.ActionLemmas.{no_works}
 use Rattle.sqlite_schema.specs.declared.schema.Keys.TheVariants.{Enforced}
 use Rattle.sqlite_trees.specs.View.{doubt}
 use Rattle.sqlite_value.specs.Order.{Row}
@@ -26,20 +28,19 @@ use Rattle.mds_keeper.specs.Content.{day_versions, rows_of, version_fact, versio
 use Rattle.mds_keeper.specs.declared.additions.DayVersions.{DayVersions}
 use Rattle.mds_keeper.specs.declared.day_book.Version.{Version}
 use Rattle.mds_tables.specs.Stores.{Gains}
-use Rattle.mds_inserts.specs.Writing.{KeepsOthers, StaysAs}
-use Rattle.mds_inserts.proofs.EightCells.{eight_got}
-use Rattle.mds_inserts.proofs.EightDays.{flat}
-use Rattle.mds_inserts.proofs.RowByRow.{sources}
+use Rattle.mds_tables.specs.Tables.{More, schema_with}
+use Rattle.mds_inserts.specs.Writing.{KeepsOthers}
+use Rattle.mds_pack_rows.proofs.EightCells.{eight_got}
 use Rattle.mds_inserts.proofs.RowLemmas.{of}
 use Rattle.mds_pack_rows.specs.Eights.{SayDays, SaysDay, columns_of, said_by}
 use Rattle.mds_pack_rows.specs.PackFacts.{body_facts, pack_facts, pack_versions, readings_in}
-use Rattle.mds_pack_rows.specs.PackTables.{pack_table, pack_tree, schema_2, tables_2}
-use Rattle.mds_pack_rows.specs.PacksLayout.{idle_packs}
+use Rattle.mds_pack_rows.specs.PackTables.{pack_table, pack_tree, packs_then}
 use Rattle.mds_pack_rows.specs.Putting.{ChangesPacks, NamesMore, PutsFacts, SayRows}
 use Rattle.mds_pack_rows.specs.declared.statements.PackRow.{PackRow}
-use Rattle.mds_pack_rows.proofs.ManyLemmas.{AddsAll, AreFit, adds_all}
+use Rattle.mds_pack_rows.proofs.ManyLemmas.{AddsAll, AreFit, adds_all, sources}
 use Rattle.mds_pack_rows.proofs.PackTexts.{eight_terms, insert_packs, insert_packs_is, insert_packs_plain, pack_place}
-use Rattle.mds_pack_rows.proofs.PutLemmas.{fits, puts_as, puts_then, ran_on, rows_say, same_others, says_day}
+use Rattle.mds_pack_rows.proofs.PutLemmas.{fits, is_database, others_in, puts_as, puts_then, ran_on, rows_say, same_others, says_day}
+use Rattle.mds_pack_rows.proofs.RefusedLemmas.{StaysAs}
 use Rattle.mds_pack_rows.proofs.SwapLemmas.{gained_all, pack_bare}
 
 -- ---- eight rows that are put
@@ -67,22 +68,23 @@ module _ (rows : List PackRow) (eight : length rows ≡ 8) (count : ℕ) (old ne
   abbrev Puts : Type 0
   Puts = ChangesPacks old new × Gains pack_tree (map columns_of rows) old.now.trees new.now.trees
 
-  puts : old.now.schema ≡ schema_2 → ExecutesInside 0 insert_packs cells old new (Ok count) → Puts
-  puts has ran =
+  puts : (rest : More) → old.now.schema ≡ schema_with (packs_then rest) → ExecutesInside 0 insert_packs cells old new (Ok count) → Puts
+  puts rest has ran =
       let db = old.now.trees in
-      let w = runs_as insert_packs cells old new schema_2 has _ insert_packs_is insert_packs_plain count ran.0 in
-      let stated = statement_of insert_packs (understood schema_2 insert_packs) in
+      let schema = schema_with (packs_then rest) in
+      let w = runs_as insert_packs cells old new schema has _ (insert_packs_is rest) (insert_packs_plain rest) count ran.0 in
+      let stated = statement_of insert_packs (understood schema insert_packs) in
       let does = subst (λ s. Does old.step_limit (mode_of old) cells (record old.now { schema = s }) stated None
       (Insert pack_place (Values eight_terms 6)) (Ok (w.tally, new.now))) has w.changed in
-      let it = adds_all old.step_limit Enforced schema_2 pack_table cells db (map columns_of rows) (fit_all rows) eight_terms 6 (text_rows rows eight)
-      (idle_packs pack_tree []) (mode_of old) stated pack_place w.tally new.now refl refl does in
-      let put : AddsAll schema_2 db new.now.trees pack_table (map columns_of rows) = it.1 in (
+      let it = adds_all old.step_limit Enforced schema pack_table cells db (map columns_of rows) (fit_all rows) eight_terms 6 (text_rows rows eight)
+      (no_works schema Enforced 0 pack_tree) (mode_of old) stated pack_place w.tally new.now refl refl does in
+      let put : AddsAll schema db new.now.trees pack_table (map columns_of rows) = it.1 in (
         record {
           is_open = ran.1.is_open;
-          schema = it.0;
-          others = put.others;
+          schema = it.0 ∙ sym has;
+          others = others_in pack_tree schema old new has put.others;
           committed = ran.1.committed_is;
-          sound = subst (λ s. IsSound s new.now.trees) it.0 w.sound;
+          sound = w.sound;
         },
         put.rows,
       )
@@ -91,7 +93,7 @@ module _ (rows : List PackRow) (eight : length rows ≡ 8) (count : ℕ) (old ne
   eight_there runs = (
     ran_on insert_packs cells count old new runs,
     λ there.
-        let it = puts there.schema (runs there.clean) in (
+        let it = puts there.rest.more there.schema (runs there.clean) in (
           it.0,
           subst (NamesMore old.now.trees new.now.trees) (say_all rows)
               (gained_all pack_facts pack_bare pack_tree (map columns_of rows) old.now.trees new.now.trees it.1),
@@ -112,10 +114,11 @@ none_there old new stays = (
       let now : new.now ≡ old.now = it.now_is there.is_open in (
         record {
           is_open = it.is_open there.is_open;
-          schema = ap (λ (d : Database). d.schema) now ∙ there.schema;
-          others = subst (λ (d : Database). KeepsOthers pack_tree old.now.trees d.trees tables_2) (sym now) (same_others old.now.trees tables_2);
+          schema = ap (λ (d : Database). d.schema) now;
+          others = subst (λ (d : Database). KeepsOthers pack_tree old.now.trees d.trees old.now.schema.tables) (sym now)
+              (same_others old.now.trees old.now.schema.tables);
           committed = it.committed_is there.is_open;
-          sound = subst (λ (d : Database). IsSound schema_2 d.trees) (sym now) there.sound;
+          sound = subst IsDatabase (sym now) (is_database old new there);
         },
         subst (λ (d : Database). NamesMore old.now.trees d.trees []) (sym now) (sym (union_empty total exact (of (pack_versions old.now.trees)))),
       ),
@@ -165,6 +168,22 @@ pub puts_both : (a b c : State) → doubt b.is_clean ≤ doubt c.is_clean → (x
     → PutsFacts a c (map version_fact (versions_of (xs ++ ys)))
 puts_both a b c later xs ys p q =
     subst (PutsFacts a c) (sym (facts_both xs ys)) (puts_then a b c later (map version_fact (versions_of xs)) (map version_fact (versions_of ys)) p q)
+
+-- what lies in several arrays, as one list
+abbrev pub flat : {X : Type 0} → List (List X) → List X
+flat xss = flat_map (λ xs. xs) xss
+
+flat_chunks : {X : Type 0} (n k : ℕ) (xs : List X) → flat (first_chunks n k xs) ≡ take (k * n) xs
+flat_chunks n zero xs = let none : 0 ≡ 0 * n = omega arith in ap (λ k. take k xs) none
+flat_chunks n (suc k) xs =
+    let size : n + k * n ≡ suc k * n = omega arith in
+    ap (λ l. take n xs ++ l) (flat_chunks n k (drop n xs)) ∙ sym (take-add n (k * n) xs) ∙ ap (λ m. take m xs) size
+
+-- the arrays and what is left are the whole
+pub chunks_are : {X : Type 0} (xs : List X) (k : ℕ) (chunks : List (List X)) (back : List X) → chunks ≡ first_chunks 8 k xs → back ≡ drop (k * 8) xs
+    → flat chunks ++ back ≡ xs
+chunks_are xs k chunks back front rest =
+    (λ i. flat (front i) ++ rest i) ∙ ap (λ l. l ++ drop (k * 8) xs) (flat_chunks 8 k xs) ∙ take-append-drop (k * 8) xs
 
 -- the arrays up to a place, and the next
 pub flat_more : {X : Type 0} (xss : List (List X)) (at : ℕ) (xs : List X) → at < length xss → xs ≡ get_or xss at xs

@@ -2,6 +2,8 @@ pub mod AskLemmas
 pub mod BodyLemmas
 pub mod CommitLemmas
 pub mod DayLemmas
+pub mod DetailLemmas
+pub mod EightCells
 pub mod EightLemmas
 pub mod LaidLemmas
 pub mod LayoutLemmas
@@ -9,6 +11,7 @@ pub mod MakingTexts
 pub mod ManyLemmas
 pub mod PackTexts
 pub mod PutLemmas
+pub mod RefusedLemmas
 pub mod SpreadLemmas
 pub mod SwapLemmas
 pub mod TwoSchemas

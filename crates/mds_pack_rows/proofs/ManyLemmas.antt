@@ -25,8 +25,11 @@ use Rattle.sqlite_trees.specs.Tree.{Trees, put_row}
 use Rattle.sqlite_value.specs.Order.{Row}
 use Rattle.mds_tables.specs.Stores.{Gains}
 use Rattle.mds_tables.proofs.InsertLemmas.{cast_null, same_value, simple, stored, went}
-use Rattle.mds_inserts.proofs.RowByRow.{sources}
 use Rattle.mds_inserts.proofs.RowLemmas.{gains_one}
+
+-- the columns behind a rowid that is still to be chosen
+abbrev pub sources : List Row → List Row
+sources values = map (λ v. Null ∷ v) values
 
 -- rows under fresh rowids are put between the others
 gains_many : (values rows : List Row) → are_fresh rows (numbered Chosen rows (sources values)) ≡ true

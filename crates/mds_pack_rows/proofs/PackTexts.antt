@@ -1,4 +1,4 @@
--- What the texts of the statements mean.
+-- What the texts of the statements mean, whatever tables stand behind mds_pack.
 use Rattle.std.proofs.Common.{◌≡◌, List, ℕ, [], ◌∷◌, ◌++◌, codes, refl, false}
 use Rattle.sqlite.specs.Command.TheVariants.{Insert, Select, Update}
 use Rattle.sqlite.specs.Listing.{reads_listing, understood}
@@ -8,9 +8,9 @@ use Rattle.sqlite.specs.Term.{Term, col, lit}
 use Rattle.sqlite.specs.declared.types.Value.TheVariants.{Null}
 use Rattle.sqlite.proofs.Callers.{IsPlain, command_of}
 use Rattle.sqlite_tied.specs.Compute.{everything}
-use Rattle.mds_tables.specs.Tables.{head_tree}
+use Rattle.mds_tables.specs.Tables.{More, head_tree, schema_with}
 use Rattle.mds_selects.proofs.SelectTexts.{columns_at, equals, from_one}
-use Rattle.mds_pack_rows.specs.PackTables.{body_columns, length_columns, pack_tree, schema_2, update_columns}
+use Rattle.mds_pack_rows.specs.PackTables.{body_columns, length_columns, pack_tree, packs_then, update_columns}
 
 -- the place of mds_pack among the tables
 abbrev pub pack_place : ℕ
@@ -24,13 +24,13 @@ insert_pack = codes "INSERT INTO mds_pack (nmi, suffix, day, moment, body) VALUE
 abbrev pub pack_terms : List Term
 pack_terms = lit Null ∷ col 0 0 ∷ col 0 1 ∷ col 0 2 ∷ col 0 3 ∷ col 0 4 ∷ []
 
-pub insert_pack_is : command_of (understood schema_2 insert_pack) ≡ Insert pack_place (Values pack_terms 6)
+pub insert_pack_is : (rest : More) → command_of (understood (schema_with (packs_then rest)) insert_pack) ≡ Insert pack_place (Values pack_terms 6)
 unfolding understood everything
-insert_pack_is = refl
+insert_pack_is rest = refl
 
-pub insert_pack_plain : IsPlain (understood schema_2 insert_pack)
+pub insert_pack_plain : (rest : More) → IsPlain (understood (schema_with (packs_then rest)) insert_pack)
 unfolding understood everything
-insert_pack_plain = (refl, refl)
+insert_pack_plain rest = (refl, refl)
 
 -- ---- eight rows that are put
 
@@ -46,13 +46,13 @@ eight_terms =
     row_terms 0 1 2 3 4 ++ (row_terms 5 6 7 8 9 ++ (row_terms 10 11 12 13 14 ++ (row_terms 15 16 17 18 19
     ++ (row_terms 20 21 22 23 24 ++ (row_terms 25 26 27 28 29 ++ (row_terms 30 31 32 33 34 ++ row_terms 35 36 37 38 39))))))
 
-pub insert_packs_is : command_of (understood schema_2 insert_packs) ≡ Insert pack_place (Values eight_terms 6)
+pub insert_packs_is : (rest : More) → command_of (understood (schema_with (packs_then rest)) insert_packs) ≡ Insert pack_place (Values eight_terms 6)
 unfolding understood everything
-insert_packs_is = refl
+insert_packs_is rest = refl
 
-pub insert_packs_plain : IsPlain (understood schema_2 insert_packs)
+pub insert_packs_plain : (rest : More) → IsPlain (understood (schema_with (packs_then rest)) insert_packs)
 unfolding understood everything
-insert_packs_plain = (refl, refl)
+insert_packs_plain rest = (refl, refl)
 
 -- ---- the row of a day and an update
 
@@ -62,14 +62,14 @@ select_body = codes "SELECT rowid, body FROM mds_pack WHERE nmi = ?1 AND suffix 
 abbrev pub body_query : Query
 body_query = from_one pack_tree (equals 1 0 ∷ equals 2 1 ∷ equals 3 2 ∷ equals 4 3 ∷ []) (columns_at body_columns) []
 
-pub select_body_is : command_of (understood schema_2 select_body)
+pub select_body_is : (rest : More) → command_of (understood (schema_with (packs_then rest)) select_body)
     ≡ Select (record { lets = []; body = body_query }) (codes "rowid" ∷ codes "body" ∷ [])
 unfolding understood everything
-select_body_is = refl
+select_body_is rest = refl
 
-pub select_body_plain : IsPlain (understood schema_2 select_body) × (reads_listing schema_2 select_body ≡ false)
+pub select_body_plain : (rest : More) → IsPlain (understood (schema_with (packs_then rest)) select_body) × (reads_listing (schema_with (packs_then rest)) select_body ≡ false)
 unfolding understood everything
-select_body_plain = ((refl, refl), refl)
+select_body_plain rest = ((refl, refl), refl)
 
 -- ---- the length of a day's intervals
 
@@ -79,14 +79,14 @@ select_length = codes "SELECT length FROM mds_head WHERE nmi = ?1 AND suffix = ?
 abbrev pub length_query : Query
 length_query = from_one head_tree (equals 1 0 ∷ equals 2 1 ∷ equals 3 2 ∷ []) (columns_at length_columns) []
 
-pub select_length_is : command_of (understood schema_2 select_length)
+pub select_length_is : (rest : More) → command_of (understood (schema_with (packs_then rest)) select_length)
     ≡ Select (record { lets = []; body = length_query }) (codes "length" ∷ [])
 unfolding understood everything
-select_length_is = refl
+select_length_is rest = refl
 
-pub select_length_plain : IsPlain (understood schema_2 select_length) × (reads_listing schema_2 select_length ≡ false)
+pub select_length_plain : (rest : More) → IsPlain (understood (schema_with (packs_then rest)) select_length) × (reads_listing (schema_with (packs_then rest)) select_length ≡ false)
 unfolding understood everything
-select_length_plain = ((refl, refl), refl)
+select_length_plain rest = ((refl, refl), refl)
 
 -- ---- a body that is replaced
 
@@ -100,13 +100,13 @@ changed_terms = col 1 0 ∷ col 1 0 ∷ col 1 1 ∷ col 1 2 ∷ col 1 3 ∷ col 
 abbrev pub update_query : Query
 update_query = from_one pack_tree (equals 0 0 ∷ []) changed_terms []
 
-pub update_body_is : command_of (understood schema_2 update_body) ≡ Update pack_place (record { lets = []; body = update_query })
+pub update_body_is : (rest : More) → command_of (understood (schema_with (packs_then rest)) update_body) ≡ Update pack_place (record { lets = []; body = update_query })
 unfolding understood everything
-update_body_is = refl
+update_body_is rest = refl
 
-pub update_body_plain : IsPlain (understood schema_2 update_body)
+pub update_body_plain : (rest : More) → IsPlain (understood (schema_with (packs_then rest)) update_body)
 unfolding understood everything
-update_body_plain = (refl, refl)
+update_body_plain rest = (refl, refl)
 
 -- ---- the rows of a day
 
@@ -116,11 +116,11 @@ select_day = codes "SELECT moment, body FROM mds_pack WHERE nmi = ?1 AND suffix 
 abbrev pub day_query : Query
 day_query = from_one pack_tree (equals 1 0 ∷ equals 2 1 ∷ equals 3 2 ∷ []) (columns_at update_columns) []
 
-pub select_day_is : command_of (understood schema_2 select_day)
+pub select_day_is : (rest : More) → command_of (understood (schema_with (packs_then rest)) select_day)
     ≡ Select (record { lets = []; body = day_query }) (codes "moment" ∷ codes "body" ∷ [])
 unfolding understood everything
-select_day_is = refl
+select_day_is rest = refl
 
-pub select_day_plain : IsPlain (understood schema_2 select_day) × (reads_listing schema_2 select_day ≡ false)
+pub select_day_plain : (rest : More) → IsPlain (understood (schema_with (packs_then rest)) select_day) × (reads_listing (schema_with (packs_then rest)) select_day ≡ false)
 unfolding understood everything
-select_day_plain = ((refl, refl), refl)
+select_day_plain rest = ((refl, refl), refl)

@@ -5,6 +5,7 @@ use Rattle.sqlite.specs.Command.TheVariants.{Insert, Update}
 use Rattle.sqlite.specs.Does.{Does}
 use Rattle.sqlite.specs.Effect.{Database, IsDatabase}
 use Rattle.sqlite.specs.Listing.{understood}
+use Rattle.sqlite.specs.Schema.{Schema}
 use Rattle.sqlite.specs.Source.TheVariants.{Values}
 use Rattle.sqlite.specs.State.{ExecutesInside, HasCleanDisk, IsUnchanged, KeepsCommit, State, mode_of}
 use Rattle.sqlite.proofs.InsideLemmas.{keeps_then}
@@ -13,6 +14,7 @@ use Rattle.sqlite_trees.specs.View.{doubt}
 use Rattle.sqlite.specs.declared.types.Value.TheVariants.{Blob, Int, Null, Text}
 use Rattle.sqlite.proofs.Callers.{runs_as, statement_of}
 use Rattle.sqlite_catalog.specs.Listing.{IsSound}
+use Rattle.sqlite_rules.proofs.ActionLemmas.{no_works}
 use Rattle.sqlite_rules.specs.Cast.{cast_all, cast_row}
 use Rattle.sqlite_rules.specs.Edit.{id_in, next_rowid}
 use Rattle.sqlite_schema.specs.declared.program.Program.{Program}
@@ -37,6 +39,7 @@ use Rattle.mds_keeper.specs.declared.day_book.Version.{Version}
 use Rattle.mds_tables.specs.Cells.{number_cell}
 use Rattle.mds_tables.specs.RowFacts.{natural, natural_at, text_at}
 use Rattle.mds_tables.specs.Stores.{Begins, Gains, Selects}
+use Rattle.mds_tables.specs.Tables.{More, schema_with}
 use Rattle.mds_tables.proofs.InsertLemmas.{Adds as OneMore, adds, cast_int, simple}
 use Rattle.mds_inserts.specs.Writing.{KeepsOthers}
 use Rattle.mds_inserts.proofs.RowLemmas.{IsMore, gains_one, of}
@@ -46,8 +49,7 @@ use Rattle.mds_selects.proofs.TypedRows.{begins_at}
 use Rattle.mds_pack_rows.specs.Laying.{laid}
 use Rattle.mds_pack_rows.specs.PackCells.{key_cells, pack_cells}
 use Rattle.mds_pack_rows.specs.PackFacts.{body_facts, facts_from, pack_facts, pack_versions, readings_facts, readings_in}
-use Rattle.mds_pack_rows.specs.PackTables.{body_columns, pack_table, pack_tree, schema_2, tables_2}
-use Rattle.mds_pack_rows.specs.PacksLayout.{idle_packs}
+use Rattle.mds_pack_rows.specs.PackTables.{Behind, body_columns, pack_table, pack_tree, packs_then}
 use Rattle.mds_pack_rows.specs.Putting.{ChangesPacks, GoesOn, IsThere, NamesMore, PutsBeside, PutsBody, PutsFacts}
 use Rattle.mds_pack_rows.specs.Swaps.{Swaps}
 use Rattle.mds_pack_rows.proofs.PackTexts.{changed_terms, insert_pack, insert_pack_is, insert_pack_plain, pack_place, pack_terms, update_body, update_body_is, update_body_plain, update_query}
@@ -80,6 +82,16 @@ on_then a b c later p q =
       inside = λ clean o. q.inside clean (p.inside (early clean) o);
     }
 
+-- ---- what a statement keeps
+
+-- what is kept of the tables of a schema is kept of those that there were, and the other way round
+module _ (tree : ℕ) (schema : Schema) (old new : State) (has : old.now.schema ≡ schema) where
+  pub others_in : KeepsOthers tree old.now.trees new.now.trees schema.tables → KeepsOthers tree old.now.trees new.now.trees old.now.schema.tables
+  others_in = subst (λ (s : Schema). KeepsOthers tree old.now.trees new.now.trees s.tables) (sym has)
+
+  pub others_of : KeepsOthers tree old.now.trees new.now.trees old.now.schema.tables → KeepsOthers tree old.now.trees new.now.trees schema.tables
+  others_of = subst (λ (s : Schema). KeepsOthers tree old.now.trees new.now.trees s.tables) has
+
 -- ---- a row that is put
 
 module _ (s : Stream) (day update : ℕ) (body : List ℕ) (count : ℕ) (old new : State) where
@@ -89,22 +101,23 @@ module _ (s : Stream) (day update : ℕ) (body : List ℕ) (count : ℕ) (old ne
   abbrev Puts : Type 0
   Puts = ChangesPacks old new × Gains pack_tree (cells ∷ []) old.now.trees new.now.trees
 
-  puts : old.now.schema ≡ schema_2 → ExecutesInside 0 insert_pack cells old new (Ok count) → Puts
-  puts has ran =
+  puts : (rest : More) → old.now.schema ≡ schema_with (packs_then rest) → ExecutesInside 0 insert_pack cells old new (Ok count) → Puts
+  puts rest has ran =
       let db = old.now.trees in
-      let w = runs_as insert_pack cells old new schema_2 has _ insert_pack_is insert_pack_plain count ran.0 in
-      let stated = statement_of insert_pack (understood schema_2 insert_pack) in
+      let schema = schema_with (packs_then rest) in
+      let w = runs_as insert_pack cells old new schema has _ (insert_pack_is rest) (insert_pack_plain rest) count ran.0 in
+      let stated = statement_of insert_pack (understood schema insert_pack) in
       let does = subst (λ s. Does old.step_limit (mode_of old) cells (record old.now { schema = s }) stated None
       (Insert pack_place (Values pack_terms 6)) (Ok (w.tally, new.now))) has w.changed in
-      let it = adds old.step_limit Enforced schema_2 pack_table cells db cells pack_terms 6 refl (fits s day update body) (idle_packs pack_tree [])
+      let it = adds old.step_limit Enforced schema pack_table cells db cells pack_terms 6 refl (fits s day update body) (no_works schema Enforced 0 pack_tree)
       (mode_of old) stated pack_place w.tally new.now refl refl does in
-      let put : OneMore schema_2 db new.now.trees pack_table cells = it.1 in (
+      let put : OneMore schema db new.now.trees pack_table cells = it.1 in (
         record {
           is_open = ran.1.is_open;
-          schema = it.0;
-          others = put.others;
+          schema = it.0 ∙ sym has;
+          others = others_in pack_tree schema old new has put.others;
           committed = ran.1.committed_is;
-          sound = subst (λ s. IsSound s new.now.trees) it.0 w.sound;
+          sound = w.sound;
         },
         subst (λ rows. IsPermutation (map (drop 1) (db pack_tree) ++ cells ∷ []) (map (drop 1) rows)) (sym put.rows)
             (gains_one (Int (next_rowid (db pack_tree))) cells (db pack_tree) put.fresh),
@@ -114,7 +127,7 @@ module _ (s : Stream) (day update : ℕ) (body : List ℕ) (count : ℕ) (old ne
   puts_there runs = (
     ran_on insert_pack cells count old new runs,
     λ there.
-        let it = puts there.schema (runs there.clean) in
+        let it = puts there.rest.more there.schema (runs there.clean) in
         (it.0, gained pack_facts pack_bare pack_tree cells old.now.trees new.now.trees it.1),
   )
 
@@ -127,32 +140,33 @@ module _ (id : ℤ) (body : List ℕ) (old new : State) where
   abbrev program : Program
   program = record { lets = []; body = update_query }
 
-  abbrev Changed : Type 0
-  Changed = ChangesPacks old new × Changes old.step_limit Enforced schema_2 pack_table params old.now.trees program (idle_packs pack_tree) new.now.trees 1
+  abbrev under : Behind → Schema
+  under rest = schema_with (packs_then rest.more)
 
-  changed : old.now.schema ≡ schema_2 → ExecutesInside 0 update_body params old new (Ok 1) → Changed
-  changed has ran =
-      let w = runs_as update_body params old new schema_2 has _ update_body_is update_body_plain 1 ran.0 in
-      let stated = statement_of update_body (understood schema_2 update_body) in
+  abbrev Counts : Behind → ℕ → Type 0
+  Counts rest count = Changes old.step_limit Enforced (under rest) pack_table params old.now.trees program (rest.idle pack_tree) new.now.trees count
+
+  changed : (rest : Behind) → old.now.schema ≡ under rest → ExecutesInside 0 update_body params old new (Ok 1) → ChangesPacks old new × Counts rest 1
+  changed rest has ran =
+      let w = runs_as update_body params old new (under rest) has _ (update_body_is rest.more) (update_body_plain rest.more) 1 ran.0 in
+      let stated = statement_of update_body (understood (under rest) update_body) in
       let does = subst (λ s. Does old.step_limit (mode_of old) params (record old.now { schema = s }) stated None
       (Update pack_place program) (Ok (w.tally, new.now))) has w.changed in
-      let it = updates old.step_limit Enforced schema_2 pack_table params old.now.trees program (idle_packs pack_tree)
+      let it = updates old.step_limit Enforced (under rest) pack_table params old.now.trees program (rest.idle pack_tree)
       (mode_of old) stated pack_place w.tally new.now refl refl does in (
         record {
           is_open = ran.1.is_open;
-          schema = it.0;
-          others = it.1.applies.tables;
+          schema = it.0 ∙ sym has;
+          others = others_in pack_tree (under rest) old new has it.1.applies.tables;
           committed = ran.1.committed_is;
-          sound = subst (λ s. IsSound s new.now.trees) it.0 w.sound;
+          sound = w.sound;
         },
-        subst (λ n. Changes old.step_limit Enforced schema_2 pack_table params old.now.trees program (idle_packs pack_tree) new.now.trees n)
-            (sym w.counted) it.1,
+        subst (Counts rest) (sym w.counted) it.1,
       )
 
-  swapped : (s : Stream) (day update : ℕ) (row : Row) → Changed → Member row (old.now.trees pack_tree) → column row 0 ≡ Int id
+  swapped : (rest : Behind) (s : Stream) (day update : ℕ) (row : Row) → Counts rest 1 → Member row (old.now.trees pack_tree) → column row 0 ≡ Int id
       → Begins (key_cells s day update) row → Swaps pack_tree (drop 1 row) (pack_cells s day update body) old.now.trees new.now.trees
-  swapped s day update row it there has begins =
-      let c = it.1 in
+  swapped rest s day update row c there has begins =
       let key = key_cells s day update in
       let nmi : column row 1 ≡ Text s.nmi = begins_at key row begins 0 (omega arith) in
       let suffix : column row 2 ≡ Text s.suffix = begins_at key row begins 1 (omega arith) in
@@ -161,7 +175,7 @@ module _ (id : ℤ) (body : List ℕ) (old new : State) where
       let kept : cast_row (simple pack_table) (drop 1 (eval_all changed_terms (params ∷ row ∷ []))) ≡ Int id ∷ pack_cells s day update body =
       (λ i. cast_row (simple pack_table) (has i ∷ nmi i ∷ suffix i ∷ on i ∷ at i ∷ Blob body ∷ []))
       ∙ (λ i. cast_int id i ∷ fits s day update body i) in
-      swaps Enforced schema_2 pack_table id (Blob body ∷ []) old.now.trees new.now.trees changed_terms (pack_cells s day update body)
+      swaps Enforced (under rest) pack_table id (Blob body ∷ []) old.now.trees new.now.trees changed_terms (pack_cells s day update body)
       c.rows row there has (sym c.counted)
       (picks pack_tree (equals 0 0 ∷ []) changed_terms [] old.now.trees params c.rows refl c.shown.answer)
       (ap id_in has) kept c.applies
@@ -170,8 +184,8 @@ module _ (id : ℤ) (body : List ℕ) (old new : State) where
   replaces_there runs = (
     ran_on update_body params 1 old new runs,
     λ there.
-        let it = changed there.schema (runs there.clean) in
-        (it.0, λ s day update row m has begins. swapped s day update row it m has begins),
+        let it = changed there.rest there.schema (runs there.clean) in
+        (it.0, λ s day update row m has begins. swapped there.rest s day update row it.1 m has begins),
   )
 
 -- ---- bodies and what they say
@@ -215,9 +229,14 @@ lays_there old new id shown old_body new_body olds news all has_id has_body was 
 
 -- ---- a query, and then a write
 
-module _ (a b c : State) (later : doubt b.is_clean ≤ doubt c.is_clean) (same : HasCleanDisk b → a.now.schema ≡ schema_2 → IsUnchanged a b) where
+-- the database is sound under the schema that it has
+pub is_database : (old new : State) → IsThere old new → IsDatabase old.now
+is_database old new there = subst (λ schema. IsSound schema old.now.trees) (sym there.schema) there.sound
+
+module _ (a b c : State) (later : doubt b.is_clean ≤ doubt c.is_clean)
+    (same : HasCleanDisk b → (rest : More) → a.now.schema ≡ schema_with (packs_then rest) → IsUnchanged a b) where
   same_there : IsThere a c → IsUnchanged a b
-  same_there there = same (omega (arith, there.clean, later)) there.schema
+  same_there there = same (omega (arith, there.clean, later)) there.rest.more there.schema
 
   there_now : IsThere a c → IsThere b c
   there_now there =
@@ -226,8 +245,9 @@ module _ (a b c : State) (later : doubt b.is_clean ≤ doubt c.is_clean) (same :
       record {
         clean = there.clean;
         is_open = it.0.is_open;
+        rest = there.rest;
         schema = ap (λ (d : Database). d.schema) now ∙ there.schema;
-        sound = subst (λ (d : Database). IsSound schema_2 d.trees) (sym now) there.sound;
+        sound = subst (λ (d : Database). IsSound (schema_with (packs_then there.rest.more)) d.trees) (sym now) there.sound;
       }
 
   changes_since : IsThere a c → ChangesPacks b c → ChangesPacks a c
@@ -236,8 +256,8 @@ module _ (a b c : State) (later : doubt b.is_clean ≤ doubt c.is_clean) (same :
       let now : b.now ≡ a.now = was.0.now_is in
       record {
         is_open = it.is_open;
-        schema = it.schema;
-        others = subst (λ (d : Database). KeepsOthers pack_tree d.trees c.now.trees tables_2) now it.others;
+        schema = it.schema ∙ ap (λ (d : Database). d.schema) now;
+        others = subst (λ (d : Database). KeepsOthers pack_tree d.trees c.now.trees d.schema.tables) now it.others;
         committed = it.committed ∙ was.0.committed_is;
         sound = it.sound;
       }
@@ -258,15 +278,15 @@ module _ (a b c : State) (later : doubt b.is_clean ≤ doubt c.is_clean) (same :
 
   -- or the body of the one that it showed is replaced
   pub lays_since : GoesOn a b → (s : Stream) (day update : ℕ) (shown : Row) (readings : List (Option ReadingValue))
-      → (HasCleanDisk b → a.now.schema ≡ schema_2 → IsDatabase a.now → Selects pack_tree (key_cells s day update) body_columns a.now.trees (shown ∷ []))
+      → (HasCleanDisk b → (rest : More) → a.now.schema ≡ schema_with (packs_then rest) → IsDatabase a.now → Selects pack_tree (key_cells s day update) body_columns a.now.trees (shown ∷ []))
       → PutsBeside b c shown readings → PutsFacts a c (readings_facts s day update readings)
   lays_since first s day update shown readings shows lays = (
     on_then a b c later first lays.0,
     λ there.
         let it = lays.1 (there_now there) in
         let now : b.now ≡ a.now = (same_there there).0.now_is in
-        let whole : IsDatabase a.now = subst (λ schema. IsSound schema a.now.trees) (sym there.schema) there.sound in
-        let row = (shows (omega (arith, there.clean, later)) there.schema whole shown).0 (inl refl) in
+        let whole = is_database a c there in
+        let row = (shows (omega (arith, there.clean, later)) there.rest.more there.schema whole shown).0 (inl refl) in
         let more = it.1 s day update row.0 (subst (λ (d : Database). Member row.0 (d.trees pack_tree)) (sym now) row.1) row.3 row.2 in
         (changes_since there it.0, subst (λ (d : Database). NamesMore d.trees c.now.trees (readings_facts s day update readings)) now more),
   )
@@ -299,10 +319,10 @@ puts_none s = (
   λ there. (
     record {
       is_open = there.is_open;
-      schema = there.schema;
-      others = same_others s.now.trees tables_2;
+      schema = refl;
+      others = same_others s.now.trees s.now.schema.tables;
       committed = refl;
-      sound = there.sound;
+      sound = is_database s s there;
     },
     sym (union_empty total exact (of (pack_versions s.now.trees))),
   ),
@@ -313,12 +333,21 @@ module _ (a b c : State) (later : doubt b.is_clean ≤ doubt c.is_clean) where
   there_before there = record {
     clean = omega (arith, there.clean, later);
     is_open = there.is_open;
+    rest = there.rest;
     schema = there.schema;
     sound = there.sound;
   }
 
   pub there_after : IsThere a c → ChangesPacks a b → IsThere b c
-  there_after there it = record { clean = there.clean; is_open = it.is_open; schema = it.schema; sound = it.sound }
+  there_after there it =
+      let has : b.now.schema ≡ schema_with (packs_then there.rest.more) = it.schema ∙ there.schema in
+      record {
+        clean = there.clean;
+        is_open = it.is_open;
+        rest = there.rest;
+        schema = has;
+        sound = subst (λ schema. IsSound schema b.now.trees) has it.sound;
+      }
 
   pub puts_then : (xs ys : List Fact) → PutsFacts a b xs → PutsFacts b c ys → PutsFacts a c (xs ++ ys)
   puts_then xs ys p q = (
@@ -329,8 +358,9 @@ module _ (a b c : State) (later : doubt b.is_clean ≤ doubt c.is_clean) where
         let first = of (pack_versions a.now.trees) in (
           record {
             is_open = two.0.is_open;
-            schema = two.0.schema;
-            others = others_then a.now.trees b.now.trees c.now.trees tables_2 one.0.others two.0.others;
+            schema = two.0.schema ∙ one.0.schema;
+            others = others_then a.now.trees b.now.trees c.now.trees a.now.schema.tables one.0.others
+                (subst (λ (s : Schema). KeepsOthers pack_tree b.now.trees c.now.trees s.tables) one.0.schema two.0.others);
             committed = two.0.committed ∙ one.0.committed;
             sound = two.0.sound;
           },

@@ -13,7 +13,7 @@ use Rattle.sqlite.specs.Rows.{Task, Updates, Written}
 use Rattle.sqlite.specs.declared.run.Mode.{Mode}
 use Rattle.sqlite.specs.declared.types.Value.{Value}
 use Rattle.sqlite.specs.declared.types.Value.TheVariants.{Null, Int, Real, Text, Blob}
-use Rattle.sqlite.specs.Query.{Output, Query}
+use Rattle.sqlite.specs.Query.{Output}
 use Rattle.sqlite.proofs.Callers.{one_permutation, one_step}
 use Rattle.sqlite_rules.specs.Action.{works}
 use Rattle.sqlite_rules.specs.Calls.{ids_of}
@@ -37,7 +37,7 @@ use Rattle.mds_tables.proofs.InsertLemmas.{same_value, simple, went}
 use Rattle.mds_inserts.proofs.RowLemmas.{gains_one}
 use Rattle.mds_selects.proofs.KeyLemmas.{truth_of}
 use Rattle.mds_selects.proofs.SelectLemmas.{Picks, passes, shows}
-use Rattle.mds_selects.proofs.SelectTexts.{equals, from_one}
+use Rattle.mds_selects.proofs.SelectTexts.{equals}
 use Rattle.mds_pack_rows.specs.Swaps.{Swaps}
 
 -- ---- the test of a rowid
@@ -130,9 +130,6 @@ module _ (limit : Option ℕ) (keys : Keys) (schema : Schema) (t : Table) (param
 module _ (keys : Keys) (schema : Schema) (t : Table) (id : ℤ) (more : Row) (db next : Trees) (project : List Term) (cells : Row) where
   abbrev params : Row
   params = Int id ∷ more
-
-  abbrev body : Query
-  body = from_one t.tree (equals 0 0 ∷ []) project []
 
   abbrev pass : Row → Bool
   pass = passes t.tree (equals 0 0 ∷ []) project [] db params

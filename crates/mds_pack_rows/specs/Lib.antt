@@ -1,5 +1,9 @@
+pub mod DailyLayout
+pub mod DailyPutting
+pub mod DailyTables
 pub mod DayRows
 pub mod Eights
+pub mod FailureSteps
 pub mod Laying
 pub mod PackCells
 pub mod PackFacts

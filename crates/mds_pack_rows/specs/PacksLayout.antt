@@ -1,61 +1,99 @@
--- The layout of schema 2 (profile): mds_pack stands behind the tables that every schema has, and says all versions.
-use Rattle.std.specs.Prelude.{◌≡◌, ◌==◌, ℕ, ◌+◌, List, [], ◌∷◌, ◌++◌, length, Option, Some, None, unwrap_or}
-use Rattle.std.proofs.Common.{inl, inr, sym, ap, subst, arith}
-use Rattle.std.specs.List.{flat_map}
+-- Layouts with mds_pack (profile): it stands behind the tables that every schema has, and says all versions. That of schema 2 has
+-- nothing behind it.
+use Rattle.std.specs.Prelude.{◌≡◌, ◌↔◌, ◌==◌, ◌≤◌, ℕ, ◌+◌, List, [], ◌∷◌, ◌++◌, length, Option, Some, None, unwrap_or}
+use Rattle.std.proofs.Common.{inl, inr, refl, sym, ap, subst, arith}
+use Rattle.std.specs.List.{AllByRecursion, flat_map}
+use Rattle.sqlite.specs.Table.{Table}
 use Rattle.sqlite_rules.specs.Action.{works}
 use Rattle.sqlite_schema.specs.declared.schema.Action.TheVariants.{NoAction}
+use Rattle.sqlite_schema.specs.declared.schema.Index.{Index}
 use Rattle.sqlite_schema.specs.declared.schema.Keys.TheVariants.{Enforced}
 use Rattle.sqlite_trees.specs.Tree.{Trees}
 use Rattle.sqlite_value.specs.Order.{Row}
 use Rattle.mds_names.specs.declared.stream.Stream.{Stream}
 use Rattle.mds_marks.specs.Reading.{ReadingValue}
 use Rattle.mds_world.specs.Facts.{Fact}
+use Rattle.mds_world.specs.Facts.Fact.{VersionIs}
 use Rattle.mds_world.specs.Lists.{Member}
 use Rattle.mds_world.specs.World.{World}
-use Rattle.mds_tables.specs.Layouts.{IsVersion, Layout, either, world_with}
+use Rattle.mds_world.specs.declared.facts.Key.{Key}
+use Rattle.mds_tables.specs.Layouts.{IsOwn, Layout, either, world_with}
 use Rattle.mds_tables.specs.RowFacts.{natural_at, stream_in, text_at}
+use Rattle.mds_tables.specs.Tables.{no_more, trees_taken}
 use Rattle.mds_pack_rows.specs.PackFacts.{facts_from, pack_facts, pack_versions, readings_in}
-use Rattle.mds_pack_rows.specs.PackTables.{pack_tree, packs, schema_2}
+use Rattle.mds_pack_rows.specs.PackTables.{Behind, pack_tree, packs_then, schema_2, trees_packed}
 
 -- ---- mds_pack says versions alone
 
 pub only_from : (s : Stream) (day update interval : ℕ) (readings : List (Option ReadingValue)) (fact : Fact)
-    → Member fact (facts_from s day update interval readings) → IsVersion fact
+    → Member fact (facts_from s day update interval readings) → IsOwn fact
 only_from s day update interval [] fact m = absurd m
 only_from s day update interval (None ∷ readings) fact m = only_from s day update (interval + 1) readings fact m
-only_from s day update interval (Some r ∷ readings) fact (inl is) = subst IsVersion (sym is) tt
+only_from s day update interval (Some r ∷ readings) fact (inl is) = subst IsOwn (sym is) tt
 only_from s day update interval (Some r ∷ readings) fact (inr m) = only_from s day update (interval + 1) readings fact m
 
-pub only_both : (xs ys : List Fact) (fact : Fact) → (Member fact xs → IsVersion fact) → (Member fact ys → IsVersion fact)
-    → Member fact (xs ++ ys) → IsVersion fact
+pub only_both : (xs ys : List Fact) (fact : Fact) → (Member fact xs → IsOwn fact) → (Member fact ys → IsOwn fact)
+    → Member fact (xs ++ ys) → IsOwn fact
 only_both [] ys fact one other m = other m
 only_both (x ∷ xs) ys fact one other (inl is) = one (inl is)
 only_both (x ∷ xs) ys fact one other (inr m) = only_both xs ys fact (λ n. one (inr n)) other m
 
-pub only_packs : (rows : List Row) (fact : Fact) → Member fact (flat_map pack_facts rows) → IsVersion fact
+pub only_packs : (rows : List Row) (fact : Fact) → Member fact (flat_map pack_facts rows) → IsOwn fact
 only_packs [] fact m = absurd m
 only_packs (row ∷ rows) fact m =
     only_both (pack_facts row) (flat_map pack_facts rows) fact
     (only_from (stream_in row) (natural_at row 3) (natural_at row 4) 1 (unwrap_or (readings_in (text_at row 5)) []) fact)
     (only_packs rows fact) m
 
--- ---- the layout
+-- ---- layouts with mds_pack
+
+-- A layout has mds_pack behind the tables that every schema has, and other tables behind that. The versions that it says are those of
+-- mds_pack.
+pub record HasPacks (layout : Layout) : Type 0 where
+  pub rest : Behind
+  pub more : layout.more ≡ packs_then rest.more
+  pub versions : (trees : Trees) (key : Key) (reading : ReadingValue)
+      → Member (VersionIs key reading) (layout.own trees) ↔ Member (VersionIs key reading) (pack_versions trees)
+
+-- trees behind mds_pack come behind those of the tables that every schema has
+pub tables_behind : (tables : List Table) → AllByRecursion (λ (table : Table). trees_packed ≤ table.tree) tables
+    → AllByRecursion (λ (table : Table). trees_taken ≤ table.tree) tables
+tables_behind [] behind = tt
+tables_behind (table ∷ tables) behind = (omega (arith, behind.0), tables_behind tables behind.1)
+
+pub indexes_behind : (indexes : List Index) → AllByRecursion (λ (index : Index). trees_packed ≤ index.table) indexes
+    → AllByRecursion (λ (index : Index). trees_taken ≤ index.table) indexes
+indexes_behind [] behind = tt
+indexes_behind (index ∷ indexes) behind = (omega (arith, behind.0), indexes_behind indexes behind.1)
+
+-- the layout with these tables behind mds_pack, of which mds_schema says this number, and which says no details of days
+abbrev pub packs_over : ℕ → Behind → Layout
+packs_over number rest = record {
+  number = number;
+  more = packs_then rest.more;
+  own = pack_versions;
+  only = λ trees. only_packs (trees pack_tree);
+  silent = λ trees _ none. ap (flat_map pack_facts) none.0;
+  steady = λ old new _ same. ap (flat_map pack_facts) same.0;
+  idle = rest.idle;
+  behind = (omega arith, tables_behind rest.more.tables rest.behind);
+  indexes_behind = (omega arith, indexes_behind rest.more.indexes rest.indexes_behind);
+}
+
+-- ---- the layout of schema 2
 
 pub idle_packs : (tree : ℕ) (olds news : List Row) → works schema_2 Enforced 0 tree olds news ≡ []
 idle_packs tree olds news = rw (either (length news == 0) NoAction)
 
+-- it has nothing behind mds_pack
+abbrev pub nothing_behind : Behind
+nothing_behind = record { more = no_more; idle = idle_packs; behind = tt; indexes_behind = tt }
+
 abbrev pub packs_layout : Layout
-packs_layout = record {
-  number = 2;
-  more = packs;
-  versions = pack_versions;
-  only = λ trees. only_packs (trees pack_tree);
-  silent = λ trees _ none. ap (flat_map pack_facts) none.0;
-  steady = λ old new _ same. ap (flat_map pack_facts) same.0;
-  idle = idle_packs;
-  behind = (omega arith, tt);
-  indexes_behind = (omega arith, tt);
-}
+packs_layout = packs_over 2 nothing_behind
+
+abbrev pub packs_in : HasPacks packs_layout
+packs_in = record { rest = nothing_behind; more = refl; versions = λ trees key reading. (λ m. m, λ m. m) }
 
 -- The World that the rows of the tables name.
 abbrev pub world_2 : Trees → World

@@ -1,7 +1,8 @@
 -- What statements on mds_pack do in a transaction (profile).
 use Rattle.std.specs.Prelude.{◌≡◌, ℕ, ℤ, List, ◌∷◌, [], drop, map, IsTrue, Option}
 use Rattle.std.specs.FinSet as set
-use Rattle.sqlite.specs.State.{HasCleanDisk, State}
+use Rattle.sqlite.specs.Effect.{IsDatabase}
+use Rattle.sqlite.specs.State.{HasCleanDisk, IsUnchanged, State}
 use Rattle.sqlite.specs.declared.types.Value.TheVariants.{Int}
 use Rattle.sqlite_catalog.specs.Listing.{IsSound}
 use Rattle.sqlite_trees.specs.Tree.{Trees}
@@ -13,15 +14,14 @@ use Rattle.mds_world.specs.Facts.{Fact}
 use Rattle.mds_world.specs.Lists.{Member}
 use Rattle.mds_world.specs.World.{union}
 use Rattle.mds_keeper.specs.Books.{row_fact}
-use Rattle.mds_keeper.specs.Content.{version_fact}
 use Rattle.mds_keeper.specs.declared.day_book.Version.{Version}
 use Rattle.mds_tables.specs.Cells.{day_cells, number_cell}
-use Rattle.mds_tables.specs.Stores.{Begins, Gained}
-use Rattle.mds_tables.specs.Tables.{head_tree, tables_1}
+use Rattle.mds_tables.specs.Stores.{Begins}
+use Rattle.mds_tables.specs.Tables.{More, head_tree, schema_with, tables_1}
 use Rattle.mds_inserts.specs.Writing.{IsMore, Keeps, KeepsOthers}
 use Rattle.mds_pack_rows.specs.PackCells.{key_cells, pack_cells}
 use Rattle.mds_pack_rows.specs.PackFacts.{pack_versions, readings_facts}
-use Rattle.mds_pack_rows.specs.PackTables.{body_columns, pack_tree, schema_2, tables_2}
+use Rattle.mds_pack_rows.specs.PackTables.{Behind, body_columns, pack_tree, packs_then, schema_2}
 use Rattle.mds_pack_rows.specs.Swaps.{Swaps}
 
 -- Whatever the tables are, the connection is open where it was, and the transaction goes on.
@@ -30,20 +30,27 @@ pub record GoesOn (old new : State) : Type 0 where
   pub is_open : HasCleanDisk new → IsTrue old.is_open → IsTrue new.is_open
   pub inside : HasCleanDisk new → IsTrue old.in_transaction → IsTrue new.in_transaction
 
--- The connection was open over the tables of schema 2, and the disk is honest up to the end.
+-- The connection was open over the tables up to mds_pack and others behind it, and the disk is honest up to the end.
 pub record IsThere (old new : State) : Type 0 where
   pub clean : HasCleanDisk new
   pub is_open : IsTrue old.is_open
-  pub schema : old.now.schema ≡ schema_2
-  pub sound : IsSound schema_2 old.now.trees
+  -- what stands behind mds_pack
+  pub rest : Behind
+  pub schema : old.now.schema ≡ schema_with (packs_then rest.more)
+  pub sound : IsSound (schema_with (packs_then rest.more)) old.now.trees
 
 -- Every table but mds_pack is as it was, and nothing is committed.
 pub record ChangesPacks (old new : State) : Type 0 where
   pub is_open : IsTrue new.is_open
-  pub schema : new.now.schema ≡ schema_2
-  pub others : KeepsOthers pack_tree old.now.trees new.now.trees tables_2
+  pub schema : new.now.schema ≡ old.now.schema
+  pub others : KeepsOthers pack_tree old.now.trees new.now.trees old.now.schema.tables
   pub committed : new.committed ≡ old.committed
-  pub sound : IsSound schema_2 new.now.trees
+  pub sound : IsSound new.now.schema new.now.trees
+
+-- A query was answered, whatever tables stand behind mds_pack, and the database is as it was.
+pub record FindsThere (old new : State) (Shows : Trees → Type 0) : Type 0 where
+  pub same : (rest : More) → old.now.schema ≡ schema_with (packs_then rest) → IsUnchanged old new
+  pub shows : (rest : More) → old.now.schema ≡ schema_with (packs_then rest) → IsDatabase old.now → Shows old.now.trees
 
 -- mds_pack stands behind the tables of schema 1, which are as they were, and has no row. Nothing is committed.
 pub record MakesPack (old new : State) : Type 0 where
@@ -57,10 +64,6 @@ pub record MakesPack (old new : State) : Type 0 where
 -- mds_pack names these facts beside those that it named
 abbrev pub NamesMore : Trees → Trees → List Fact → Type 0
 NamesMore old new = IsMore (pack_versions new) (pack_versions old)
-
--- mds_pack has the versions that are added
-abbrev pub HasPacked : Gained
-HasPacked old new versions = NamesMore old new (map version_fact versions)
 
 -- these facts are put into mds_pack, as the transaction sees it
 abbrev pub PutsFacts : State → State → List Fact → Type 0

@@ -1,6 +1,6 @@
 //! The body in a row, and the readings that it says.
 
-ghost use Rattle.std.specs.Prelude.{◌≡◌, ◌≢◌, ◌<◌, ◌^◌, ℕ, List, Option, IfNone, IfOk, IfSome, IsTrue, Some, drop, length as list_length, option_map};
+ghost use Rattle.std.specs.Prelude.{◌≡◌, ◌≢◌, ◌<◌, ◌^◌, ℕ, List, Option, IfNone, IfOk, IfSome, IsTrue, Some, drop, length as list_length, map, option_map};
 ghost use Rattle.std.specs.Int.{w16};
 ghost use Rattle.sqlite.specs.Order.{column};
 ghost use Rattle.sqlite.specs.declared.types.Value.TheVariants.{Blob};
@@ -10,7 +10,8 @@ ghost use Rattle.mds_packs.specs.Unpacked.{number_at, unpacked};
 ghost use Rattle.mds_pack_rows.specs.PackFacts.{readings_in};
 
 use mds_marks::Reading;
-use mds_packs::unpack_day;
+use mds_packs::{unpack_day, unpack_readings};
+use mds_runs::DayReadings;
 use mds_terms::Length;
 use sqlite::Row;
 use sqlite::types::ValueRef;
@@ -54,6 +55,18 @@ pub(crate) fn unpack_for(
     ensures value { IfOk result (λ o. option_map (λ v. v.items) o ≡ unpacked (count_of length) body.now) }
 {
     unpack_day(alloc, length, body)
+}
+
+/// Unpacks a body for a whole day with intervals of this length, as its readings lie. `None` where these bytes are no body of
+/// such a day, or an interval has no reading.
+pub(crate) fn unpack_whole(
+    alloc: Global,
+    length: Length,
+    body: &[u8],
+) -> Result<Option<DayReadings>, AllocError>
+    ensures { IfOk result (λ o. IfSome o (λ readings. readings_in body.now ≡ Some (map (λ reading. Some reading) readings))) }
+{
+    unpack_readings(alloc, length, body)
 }
 
 /// How many intervals a body says.

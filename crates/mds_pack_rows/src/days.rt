@@ -1,19 +1,20 @@
 //! The versions of a day, asked of a store.
 
-ghost use Rattle.std.specs.Prelude.{◌≡◌, ◌<◌, ◌^◌, ◌++◌, ◌∷◌, [], ℕ, false, length, map, IfOk, OnOk};
+ghost use Rattle.std.specs.Prelude.{◌≡◌, ◌<◌, ◌^◌, ◌++◌, ◌∷◌, [], ℕ, false, length, map, IfOk, IfSome, OnOk};
 ghost use Rattle.sqlite.specs.Held.{state};
 ghost use Rattle.mds_names.specs.declared.stream.Stream.{Stream as StreamValue};
 ghost use Rattle.mds_keeper.specs.Books.{row_fact};
+ghost use Rattle.mds_keeper.specs.Content.{rows_of};
 ghost use Rattle.mds_tables.specs.Queries.{Answers};
 ghost use Rattle.mds_tables.specs.Stores.{HoldsOf};
 ghost use Rattle.mds_selects.specs.Found.{AreRowsOf};
+ghost use Rattle.mds_pack_rows.specs.DailyLayout.{daily_layout, world_3};
 ghost use Rattle.mds_pack_rows.specs.DayRows.{AreHeldIn, shown_facts};
 ghost use Rattle.mds_pack_rows.specs.PackFacts.{facts_from, readings_facts};
-ghost use Rattle.mds_pack_rows.specs.PacksLayout.{packs_layout, world_2};
 
-use crate::bodies::{blob_at, unpack_for};
+use crate::bodies::{blob_at, unpack_for, unpack_whole};
 use crate::statements::day_rows;
-use mds_keeper::{Unavailable, Version};
+use mds_keeper::{Unavailable, Version, VersionRows};
 use mds_marks::Reading;
 use mds_selects::moment_at;
 use mds_tables::ready;
@@ -29,10 +30,10 @@ pub fn versions_of<S: Alter>(
     stream: &Stream,
     day: Day,
     length: Option<Length>,
-) -> Result<Vec<(u16, Version)>, Unavailable>
+) -> Result<VersionRows, Unavailable>
     requires { conn.old.in_transaction ≡ false }
-    ensures { Answers (HoldsOf packs_layout) (state S.Store conn.old) (state S.Store conn.new) result
-        (λ trees rows. AreRowsOf (world_2 trees) stream.now day rows.items) }
+    ensures { Answers (HoldsOf daily_layout) (state S.Store conn.old) (state S.Store conn.new) result
+        (λ trees rows. AreRowsOf (world_3 trees) stream.now day (rows_of rows)) }
 {
     let Ok(_) = ready(conn) else {
         return Err(Unavailable);
@@ -46,22 +47,52 @@ pub fn versions_of<S: Alter>(
 }
 
 /// The versions that rows of a day hold. A day without a length has none.
-fn held_of(
-    alloc: Global,
-    length: Option<Length>,
-    rows: &[Row],
-) -> Result<Vec<(u16, Version)>, Unavailable>
-    ensures { IfOk result (λ versions. AreHeldIn rows.now versions.items) }
+fn held_of(alloc: Global, length: Option<Length>, rows: &[Row]) -> Result<VersionRows, Unavailable>
+    ensures { IfOk result (λ versions. AreHeldIn rows.now (rows_of versions)) }
 {
     match length {
         Some(length) => all_held(alloc, length, rows),
-        None if rows.is_empty() => Ok(Vec::new(alloc)),
+        None if rows.is_empty() => Ok(VersionRows::Each(Vec::new(alloc))),
         None => Err(Unavailable),
     }
 }
 
-/// The versions that rows of a day hold, whose intervals have this length.
-pub fn all_held(
+/// The versions that rows of a day hold, whose intervals have this length. Those of a whole day under one update stay as they
+/// lie.
+pub fn all_held(alloc: Global, length: Length, rows: &[Row]) -> Result<VersionRows, Unavailable>
+    ensures { IfOk result (λ versions. AreHeldIn rows.now (rows_of versions)) }
+{
+    match whole_held(alloc, length, rows)? {
+        Some(versions) => Ok(versions),
+        None => Ok(VersionRows::Each(each_held(alloc, length, rows)?)),
+    }
+}
+
+/// The versions of a row that is alone and holds a reading of each interval, as they lie. `None` where there is no such row.
+fn whole_held(
+    alloc: Global,
+    length: Length,
+    rows: &[Row],
+) -> Result<Option<VersionRows>, Unavailable>
+    ensures { IfOk result (λ o. IfSome o (λ versions. AreHeldIn rows.now (rows_of versions))) }
+{
+    let [row] = rows else {
+        return Ok(None);
+    };
+    let Some(update) = moment_at(row, 0) else {
+        return Ok(None);
+    };
+    let Some(body) = blob_at(row, 1) else {
+        return Ok(None);
+    };
+    let Some(readings) = unpack_whole(alloc, length, body)? else {
+        return Ok(None);
+    };
+    Ok(Some(VersionRows::Whole(update, readings)))
+}
+
+/// The versions that rows of a day hold, one by one.
+fn each_held(
     alloc: Global,
     length: Length,
     rows: &[Row],

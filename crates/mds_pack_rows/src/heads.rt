@@ -5,10 +5,9 @@ ghost use Rattle.sqlite.specs.Held.{state};
 ghost use Rattle.sqlite.specs.Order.{column};
 ghost use Rattle.sqlite.specs.State.{HasCleanDisk, KeepsCommit, Survives};
 ghost use Rattle.sqlite.specs.declared.types.Value.TheVariants.{Int};
-ghost use Rattle.mds_tables.specs.Stores.{FindsOf};
-ghost use Rattle.mds_pack_rows.specs.PackTables.{schema_2};
-ghost use Rattle.mds_pack_rows.specs.PacksLayout.{packs_layout};
-ghost use Rattle.mds_pack_rows.specs.Putting.{GoesOn, HasLength};
+ghost use Rattle.mds_tables.specs.Tables.{More, schema_with};
+ghost use Rattle.mds_pack_rows.specs.PackTables.{packs_then};
+ghost use Rattle.mds_pack_rows.specs.Putting.{FindsThere, GoesOn, HasLength};
 
 use crate::statements::length_rows;
 use mds_keeper::Unavailable;
@@ -24,9 +23,9 @@ pub(crate) fn length_of_day<S: Alter>(
 ) -> Result<Length, Unavailable>
     ensures same_reference { tx.new.conn.ghost_name ≡ tx.old.conn.ghost_name }
     ensures ok { HasCleanDisk (state S.Store tx.new.conn.now)
-        → IfOk result (λ length. FindsOf packs_layout (state S.Store tx.old.conn.now) (state S.Store tx.new.conn.now) (HasLength stream.now day length)) }
+        → IfOk result (λ length. FindsThere (state S.Store tx.old.conn.now) (state S.Store tx.new.conn.now) (HasLength stream.now day length)) }
     ensures goes_on { OnOk result (GoesOn (state S.Store tx.old.conn.now) (state S.Store tx.new.conn.now)) }
-    ensures kept { HasCleanDisk (state S.Store tx.new.conn.now) → (state S.Store tx.old.conn.now).now.schema ≡ schema_2
+    ensures kept { HasCleanDisk (state S.Store tx.new.conn.now) → (rest : More) → (state S.Store tx.old.conn.now).now.schema ≡ schema_with (packs_then rest)
         → KeepsCommit (state S.Store tx.old.conn.now) (state S.Store tx.new.conn.now) }
     ensures survives { Survives (state S.Store tx.old.conn.now) (state S.Store tx.new.conn.now) (λ _. ⊥) }
 {

@@ -8,21 +8,21 @@ ghost use Rattle.sqlite.specs.Values.{bound};
 ghost use Rattle.sqlite.specs.declared.types.Value.TheVariants.{Blob, Int};
 ghost use Rattle.mds_tables.specs.Cells.{day_cells as day_columns};
 ghost use Rattle.mds_tables.specs.Queries.{QueriesOf};
-ghost use Rattle.mds_tables.specs.Stores.{FindsOf, Selects};
-ghost use Rattle.mds_tables.specs.Tables.{head_tree};
+ghost use Rattle.mds_tables.specs.Stores.{Selects};
+ghost use Rattle.mds_tables.specs.Tables.{More, head_tree, schema_with};
+ghost use Rattle.mds_pack_rows.specs.DailyLayout.{daily_layout};
 ghost use Rattle.mds_pack_rows.specs.Eights.{columns_of, said_by};
+ghost use Rattle.mds_pack_rows.specs.FailureSteps.{is_store_error};
 ghost use Rattle.mds_pack_rows.specs.PackCells as row;
 ghost use Rattle.mds_pack_rows.specs.PackFacts.{body_facts};
-ghost use Rattle.mds_pack_rows.specs.PackTables.{body_columns, length_columns, pack_tree, schema_2, update_columns};
-ghost use Rattle.mds_pack_rows.specs.PacksLayout.{packs_layout};
-ghost use Rattle.mds_pack_rows.specs.Putting.{GoesOn, PutsBody, PutsFacts};
+ghost use Rattle.mds_pack_rows.specs.PackTables.{body_columns, length_columns, pack_tree, packs_then, update_columns};
+ghost use Rattle.mds_pack_rows.specs.Putting.{FindsThere, GoesOn, PutsBody, PutsFacts};
 
-use mds_inserts::is_failure;
 use mds_keeper::Unavailable;
 use mds_tables::day_cells;
 use mds_terms::{Day, Moment, Stream};
 use sqlite::types::ValueRef;
-use sqlite::{Alter, Connection, Error, Row, Transaction};
+use sqlite::{Alter, Connection, Error, ErrorCode, Row, Transaction};
 
 /// The columns that name a day and an update.
 fn key_cells<'a>(stream: &'a Stream, day: Day, update: Moment) -> [ValueRef<'a>; 4]
@@ -104,7 +104,7 @@ pub(crate) fn day_rows<S: Alter>(
     stream: &Stream,
     day: Day,
 ) -> Result<Vec<Row>, Error>
-    ensures { QueriesOf packs_layout (state S.Store conn.old) (state S.Store conn.new) result (Selects pack_tree (day_columns stream.now day) update_columns) }
+    ensures { QueriesOf daily_layout (state S.Store conn.old) (state S.Store conn.new) result (Selects pack_tree (day_columns stream.now day) update_columns) }
 {
     conn.query_all(
         "SELECT moment, body FROM mds_pack WHERE nmi = ?1 AND suffix = ?2 AND day = ?3",
@@ -120,9 +120,9 @@ pub(crate) fn length_rows<S: Alter>(
 ) -> Result<Vec<Row>, Unavailable>
     ensures same_reference { tx.new.conn.ghost_name ≡ tx.old.conn.ghost_name }
     ensures ok { HasCleanDisk (state S.Store tx.new.conn.now)
-        → IfOk result (λ rows. FindsOf packs_layout (state S.Store tx.old.conn.now) (state S.Store tx.new.conn.now) (λ trees. Selects head_tree (day_columns stream.now day) length_columns trees rows.items)) }
+        → IfOk result (λ rows. FindsThere (state S.Store tx.old.conn.now) (state S.Store tx.new.conn.now) (λ trees. Selects head_tree (day_columns stream.now day) length_columns trees rows.items)) }
     ensures goes_on { OnOk result (GoesOn (state S.Store tx.old.conn.now) (state S.Store tx.new.conn.now)) }
-    ensures kept { HasCleanDisk (state S.Store tx.new.conn.now) → (state S.Store tx.old.conn.now).now.schema ≡ schema_2
+    ensures kept { HasCleanDisk (state S.Store tx.new.conn.now) → (rest : More) → (state S.Store tx.old.conn.now).now.schema ≡ schema_with (packs_then rest)
         → KeepsCommit (state S.Store tx.old.conn.now) (state S.Store tx.new.conn.now) }
     ensures survives { Survives (state S.Store tx.old.conn.now) (state S.Store tx.new.conn.now) (λ _. ⊥) }
 {
@@ -144,9 +144,9 @@ pub(crate) fn body_rows<S: Alter>(
 ) -> Result<Vec<Row>, Unavailable>
     ensures same_reference { tx.new.conn.ghost_name ≡ tx.old.conn.ghost_name }
     ensures ok { HasCleanDisk (state S.Store tx.new.conn.now)
-        → IfOk result (λ rows. FindsOf packs_layout (state S.Store tx.old.conn.now) (state S.Store tx.new.conn.now) (λ trees. Selects pack_tree (row.key_cells stream.now day update) body_columns trees rows.items)) }
+        → IfOk result (λ rows. FindsThere (state S.Store tx.old.conn.now) (state S.Store tx.new.conn.now) (λ trees. Selects pack_tree (row.key_cells stream.now day update) body_columns trees rows.items)) }
     ensures goes_on { OnOk result (GoesOn (state S.Store tx.old.conn.now) (state S.Store tx.new.conn.now)) }
-    ensures kept { HasCleanDisk (state S.Store tx.new.conn.now) → (state S.Store tx.old.conn.now).now.schema ≡ schema_2
+    ensures kept { HasCleanDisk (state S.Store tx.new.conn.now) → (rest : More) → (state S.Store tx.old.conn.now).now.schema ≡ schema_with (packs_then rest)
         → KeepsCommit (state S.Store tx.old.conn.now) (state S.Store tx.new.conn.now) }
     ensures survives { Survives (state S.Store tx.old.conn.now) (state S.Store tx.new.conn.now) (λ _. ⊥) }
 {
@@ -178,6 +178,24 @@ pub(crate) fn insert_body<S: Alter>(
     ) {
         Ok(_) => Ok(()),
         Err(_) => Err(Unavailable),
+    }
+}
+
+/// Whether an error says that the store failed, and not the statement.
+fn is_failure(e: &Error) -> bool
+    ensures { result ≡ is_store_error e.now }
+{
+    match e {
+        Error::SqliteFailure(code) => matches!(
+            code,
+            ErrorCode::OutOfMemory
+                | ErrorCode::SystemIoFailure
+                | ErrorCode::DatabaseCorrupt
+                | ErrorCode::DiskFull
+                | ErrorCode::Closed
+                | ErrorCode::TooBig
+        ),
+        _ => false,
     }
 }
 

@@ -13,12 +13,13 @@ use Rattle.sqlite.proofs.Callers.{IsPlain, command_of}
 use Rattle.sqlite_tied.specs.Compute.{everything}
 use Rattle.sqlite_trees.specs.Tree.{Trees}
 use Rattle.sqlite_value.specs.declared.keys.Key.{Key}
-use Rattle.mds_tables.specs.Tables.{version_tree}
+use Rattle.mds_tables.specs.Tables.{More, detail_tree, schema_with, version_tree}
 use Rattle.mds_tables.proofs.CauseLemmas.{IsWhole}
 use Rattle.mds_selects.proofs.SelectTexts.{columns_at, from_one}
-use Rattle.mds_pack_rows.specs.PackTables.{pack_tree, schema_2}
+use Rattle.mds_pack_rows.specs.DailyTables.{schema_3}
+use Rattle.mds_pack_rows.specs.PackTables.{pack_tree}
 use Rattle.mds_store.proofs.ListTexts.{range_tests, rising}
-use Rattle.mds_pack_store.specs.PackRanges.{range_columns, version_slot}
+use Rattle.mds_pack_store.specs.PackRanges.{detail_moment, range_columns, version_slot}
 
 abbrev pub select_packs : List ℕ
 select_packs = codes "SELECT moment, body, day FROM mds_pack WHERE nmi = ?1 AND suffix = ?2 AND day >= ?3 AND day <= ?4 ORDER BY day"
@@ -29,14 +30,17 @@ by_day = (col 1 3, rising) ∷ []
 abbrev pub packs_query : Query
 packs_query = from_one pack_tree range_tests (columns_at range_columns) by_day
 
-pub select_packs_is : command_of (understood schema_2 select_packs)
+pub select_packs_is : command_of (understood schema_3 select_packs)
     ≡ Select (record { lets = []; body = packs_query }) (codes "moment" ∷ codes "body" ∷ codes "day" ∷ [])
 unfolding understood everything
 select_packs_is = refl
 
-pub select_packs_plain : IsPlain (understood schema_2 select_packs) × (reads_listing schema_2 select_packs ≡ false)
+pub select_packs_plain : IsPlain (understood schema_3 select_packs) × (reads_listing schema_3 select_packs ≡ false)
 unfolding understood everything
 select_packs_plain = ((refl, refl), refl)
+
+none_of : {X : Type 0} (xs : List X) → ¬ Any (λ x. ⊥) xs
+none_of xs any = any.4
 
 abbrev pub select_slots : List ℕ
 select_slots = codes "SELECT slot FROM mds_version"
@@ -44,27 +48,53 @@ select_slots = codes "SELECT slot FROM mds_version"
 abbrev pub slots_query : Query
 slots_query = from_one version_tree [] (columns_at (version_slot ∷ [])) []
 
-pub select_slots_is : command_of (understood schema_2 select_slots)
+pub select_slots_is : (more : More) → command_of (understood (schema_with more) select_slots)
     ≡ Select (record { lets = []; body = slots_query }) (codes "slot" ∷ [])
 unfolding understood everything
-select_slots_is = refl
+select_slots_is more = refl
 
-pub select_slots_plain : IsPlain (understood schema_2 select_slots) × (reads_listing schema_2 select_slots ≡ false)
+pub select_slots_plain : (more : More) → IsPlain (understood (schema_with more) select_slots) × (reads_listing (schema_with more) select_slots ≡ false)
 unfolding understood everything
-select_slots_plain = ((refl, refl), refl)
+select_slots_plain more = ((refl, refl), refl)
 
-pub select_slots_whole : IsWhole select_slots 0 (understood schema_2 select_slots)
+pub select_slots_whole : (more : More) → IsWhole select_slots 0 (understood (schema_with more) select_slots)
 unfolding understood everything
-select_slots_whole = (omega arith, refl, refl)
-
-none_of : {X : Type 0} (xs : List X) → ¬ Any (λ x. ⊥) xs
-none_of xs any = any.4
+select_slots_whole more = (omega arith, refl, refl)
 
 -- it sums nothing, so only the limit of steps refuses it
-pub select_slots_cut : (limit : Option ℕ) (trees : Trees) (e : Error)
-    → RefusesQuery limit (record { schema = schema_2; trees = trees }) (record { lets = []; body = slots_query }) [] e
+pub select_slots_cut : (more : More) (limit : Option ℕ) (trees : Trees) (e : Error)
+    → RefusesQuery limit (record { schema = schema_with more; trees = trees }) (record { lets = []; body = slots_query }) [] e
     → (e ≡ SqliteFailure OperationInterrupted) × IsSome limit
-select_slots_cut limit trees e (inl mistyped) = absurd (let no : true ≡ false = mistyped.1 in cc)
-select_slots_cut limit trees e (inr (inl (_, inl none))) = absurd none
-select_slots_cut limit trees e (inr (inl (_, inr any))) = absurd (none_of (trees version_tree) any)
-select_slots_cut limit trees e (inr (inr cut)) = cut
+select_slots_cut more limit trees e (inl mistyped) = absurd (let no : true ≡ false = mistyped.1 in cc)
+select_slots_cut more limit trees e (inr (inl (_, inl none))) = absurd none
+select_slots_cut more limit trees e (inr (inl (_, inr any))) = absurd (none_of (trees version_tree) any)
+select_slots_cut more limit trees e (inr (inr cut)) = cut
+
+abbrev pub select_moments : List ℕ
+select_moments = codes "SELECT moment FROM mds_detail"
+
+abbrev pub moments_query : Query
+moments_query = from_one detail_tree [] (columns_at (detail_moment ∷ [])) []
+
+pub select_moments_is : (more : More) → command_of (understood (schema_with more) select_moments)
+    ≡ Select (record { lets = []; body = moments_query }) (codes "moment" ∷ [])
+unfolding understood everything
+select_moments_is more = refl
+
+pub select_moments_plain : (more : More)
+    → IsPlain (understood (schema_with more) select_moments) × (reads_listing (schema_with more) select_moments ≡ false)
+unfolding understood everything
+select_moments_plain more = ((refl, refl), refl)
+
+pub select_moments_whole : (more : More) → IsWhole select_moments 0 (understood (schema_with more) select_moments)
+unfolding understood everything
+select_moments_whole more = (omega arith, refl, refl)
+
+-- it sums nothing either
+pub select_moments_cut : (more : More) (limit : Option ℕ) (trees : Trees) (e : Error)
+    → RefusesQuery limit (record { schema = schema_with more; trees = trees }) (record { lets = []; body = moments_query }) [] e
+    → (e ≡ SqliteFailure OperationInterrupted) × IsSome limit
+select_moments_cut more limit trees e (inl mistyped) = absurd (let no : true ≡ false = mistyped.1 in cc)
+select_moments_cut more limit trees e (inr (inl (_, inl none))) = absurd none
+select_moments_cut more limit trees e (inr (inl (_, inr any))) = absurd (none_of (trees detail_tree) any)
+select_moments_cut more limit trees e (inr (inr cut)) = cut

@@ -1,2 +1,3 @@
+pub mod Daily
 pub mod PackRanges
 pub mod Packed

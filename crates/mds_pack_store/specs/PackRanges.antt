@@ -15,6 +15,10 @@ range_columns = 4 ∷ 5 ∷ 3 ∷ []
 abbrev pub version_slot : ℕ
 version_slot = 4
 
+-- the column of a row of mds_detail that has its moment
+abbrev pub detail_moment : ℕ
+detail_moment = 3
+
 -- a row that is shown of a stream says the fact
 abbrev pub SaysPacked : Stream → Row → Fact → Type 0
 SaysPacked s shown fact = Member fact (body_facts s (natural_at shown 2) (natural_at shown 0) (text_at shown 1))

@@ -1,12 +1,10 @@
--- What makes a database with the tables of schema 2 a store of packed days (profile).
+-- What makes a database with the tables of schema 2 a store of that schema (profile).
 use Rattle.std.specs.Prelude.{◌≡◌, [], ◌∷◌, pos}
 use Rattle.sqlite.specs.Effect.{Database}
-use Rattle.sqlite.specs.State.{State}
 use Rattle.sqlite_trees.specs.Tree.{Trees}
 use Rattle.mds_tables.specs.Stores.{IsStoreOf, versions_said}
 use Rattle.mds_tables.specs.Tables.{version_tree}
 use Rattle.mds_pack_rows.specs.PacksLayout.{packs_layout}
-use Rattle.mds_store.specs.Starting.{IsAdopted}
 
 -- mds_schema says 2, and no version has a row of its own
 pub record ArePacked (trees : Trees) : Type 0 where
@@ -17,8 +15,3 @@ pub record ArePacked (trees : Trees) : Type 0 where
 pub record IsPackStore (db : Database) : Type 0 where
   pub store : IsStoreOf packs_layout db
   pub unversioned : db.trees version_tree ≡ []
-
--- The database was one, and keeps what it kept.
-pub record IsPackAdopted (old new : State) : Type 0 where
-  pub adopted : IsAdopted packs_layout old new
-  pub unversioned : old.committed.trees version_tree ≡ []

@@ -9,4 +9,4 @@ mod starting;
 
 pub use laws::a_keeper_is_its_tables;
 pub use pack_keeper::PackKeeper;
-pub use starting::{adopt, are_packed, create};
+pub use starting::{adopt, are_daily, are_packed, create};

@@ -1,27 +1,31 @@
 //! A keeper over tables, whose days are packed.
 
-ghost use Rattle.std.specs.Prelude.{◌≡◌, false};
+ghost use Rattle.std.specs.Prelude.{◌≡◌, IfOk, false};
 ghost use Rattle.sqlite.specs.Held.{state};
+ghost use Rattle.mds_world.specs.World.{World};
+ghost use Rattle.mds_keeper.specs.Books.{IsDay};
+ghost use Rattle.mds_keeper.specs.Content.{rows_of};
 ghost use Rattle.mds_tables.specs.Stores.{HoldsOf};
-ghost use Rattle.mds_pack_rows.specs.PacksLayout.{packs_layout};
+ghost use Rattle.mds_selects.specs.Found.{AreRowsOf, IsHeadOf};
+ghost use Rattle.mds_pack_rows.specs.DailyLayout.{daily_layout};
 ghost use Rattle.mds_store.specs.KeptRows.{kept_in};
 ghost use Rattle.mds_store.specs.Props.{Holds-prop, settles};
 
 use crate::ranges::days_of;
+use mds_day_details::{current_details, days_without};
 use mds_inserts::{job_rows, period_rows};
 use mds_jobs::{Job, JobId};
-use mds_keeper::{Additions, DayBook, Keeper, Unavailable};
+use mds_keeper::{Additions, DayBook, DetailDays, Keeper, Unavailable, VersionRows};
 use mds_pack_rows::{commit, versions_of};
 use mds_quantity::Unit;
-use mds_selects::{current_details, events_of, has_details, has_event, head_of, streams};
+use mds_selects::{events_of, has_event, head_of, last_day, streams};
 use mds_statements::{Period, PeriodContent, PeriodKey};
 use mds_store::{content_of_period, holidays_of, job_of, periods_of};
 use mds_terms::{Day, Details, Event, Length, Stream};
-use mds_world::Detail;
 use sqlite::{Alter, Connection};
 use std::alloc::Global;
 
-/// Keeps a World in the tables of schema 2. The versions of a day that have one update are one row, any other fact is one.
+/// Keeps a World in the tables of schema 3. The versions of a day that have one update are one row, any other fact is one.
 #[derive(Drop)]
 pub struct PackKeeper<S: Alter> {
     alloc: Global,
@@ -29,14 +33,14 @@ pub struct PackKeeper<S: Alter> {
     // It is in no transaction.
     pub ghost autocommit: { conn.in_transaction ≡ false },
     // While the disk is honest and the connection open, what is committed is a store.
-    pub ghost holds: { HoldsOf packs_layout (state S.Store conn) } by { Holds-prop packs_layout (state S.Store conn) },
+    pub ghost holds: { HoldsOf daily_layout (state S.Store conn) } by { Holds-prop daily_layout (state S.Store conn) },
 }
 
 impl<S: Alter> PackKeeper<S> {
     /// A keeper over a connection that is in no transaction and holds a store.
     pub(crate) fn over(alloc: Global, conn: Connection<S>) -> PackKeeper<S>
         requires autocommit { conn.in_transaction ≡ false }
-        requires holds { HoldsOf packs_layout (state S.Store conn) }
+        requires holds { HoldsOf daily_layout (state S.Store conn) }
         ensures { result.conn ≡ conn }
     {
         PackKeeper { alloc, conn }
@@ -46,7 +50,7 @@ impl<S: Alter> PackKeeper<S> {
     pub fn into_connection(self) -> Connection<S>
         ensures same { result ≡ self.conn }
         ensures autocommit { result.in_transaction ≡ false }
-        ensures holds { HoldsOf packs_layout (state S.Store result) }
+        ensures holds { HoldsOf daily_layout (state S.Store result) }
     {
         let PackKeeper { alloc: _, conn } = self;
         conn
@@ -61,18 +65,32 @@ fn length_in(head: &Option<(Length, Unit)>) -> Option<Length> {
     }
 }
 
+/// The book of a day with this head and these versions. Unavailable where there is none.
+fn book_of(
+    alloc: Global,
+    stream: Stream,
+    day: Day,
+    head: Option<(Length, Unit)>,
+    versions: VersionRows,
+) -> Result<DayBook, Unavailable>
+    ensures book { (w : World) → IsHeadOf w stream day head → AreRowsOf w stream day (rows_of versions) → IfOk result (IsDay w) }
+    ensures of_day { IfOk result (λ book. (book.stream ≡ stream) × (book.day ≡ day)) }
+{
+    DayBook::of_rows(alloc, stream, day, head, versions)?.ok_or(Unavailable)
+}
+
 impl<S: Alter> Keeper for PackKeeper<S> {
-    ghost kept = { λ k. kept_in packs_layout (state S.Store k.conn) };
+    ghost kept = { λ k. kept_in daily_layout (state S.Store k.conn) };
 
     ghost sound_honest = { λ _ sound. sound.0 };
 
-    ghost settled = { λ k sound left may. settles packs_layout _ _ (λ trees. S.Store.settled k.conn.store trees sound.1) left may };
+    ghost settled = { λ k sound left may. settles daily_layout _ _ (λ trees. S.Store.settled k.conn.store trees sound.1) left may };
 
     fn day(&mut self, stream: Stream, day: Day) -> Result<DayBook, Unavailable> {
         let head = head_of(&mut self.conn, &stream, day)?;
         let length = length_in(&head);
         let versions = versions_of(self.alloc, &mut self.conn, &stream, day, length)?;
-        DayBook::new(stream, day, head, versions).ok_or(Unavailable)
+        book_of(self.alloc, stream, day, head, versions)
     }
 
     // Two queries, whatever the length of the range.
@@ -84,12 +102,16 @@ impl<S: Alter> Keeper for PackKeeper<S> {
         streams(self.alloc, &mut self.conn)
     }
 
-    fn details(&mut self, stream: Stream) -> Result<Details, Unavailable> {
-        current_details(self.alloc, &mut self.conn, &stream)
+    fn last_day(&mut self, stream: Stream) -> Result<Option<Day>, Unavailable> {
+        last_day(&mut self.conn, &stream)
     }
 
-    fn has_details(&mut self, detail: &Detail) -> Result<bool, Unavailable> {
-        has_details(&mut self.conn, detail)
+    fn details(&mut self, stream: Stream, day: Day) -> Result<Details, Unavailable> {
+        current_details(self.alloc, &mut self.conn, &stream, day)
+    }
+
+    fn days_without(&mut self, details: &DetailDays) -> Result<Vec<Day>, Unavailable> {
+        days_without(self.alloc, &mut self.conn, details)
     }
 
     fn events(&mut self, stream: Stream, day: Day) -> Result<Vec<Event>, Unavailable> {

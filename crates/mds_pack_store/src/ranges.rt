@@ -6,11 +6,11 @@ ghost use Rattle.sqlite.specs.Held.{state};
 ghost use Rattle.mds_keeper.specs.Queries.{AreDaysOf};
 ghost use Rattle.mds_tables.specs.Queries.{Answers};
 ghost use Rattle.mds_tables.specs.Stores.{HoldsOf};
+ghost use Rattle.mds_pack_rows.specs.DailyLayout.{daily_layout, world_3};
 ghost use Rattle.mds_pack_rows.specs.DayRows.{AreHeldIn};
-ghost use Rattle.mds_pack_rows.specs.PacksLayout.{packs_layout, world_2};
 
 use crate::rows::pack_range_rows;
-use mds_keeper::{DayBook, Unavailable, Version};
+use mds_keeper::{DayBook, Unavailable, VersionRows};
 use mds_pack_rows::all_held;
 use mds_store::{ReadVersions, all_books, head_range_rows};
 use mds_tables::ready;
@@ -24,11 +24,7 @@ struct PackedRows;
 impl ReadVersions for PackedRows {
     ghost are = { AreHeldIn };
 
-    fn read(
-        alloc: Global,
-        length: Length,
-        rows: &[Row],
-    ) -> Result<Vec<(u16, Version)>, Unavailable> {
+    fn read(alloc: Global, length: Length, rows: &[Row]) -> Result<VersionRows, Unavailable> {
         all_held(alloc, length, rows)
     }
 }
@@ -42,8 +38,8 @@ pub(crate) fn days_of<S: Alter>(
     last: Day,
 ) -> Result<Vec<DayBook>, Unavailable>
     requires { conn.old.in_transaction ≡ false }
-    ensures { Answers (HoldsOf packs_layout) (state S.Store conn.old) (state S.Store conn.new) result
-        (λ trees books. AreDaysOf (world_2 trees) stream.now first last books.items) }
+    ensures { Answers (HoldsOf daily_layout) (state S.Store conn.old) (state S.Store conn.new) result
+        (λ trees books. AreDaysOf (world_3 trees) stream.now first last books.items) }
 {
     let Ok(_) = ready(conn) else {
         return Err(Unavailable);

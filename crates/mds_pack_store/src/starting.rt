@@ -7,15 +7,19 @@ ghost use Rattle.sqlite.specs.State.{HasCleanDisk, Survives};
 ghost use Rattle.mds_tables.specs.Causes.{HasFailed};
 ghost use Rattle.mds_tables.specs.Making.{LeavesMadeOf};
 ghost use Rattle.mds_tables.specs.Queries.{Answers};
-ghost use Rattle.mds_tables.specs.Stores.{HoldsTablesOf, IsStore};
-ghost use Rattle.mds_tables.specs.Tables.{no_schema, schema_1, version_tree};
+ghost use Rattle.mds_tables.specs.Layouts.{Layout};
+ghost use Rattle.mds_tables.specs.Stores.{HoldsTablesOf};
+ghost use Rattle.mds_tables.specs.Tables.{detail_tree, no_schema, schema_1, version_tree};
+ghost use Rattle.mds_pack_rows.specs.DailyLayout.{daily_layout};
+ghost use Rattle.mds_pack_rows.specs.PackTables.{schema_2};
 ghost use Rattle.mds_pack_rows.specs.PacksLayout.{packs_layout};
 ghost use Rattle.mds_store.specs.Starting.{IsCreated, IsRefused};
-ghost use Rattle.mds_pack_store.specs.Packed.{ArePacked, IsPackAdopted, IsPackStore};
+ghost use Rattle.mds_pack_store.specs.Daily.{AreBare, AreDaily, IsDailyAdopted, IsDailyStore, IsEarlierStore};
+ghost use Rattle.mds_pack_store.specs.Packed.{ArePacked};
 
 use crate::pack_keeper::PackKeeper;
-use crate::rows::slot_rows;
-use mds_pack_rows::{has_schema_2, make_tables};
+use crate::rows::{detail_rows, slot_rows};
+use mds_pack_rows::{has_schema_2, has_schema_3, make_tables};
 use mds_selects::is_version;
 use mds_store::{StoreFault, is_empty};
 use mds_tables::{has_schema_1, ready};
@@ -31,7 +35,7 @@ pub fn create<S: Alter>(
     conn: Connection<S>,
 ) -> Result<PackKeeper<S>, (StoreFault, Connection<S>)>
     ensures ok { IfOk result (λ keeper. HasCleanDisk (state S.Store keeper.conn)
-        → IsCreated packs_layout (state S.Store conn) (state S.Store keeper.conn)) }
+        → IsCreated daily_layout (state S.Store conn) (state S.Store keeper.conn)) }
     ensures err { IfErr result (λ e. HasCleanDisk (state S.Store e.1)
         → IsRefused ((state S.Store conn).now.schema ≡ no_schema) ⊥ (state S.Store conn) (state S.Store e.1) e.0) }
     ensures busy { conn.in_transaction ≡ true
@@ -39,8 +43,8 @@ pub fn create<S: Alter>(
     ensures limit { MatchResult result (λ keeper. keeper.conn.step_limit ≡ conn.step_limit) (λ e. e.1.step_limit ≡ conn.step_limit) }
     ensures mode { IfErr result (λ e. e.1.in_transaction ≡ conn.in_transaction) }
     ensures survives { MatchResult result
-        (λ keeper. Survives (state S.Store conn) (state S.Store keeper.conn) (LeavesMadeOf packs_layout (state S.Store conn)))
-        (λ e. Survives (state S.Store conn) (state S.Store e.1) (LeavesMadeOf packs_layout (state S.Store conn))) }
+        (λ keeper. Survives (state S.Store conn) (state S.Store keeper.conn) (LeavesMadeOf daily_layout (state S.Store conn)))
+        (λ e. Survives (state S.Store conn) (state S.Store e.1) (LeavesMadeOf daily_layout (state S.Store conn))) }
 {
     let mut conn = conn;
     if !conn.is_autocommit() {
@@ -55,19 +59,19 @@ pub fn create<S: Alter>(
     }
 }
 
-/// Takes a database that is a store of schema 2. It keeps the World that its rows name, whoever wrote them. One that has rows in
-/// mds_version isn't taken, since they would stand there unseen (U3). A store of schema 1 is to be migrated first (U2). On a refusal
-/// the connection comes back, and nothing was changed. One that was in a transaction comes back as it was, and any other is in none.
-/// It is unavailable only where the store failed or the limit of steps was reached, and tells that error (U1). The limit stays. A
-/// crash leaves what was there.
+/// Takes a database that is a store of schema 3. It keeps the World that its rows name, whoever wrote them. One that has rows in
+/// mds_version or mds_detail isn't taken, since they would stand there unseen (U3). A store of an earlier schema is to be migrated
+/// first (U2). On a refusal the connection comes back, and nothing was changed. One that was in a transaction comes back as it was,
+/// and any other is in none. It is unavailable only where the store failed or the limit of steps was reached, and tells that error
+/// (U1). The limit stays. A crash leaves what was there.
 pub fn adopt<S: Alter>(
     alloc: Global,
     conn: Connection<S>,
 ) -> Result<PackKeeper<S>, (StoreFault, Connection<S>)>
     ensures ok { IfOk result (λ keeper. HasCleanDisk (state S.Store keeper.conn)
-        → IsPackAdopted (state S.Store conn) (state S.Store keeper.conn)) }
+        → IsDailyAdopted (state S.Store conn) (state S.Store keeper.conn)) }
     ensures err { IfErr result (λ e. HasCleanDisk (state S.Store e.1)
-        → IsRefused (IsPackStore (state S.Store conn).now) (IsStore (state S.Store conn).now) (state S.Store conn) (state S.Store e.1) e.0) }
+        → IsRefused (IsDailyStore (state S.Store conn).now) (IsEarlierStore (state S.Store conn).now) (state S.Store conn) (state S.Store e.1) e.0) }
     ensures busy { conn.in_transaction ≡ true
         → MatchResult result (λ keeper. ⊥) (λ e. (e.0 ≡ StoreFault.InTransaction) × (e.1 ≡ conn)) }
     ensures limit { MatchResult result (λ keeper. keeper.conn.step_limit ≡ conn.step_limit) (λ e. e.1.step_limit ≡ conn.step_limit) }
@@ -81,16 +85,35 @@ pub fn adopt<S: Alter>(
         return Err((StoreFault::InTransaction, conn));
     }
     if has_schema_1(conn.schema()) {
-        return Err(refusal_of_earlier(conn));
+        return Err(refusal_of_first(conn));
     }
-    if !has_schema_2(conn.schema()) {
+    if has_schema_2(conn.schema()) {
+        return Err(refusal_of_second(conn));
+    }
+    if !has_schema_3(conn.schema()) {
         return Err((StoreFault::OtherSchema, conn));
     }
-    match are_packed(&mut conn) {
+    match are_daily(&mut conn) {
         Ok(true) => Ok(PackKeeper::over(alloc, conn)),
         Ok(false) => Err((StoreFault::OtherSchema, conn)),
         Err(error) => Err((StoreFault::Unavailable(error), conn)),
     }
+}
+
+/// Whether mds_schema says 3 and nothing else, and neither a version nor details of a stream have a row of their own. An error is
+/// the library's: the store failed with a cause, or the limit of steps was reached.
+pub fn are_daily<S: Alter>(conn: &mut Connection<S>) -> Result<bool, Error>
+    requires { conn.old.in_transaction ≡ false }
+    ensures answers { Answers (HoldsTablesOf daily_layout) (state S.Store conn.old) (state S.Store conn.new) result
+        (λ trees are. MatchBool are (AreDaily trees) (AreDaily trees → ⊥)) }
+    ensures cause { HasCleanDisk (state S.Store conn.new) → HoldsTablesOf daily_layout (state S.Store conn.old)
+        → IfErr result (HasFailed (state S.Store conn.old) (state S.Store conn.new)) }
+{
+    let says_3 = is_version(conn, 3)?;
+    if !says_3 {
+        return Ok(false);
+    }
+    are_bare(conn)
 }
 
 /// Whether mds_schema says 2 and nothing else, and no version has a row of its own. An error is the library's: the store failed with
@@ -109,17 +132,45 @@ pub fn are_packed<S: Alter>(conn: &mut Connection<S>) -> Result<bool, Error>
     is_unversioned(conn)
 }
 
-/// Whether mds_version has no row.
+/// Whether neither mds_version nor mds_detail has a row, whatever tables stand behind those that every schema has.
+fn are_bare<S: Alter>(conn: &mut Connection<S>) -> Result<bool, Error>
+    requires { conn.old.in_transaction ≡ false }
+    ensures answers { (layout : Layout) → Answers (HoldsTablesOf layout) (state S.Store conn.old) (state S.Store conn.new) result
+        (λ trees none. MatchBool none (AreBare trees) (AreBare trees → ⊥)) }
+    ensures cause { (layout : Layout) → HasCleanDisk (state S.Store conn.new) → HoldsTablesOf layout (state S.Store conn.old)
+        → IfErr result (HasFailed (state S.Store conn.old) (state S.Store conn.new)) }
+{
+    let no_version = is_unversioned(conn)?;
+    if !no_version {
+        return Ok(false);
+    }
+    is_undated(conn)
+}
+
+/// Whether mds_version has no row, whatever tables stand behind those that every schema has.
 fn is_unversioned<S: Alter>(conn: &mut Connection<S>) -> Result<bool, Error>
     requires { conn.old.in_transaction ≡ false }
-    ensures answers { Answers (HoldsTablesOf packs_layout) (state S.Store conn.old) (state S.Store conn.new) result
+    ensures answers { (layout : Layout) → Answers (HoldsTablesOf layout) (state S.Store conn.old) (state S.Store conn.new) result
         (λ trees none. MatchBool none (trees version_tree ≡ []) (trees version_tree ≢ [])) }
-    ensures cause { HasCleanDisk (state S.Store conn.new) → HoldsTablesOf packs_layout (state S.Store conn.old)
+    ensures cause { (layout : Layout) → HasCleanDisk (state S.Store conn.new) → HoldsTablesOf layout (state S.Store conn.old)
         → IfErr result (HasFailed (state S.Store conn.old) (state S.Store conn.new)) }
 {
     ready(conn)?;
     let rows = slot_rows(conn)?;
     Ok(are_none(&rows))
+}
+
+/// Whether mds_detail has no row, whatever tables stand behind those that every schema has.
+fn is_undated<S: Alter>(conn: &mut Connection<S>) -> Result<bool, Error>
+    requires { conn.old.in_transaction ≡ false }
+    ensures answers { (layout : Layout) → Answers (HoldsTablesOf layout) (state S.Store conn.old) (state S.Store conn.new) result
+        (λ trees none. MatchBool none (trees detail_tree ≡ []) (trees detail_tree ≢ [])) }
+    ensures cause { (layout : Layout) → HasCleanDisk (state S.Store conn.new) → HoldsTablesOf layout (state S.Store conn.old)
+        → IfErr result (HasFailed (state S.Store conn.old) (state S.Store conn.new)) }
+{
+    ready(conn)?;
+    let moments = detail_rows(conn)?;
+    Ok(are_none(&moments))
 }
 
 /// Whether there is no row.
@@ -131,18 +182,37 @@ fn are_none(rows: &[Row]) -> bool
 
 /// Why a database with the tables of schema 1 isn't taken. It is a store of schema 1 (U2), or its mds_schema says something else
 /// (U3).
-fn refusal_of_earlier<S: Alter>(conn: Connection<S>) -> (StoreFault, Connection<S>)
+fn refusal_of_first<S: Alter>(conn: Connection<S>) -> (StoreFault, Connection<S>)
     requires mode { conn.in_transaction ≡ false }
     requires settled { IsTrue (state S.Store conn).is_open → (state S.Store conn).now ≡ (state S.Store conn).committed }
     requires schema { (state S.Store conn).now.schema ≡ schema_1 }
     ensures err { HasCleanDisk (state S.Store result.1)
-        → IsRefused (IsPackStore (state S.Store conn).now) (IsStore (state S.Store conn).now) (state S.Store conn) (state S.Store result.1) result.0 }
+        → IsRefused (IsDailyStore (state S.Store conn).now) (IsEarlierStore (state S.Store conn).now) (state S.Store conn) (state S.Store result.1) result.0 }
     ensures limit { result.1.step_limit ≡ conn.step_limit }
     ensures mode { result.1.in_transaction ≡ false }
     ensures survives { Survives (state S.Store conn) (state S.Store result.1) (λ _. ⊥) }
 {
     let mut conn = conn;
     match is_version(&mut conn, 1) {
+        Ok(true) => (StoreFault::EarlierSchema, conn),
+        Ok(false) => (StoreFault::OtherSchema, conn),
+        Err(error) => (StoreFault::Unavailable(error), conn),
+    }
+}
+
+/// The same of one with the tables of schema 2.
+fn refusal_of_second<S: Alter>(conn: Connection<S>) -> (StoreFault, Connection<S>)
+    requires mode { conn.in_transaction ≡ false }
+    requires settled { IsTrue (state S.Store conn).is_open → (state S.Store conn).now ≡ (state S.Store conn).committed }
+    requires schema { (state S.Store conn).now.schema ≡ schema_2 }
+    ensures err { HasCleanDisk (state S.Store result.1)
+        → IsRefused (IsDailyStore (state S.Store conn).now) (IsEarlierStore (state S.Store conn).now) (state S.Store conn) (state S.Store result.1) result.0 }
+    ensures limit { result.1.step_limit ≡ conn.step_limit }
+    ensures mode { result.1.in_transaction ≡ false }
+    ensures survives { Survives (state S.Store conn) (state S.Store result.1) (λ _. ⊥) }
+{
+    let mut conn = conn;
+    match are_packed(&mut conn) {
         Ok(true) => (StoreFault::EarlierSchema, conn),
         Ok(false) => (StoreFault::OtherSchema, conn),
         Err(error) => (StoreFault::Unavailable(error), conn),

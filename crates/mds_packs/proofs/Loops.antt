@@ -11,7 +11,7 @@ use Rattle.mds_runs.proofs.GapRuns.{parted_facts}
 use Rattle.std.proofs.Math.Seq.{drop-cons}
 use Rattle.mds_packs.proofs.Fields.{step, bind_some, some_is}
 
-none_from : {A B : Type 0} (r : Option A) (f : A → Option B) → r ≡ None → (r >>= f) ≡ None
+pub none_from : {A B : Type 0} (r : Option A) (f : A → Option B) → r ≡ None → (r >>= f) ≡ None
 none_from r f e = ap (λ o. o >>= f) e
 
 -- one more at the end of what was read before
@@ -57,13 +57,13 @@ runs_done front count i bytes total le so_far =
 
 -- ---- readings of one mark
 
-abbrev Held : Type 0
+abbrev pub Held : Type 0
 Held = Option (List (Option ReadingValue) × List ℕ)
 
-abbrev g2 : List (Option Mark) → ReadingValue × List ℕ → Held
+abbrev pub g2 : List (Option Mark) → ReadingValue × List ℕ → Held
 g2 marks x = readings_at marks x.1 >>= λ y. Some (Some x.0 ∷ y.0, y.1)
 
-abbrev g1 : Mark → Option ℤ × List ℕ → Option (ReadingValue × List ℕ)
+abbrev pub g1 : Mark → Option ℤ × List ℕ → Option (ReadingValue × List ℕ)
 g1 mark x = joined mark x.0 >>= λ r. Some (r, x.1)
 
 pub held_on : (front : List (Option ReadingValue)) (count i : ℕ) (mark : Mark) (bytes after : List ℕ) (value : Option ℤ) (r : ReadingValue) (total : Held) → i < count → value_at mark.quality.flag bytes ≡ Some (value, after) → joined mark value ≡ Some r → with_front front (readings_at (replicate (count - i) (Some mark)) bytes) ≡ total → with_front (front ++ Some r ∷ []) (readings_at (replicate (count - (i + 1)) (Some mark)) after) ≡ total
@@ -102,7 +102,7 @@ with_front-then : (front more : List (Option ReadingValue)) (read : Held) → wi
 with_front-then front more None = refl
 with_front-then front more (Some x) = ap (λ l. Some (l, x.1)) (sym (append_assoc front more x.0))
 
-with_front-none : (read : Held) → with_front [] read ≡ read
+pub with_front-none : (read : Held) → with_front [] read ≡ read
 with_front-none None = refl
 with_front-none (Some x) = refl
 
@@ -239,7 +239,7 @@ joined_so mark own value r same e is =
 
 -- ---- one turn of the loop over the runs
 
-abbrev Left : List (Option ReadingValue) → ℕ → List Run → List ℕ → Held → Type 0
+abbrev pub Left : List (Option ReadingValue) → ℕ → List Run → List ℕ → Held → Type 0
 Left front count runs bytes total = with_front front (readings_at (marks_after count (length front) runs) bytes) ≡ total
 
 pub turn : (front gap now : List (Option ReadingValue)) (count : ℕ) (runs : List Run) (k : ℕ) (run : Run) (bytes after : List ℕ) (total : Held) → k < length runs → run ≡ get_or runs k run → Behind count (length front) (drop k runs) → Left front count (drop k runs) bytes total → gap ≡ front ++ replicate (run.first - 1 - length front) None → with_front gap (readings_at (replicate (run.last + 1 - run.first) (Some run.mark)) bytes) ≡ Some (now, after) → Behind count (length now) (drop (k + 1) runs) × Left now count (drop (k + 1) runs) after total

@@ -42,10 +42,10 @@ some_other true false z e = absurd cc
 
 -- ---- a value
 
-abbrev small : ℕ → Bool
+abbrev pub small : ℕ → Bool
 small n = nat_lt (unsigned_abs (cast_signed w64 n)) limit
 
-abbrev v1 : ℕ × List ℕ → Option (Option ℤ × List ℕ)
+abbrev pub v1 : ℕ × List ℕ → Option (Option ℤ × List ℕ)
 v1 n = cond (small n.0) (Some (Some (cast_signed w64 n.0), n.1)) None
 
 abbrev TakesValue : List ℕ → Option ℤ × List ℕ → Type 0

@@ -201,10 +201,10 @@ head_again count runs rest lt some lawful marks =
 
 -- ---- all of it
 
-abbrev q2 : List (Option ReadingValue) × List ℕ → Option (List (Option ReadingValue))
+abbrev pub q2 : List (Option ReadingValue) × List ℕ → Option (List (Option ReadingValue))
 q2 x = cond (nat_eq (length x.1) 0) (Some x.0) None
 
-abbrev q1 : ℕ → List Run × List ℕ → Option (List (Option ReadingValue))
+abbrev pub q1 : ℕ → List Run × List ℕ → Option (List (Option ReadingValue))
 q1 count head = readings_at (marks_after count 0 head.0) head.1 >>= q2
 
 body_is : (count : ℕ) (readings : List (Option ReadingValue)) (runs : List Run) → length readings ≡ count → runs_in readings ≡ runs → body_of readings ≡ ((1 ∷ []) ++ (two count ++ (two (length runs) ++ flat_map run_bytes runs))) ++ flat_map reading_bytes readings

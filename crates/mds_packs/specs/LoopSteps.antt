@@ -1,6 +1,8 @@
 -- What the loops of unpacking keep: private (profile).
-use Rattle.std.specs.Prelude.{ℕ, List, ◌++◌, Option, Some}
+use Rattle.std.specs.Prelude.{◌≡◌, ℕ, ℤ, List, ◌++◌, map, Option, Some, None}
 use Rattle.mds_marks.specs.Reading.{ReadingValue}
+use Rattle.mds_marks.specs.declared.mark.Mark.{Mark}
+use Rattle.mds_runs.specs.Marked.{reading_by}
 use Rattle.mds_packs.specs.Unpacked.{◌>>=◌, PartsValue}
 use Rattle.mds_packs.specs.declared.unpacking.Parts.{Parts}
 
@@ -15,3 +17,13 @@ with_front front read = read >>= λ x. Some (front ++ x.0, x.1)
 -- the same of readings
 abbrev pub held_front : List (Option ReadingValue) → Option (List (Option ReadingValue) × List ℕ) → Option (List (Option ReadingValue) × List ℕ)
 held_front front read = with_front front read
+
+-- the reading of a mark and a value, as one that is held
+abbrev pub held_by : Mark → Option ℤ → Option ReadingValue
+held_by mark value = Some (reading_by mark value)
+
+-- these readings are all that was read, with no gap. Where none are given, there was a gap, or nothing was read
+abbrev pub ReadsWhole : Option (List (Option ReadingValue) × List ℕ) → Option (List ReadingValue × List ℕ) → Type 0
+ReadsWhole read (Some whole) = read ≡ Some (map (λ (r : ReadingValue). Some r) whole.0, whole.1)
+ReadsWhole read None =
+    (readings : List ReadingValue) (rest : List ℕ) → read ≡ Some (map (λ (r : ReadingValue). Some r) readings, rest) → ⊥

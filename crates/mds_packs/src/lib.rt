@@ -5,6 +5,8 @@
 mod layout;
 mod packing;
 mod unpacking;
+mod whole_days;
 
 pub use packing::{pack_day, pack_readings};
 pub use unpacking::unpack_day;
+pub use whole_days::unpack_readings;

@@ -49,7 +49,7 @@ pub fn unpack_day(
 }
 
 /// How many intervals of a length a day has.
-fn intervals_of(length: Length) -> u16
+pub(crate) fn intervals_of(length: Length) -> u16
     ensures value { result ≡ count_of length }
     ensures few { result < 2 ^ 16 }
 {
@@ -287,7 +287,7 @@ fn is_one_mark(one: &Mark, other: &Mark) -> bool
 
 /// Reads what stands before the values: the head and the runs.
 #[tactic(auto, unfolding(crate::specs::Unpacked::head_at))]
-fn read_head<'a>(
+pub(crate) fn read_head<'a>(
     runs: &mut Vec<Run>,
     count: u16,
     bytes: &'a [u8],
@@ -380,7 +380,7 @@ fn read_run<'a>(
 /// Reads the value of a reading with this mark. N has none.
 #[inline]
 #[tactic(auto, unfolding(crate::specs::Unpacked::value_at))]
-fn read_value<'a>(mark: &Mark, bytes: &'a [u8]) -> Option<(Option<Quantity>, &'a [u8])>
+pub(crate) fn read_value<'a>(mark: &Mark, bytes: &'a [u8]) -> Option<(Option<Quantity>, &'a [u8])>
     ensures { option_map (λ x. (x.0, x.1.now)) result ≡ value_at mark.now.quality.flag bytes.now }
 {
     if mark.quality.flag() == NULL {

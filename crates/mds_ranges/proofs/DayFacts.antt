@@ -8,7 +8,7 @@ use Rattle.mds_calendar.specs.Length.{count_of}
 use Rattle.mds_quantity.specs.declared.unit.Unit.{Unit as MeasureUnit}
 use Rattle.mds_names.specs.declared.stream.Stream.{Stream}
 use Rattle.mds_marks.specs.Reading.{ReadingValue}
-use Rattle.mds_world.specs.Current.{HasNoVersion, IsFormOf, IsLatest, IsReading}
+use Rattle.mds_world.specs.Current.{HasNoVersion, IsCurrentDetails, IsFormOf, IsLatest, IsReading}
 use Rattle.mds_world.specs.Facts.Fact.{HeadIs}
 use Rattle.mds_world.specs.World.{IsCurrent, IsKnownDay, IsLawful, World}
 use Rattle.mds_keeper.specs.Books.{BookValue, IsDay, book_world}
@@ -84,13 +84,15 @@ readings_more w s d i xs ys r e readings is =
           ];
     }
 
--- a day with the head, the latest update and the readings of its book
+-- a day with the head, the latest update and the readings of its book, and its current details
 pub selected_of : (w : World) (book : BookValue) (day : SelectedDay) → IsDay w book → day.date ≡ book.day
-    → book.head ≡ Some (day.length, day.unit) → IsLatest (book_world book) book.stream book.day day.update
+    → book.head ≡ Some (day.length, day.unit) → IsCurrentDetails w book.stream book.day day.details
+    → IsLatest (book_world book) book.stream book.day day.update
     → AreReadings w book.stream book.day (count_of day.length) day.readings.items → IsSelectedDay w book.stream day
-selected_of w book day is at some latest readings = record {
+selected_of w book day is at some details latest readings = record {
   form = subst (λ n. IsFormOf w book.stream n day.length day.unit) (sym at)
       (is.only _ (head_in_book book (day.length, day.unit) some));
+  details = subst (λ n. IsCurrentDetails w book.stream n day.details) (sym at) details;
   update = subst (λ n. IsLatest w book.stream n day.update) (sym at) (latest_in w book day.update is latest);
   readings = subst (λ n. AreReadings w book.stream n (count_of day.length) day.readings.items) (sym at) readings;
 }

@@ -9,7 +9,9 @@ use Rattle.std.proofs.lemmas.Bool.{cases_lt}
 use Rattle.std.proofs.lemmas.List.{length-append, length-map, map-append, take_all, take_more}
 use Rattle.std.proofs.lemmas.List.Elements.{All-append, All-head, All-nil, All-push, All-tail, All-weaker}
 use Rattle.mds_names.specs.declared.stream.Stream.{Stream}
+use Rattle.mds_terms.specs.Details.{DetailsValue}
 use Rattle.mds_world.proofs.Lists.{in_map, map_in}
+use Rattle.mds_world.specs.Current.{IsCurrentDetails}
 use Rattle.mds_world.specs.Lists.{Member}
 use Rattle.mds_world.specs.World.{IsKnownDay, World}
 use Rattle.mds_keeper.specs.Books.{BookValue, IsDay}
@@ -56,17 +58,19 @@ module _ (w : World) (s : Stream) (first last : ℕ) (books : List BookValue) (i
       (subst (λ t. IsKnownDay w t book.day) (sym is.0) (book_known w s first last books book here are))
 
   -- its day comes behind
-  pub taken_more : (day : SelectedDay) (xs ys : List SelectedDay) → day.date ≡ book.day
-      → (IsDay w book → IsSelectedDay w book.stream day) → ys ≡ xs ++ day ∷ []
+  pub taken_more : (details : DetailsValue) (day : SelectedDay) (xs ys : List SelectedDay) → day.date ≡ book.day
+      → IsCurrentDetails w s book.day details
+      → (IsDay w book → IsCurrentDetails w book.stream book.day details → IsSelectedDay w book.stream day) → ys ≡ xs ++ day ∷ []
       → AreTaken w s (take i books) xs → AreTaken w s (take (i + 1) books) ys
-  taken_more day xs ys date is e taken =
+  taken_more details day xs ys date current is e taken =
       let at_is = here_is in
       subst (AreTaken w s (take (i + 1) books)) (sym e) (record {
         dates = map-append (λ (d : SelectedDay). d.date) xs (day ∷ []) ∙ ap (λ l. l ++ day.date ∷ []) taken.dates
             ∙ ap (λ z. map (λ (b : BookValue). b.day) (take i books) ++ z ∷ []) (date ∙ ap (λ (b : BookValue). b.day) at)
             ∙ sym (ap (map (λ (b : BookValue). b.day)) (take_more books i book within)
             ∙ map-append (λ (b : BookValue). b.day) (take i books) (get_or books i book ∷ []));
-        each = All-push (IsSelectedDay w s) xs day taken.each (subst (λ t. IsSelectedDay w t day) at_is.0 (is at_is.1));
+        each = All-push (IsSelectedDay w s) xs day taken.each (subst (λ t. IsSelectedDay w t day) at_is.0
+            (is at_is.1 (subst (λ t. IsCurrentDetails w t book.day details) (sym at_is.0) current)));
       })
 
 -- all of them
@@ -186,7 +190,7 @@ module _ (w : World) (first last : ℕ) (narrow : IsTooWide first last → ⊥) 
   few_all [] all = omega arith
   few_all (x ∷ streams) all =
       let here = few_days w x.stream first last x.days.items narrow
-      (All-head (IsSelectedStream w first last) x streams all).days in
+      (All-head (IsSelectedStream w first last) x streams all) in
       let later = few_all streams (All-tail (IsSelectedStream w first last) x streams all) in
       let size = length-append x.days.items (days_of streams) in
       omega (arith, here, later, size)
@@ -197,7 +201,7 @@ module _ (w : World) (first last : ℕ) (narrow : IsTooWide first last → ⊥) 
   whole_all (x ∷ streams) all =
       All-append IsWhole x.days.items (days_of streams)
       (All-weaker (IsSelectedDay w x.stream) IsWhole (λ day is. is.readings.count_is) x.days.items
-      (All-head (IsSelectedStream w first last) x streams all).days.each)
+      (All-head (IsSelectedStream w first last) x streams all).each)
       (whole_all streams (All-tail (IsSelectedStream w first last) x streams all))
 
 never_before : (s : Stream) → stream_cmp s s ≡ Less → ⊥
@@ -223,7 +227,7 @@ is_orderly w nmi suffixes first last streams narrow few is =
     record {
       ascending = is.ascending;
       dates = All-weaker (IsSelectedStream w first last) (λ selected. AllPairs (λ a b. a.date < b.date) selected.days.items)
-          (λ selected h. h.days.ascending) streams is.each;
+          (λ selected h. h.ascending) streams is.each;
       whole = whole_all w first last narrow streams is.each;
       few = omega (arith, no_more_than, taken, given, all, few);
     }

@@ -29,10 +29,11 @@ pub record AreDistinct (suffixes distinct : List (List ℕ)) : Type 0 where
   pub each : (suffix : List ℕ) → Member suffix distinct ↔ Member suffix suffixes
   pub ascending : Ascend distinct
 
--- A known day, with the length and the unit of its head, the greatest update among its current readings, and these: the
--- reading of each interval.
+-- A known day, with the length and the unit of its head, its current details, the greatest update among its current readings,
+-- and these: the reading of each interval.
 pub record IsSelectedDay (w : World) (stream : Stream) (day : SelectedDay) : Type 0 where
   pub form : IsFormOf w stream day.date day.length day.unit
+  pub details : IsCurrentDetails w stream day.date day.details
   pub update : IsLatest w stream day.date day.update
   pub readings : AreReadings w stream day.date (count_of day.length) day.readings.items
 
@@ -43,10 +44,9 @@ pub record AreSelectedDays (w : World) (stream : Stream) (first last : ℕ) (day
   pub ascending : AllPairs (λ a b. a.date < b.date) days
   pub each : All (IsSelectedDay w stream) days
 
--- a stream with its current details and those days, of which there may be none
-pub record IsSelectedStream (w : World) (first last : ℕ) (selected : SelectedStream) : Type 0 where
-  pub details : IsCurrentDetails w selected.stream selected.details
-  pub days : AreSelectedDays w selected.stream first last selected.days.items
+-- a stream with those days, of which there may be none
+abbrev pub IsSelectedStream : World → ℕ → ℕ → SelectedStream → Type 0
+IsSelectedStream w first last selected = AreSelectedDays w selected.stream first last selected.days.items
 
 -- What is selected: the streams of the NMI with one of the suffixes, ascending by their bytes, each once.
 pub record IsSelection (w : World) (nmi : List ℕ) (suffixes : List (List ℕ)) (first last : ℕ)

@@ -35,7 +35,7 @@ fn current_reading(book: &DayBook, interval: u16) -> Result<Reading, AllocError>
         → IfOk result (IsReading w book.now.stream book.now.day interval) }
 {
     match book.current(interval) {
-        Some(version) => version.reading.try_clone(),
+        Some(version) => version.reading(),
         None => Ok(no_reading()),
     }
 }

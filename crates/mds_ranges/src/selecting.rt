@@ -1,22 +1,21 @@
 //! What an export selects: streams of one NMI with their days in a range.
 
 ghost use Rattle.std.specs.Prelude.{◌≡◌, ◌<◌, ◌≤◌, ℕ, List, [], IfOk, IfNone, IfSome, None, OnOk, length};
-ghost use Rattle.mds_names.specs.declared.stream.Stream.{Stream};
+ghost use Rattle.mds_world.specs.Current.{IsCurrentDetails};
 ghost use Rattle.mds_world.specs.World.{World};
 ghost use Rattle.mds_keeper.specs.Books.{IsDay};
 ghost use Rattle.mds_keeper.specs.Kept.{Asks, Stays};
-ghost use Rattle.mds_keeper.specs.Queries.{AreDaysOf};
 ghost use Rattle.mds_ranges.specs.Ranges.{IsTooWide};
-ghost use Rattle.mds_ranges.specs.Selections.{AreSelectedDays, Ascend, IsSelectedDay, IsSelectedStream, IsSelection};
+ghost use Rattle.mds_ranges.specs.Selections.{Ascend, IsSelectedDay, IsSelectedStream, IsSelection};
 
 use crate::readings::current_readings;
 use mds_keeper::{DayBook, Keeper, Unavailable};
 use mds_statements::{SelectedDay, SelectedStream, Selection};
-use mds_terms::{Day, Nmi, Stream, Suffix};
+use mds_terms::{Day, Details, Nmi, Stream, Suffix};
 use std::alloc::{AllocError, Global};
 
-/// What an export of the days of a range selects: the streams of an NMI with one of these suffixes. Each has its current
-/// details and the current readings of its known days, of which there may be none.
+/// What an export of the days of a range selects: the streams of an NMI with one of these suffixes. Each has its known
+/// days, of which there may be none, and each day has its current details and its current readings.
 pub fn selection_of<K: Keeper>(
     alloc: Global,
     keeper: &mut K,
@@ -77,7 +76,7 @@ fn selected_streams<K: Keeper>(
     Ok(streams)
 }
 
-/// A stream with its current details and its days in a range.
+/// A stream with its days in a range.
 fn selected_stream<K: Keeper>(
     alloc: Global,
     keeper: &mut K,
@@ -88,34 +87,29 @@ fn selected_stream<K: Keeper>(
     ensures name { IfOk result (λ selected. selected.stream ≡ stream.now) }
     ensures selected { Asks (K.kept keeper.old) (K.kept keeper.new) result (λ w. IsSelectedStream w first last) }
 {
-    let details = keeper.details(*stream)?;
     let books = keeper.days(*stream, first, last)?;
-    let days = selected_days(alloc, &books)?;
-    Ok(SelectedStream {
-        stream: *stream,
-        details,
-        days,
-    })
-}
-
-/// The days of these books, of which each is known.
-fn selected_days(alloc: Global, books: &[DayBook]) -> Result<Vec<SelectedDay>, AllocError>
-    ensures { (w : World) (stream : Stream) (first last : ℕ) → AreDaysOf w stream first last books.now
-        → IfOk result (λ days. AreSelectedDays w stream first last days.items) }
-{
     let mut days = Vec::new(alloc);
-    for book in books {
-        let Some(day) = selected_day(alloc, book)? else {
+    for book in &books {
+        let details = keeper.details(*stream, book.day())?;
+        let Some(day) = selected_day(alloc, book, details)? else {
             continue;
         };
         days.push(day)?;
     }
-    Ok(days)
+    Ok(SelectedStream {
+        stream: *stream,
+        days,
+    })
 }
 
-/// A day with its current readings. `None` where it isn't known.
-fn selected_day(alloc: Global, book: &DayBook) -> Result<Option<SelectedDay>, AllocError>
-    ensures some { (w : World) → IsDay w book.now → IfOk result (λ day. IfSome day (IsSelectedDay w book.now.stream)) }
+/// A day with its details and its current readings. `None` where it isn't known.
+fn selected_day(
+    alloc: Global,
+    book: &DayBook,
+    details: Details,
+) -> Result<Option<SelectedDay>, AllocError>
+    ensures some { (w : World) → IsDay w book.now → IsCurrentDetails w book.now.stream book.now.day details
+        → IfOk result (λ day. IfSome day (IsSelectedDay w book.now.stream)) }
     ensures date { IfOk result (λ day. IfSome day (λ day. day.date ≡ book.now.day)) }
     ensures none { IfOk result (λ day. IfNone day (book.now.head ≡ None)) }
 {
@@ -133,6 +127,7 @@ fn selected_day(alloc: Global, book: &DayBook) -> Result<Option<SelectedDay>, Al
         date: book.day(),
         length,
         unit,
+        details,
         update,
         readings,
     }))

@@ -88,7 +88,7 @@ fn is_null(book: &DayBook, interval: u16) -> bool
 {
     book.is_lawful();
     match book.current(interval) {
-        Some(version) => version.reading.mark().quality.flag() == NULL,
+        Some(version) => version.mark.quality.flag() == NULL,
         None => true,
     }
 }
@@ -100,10 +100,11 @@ fn final_mark(book: &DayBook, interval: u16) -> Option<&Mark>
         (λ mark. IsFinalWith w book.now.stream book.now.day mark.now interval) }
 {
     book.is_lawful();
-    let version = book.current(interval)?;
-    let mark = version.reading.mark();
-    if mark.quality.flag() == FINAL {
-        Some(mark)
+    let Some(version) = book.current(interval) else {
+        return None;
+    };
+    if version.mark.quality.flag() == FINAL {
+        Some(version.mark)
     } else {
         None
     }

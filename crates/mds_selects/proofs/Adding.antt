@@ -179,44 +179,30 @@ module _ {K : Type 0} (Says : Row → K → Type 0) where
     (λ r. (add q).1 (inr r)),
   )
 
-  -- of three lists of rows, one after the other
-  pub just_three : (empty one two three : List K) (rows more last : List Row) → empty ≡ [] → AreAdded Says empty rows one
-      → AreAdded Says one more two → AreAdded Says two last three
-      → (q : K) → Member q three ↔ (IsSaid rows q ⊎ (IsSaid more q ⊎ IsSaid last q))
-  just_three empty one two three rows more last none a b c q = (
-    (λ m. elim ((c q).0 m) [
-      | inl k ↦ elim ((b q).0 k) [
-        | inl n ↦ inl ((just empty one rows none a q).0 n)
-        | inr r ↦ inr (inl r)
-      ]
-      | inr r ↦ inr (inr r)
+  -- of two lists of rows, one after the other
+  pub just_two : (empty one two : List K) (rows more : List Row) → empty ≡ [] → AreAdded Says empty rows one
+      → AreAdded Says one more two → (q : K) → Member q two ↔ (IsSaid rows q ⊎ IsSaid more q)
+  just_two empty one two rows more none a b q = (
+    (λ m. elim ((b q).0 m) [
+      | inl k ↦ inl ((just empty one rows none a q).0 k)
+      | inr r ↦ inr r
     ]),
     (λ p. elim p [
-      | inl r ↦ (c q).1 (inl ((b q).1 (inl ((just empty one rows none a q).1 r))))
-      | inr p ↦ elim p [
-        | inl r ↦ (c q).1 (inl ((b q).1 (inr r)))
-        | inr r ↦ (c q).1 (inr r)
-      ]
+      | inl r ↦ (b q).1 (inl ((just empty one rows none a q).1 r))
+      | inr r ↦ (b q).1 (inr r)
     ]),
   )
 
-pub streams_in : (heads details periods : List Row) (streams : List Stream)
-    → ((q : Stream) → Member q streams
-    ↔ (IsSaid SaysStream heads q ⊎ (IsSaid SaysStream details q ⊎ IsSaid SaysStream periods q)))
-    → AreStreamsIn heads details periods streams
-streams_in heads details periods streams all q = (
+pub streams_in : (heads periods : List Row) (streams : List Stream)
+    → ((q : Stream) → Member q streams ↔ (IsSaid SaysStream heads q ⊎ IsSaid SaysStream periods q))
+    → AreStreamsIn heads periods streams
+streams_in heads periods streams all q = (
   (λ m. elim ((all q).0 m) [
     | inl t ↦ inl (t.0, t.1, t.2.0, t.2.1)
-    | inr p ↦ elim p [
-      | inl t ↦ inr (inl (t.0, t.1, t.2.0, t.2.1))
-      | inr t ↦ inr (inr (t.0, t.1, t.2.0, t.2.1))
-    ]
+    | inr t ↦ inr (t.0, t.1, t.2.0, t.2.1)
   ]),
   (λ p. elim p [
     | inl t ↦ (all q).1 (inl (t.0, t.1, (t.2, t.3)))
-    | inr p ↦ elim p [
-      | inl t ↦ (all q).1 (inr (inl (t.0, t.1, (t.2, t.3))))
-      | inr t ↦ (all q).1 (inr (inr (t.0, t.1, (t.2, t.3))))
-    ]
+    | inr t ↦ (all q).1 (inr (t.0, t.1, (t.2, t.3)))
   ]),
 )

@@ -1,5 +1,6 @@
 -- The test of a key: that the first columns of a row equal its cells.
-use Rattle.std.proofs.Common.{◌≡◌, ℕ, ℤ, suc, zero, List, [], ◌∷◌, length, take, drop, Bool, true, false, ◌&&◌, Some, refl, sym, ap, subst, ◌∙◌}
+use Rattle.std.proofs.Common.{◌≡◌, ℕ, ℤ, pos, suc, zero, List, [], ◌∷◌, length, take, drop, Bool, true, false, ◌&&◌, Some, refl, sym, ap, subst, ◌∙◌, arith}
+use Rattle.std.proofs.lemmas.Int.{ints}
 use Rattle.std.specs.declared.cmp.Ordering.{Ordering}
 use Rattle.std.specs.declared.cmp.Ordering.TheVariants.{Less, Equal, Greater}
 use Rattle.std.specs.Ordering.{nat_cmp, int_cmp, is_eq}
@@ -37,6 +38,10 @@ equal_texts a b = truth_of _ ∙ ap is_eq (value_cmp-Text a b)
 equal_ints : (a b : ℤ) → is_true (binary (Compare Eq Binary) (Int a) (Int b)) ≡ is_eq (int_cmp a b)
 unfolding binary
 equal_ints a b = truth_of _ ∙ ap is_eq (value_cmp-Int a b)
+
+-- the order of two counts
+pub counted : (a b : ℕ) → int_cmp (pos a) (pos b) ≡ nat_cmp a b
+counted a b = let same : nat_cmp a b ≡ int_cmp (pos a) (pos b) = grind (arith, ints) in sym same
 
 tied : (o : Ordering) → is_eq o ≡ true → o ≡ Equal
 tied Less h = absurd (cc)

@@ -1,8 +1,8 @@
 pub mod Adding
 pub mod Asked
-pub mod DetailLemmas
+pub mod FirstLemmas
 pub mod KeyLemmas
-pub mod Latest
+pub mod LastDay
 pub mod Listed
 pub mod MemberLemmas
 pub mod Named

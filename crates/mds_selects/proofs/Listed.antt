@@ -12,7 +12,6 @@ use Rattle.sqlite_value.specs.Order.{Row, bytes, column}
 use Rattle.mds_quantity.specs.declared.unit.Unit.{Unit as MeasureUnit}
 use Rattle.mds_names.specs.declared.stream.Stream.{Stream}
 use Rattle.mds_terms.specs.Event.{EventValue}
-use Rattle.mds_world.specs.declared.facts.Detail.{Detail}
 use Rattle.mds_world.specs.declared.facts.Head.{Head}
 use Rattle.mds_world.specs.Facts.{Fact, PeriodContent, head_at, key_at}
 use Rattle.mds_statements.specs.declared.periods.PeriodKey.{PeriodKey}
@@ -24,14 +23,14 @@ use Rattle.mds_keeper.specs.Books.{row_fact}
 use Rattle.mds_keeper.specs.Queries.{AreEventsOf, AreKnownStreams, stream_cmp}
 use Rattle.mds_keeper.specs.declared.day_book.Version.{Version}
 use Rattle.mds_tables.specs.Cells as cells
-use Rattle.mds_tables.specs.Layouts.{Layout, rows_layout, world_with}
-use Rattle.mds_tables.specs.RowFacts.{detail_fact, event_fact, head_fact, int_at, letter_in, natural, natural_at, optional, optional_at, period_fact, stream_in, text_at, unit_named, version_fact}
+use Rattle.mds_tables.specs.Layouts.{Layout, world_with}
+use Rattle.mds_tables.specs.RowFacts.{event_fact, head_fact, int_at, letter_in, natural, natural_at, optional, optional_at, period_fact, stream_in, text_at, unit_named, version_fact}
 use Rattle.mds_tables.specs.Stores.{Begins, Selects}
 use Rattle.mds_tables.specs.Tables.{schema_with}
-use Rattle.mds_selects.specs.Found.{AreRowsOf, IsHeadOf}
+use Rattle.mds_selects.specs.Found.{IsHeadOf}
 use Rattle.mds_selects.specs.Shown.{AreEventsIn, AreStreamsIn, AreVersionsIn, IsOnlyHead, SaysVersion, ShowsStream}
-use Rattle.mds_selects.proofs.Named.{Names, of_detail, of_event, of_head, of_period, of_row}
-use Rattle.mds_selects.proofs.TypedRows.{HasKeyCells, begins_at, begins_by, detail_row, event_row, head_row, period_row, small, small_letter, small_option, letter_back, optional_back, some_cell, version_row}
+use Rattle.mds_selects.proofs.Named.{Names, of_event, of_head, of_period}
+use Rattle.mds_selects.proofs.TypedRows.{HasKeyCells, begins_at, begins_by, event_row, head_row, period_row, small, small_letter, small_option, letter_back, optional_back, some_cell, version_row}
 
 -- ---- rows that begin with a stream and a day
 
@@ -179,22 +178,6 @@ module _ (layout : Layout) (s : Stream) (day : ℕ) (low : day < 2 ^ 63) (trees 
         ]),
       )
 
--- the versions of a day, where each has a row
-module _ (s : Stream) (day : ℕ) (low : day < 2 ^ 63) (trees : Trees) (sound : IsSound (schema_with rows_layout.more) trees) where
-  pub finds_versions : (rows : List Row)
-      → Selects 4 (cells.day_cells s day) (1 ∷ 2 ∷ 3 ∷ 4 ∷ 5 ∷ 6 ∷ 7 ∷ 8 ∷ 9 ∷ []) trees rows
-      → (vs : List (ℕ × Version)) → AreVersionsIn rows vs → AreRowsOf (world_with rows_layout trees) s day vs
-  finds_versions rows sel vs are key reading =
-      let to = told version_fact 4 _ (1 ∷ 2 ∷ 3 ∷ 4 ∷ 5 ∷ 6 ∷ 7 ∷ 8 ∷ 9 ∷ []) trees rows sel (λ r. refl) (IsOn s day) (version_on rows_layout s day low trees sound) in
-      let list = listed rows_layout s day low trees sound rows vs are (λ f t. (to f t).1) (VersionIs key reading) in (
-        (λ p. list.0 (tells version_fact 4 _ (1 ∷ 2 ∷ 3 ∷ 4 ∷ 5 ∷ 6 ∷ 7 ∷ 8 ∷ 9 ∷ []) trees rows sel (λ r. refl) (IsOn s day)
-            (version_on rows_layout s day low trees sound) (VersionIs key reading) ((of_row trees key reading).0 p.0) (p.1, p.2))),
-        (λ m.
-            let t = to (VersionIs key reading) (list.1 m) in
-            let o : (key.stream ≡ s) × (key.day ≡ day) = t.1 in
-            ((of_row trees key reading).1 t.0, o.0, o.1)),
-      )
-
 -- the fact is an event of a day
 abbrev pub IsEventOn : Stream → ℕ → Fact → Type 0
 IsEventOn s day (HeadIs head) = ⊥
@@ -231,19 +214,6 @@ module _ (layout : Layout) (s : Stream) (day : ℕ) (low : day < 2 ^ 63) (trees 
 
 -- ---- one row that has all cells
 
-abbrev detail_at : Row → Detail
-detail_at r = record {
-  stream = stream_in r;
-  moment = natural_at r 3;
-  details = record {
-    configuration = text_at r 4;
-    register = text_at r 5;
-    datastream = text_at r 6;
-    meter = text_at r 7;
-    next = optional_at r 8;
-  };
-}
-
 abbrev event_at : Row → EventValue
 event_at r = record {
   nmi = text_at r 1;
@@ -255,16 +225,13 @@ event_at r = record {
   reading = text_at r 7;
 }
 
-abbrev head_in : Row → Head
+abbrev pub head_in : Row → Head
 head_in r = head_at (stream_in r) (natural_at r 3) (natural_at r 4) (unit_named (text_at r 5))
-
-detail_is : (r : Row) (d : Detail) → detail_fact r ≡ DetailIs d → detail_at r ≡ d
-detail_is r d e = cc
 
 event_is : (r : Row) (v : EventValue) → event_fact r ≡ EventIs v → event_at r ≡ v
 event_is r v e = cc
 
-head_is : (r : Row) (h : Head) → head_fact r ≡ HeadIs h → head_in r ≡ h
+pub head_is : (r : Row) (h : Head) → head_fact r ≡ HeadIs h → head_in r ≡ h
 head_is r h e = cc
 
 -- the stream of a period's fact
@@ -285,92 +252,15 @@ period_at : (r : Row) → (key : PeriodKey) × (content : PeriodContent) × (per
     × (key.stream ≡ stream_in r)
 period_at r = (_, _, refl, refl)
 
-any_shown : (rows : List Row) (r : Row) → Member r rows → rows ≢ []
+pub any_shown : (rows : List Row) (r : Row) → Member r rows → rows ≢ []
 any_shown [] r m = absurd m
 any_shown (x ∷ xs) r m = λ e. cc
 
-first_shown : (rows : List Row) → rows ≢ [] → (r : Row) × Member r rows
+pub first_shown : (rows : List Row) → rows ≢ [] → (r : Row) × Member r rows
 first_shown [] n = absurd (n refl)
 first_shown (x ∷ xs) n = (x, inl refl)
 
 module _ (layout : Layout) (trees : Trees) (sound : IsSound (schema_with layout.more) trees) where
-  module _ (d : Detail) (low : d.moment < 2 ^ 63) (next : (n : ℕ) → d.details.next ≡ Some n → n < 2 ^ 63) where
-    detail_begins : (r : Row) → Member r (trees 6) → Begins (cells.detail_cells d) r ↔ (detail_fact r ≡ DetailIs d)
-    detail_begins r m =
-        let it = detail_row layout.more trees sound r m in (
-          (λ b.
-              let at = begins_at (cells.detail_cells d) r b in
-              let nmi : text_at r 1 ≡ d.stream.nmi = ap bytes (at 0 (omega arith)) in
-              let suffix : text_at r 2 ≡ d.stream.suffix = ap bytes (at 1 (omega arith)) in
-              let moment : natural_at r 3 ≡ d.moment = ap (λ v. natural (id_in v)) (at 2 (omega arith)) in
-              let configuration : text_at r 4 ≡ d.details.configuration = ap bytes (at 3 (omega arith)) in
-              let register : text_at r 5 ≡ d.details.register = ap bytes (at 4 (omega arith)) in
-              let datastream : text_at r 6 ≡ d.details.datastream = ap bytes (at 5 (omega arith)) in
-              let meter : text_at r 7 ≡ d.details.meter = ap bytes (at 6 (omega arith)) in
-              let day : optional_at r 8 ≡ d.details.next =
-              ap (λ v. optional (id_in v)) (at 7 (omega arith)) ∙ optional_back d.details.next in
-              λ i. DetailIs (record {
-                stream = record { nmi = nmi i; suffix = suffix i };
-                moment = moment i;
-                details = record {
-                  configuration = configuration i;
-                  register = register i;
-                  datastream = datastream i;
-                  meter = meter i;
-                  next = day i;
-                };
-              })),
-          (λ e.
-              let same = detail_is r d e in
-              begins_by (cells.detail_cells d) r (
-                it.keyed.nmi ∙ ap (λ (x : Detail). Text x.stream.nmi) same,
-                (λ n. cc),
-                (
-                  it.keyed.suffix ∙ ap (λ (x : Detail). Text x.stream.suffix) same,
-                  (λ n. cc),
-                  (
-                    it.keyed.number ∙ ap Int (small (int_at r 3) d.moment (ap (λ (x : Detail). x.moment) same) low),
-                    (λ n. cc),
-                    (
-                      it.configuration ∙ ap (λ (x : Detail). Text x.details.configuration) same,
-                      (λ n. cc),
-                      (
-                        it.register ∙ ap (λ (x : Detail). Text x.details.register) same,
-                        (λ n. cc),
-                        (
-                          it.datastream ∙ ap (λ (x : Detail). Text x.details.datastream) same,
-                          (λ n. cc),
-                          (
-                            it.meter ∙ ap (λ (x : Detail). Text x.details.meter) same,
-                            (λ n. cc),
-                            (
-                              it.next ∙ small_option (int_at r 8) d.details.next (ap (λ (x : Detail). x.details.next) same) next,
-                              (λ n. some_cell d.details.next n),
-                              tt,
-                            ),
-                          ),
-                        ),
-                      ),
-                    ),
-                  ),
-                ),
-              )),
-        )
-
-    -- whether the details are kept
-    pub finds_details : (rows : List Row) → Selects 6 (cells.detail_cells d) (1 ∷ []) trees rows
-        → rows ≢ [] ↔ (DetailIs d ∈ world_with layout trees)
-    finds_details rows sel = (
-      (λ n.
-          let f = first_shown rows n in
-          let s = (sel f.0).0 f.1 in
-          (of_detail layout trees d).1 (s.0, s.1, (detail_begins s.0 s.1).0 s.2)),
-      (λ h.
-          let n = (of_detail layout trees d).0 h in
-          any_shown rows (column n.0 1 ∷ [])
-          ((sel (column n.0 1 ∷ [])).1 (n.0, n.1, (detail_begins n.0 n.1).1 n.2, refl))),
-    )
-
   module _ (v : EventValue) (low : v.day < 2 ^ 63) (trans : (n : ℕ) → v.trans ≡ Some n → n < 2 ^ 63)
       (moment : (n : ℕ) → v.moment ≡ Some n → n < 2 ^ 63) where
     event_begins : (r : Row) → Member r (trees 8) → Begins (cells.event_cells v) r ↔ (event_fact r ≡ EventIs v)
@@ -468,24 +358,6 @@ module _ (layout : Layout) (trees : Trees) (sound : IsSound (schema_with layout.
           )),
     )
 
-    pub detail_streams : Selects 6 [] (1 ∷ 2 ∷ []) trees rows
-        → ShowsStream rows s ↔ ((detail : Detail) × (DetailIs detail ∈ world_with layout trees) × (detail.stream ≡ s))
-    detail_streams sel = (
-      (λ t.
-          let f = (sel t.0).0 t.1 in
-          (detail_at f.0, (of_detail layout trees (detail_at f.0)).1 (f.0, f.1, refl), names_stream f.0 t.0 s f.3 t.2 t.3)),
-      (λ p.
-          let n = (of_detail layout trees p.0).0 p.1 in
-          let same = detail_is n.0 p.0 n.2 in
-          let on : stream_in n.0 ≡ s = ap (λ (x : Detail). x.stream) same ∙ p.2 in
-          let it = (detail_row layout.more trees sound n.0 n.1).keyed in (
-            column n.0 1 ∷ column n.0 2 ∷ [],
-            (sel (column n.0 1 ∷ column n.0 2 ∷ [])).1 (n.0, n.1, refl, refl),
-            it.nmi ∙ ap (λ (x : Stream). Text x.nmi) on,
-            it.suffix ∙ ap (λ (x : Stream). Text x.suffix) on,
-          )),
-    )
-
     pub period_streams : Selects 10 [] (1 ∷ 2 ∷ []) trees rows
         → ShowsStream rows s
         ↔ ((key : PeriodKey) × (content : PeriodContent) × (PeriodIs key content ∈ world_with layout trees) × (key.stream ≡ s))
@@ -510,25 +382,18 @@ module _ (layout : Layout) (trees : Trees) (sound : IsSound (schema_with layout.
     )
 
   -- the known streams
-  pub finds_streams : (heads details periods : List Row) → Selects 2 [] (1 ∷ 2 ∷ []) trees heads
-      → Selects 6 [] (1 ∷ 2 ∷ []) trees details → Selects 10 [] (1 ∷ 2 ∷ []) trees periods
-      → (streams : List Stream) → AreStreamsIn heads details periods streams
+  pub finds_streams : (heads periods : List Row) → Selects 2 [] (1 ∷ 2 ∷ []) trees heads → Selects 10 [] (1 ∷ 2 ∷ []) trees periods
+      → (streams : List Stream) → AreStreamsIn heads periods streams
       → AllPairs (λ a b. stream_cmp a b ≡ Less) streams → AreKnownStreams (world_with layout trees) streams
-  finds_streams heads details periods of_heads of_details of_periods streams are up = record {
+  finds_streams heads periods of_heads of_periods streams are up = record {
     each = λ s. (
       (λ m. elim ((are s).0 m) [
         | inl h ↦ inl ((head_streams heads s of_heads).0 h)
-        | inr r ↦ elim r [
-          | inl d ↦ inr (inl ((detail_streams details s of_details).0 d))
-          | inr p ↦ inr (inr ((period_streams periods s of_periods).0 p))
-        ]
+        | inr p ↦ inr ((period_streams periods s of_periods).0 p)
       ]),
       (λ k. elim k [
         | inl h ↦ (are s).1 (inl ((head_streams heads s of_heads).1 h))
-        | inr r ↦ elim r [
-          | inl d ↦ (are s).1 (inr (inl ((detail_streams details s of_details).1 d)))
-          | inr p ↦ (are s).1 (inr (inr ((period_streams periods s of_periods).1 p)))
-        ]
+        | inr p ↦ (are s).1 (inr ((period_streams periods s of_periods).1 p))
       ]),
     );
     ascending = up;

@@ -1,5 +1,6 @@
 -- The rows of an answer, by membership.
-use Rattle.std.proofs.Common.{◌≡◌, ◌↔◌, inl, inr, ℕ, List, [], ◌∷◌, map, Bool, true, false, cond, refl, sym, ap, subst, ◌∙◌}
+use Rattle.std.proofs.Common.{◌≡◌, ◌↔◌, ◌<◌, inl, inr, suc, ℕ, List, [], ◌∷◌, length, map, Bool, true, false, cond, refl, sym, ap, subst, ◌∙◌, arith}
+use Rattle.std.specs.Prelude.{slice_index_or}
 use Rattle.std.specs.List.{AllByRecursion, filter}
 use Rattle.std.specs.List.Sorted.{IsPermutation}
 use Rattle.std.proofs.lemmas.List.Sorted.{IsPermutation-map, IsPermutation-sym}
@@ -26,6 +27,13 @@ all_has P (y ∷ ys) x all (inr has) = all_has P ys x all.1 has
 pub all_of : {X : Type 0} (P : X → Type 0) (xs : List X) → ((x : X) → Member x xs → P x) → AllByRecursion P xs
 all_of P [] each = tt
 all_of P (x ∷ xs) each = (each x (inl refl), all_of P xs (λ y m. each y (inr m)))
+
+-- the place of a member
+pub place_of : {X : Type 0} (xs : List X) (x d : X) → Member x xs
+    → (j : ℕ) × (j < length xs) × (slice_index_or xs j d ≡ x)
+place_of [] x d m = absurd m
+place_of (y ∷ ys) x d (inl e) = (0, omega arith, sym e)
+place_of (y ∷ ys) x d (inr m) = let r = place_of ys x d m in (suc r.0, omega (arith, r.1), r.2)
 
 -- a permutation has no other members
 pub moved : {X : Type 0} (xs ys : List X) → IsPermutation xs ys → (x : X) → Member x ys → Member x xs
@@ -61,7 +69,8 @@ shown_is : (places : List ℕ) (params row : Row)
 shown_is [] params row = refl
 shown_is (at ∷ more) params row = ap (λ xs. column row at ∷ xs) (shown_is more params row)
 
-abbrev second : Output → Row
+-- what an output shows
+abbrev pub second : Output → Row
 second o = o.1
 
 module _ (tree : ℕ) (test : List Term) (places : List ℕ) (order : List (Term × Key)) (db : Trees) (params : Row) where

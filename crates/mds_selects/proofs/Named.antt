@@ -15,8 +15,8 @@ use Rattle.mds_world.proofs.Lists.{append_left, append_right, in_map, map_in, me
 use Rattle.mds_world.specs.Lists.{Member}
 use Rattle.mds_world.proofs.Members.{in_list, list_in}
 use Rattle.mds_world.specs.Sets.{◌∈◌}
-use Rattle.mds_tables.specs.Layouts.{IsVersion, Layout, rows_layout, world_with}
-use Rattle.mds_tables.specs.RowFacts.{detail_fact, event_fact, facts_with, head_fact, holiday_fact, job_fact, period_fact, version_fact}
+use Rattle.mds_tables.specs.Layouts.{IsOwn, Layout, world_with}
+use Rattle.mds_tables.specs.RowFacts.{event_fact, facts_with, head_fact, holiday_fact, job_fact, period_fact}
 
 -- one of the rows of a tree names the fact
 abbrev pub Names : (Row → Fact) → List Row → Fact → Type 0
@@ -25,11 +25,11 @@ Names read rows f = (row : Row) × Member row rows × (read row ≡ f)
 names : (read : Row → Fact) (rows : List Row) (f : Fact) → Names read rows f → Member f (map read rows)
 names read rows f n = subst (λ g. Member g (map read rows)) n.2 (map_in read rows n.0 n.1)
 
--- a row of the table of its kind names the fact, and versions are those of the layout
+-- a row of the table of its kind names the fact, and versions and details are those of the layout
 abbrev IsNamed : Layout → Trees → Fact → Type 0
 IsNamed layout trees (HeadIs head) = Names head_fact (trees 2) (HeadIs head)
-IsNamed layout trees (VersionIs key reading) = Member (VersionIs key reading) (layout.versions trees)
-IsNamed layout trees (DetailIs detail) = Names detail_fact (trees 6) (DetailIs detail)
+IsNamed layout trees (VersionIs key reading) = Member (VersionIs key reading) (layout.own trees)
+IsNamed layout trees (DetailIs detail) = Member (DetailIs detail) (layout.own trees)
 IsNamed layout trees (EventIs event) = Names event_fact (trees 8) (EventIs event)
 IsNamed layout trees (PeriodIs key content) = Names period_fact (trees 10) (PeriodIs key content)
 IsNamed layout trees (HolidayIs day) = Names holiday_fact (trees 12) (HolidayIs day)
@@ -41,23 +41,20 @@ of_rows : (P : Fact → Type 0) (read : Row → Fact) (rows : List Row) → ((ro
 of_rows P read rows each f m = let r = in_map read rows f m in subst P (sym r.2) (each r.0 r.1)
 
 module _ (layout : Layout) (trees : Trees) where
-  version_named : (f : Fact) → IsVersion f → Member f (layout.versions trees) → IsNamed layout trees f
-  version_named (HeadIs head) is m = absurd is
-  version_named (VersionIs key reading) is m = m
-  version_named (DetailIs detail) is m = absurd is
-  version_named (EventIs event) is m = absurd is
-  version_named (PeriodIs key content) is m = absurd is
-  version_named (HolidayIs day) is m = absurd is
-  version_named (JobIs id content count) is m = absurd is
+  own_named : (f : Fact) → IsOwn f → Member f (layout.own trees) → IsNamed layout trees f
+  own_named (HeadIs head) is m = absurd is
+  own_named (VersionIs key reading) is m = m
+  own_named (DetailIs detail) is m = m
+  own_named (EventIs event) is m = absurd is
+  own_named (PeriodIs key content) is m = absurd is
+  own_named (HolidayIs day) is m = absurd is
+  own_named (JobIs id content count) is m = absurd is
 
   abbrev heads : List Fact
   heads = map head_fact (trees 2)
 
-  abbrev versions : List Fact
-  versions = layout.versions trees
-
-  abbrev details : List Fact
-  details = map detail_fact (trees 6)
+  abbrev own : List Fact
+  own = layout.own trees
 
   abbrev events : List Fact
   events = map event_fact (trees 8)
@@ -73,79 +70,69 @@ module _ (layout : Layout) (trees : Trees) where
 
   -- the facts of the first tables, one table more each
   abbrev two : List Fact
-  two = heads ++ versions
+  two = heads ++ own
 
   abbrev three : List Fact
-  three = two ++ details
+  three = two ++ events
 
   abbrev four : List Fact
-  four = three ++ events
+  four = three ++ periods
 
   abbrev five : List Fact
-  five = four ++ periods
+  five = four ++ holidays
 
-  abbrev six : List Fact
-  six = five ++ holidays
-
-  is_named : (f : Fact) → Member f (facts_with layout.versions trees) → IsNamed layout trees f
-  is_named f m = elim (member_append f six jobs m) [
+  is_named : (f : Fact) → Member f (facts_with layout.own trees) → IsNamed layout trees f
+  is_named f m = elim (member_append f five jobs m) [
     | inr a ↦ of_rows (IsNamed layout trees) job_fact (trees 14) (λ r n. (r, n, refl)) f a
-    | inl m ↦ elim (member_append f five holidays m) [
+    | inl m ↦ elim (member_append f four holidays m) [
       | inr a ↦ of_rows (IsNamed layout trees) holiday_fact (trees 12) (λ r n. (r, n, refl)) f a
-      | inl m ↦ elim (member_append f four periods m) [
+      | inl m ↦ elim (member_append f three periods m) [
         | inr a ↦ of_rows (IsNamed layout trees) period_fact (trees 10) (λ r n. (r, n, refl)) f a
-        | inl m ↦ elim (member_append f three events m) [
+        | inl m ↦ elim (member_append f two events m) [
           | inr a ↦ of_rows (IsNamed layout trees) event_fact (trees 8) (λ r n. (r, n, refl)) f a
-          | inl m ↦ elim (member_append f two details m) [
-            | inr a ↦ of_rows (IsNamed layout trees) detail_fact (trees 6) (λ r n. (r, n, refl)) f a
-            | inl m ↦ elim (member_append f heads versions m) [
-              | inl a ↦ of_rows (IsNamed layout trees) head_fact (trees 2) (λ r n. (r, n, refl)) f a
-              | inr a ↦ version_named f (layout.only trees f a) a
-            ]
+          | inl m ↦ elim (member_append f heads own m) [
+            | inl a ↦ of_rows (IsNamed layout trees) head_fact (trees 2) (λ r n. (r, n, refl)) f a
+            | inr a ↦ own_named f (layout.only trees f a) a
           ]
         ]
       ]
     ]
   ]
 
-  -- what the first four tables name, all of them name
-  of_four : (f : Fact) → Member f four → Member f (facts_with layout.versions trees)
-  of_four f m = append_left f six jobs (append_left f five holidays (append_left f four periods m))
+  -- what the first three tables name, all of them name
+  of_three : (f : Fact) → Member f three → Member f (facts_with layout.own trees)
+  of_three f m = append_left f five jobs (append_left f four holidays (append_left f three periods m))
 
-  of_three : (f : Fact) → Member f three → Member f (facts_with layout.versions trees)
-  of_three f m = of_four f (append_left f three events m)
-
-  of_two : (f : Fact) → Member f two → Member f (facts_with layout.versions trees)
-  of_two f m = of_three f (append_left f two details m)
+  of_two : (f : Fact) → Member f two → Member f (facts_with layout.own trees)
+  of_two f m = of_three f (append_left f two events m)
 
   pub of_head : (h : Head) → (HeadIs h ∈ world_with layout trees) ↔ Names head_fact (trees 2) (HeadIs h)
   of_head h = (
     (λ m. is_named (HeadIs h) (in_list _ _ m)),
-    (λ n. list_in (facts_with layout.versions trees) (HeadIs h) (of_two (HeadIs h) (append_left (HeadIs h) heads versions
+    (λ n. list_in (facts_with layout.own trees) (HeadIs h) (of_two (HeadIs h) (append_left (HeadIs h) heads own
         (names head_fact (trees 2) _ n)))),
   )
 
-  -- what the layout says of versions is of the World
-  pub in_versions : (f : Fact) → Member f (layout.versions trees) → f ∈ world_with layout trees
-  in_versions f m = list_in (facts_with layout.versions trees) f (of_two f (append_right f heads versions m))
+  -- what the layout says of versions and details is of the World
+  pub in_versions : (f : Fact) → Member f (layout.own trees) → f ∈ world_with layout trees
+  in_versions f m = list_in (facts_with layout.own trees) f (of_two f (append_right f heads own m))
 
-  pub of_version : (k : Key) (v : ReadingValue) → (VersionIs k v ∈ world_with layout trees) ↔ Member (VersionIs k v) (layout.versions trees)
+  pub of_version : (k : Key) (v : ReadingValue) → (VersionIs k v ∈ world_with layout trees) ↔ Member (VersionIs k v) (layout.own trees)
   of_version k v = (
     (λ m. is_named (VersionIs k v) (in_list _ _ m)),
     in_versions (VersionIs k v),
   )
 
-  pub of_detail : (d : Detail) → (DetailIs d ∈ world_with layout trees) ↔ Names detail_fact (trees 6) (DetailIs d)
+  pub of_detail : (d : Detail) → (DetailIs d ∈ world_with layout trees) ↔ Member (DetailIs d) (layout.own trees)
   of_detail d = (
     (λ m. is_named (DetailIs d) (in_list _ _ m)),
-    (λ n. list_in (facts_with layout.versions trees) (DetailIs d) (of_three (DetailIs d) (append_right (DetailIs d) two details
-        (names detail_fact (trees 6) _ n)))),
+    in_versions (DetailIs d),
   )
 
   pub of_event : (v : EventValue) → (EventIs v ∈ world_with layout trees) ↔ Names event_fact (trees 8) (EventIs v)
   of_event v = (
     (λ m. is_named (EventIs v) (in_list _ _ m)),
-    (λ n. list_in (facts_with layout.versions trees) (EventIs v) (of_four (EventIs v) (append_right (EventIs v) three events
+    (λ n. list_in (facts_with layout.own trees) (EventIs v) (of_three (EventIs v) (append_right (EventIs v) two events
         (names event_fact (trees 8) _ n)))),
   )
 
@@ -153,30 +140,21 @@ module _ (layout : Layout) (trees : Trees) where
       → (PeriodIs k c ∈ world_with layout trees) ↔ Names period_fact (trees 10) (PeriodIs k c)
   of_period k c = (
     (λ m. is_named (PeriodIs k c) (in_list _ _ m)),
-    (λ n. list_in (facts_with layout.versions trees) (PeriodIs k c) (append_left (PeriodIs k c) six jobs (append_left (PeriodIs k c) five holidays
-        (append_right (PeriodIs k c) four periods (names period_fact (trees 10) _ n))))),
+    (λ n. list_in (facts_with layout.own trees) (PeriodIs k c) (append_left (PeriodIs k c) five jobs (append_left (PeriodIs k c) four holidays
+        (append_right (PeriodIs k c) three periods (names period_fact (trees 10) _ n))))),
   )
 
   pub of_holiday : (day : ℕ) → (HolidayIs day ∈ world_with layout trees) ↔ Names holiday_fact (trees 12) (HolidayIs day)
   of_holiday day = (
     (λ m. is_named (HolidayIs day) (in_list _ _ m)),
-    (λ n. list_in (facts_with layout.versions trees) (HolidayIs day) (append_left (HolidayIs day) six jobs
-        (append_right (HolidayIs day) five holidays (names holiday_fact (trees 12) _ n)))),
+    (λ n. list_in (facts_with layout.own trees) (HolidayIs day) (append_left (HolidayIs day) five jobs
+        (append_right (HolidayIs day) four holidays (names holiday_fact (trees 12) _ n)))),
   )
 
   pub of_job : (id : List ℕ) (c : JobContent) (count : ℕ)
       → (JobIs id c count ∈ world_with layout trees) ↔ Names job_fact (trees 14) (JobIs id c count)
   of_job id c count = (
     (λ m. is_named (JobIs id c count) (in_list _ _ m)),
-    (λ n. list_in (facts_with layout.versions trees) (JobIs id c count) (append_right (JobIs id c count) six jobs
+    (λ n. list_in (facts_with layout.own trees) (JobIs id c count) (append_right (JobIs id c count) five jobs
         (names job_fact (trees 14) _ n))),
   )
-
--- where each version has a row, that names it
-pub of_row : (trees : Trees) (k : Key) (v : ReadingValue)
-    → (VersionIs k v ∈ world_with rows_layout trees) ↔ Names version_fact (trees 4) (VersionIs k v)
-of_row trees k v =
-    let of = of_version rows_layout trees k v in (
-      (λ m. let r = in_map version_fact (trees 4) (VersionIs k v) (of.0 m) in (r.0, r.1, sym r.2)),
-      (λ n. of.1 (names version_fact (trees 4) (VersionIs k v) n)),
-    )

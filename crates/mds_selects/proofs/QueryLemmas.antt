@@ -1,5 +1,5 @@
 -- What a query of one table does to a connection, and finds.
-use Rattle.std.proofs.Common.{◌≡◌, ◌≢◌, inl, inr, ℕ, List, [], true, false, Option, Some, None, Ok, Err, Result, IfOk, IfErr, OnErr, codes, refl, sym, subst}
+use Rattle.std.proofs.Common.{◌≡◌, ◌≢◌, inl, inr, ℕ, List, [], ◌∷◌, true, false, Option, Some, None, Ok, Err, Result, IfOk, IfErr, OnErr, codes, refl, sym, subst}
 use Rattle.std.specs.List.{AllByRecursion}
 use Rattle.std.specs.declared.alloc.Global.{Global}
 use Rattle.std.specs.declared.vec.Vec.{Vec}
@@ -10,7 +10,8 @@ use Rattle.sqlite_sql.specs.Term.{Term}
 use Rattle.sqlite.specs.Clock.{timed}
 use Rattle.sqlite.specs.Command.TheVariants.{Select}
 use Rattle.sqlite.specs.Listing.{reads_listing, understood}
-use Rattle.sqlite.specs.Program.{overlay}
+use Rattle.sqlite.specs.Program.{IsProgramAnswer, overlay}
+use Rattle.sqlite.specs.Query.{Query}
 use Rattle.sqlite.specs.Schema.{Schema}
 use Rattle.sqlite.specs.State.{CommitsShowing, FailsToQuery, FailsToShow, HasCleanDisk, IsUnchanged, Shown, ShowsRows, State, Survives}
 use Rattle.sqlite.specs.declared.error.Error.{Error}
@@ -23,13 +24,12 @@ use Rattle.sqlite_schema.specs.declared.schema.Column.{Column}
 use Rattle.sqlite_schema.specs.declared.schema.Constraint.TheVariants.{Datatype, NotNull}
 use Rattle.mds_names.specs.declared.stream.Stream.{Stream}
 use Rattle.mds_terms.specs.Event.{EventValue}
-use Rattle.mds_world.specs.declared.facts.Detail.{Detail}
 use Rattle.mds_world.specs.Lists.{Member}
-use Rattle.mds_tables.specs.Cells.{day_cells, detail_cells, event_cells, optional_cell, stream_cells}
+use Rattle.mds_tables.specs.Cells.{day_cells, event_cells, optional_cell, stream_cells}
 use Rattle.mds_tables.specs.Layouts.{Layout}
 use Rattle.mds_tables.specs.Queries.{QueriesOf}
 use Rattle.mds_tables.specs.Stores.{ChangesNothing, FindsOf, Selects, SelectsAll}
-use Rattle.mds_tables.specs.Tables.{More, detail_table, event_table, head_table, holiday_table, job_table, number, period_table, schema_with, version_table}
+use Rattle.mds_tables.specs.Tables.{More, event_table, head_table, holiday_table, job_table, number, period_table, schema_with, text, version_table}
 use Rattle.mds_tables.proofs.CallLemmas.{not_run}
 use Rattle.mds_selects.proofs.KeyLemmas.{tests}
 use Rattle.mds_selects.proofs.MemberLemmas.{all_has, selects, selects_all}
@@ -88,6 +88,22 @@ module _ (layout : Layout) (sql : List ℕ) (plain : IsPlain (understood (schema
     survives = quiet old new params survives;
   }
 
+  -- What an answer to a query says in any sound database is found.
+  pub finds_by : {V : Type 0} (body : Query) (names : List (List ℕ))
+      → command_of (understood (schema_with layout.more) sql) ≡ Select (record { lets = []; body = body }) names
+      → (old new : State) (params : Row) (items : V → List Row) (Says : List Row → Trees → Type 0)
+      → ((db : Trees) → IsSound (schema_with layout.more) db → (rows : List Row) → IsProgramAnswer [] body db params rows
+      → Says rows db)
+      → (r : Result V Error) → IfOk r (λ v. Shown sql params old new (items v))
+      → IfOk r (λ v. FindsOf layout old new (Says (items v)))
+  finds_by body names is old new params items Says says (Err e) h = tt
+  finds_by body names is old new params items Says says (Ok v) h = record {
+    same = λ has. shown_same sql params old new (schema_with layout.more) has plain.0 (items v) h;
+    shows = λ has sound.
+        let read = reads_as sql params old new (schema_with layout.more) has _ is plain.0 plain.1 (items v) h in
+        says old.now.trees (rw has at sound) (items v) read.answer;
+  }
+
   module _ (tree : ℕ) (test project : List Term) (order : List (Term × Key)) (names : List (List ℕ))
       (is : AsksFor layout.more sql tree test project order names) (low : (db : Trees) → overlay db [] tree ≡ db tree) where
     -- What is shown of a query's rows in any sound database is found.
@@ -96,14 +112,9 @@ module _ (layout : Layout) (sql : List ℕ) (plain : IsPlain (understood (schema
         → Says rows db)
         → (r : Result V Error) → IfOk r (λ v. Shown sql params old new (items v))
         → IfOk r (λ v. FindsOf layout old new (Says (items v)))
-    finds old new params items Says says (Err e) h = tt
-    finds old new params items Says says (Ok v) h = record {
-      same = λ has. shown_same sql params old new (schema_with layout.more) has plain.0 (items v) h;
-      shows = λ has sound.
-          let read = reads_as sql params old new (schema_with layout.more) has _ is plain.0 plain.1 (items v) h in
-          says old.now.trees (rw has at sound) (items v)
-          (picks tree test project order old.now.trees params (items v) (low old.now.trees) read.answer);
-    }
+    finds old new params items Says says =
+        finds_by (from_one tree test project order) names is old new params items Says
+        (λ db sound rows answer. says db sound rows (picks tree test project order db params rows (low db) answer))
 
 -- ---- the types of the tables
 
@@ -124,11 +135,6 @@ module _ (more : More) (db : Trees) (sound : IsSound (schema_with more) db) (row
   pub version_typed : Member row (db 4) → AreTyped version_table.columns row
   version_typed m =
       let it = kept version_table (db 4) (sound.obeys.rules Datatype).1.1.0 (sound.obeys.rules NotNull).1.1.0 m in
-      record { typed = (both _ _ it.0).0; present = it.1 }
-
-  pub detail_typed : Member row (db 6) → AreTyped detail_table.columns row
-  detail_typed m =
-      let it = kept detail_table (db 6) (sound.obeys.rules Datatype).1.1.1.0 (sound.obeys.rules NotNull).1.1.1.0 m in
       record { typed = (both _ _ it.0).0; present = it.1 }
 
   pub event_typed : Member row (db 8) → AreTyped event_table.columns row
@@ -157,7 +163,7 @@ module _ (more : More) (db : Trees) (sound : IsSound (schema_with more) db) (row
 
 -- ---- the keys of the queries
 
-optional_for : (name : List ℕ) (o : Option ℕ) → IsFor (number name) (optional_cell o)
+pub optional_for : (name : List ℕ) (o : Option ℕ) → IsFor (number name) (optional_cell o)
 optional_for name None = (name, refl)
 optional_for name (Some n) = (name, refl)
 
@@ -167,12 +173,8 @@ head_for s day = ((codes "nmi", refl), ((codes "suffix", refl), ((codes "day", r
 pub version_for : (s : Stream) (day : ℕ) → AreFor version_table.columns (day_cells s day)
 version_for s day = ((codes "nmi", refl), ((codes "suffix", refl), ((codes "day", refl), tt)))
 
-pub details_for : (s : Stream) → AreFor detail_table.columns (stream_cells s)
-details_for s = ((codes "nmi", refl), ((codes "suffix", refl), tt))
-
-pub detail_for : (d : Detail) → AreFor detail_table.columns (detail_cells d)
-detail_for d =
-    ((codes "nmi", refl), ((codes "suffix", refl), ((codes "moment", refl), ((codes "configuration", refl), ((codes "register", refl), ((codes "datastream", refl), ((codes "meter", refl), (optional_for (codes "next") d.details.next, tt))))))))
+pub stream_for : (s : Stream) (behind : List Column) → AreFor (text (codes "nmi") ∷ text (codes "suffix") ∷ behind) (stream_cells s)
+stream_for s behind = ((codes "nmi", refl), ((codes "suffix", refl), tt))
 
 pub events_for : (s : Stream) (day : ℕ) → AreFor event_table.columns (day_cells s day)
 events_for s day = ((codes "nmi", refl), ((codes "suffix", refl), ((codes "day", refl), tt)))

@@ -1,5 +1,5 @@
 -- The answer of a query over one table.
-use Rattle.std.proofs.Common.{◌≡◌, ℕ, List, [], ◌∷◌, ◌++◌, map, Bool, true, false, cond, refl, ap, subst, ◌∙◌}
+use Rattle.std.proofs.Common.{◌≡◌, ℕ, List, [], ◌∷◌, ◌++◌, map, take, Bool, true, false, cond, refl, ap, subst, ◌∙◌}
 use Rattle.std.specs.List.{list_all, filter, flat_map}
 use Rattle.std.specs.List.Sorted.{IsPermutation, IsSorted}
 use Rattle.sqlite.specs.declared.types.Value.TheVariants.{Null}
@@ -9,7 +9,7 @@ use Rattle.sqlite.specs.Tree.{Trees}
 use Rattle.sqlite_sql.specs.Term.{Term, Env, holds}
 use Rattle.sqlite.specs.Query.{Query, IsAnswer, Output, output, output_cmp, matches_as, end}
 use Rattle.sqlite.specs.Program.{overlay, IsProgramAnswer}
-use Rattle.mds_selects.proofs.SelectTexts.{from_one}
+use Rattle.mds_selects.proofs.SelectTexts.{first_of, from_one}
 
 module _ (tree : ℕ) (test project : List Term) (order : List (Term × Key)) (db : Trees) (params : Row) where
   abbrev query : Query
@@ -47,10 +47,8 @@ module _ (tree : ℕ) (test project : List Term) (order : List (Term × Key)) (d
   outputs [] = refl
   outputs (r ∷ rs) = ap (λ xs. shows r ∷ xs) (outputs rs)
 
-  pub picks : (rows : List Row) → overlay db [] tree ≡ db tree
-      → IsProgramAnswer [] (from_one tree test project order) db params rows → Picks rows
-  picks rows there answer =
-      let a : IsAnswer query (overlay db []) params rows = answer Null in
+  picked : (rows : List Row) → overlay db [] tree ≡ db tree → IsAnswer query (overlay db []) params rows → Picks rows
+  picked rows there a =
       let staged =
       a.grouped ∙ matched (overlay db []) (overlay db [] tree) ∙ ap (λ es. map env (filter passes es)) there in
       let kept : a.kept ≡ map shows (filter passes (db tree)) =
@@ -61,3 +59,28 @@ module _ (tree : ℕ) (test project : List Term) (order : List (Term × Key)) (d
         sorted = a.sorted;
         shown = a.shown;
       }
+
+  pub picks : (rows : List Row) → overlay db [] tree ≡ db tree
+      → IsProgramAnswer [] (from_one tree test project order) db params rows → Picks rows
+  picks rows there answer = picked rows there (answer Null)
+
+  -- a query for the first row shows that of all
+  pub picks_first : (rows : List Row) → overlay db [] tree ≡ db tree
+      → IsProgramAnswer [] (first_of (from_one tree test project order)) db params rows
+      → (all : List Row) × Picks all × (rows ≡ take 1 all)
+  picks_first rows there answer =
+      let a : IsAnswer (first_of query) (overlay db []) params rows = answer Null in
+      let all = map (λ (o : Output). o.1) a.ordered in (
+        all,
+        picked all there (record {
+          staged = a.staged;
+          grouped = a.grouped;
+          kept = a.kept;
+          distinct = a.distinct;
+          ordered = a.ordered;
+          same = a.same;
+          sorted = a.sorted;
+          shown = refl;
+        }),
+        a.shown,
+      )

@@ -19,6 +19,7 @@ use Rattle.sqlite_trees.specs.Tree.{Trees}
 use Rattle.sqlite_value.specs.declared.keys.Key.{Key}
 use Rattle.mds_tables.specs.Tables.{More, schema_with}
 use Rattle.mds_tables.proofs.CauseLemmas.{IsWhole}
+use Rattle.mds_selects.specs.Shown.{falling, rising}
 
 none_of : {X : Type 0} (xs : List X) → ¬ Any (λ x. ⊥) xs
 none_of xs any = any.4
@@ -45,8 +46,13 @@ equals at param = op2 (Compare Eq Binary) (col 1 at) (col 0 param)
 abbrev pub columns_at : List ℕ → List Term
 columns_at places = map (λ at. col 1 at) places
 
-abbrev pub falling : Key
-falling = record { collation = Binary; descending = true }
+-- the first row of a query's alone
+abbrev pub first_of : Query → Query
+first_of query = record query { limit = lit (Int (pos 1)) }
+
+-- the first row of a table with a stream, in the order of one column
+abbrev pub first_by : Key → ℕ → ℕ → Query
+first_by by tree at = first_of (from_one tree (equals 1 0 ∷ equals 2 1 ∷ []) (columns_at (at ∷ [])) ((col 1 at, by) ∷ []))
 
 abbrev pub select_version : List ℕ
 select_version = codes "SELECT version FROM mds_schema"
@@ -92,57 +98,29 @@ pub select_head_plain : (more : More) → IsPlain (understood (schema_with more)
 unfolding understood everything
 select_head_plain more = ((refl, refl), refl)
 
-abbrev pub select_versions : List ℕ
-select_versions = codes "SELECT nmi, suffix, day, slot, moment, quality, code, note, amount FROM mds_version WHERE nmi = ?1 AND suffix = ?2 AND day = ?3"
+abbrev pub select_first_day : List ℕ
+select_first_day = codes "SELECT day FROM mds_head WHERE nmi = ?1 AND suffix = ?2 ORDER BY day LIMIT 1"
 
-abbrev pub versions_query : Query
-versions_query =
-    from_one 4 (equals 1 0 ∷ equals 2 1 ∷ equals 3 2 ∷ []) (columns_at (1 ∷ 2 ∷ 3 ∷ 4 ∷ 5 ∷ 6 ∷ 7 ∷ 8 ∷ 9 ∷ [])) ([])
-
-pub select_versions_is : (more : More) → command_of (understood (schema_with more) select_versions)
-    ≡ Select (record { lets = []; body = versions_query }) (codes "nmi" ∷ codes "suffix" ∷ codes "day"
-    ∷ codes "slot" ∷ codes "moment" ∷ codes "quality" ∷ codes "code" ∷ codes "note" ∷ codes "amount" ∷ [])
+pub select_first_day_is : (more : More) → command_of (understood (schema_with more) select_first_day)
+    ≡ Select (record { lets = []; body = first_by rising 2 3 }) (codes "day" ∷ [])
 unfolding understood everything
-select_versions_is more = refl
+select_first_day_is more = refl
 
-pub select_versions_plain : (more : More) → IsPlain (understood (schema_with more) select_versions) × (reads_listing (schema_with more) select_versions ≡ false)
+pub select_first_day_plain : (more : More) → IsPlain (understood (schema_with more) select_first_day) × (reads_listing (schema_with more) select_first_day ≡ false)
 unfolding understood everything
-select_versions_plain more = ((refl, refl), refl)
+select_first_day_plain more = ((refl, refl), refl)
 
-abbrev pub select_details : List ℕ
-select_details = codes "SELECT nmi, suffix, moment, configuration, register, datastream, meter, next FROM mds_detail WHERE nmi = ?1 AND suffix = ?2 ORDER BY moment DESC, configuration DESC, register DESC, datastream DESC, meter DESC, next DESC"
+abbrev pub select_last_day : List ℕ
+select_last_day = codes "SELECT day FROM mds_head WHERE nmi = ?1 AND suffix = ?2 ORDER BY day DESC LIMIT 1"
 
-abbrev pub details_query : Query
-details_query =
-    from_one 6 (equals 1 0 ∷ equals 2 1 ∷ []) (columns_at (1 ∷ 2 ∷ 3 ∷ 4 ∷ 5 ∷ 6 ∷ 7 ∷ 8 ∷ [])) ((col 1 3, falling)
-    ∷ (col 1 4, falling) ∷ (col 1 5, falling) ∷ (col 1 6, falling) ∷ (col 1 7, falling) ∷ (col 1 8, falling) ∷ [])
-
-pub select_details_is : (more : More) → command_of (understood (schema_with more) select_details)
-    ≡ Select (record { lets = []; body = details_query }) (codes "nmi" ∷ codes "suffix" ∷ codes "moment"
-    ∷ codes "configuration" ∷ codes "register" ∷ codes "datastream" ∷ codes "meter" ∷ codes "next" ∷ [])
+pub select_last_day_is : (more : More) → command_of (understood (schema_with more) select_last_day)
+    ≡ Select (record { lets = []; body = first_by falling 2 3 }) (codes "day" ∷ [])
 unfolding understood everything
-select_details_is more = refl
+select_last_day_is more = refl
 
-pub select_details_plain : (more : More) → IsPlain (understood (schema_with more) select_details) × (reads_listing (schema_with more) select_details ≡ false)
+pub select_last_day_plain : (more : More) → IsPlain (understood (schema_with more) select_last_day) × (reads_listing (schema_with more) select_last_day ≡ false)
 unfolding understood everything
-select_details_plain more = ((refl, refl), refl)
-
-abbrev pub select_detail : List ℕ
-select_detail = codes "SELECT nmi FROM mds_detail WHERE nmi = ?1 AND suffix = ?2 AND moment = ?3 AND configuration = ?4 AND register = ?5 AND datastream = ?6 AND meter = ?7 AND next = ?8"
-
-abbrev pub detail_query : Query
-detail_query =
-    from_one 6 (equals 1 0 ∷ equals 2 1 ∷ equals 3 2 ∷ equals 4 3 ∷ equals 5 4 ∷ equals 6 5 ∷ equals 7 6 ∷ equals 8 7
-    ∷ []) (columns_at (1 ∷ [])) ([])
-
-pub select_detail_is : (more : More) → command_of (understood (schema_with more) select_detail)
-    ≡ Select (record { lets = []; body = detail_query }) (codes "nmi" ∷ [])
-unfolding understood everything
-select_detail_is more = refl
-
-pub select_detail_plain : (more : More) → IsPlain (understood (schema_with more) select_detail) × (reads_listing (schema_with more) select_detail ≡ false)
-unfolding understood everything
-select_detail_plain more = ((refl, refl), refl)
+select_last_day_plain more = ((refl, refl), refl)
 
 abbrev pub select_events : List ℕ
 select_events = codes "SELECT nmi, suffix, day, trans, ticket, moment, reading FROM mds_event WHERE nmi = ?1 AND suffix = ?2 AND day = ?3"
@@ -191,21 +169,6 @@ select_head_streams_is more = refl
 pub select_head_streams_plain : (more : More) → IsPlain (understood (schema_with more) select_head_streams) × (reads_listing (schema_with more) select_head_streams ≡ false)
 unfolding understood everything
 select_head_streams_plain more = ((refl, refl), refl)
-
-abbrev pub select_detail_streams : List ℕ
-select_detail_streams = codes "SELECT nmi, suffix FROM mds_detail"
-
-abbrev pub detail_streams_query : Query
-detail_streams_query = from_one 6 ([]) (columns_at (1 ∷ 2 ∷ [])) ([])
-
-pub select_detail_streams_is : (more : More) → command_of (understood (schema_with more) select_detail_streams)
-    ≡ Select (record { lets = []; body = detail_streams_query }) (codes "nmi" ∷ codes "suffix" ∷ [])
-unfolding understood everything
-select_detail_streams_is more = refl
-
-pub select_detail_streams_plain : (more : More) → IsPlain (understood (schema_with more) select_detail_streams) × (reads_listing (schema_with more) select_detail_streams ≡ false)
-unfolding understood everything
-select_detail_streams_plain more = ((refl, refl), refl)
 
 abbrev pub select_period_streams : List ℕ
 select_period_streams = codes "SELECT nmi, suffix FROM mds_period"

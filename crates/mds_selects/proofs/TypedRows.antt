@@ -20,7 +20,7 @@ use Rattle.mds_tables.specs.Cells.{letter_text, optional_cell}
 use Rattle.mds_tables.specs.Stores.{Begins}
 use Rattle.mds_selects.proofs.MemberLemmas.{all_has}
 use Rattle.mds_selects.proofs.TypedLemmas.{both, is_integer, is_text}
-use Rattle.mds_tables.specs.Tables.{More, needed, keyed_table, schema_with, head_table, version_table, detail_table, event_table, period_table, day_key, version_key, detail_key, event_key, period_key, to_head}
+use Rattle.mds_tables.specs.Tables.{More, needed, keyed_table, schema_with, head_table, version_table, event_table, period_table, day_key, version_key, event_key, period_key, to_head}
 
 -- a column that is needed has a value of its type
 needed_typed : (name : List ℕ) (k : Kind) (at : ℕ) (cs : List Column) (row : Row) → slice_get cs at ≡ Some (needed name k)
@@ -83,14 +83,6 @@ pub record HasKeyCells (r : Row) : Type 0 where
   pub suffix : column r 2 ≡ Text (text_at r 2)
   pub number : column r 3 ≡ Int (int_at r 3)
 
-pub record HasDetailCells (r : Row) : Type 0 where
-  pub keyed : HasKeyCells r
-  pub configuration : column r 4 ≡ Text (text_at r 4)
-  pub register : column r 5 ≡ Text (text_at r 5)
-  pub datastream : column r 6 ≡ Text (text_at r 6)
-  pub meter : column r 7 ≡ Text (text_at r 7)
-  pub next : column r 8 ≡ Int (int_at r 8)
-
 pub record HasEventCells (r : Row) : Type 0 where
   pub keyed : HasKeyCells r
   pub trans : column r 4 ≡ Text (text_at r 4)
@@ -141,31 +133,6 @@ module _ (more : More) (db : Trees) (sound : IsSound (schema_with more) db) (r :
         nmi = texts _ 0 refl;
         suffix = texts _ 1 refl;
         number = ints _ 2 refl;
-      }
-
-  pub detail_row : Member r (db 6) → HasDetailCells r
-  detail_row m =
-      let fits : passes Datatype (schema_with more) db detail_table r ≡ true =
-      all_has _ (db 6) r (sound.obeys.rules Datatype).1.1.1.0 m in
-      let there : passes NotNull (schema_with more) db detail_table r ≡ true =
-      all_has _ (db 6) r (sound.obeys.rules NotNull).1.1.1.0 m in
-      let texts : (called : List ℕ) (at : ℕ) → slice_get detail_table.columns at ≡ Some (needed called kind.Text)
-      → column r (suc at) ≡ Text (text_at r (suc at)) =
-      λ called at is. text_typed more detail_table.name 6 detail_table.columns detail_key detail_key [] called db r at is fits there in
-      let ints : (called : List ℕ) (at : ℕ) → slice_get detail_table.columns at ≡ Some (needed called kind.Integer)
-      → column r (suc at) ≡ Int (int_at r (suc at)) =
-      λ called at is. int_typed more detail_table.name 6 detail_table.columns detail_key detail_key [] called db r at is fits there in
-      record {
-        keyed = record {
-          nmi = texts _ 0 refl;
-          suffix = texts _ 1 refl;
-          number = ints _ 2 refl;
-        };
-        configuration = texts _ 3 refl;
-        register = texts _ 4 refl;
-        datastream = texts _ 5 refl;
-        meter = texts _ 6 refl;
-        next = ints _ 7 refl;
       }
 
   pub event_row : Member r (db 8) → HasEventCells r

@@ -1,5 +1,5 @@
 -- Rows that the store writes: the cells of terms, each of which is lawful.
-use Rattle.std.specs.Prelude.{◌≡◌, ◌≤◌, ◌<◌, ◌+◌, ◌*◌, ◌^◌, ℕ, length, IfSome, IsTrue}
+use Rattle.std.specs.Prelude.{◌≡◌, ◌≤◌, ◌<◌, ◌+◌, ◌*◌, ◌^◌, ℕ, IfSome, IsTrue}
 use Rattle.sqlite_value.specs.Order.{Row, column}
 use Rattle.sqlite.specs.declared.types.Value.TheVariants.{Text}
 use Rattle.mds_calendar.specs.Calendar.{day_seconds, last_day}
@@ -7,12 +7,10 @@ use Rattle.mds_calendar.specs.Length.{is_length}
 use Rattle.mds_names.specs.Names.{is_name, nmi_length, suffix_length}
 use Rattle.mds_names.specs.declared.stream.Stream.{Stream}
 use Rattle.mds_marks.specs.Reading.{ReadingValue, is_lawful}
-use Rattle.mds_terms.specs.Details.{DetailsValue, is_details}
 use Rattle.mds_terms.specs.Event.{EventValue, is_event}
-use Rattle.mds_world.specs.declared.facts.Detail.{Detail}
 use Rattle.mds_world.specs.declared.facts.Head.{Head}
 use Rattle.mds_world.specs.declared.facts.Key.{Key}
-use Rattle.mds_tables.specs.Cells.{detail_cells, event_cells, head_cells, version_cells}
+use Rattle.mds_tables.specs.Cells.{event_cells, head_cells, version_cells}
 
 -- the number of a day that there is
 abbrev pub IsDay : ℕ → Type 0
@@ -48,22 +46,6 @@ pub record IsRowOfVersion (row : Row) (key : Key) (reading : ReadingValue) : Typ
   pub interval : key.interval < 2 ^ 16
   pub update : IsMoment key.update
   pub lawful : IsTrue (is_lawful reading)
-
--- a row is that of details
-pub record IsRowOfDetail (row : Row) (detail : Detail) : Type 0 where
-  pub cells : row ≡ detail_cells detail
-  pub stream : IsStream detail.stream
-  pub moment : IsMoment detail.moment
-  pub details : IsTrue (is_details detail.details)
-  pub next : IfSome detail.details.next IsDay
-
--- a row of details that the store writes
-abbrev pub IsWrittenDetail : Row → Type 0
-IsWrittenDetail row = (detail : Detail) × IsRowOfDetail row detail
-
--- the bytes of the texts of details
-abbrev pub text_length : DetailsValue → ℕ
-text_length d = length d.configuration + length d.register + length d.datastream + length d.meter
 
 -- a row is that of an event
 pub record IsRowOfEvent (row : Row) (event : EventValue) : Type 0 where

@@ -6,7 +6,6 @@ mod rows;
 mod terms;
 
 pub use querying::{
-    all_versions, current_details, events_of, has_details, has_event, head_of, in_order,
-    is_version, put, streams, versions_of,
+    all_versions, events_of, has_event, head_of, in_order, is_version, last_day, put, streams,
 };
 pub use terms::{day_at, head_in, int_at, moment_at, str_at, stream_in, text_at};

@@ -1,7 +1,7 @@
 //! What is asked of a store, found by queries. A store that can't answer is unavailable (U1). So is one that holds a row that it
 //! didn't write.
 
-ghost use Rattle.std.specs.Prelude.{◌≡◌, ◌≢◌, ◌⊎◌, ◌<◌, ◌^◌, ◌↔◌, ℕ, List, [], ◌∷◌, false, length, All, IfErr, IfOk, IsOkAnd, IsTrue, OnErr, OnOk, Some};
+ghost use Rattle.std.specs.Prelude.{◌≡◌, ◌≢◌, ◌⊎◌, ◌<◌, ◌^◌, ◌↔◌, ℕ, List, [], ◌∷◌, false, length, All, IfErr, IfOk, IsOkAnd, IsTrue, OnErr, OnOk, Option, Some};
 ghost use Rattle.std.specs.Bool.{MatchBool, OnFalse};
 ghost use Rattle.std.specs.FinSet.{IsAntisymmetric};
 ghost use Rattle.std.specs.List.{AllPairs};
@@ -9,36 +9,33 @@ ghost use Rattle.std.specs.declared.cmp.Ordering.TheVariants.{Less};
 ghost use Rattle.sqlite.specs.declared.types.Value.TheVariants.{Int};
 ghost use Rattle.sqlite.specs.Held.{state};
 ghost use Rattle.sqlite.specs.State.{HasCleanDisk};
-ghost use Rattle.mds_world.specs.Current.{IsCurrentDetails, no_details};
-ghost use Rattle.mds_world.specs.Facts.Fact.{DetailIs, EventIs};
+ghost use Rattle.mds_world.specs.Facts.Fact.{EventIs};
 ghost use Rattle.mds_world.specs.Lists.{Apart, Member};
 ghost use Rattle.mds_world.specs.Sets.{◌∈◌};
-ghost use Rattle.mds_keeper.specs.Queries.{AreEventsOf, AreKnownStreams, stream_cmp};
+ghost use Rattle.mds_keeper.specs.Queries.{AreEventsOf, AreKnownStreams, IsLastDayOf, stream_cmp};
+ghost use Rattle.mds_tables.specs.Cells.{number_cell};
 ghost use Rattle.mds_tables.specs.Causes.{HasFailed};
 ghost use Rattle.mds_tables.specs.Layouts.{Layout, world_with};
 ghost use Rattle.mds_tables.specs.Queries.{Answers};
-ghost use Rattle.mds_tables.specs.RowFacts.{world_in};
-ghost use Rattle.mds_tables.specs.Stores.{Holds, HoldsOf, HoldsTablesOf, versions_said};
-ghost use Rattle.mds_selects.specs.Found.{AreRowsOf, IsHeadOf};
-ghost use Rattle.mds_selects.specs.Shown.{AreEventsIn, AreFirstDetails, AreStreamsIn, AreVersionsIn, IsDetailRow, IsOnlyHead, SaysVersion};
-ghost use Rattle.sqlite_value.specs.Order.{Row as RowValue};
+ghost use Rattle.mds_tables.specs.Stores.{HoldsOf, HoldsTablesOf, versions_said};
+ghost use Rattle.mds_selects.specs.Found.{IsHeadOf};
+ghost use Rattle.mds_selects.specs.Shown.{AreEventsIn, AreStreamsIn, AreVersionsIn, IsOnlyHead, SaysDay, SaysVersion};
+ghost use Rattle.sqlite_value.specs.Order.{Row as RowValue, column};
 ghost use Rattle.mds_marks.specs.Reading.{ReadingValue};
-ghost use Rattle.mds_world.specs.declared.facts.Detail.{Detail as DetailValue};
 ghost use Rattle.mds_world.specs.declared.facts.Head.{Head as HeadValue};
 ghost use Rattle.mds_world.specs.declared.facts.Key.{Key as KeyValue};
-ghost use Rattle.mds_selects.specs.Written.{IsRowOfDetail, IsRowOfHead, IsRowOfVersion, IsWrittenDetail, text_length};
+ghost use Rattle.mds_selects.specs.Written.{IsDay, IsRowOfHead, IsRowOfVersion};
 ghost use Rattle.mds_selects.specs.Added.{AreAdded, IsAdded, SaysEvent, SaysStream};
 
 use crate::rows::{
-    detail_stream_rows, details_rows, event_rows, head_rows, head_stream_rows, period_stream_rows,
-    same_details_rows, same_event_rows, version_numbers, version_rows,
+    event_rows, first_day_rows, head_rows, head_stream_rows, last_day_rows, period_stream_rows,
+    same_event_rows, version_numbers,
 };
-use crate::terms::{detail_in, event_at, head_in, int_at, is_detail_row, stream_in, version_in};
+use crate::terms::{day_at, event_at, head_in, int_at, stream_in, version_in};
 use mds_keeper::{Unavailable, Version};
 use mds_quantity::Unit;
 use mds_tables::{letter_of, ready};
-use mds_terms::{Day, Details, Event, Length, Moment, Stream, TransCode};
-use mds_world::Detail;
+use mds_terms::{Day, Event, Length, Moment, Stream, TransCode};
 use sqlite::{Alter, Connection, Error, Row};
 use std::alloc::Global;
 use std::collections::BTreeSet;
@@ -110,28 +107,6 @@ fn only_head(rows: &[Row]) -> Result<Option<(Length, Unit)>, Unavailable>
     }
 }
 
-/// The versions of a day, each with its interval.
-pub fn versions_of<S: Alter>(
-    alloc: Global,
-    conn: &mut Connection<S>,
-    stream: &Stream,
-    day: Day,
-) -> Result<Vec<(u16, Version)>, Unavailable>
-    requires { conn.old.in_transaction ≡ false }
-    ensures { Answers Holds (state S.Store conn.old) (state S.Store conn.new) result
-        (λ trees rows. AreRowsOf (world_in trees) stream.now day rows.items) }
-{
-    let Ok(_) = ready(conn) else {
-        return Err(Unavailable);
-    };
-    let Ok(rows) = version_rows(conn, stream, day) else {
-        return Err(Unavailable);
-    };
-    // For the proof: a day's number is at most that of the last day.
-    let _ = day.number();
-    all_versions(alloc, &rows)
-}
-
 /// The versions of rows, each with its interval.
 pub fn all_versions(alloc: Global, rows: &[Row]) -> Result<Vec<(u16, Version)>, Unavailable>
     ensures { IfOk result (λ versions. AreVersionsIn rows.now versions.items) }
@@ -163,91 +138,51 @@ fn version_at(alloc: Global, row: &Row) -> Result<(u16, Version), Unavailable>
     Ok((key.interval, version))
 }
 
-/// The current details of a stream.
-pub fn current_details<S: Alter>(
-    alloc: Global,
+/// The last known day of a stream. `None` where it has none.
+pub fn last_day<S: Alter>(
     conn: &mut Connection<S>,
     stream: &Stream,
-) -> Result<Details, Unavailable>
+) -> Result<Option<Day>, Unavailable>
     requires { conn.old.in_transaction ≡ false }
     ensures { (layout : Layout) → Answers (HoldsOf layout) (state S.Store conn.old) (state S.Store conn.new) result
-        (λ trees. IsCurrentDetails (world_with layout trees) stream.now) }
+        (λ trees. IsLastDayOf (world_with layout trees) stream.now) }
 {
     let Ok(_) = ready(conn) else {
         return Err(Unavailable);
     };
-    let Ok(rows) = details_rows(conn, stream) else {
+    let Ok(first) = first_day_rows(conn, stream) else {
         return Err(Unavailable);
     };
-    first_details(alloc, &rows)
+    let Ok(last) = last_day_rows(conn, stream) else {
+        return Err(Unavailable);
+    };
+    last_of(&first, &last)
 }
 
-/// The details of the first row, and empty ones where there is none.
-fn first_details(alloc: Global, rows: &[Row]) -> Result<Details, Unavailable>
-    ensures first { IfOk result (AreFirstDetails rows.now) }
-    ensures all { IfOk result (λ details. All (λ row. IsDetailRow row) rows.now) }
-    ensures err { OnErr result (All IsWrittenDetail rows.now → (row : RowValue) × (later : List RowValue) × (rows.now ≡ row ∷ later)
-        × ((detail : DetailValue) → IsRowOfDetail row detail → 0 < text_length detail.details)) }
+/// The day that the row of the last one says. Where the row of the first one says a day too, no day of the stream is below 0.
+fn last_of(first: &[Row], last: &[Row]) -> Result<Option<Day>, Unavailable>
+    ensures first { IfOk result (λ _. (day : Option ℕ) × SaysDay first.now day) }
+    ensures last { IfOk result (SaysDay last.now) }
 {
-    let are_lawful = are_detail_rows(rows);
-    if !are_lawful {
+    let Ok(_) = first_day(first) else {
         return Err(Unavailable);
-    }
+    };
+    first_day(last)
+}
+
+/// The day of the first row. `None` where there is no row.
+fn first_day(rows: &[Row]) -> Result<Option<Day>, Unavailable>
+    ensures ok { IfOk result (SaysDay rows.now) }
+    ensures err { OnErr result ((row : RowValue) × (later : List RowValue) × (rows.now ≡ row ∷ later)
+        × ((day : ℕ) → IsDay day → column row 0 ≢ number_cell day)) }
+{
     match rows {
-        [first, ..] => details_at(alloc, first),
-        [] => empty_details(alloc),
+        [first, ..] => match day_at(first, 0) {
+            Some(day) => Ok(Some(day)),
+            None => Err(Unavailable),
+        },
+        [] => Ok(None),
     }
-}
-
-/// The details of a row.
-fn details_at(alloc: Global, row: &Row) -> Result<Details, Unavailable>
-    ensures ok { IfOk result (λ details. AreFirstDetails (row.now ∷ []) details) }
-    ensures err { OnErr result ((detail : DetailValue) → IsRowOfDetail row.now detail → 0 < text_length detail.details) }
-{
-    let detail = detail_in(alloc, row)?;
-    Ok(detail.details)
-}
-
-/// Whether all rows are ones of details that the store writes.
-fn are_detail_rows(rows: &[Row]) -> bool
-    ensures yes { IsTrue result → All (λ row. IsDetailRow row) rows.now }
-    ensures no { OnFalse result (¬ All IsWrittenDetail rows.now) }
-{
-    for i in 0..rows.len() {
-        let is_lawful = is_detail_row(&rows[i]);
-        if !is_lawful {
-            return false;
-        }
-    }
-    true
-}
-
-/// Details of which nothing is known. They take no memory.
-#[tactic(auto, unfolding(mds_terms::specs::Details::details_of))]
-fn empty_details(alloc: Global) -> Result<Details, Unavailable>
-    ensures { IsOkAnd result (λ details. details ≡ no_details) }
-{
-    match Details::read(alloc, b"", b"", b"", b"", b"") {
-        Ok(Some(details)) => Ok(details),
-        _ => Err(Unavailable),
-    }
-}
-
-/// Whether these details are kept, current or not.
-pub fn has_details<S: Alter>(conn: &mut Connection<S>, detail: &Detail) -> Result<bool, Unavailable>
-    requires { conn.old.in_transaction ≡ false }
-    ensures { (layout : Layout) → Answers (HoldsOf layout) (state S.Store conn.old) (state S.Store conn.new) result
-        (λ trees has. IsTrue has ↔ (DetailIs detail.now ∈ world_with layout trees)) }
-{
-    let Ok(_) = ready(conn) else {
-        return Err(Unavailable);
-    };
-    let Ok(rows) = same_details_rows(conn, detail) else {
-        return Err(Unavailable);
-    };
-    // For the proof: its numbers are below 2^63.
-    are_small(detail);
-    Ok(has_any(&rows))
 }
 
 /// The events of a day, each once.
@@ -354,16 +289,6 @@ fn has_any(rows: &[Row]) -> bool
     !rows.is_empty()
 }
 
-/// The numbers of details are far below the greatest that a column can hold. The function does nothing.
-fn are_small(detail: &Detail)
-    ensures moment { detail.now.moment < 2 ^ 63 }
-    ensures next { (n : ℕ) → detail.now.details.next ≡ Some n → n < 2 ^ 63 }
-{
-    // For the proof: the seconds of a moment are below those of all days there are.
-    let _ = detail.moment.seconds();
-    is_small_day(detail.details.next());
-}
-
 /// The numbers of an event are far below the greatest that a column can hold. The function does nothing.
 fn has_small_numbers(event: &Event)
     ensures day { event.now.day < 2 ^ 63 }
@@ -374,16 +299,6 @@ fn has_small_numbers(event: &Event)
     let _ = event.day().number();
     is_small_letter(event.trans());
     is_small_moment(event.moment());
-}
-
-/// The number of a day is far below the greatest that a column can hold.
-fn is_small_day(day: Option<Day>)
-    ensures { (n : ℕ) → day ≡ Some n → n < 2 ^ 63 }
-{
-    if let Some(day) = day {
-        // For the proof: a day's number is at most that of the last day.
-        let _ = day.number();
-    }
 }
 
 /// The number of a moment is far below the greatest that a column can hold.
@@ -421,28 +336,19 @@ pub fn streams<S: Alter>(
     let Ok(heads) = head_stream_rows(conn) else {
         return Err(Unavailable);
     };
-    let Ok(details) = detail_stream_rows(conn) else {
-        return Err(Unavailable);
-    };
     let Ok(periods) = period_stream_rows(conn) else {
         return Err(Unavailable);
     };
-    all_streams(alloc, &heads, &details, &periods)
+    all_streams(alloc, &heads, &periods)
 }
 
-/// The streams of three lists of rows, ascending, each once.
-fn all_streams(
-    alloc: Global,
-    heads: &[Row],
-    details: &[Row],
-    periods: &[Row],
-) -> Result<Vec<Stream>, Unavailable>
-    ensures each { IfOk result (λ streams. AreStreamsIn heads.now details.now periods.now streams.items) }
+/// The streams of two lists of rows, ascending, each once.
+fn all_streams(alloc: Global, heads: &[Row], periods: &[Row]) -> Result<Vec<Stream>, Unavailable>
+    ensures each { IfOk result (λ streams. AreStreamsIn heads.now periods.now streams.items) }
     ensures ascending { IfOk result (λ streams. AllPairs (λ a b. stream_cmp a b ≡ Less) streams.items) }
 {
     let mut found = BTreeSet::new(alloc);
     add_streams(&mut found, heads)?;
-    add_streams(&mut found, details)?;
     add_streams(&mut found, periods)?;
     in_order(alloc, found)
 }

@@ -1,6 +1,6 @@
 //! The queries, and the rows that they answer, whatever tables stand behind those that every schema has.
 
-ghost use Rattle.std.specs.Prelude.{◌≡◌, [], ◌∷◌, All, IfErr};
+ghost use Rattle.std.specs.Prelude.{◌≡◌, [], ◌∷◌, IfErr};
 ghost use Rattle.sqlite.specs.Held.{state};
 ghost use Rattle.sqlite.specs.State.{HasCleanDisk};
 ghost use Rattle.mds_tables.specs.Causes.{HasFailed};
@@ -8,12 +8,11 @@ ghost use Rattle.mds_tables.specs.Cells as row;
 ghost use Rattle.mds_tables.specs.Layouts.{Layout};
 ghost use Rattle.mds_tables.specs.Queries.{QueriesOf};
 ghost use Rattle.mds_tables.specs.Stores.{Selects, SelectsAll};
-ghost use Rattle.mds_tables.specs.Tables.{detail_columns, detail_nmi, detail_tree, event_columns, event_nmi, event_tree, head_columns, head_tree, period_tree, schema_tree, schema_version, schema_with, stream_columns, version_columns, version_tree};
-ghost use Rattle.mds_selects.specs.Shown.{AreLatestFirst, IsDetailRow};
+ghost use Rattle.mds_tables.specs.Tables.{event_columns, event_nmi, event_tree, head_columns, head_tree, period_tree, schema_tree, schema_version, schema_with, stream_columns};
+ghost use Rattle.mds_selects.specs.Shown.{SelectsFirst, falling, head_day, rising};
 
-use mds_tables::{day_cells, detail_cells, event_cells, stream_cells};
+use mds_tables::{day_cells, event_cells, stream_cells};
 use mds_terms::{Day, Event, Stream};
-use mds_world::Detail;
 use sqlite::{Alter, Connection, Error, Row};
 
 /// The numbers that mds_schema says.
@@ -39,43 +38,29 @@ pub(crate) fn head_rows<S: Alter>(
     )
 }
 
-/// The versions of a day.
-pub(crate) fn version_rows<S: Alter>(
-    conn: &mut Connection<S>,
-    stream: &Stream,
-    day: Day,
-) -> Result<Vec<Row>, Error>
-    ensures { (layout : Layout) → QueriesOf layout (state S.Store conn.old) (state S.Store conn.new) result (Selects version_tree (row.day_cells stream.now day) version_columns) }
-{
-    conn.query_all(
-        "SELECT nmi, suffix, day, slot, moment, quality, code, note, amount FROM mds_version WHERE nmi = ?1 AND suffix = ?2 AND day = ?3",
-        &day_cells(stream, day),
-    )
-}
-
-/// The details of a stream, the latest and greatest first.
-pub(crate) fn details_rows<S: Alter>(
+/// The first day among the heads of a stream.
+pub(crate) fn first_day_rows<S: Alter>(
     conn: &mut Connection<S>,
     stream: &Stream,
 ) -> Result<Vec<Row>, Error>
-    ensures { (layout : Layout) → QueriesOf layout (state S.Store conn.old) (state S.Store conn.new) result (λ trees rows. Selects detail_tree (row.stream_cells stream.now) detail_columns trees rows × (All (λ row. IsDetailRow row) rows → AreLatestFirst rows)) }
+    ensures { (layout : Layout) → QueriesOf layout (state S.Store conn.old) (state S.Store conn.new) result (SelectsFirst rising head_tree (row.stream_cells stream.now) head_day) }
 {
     conn.query_all(
-        "SELECT nmi, suffix, moment, configuration, register, datastream, meter, next FROM mds_detail WHERE nmi = ?1 AND suffix = ?2 ORDER BY moment DESC, configuration DESC, register DESC, datastream DESC, meter DESC, next DESC",
+        "SELECT day FROM mds_head WHERE nmi = ?1 AND suffix = ?2 ORDER BY day LIMIT 1",
         &stream_cells(stream),
     )
 }
 
-/// A row where these details are kept.
-pub(crate) fn same_details_rows<S: Alter>(
+/// The last day among the heads of a stream.
+pub(crate) fn last_day_rows<S: Alter>(
     conn: &mut Connection<S>,
-    detail: &Detail,
+    stream: &Stream,
 ) -> Result<Vec<Row>, Error>
-    ensures { (layout : Layout) → QueriesOf layout (state S.Store conn.old) (state S.Store conn.new) result (Selects detail_tree (row.detail_cells detail.now) (detail_nmi ∷ [])) }
+    ensures { (layout : Layout) → QueriesOf layout (state S.Store conn.old) (state S.Store conn.new) result (SelectsFirst falling head_tree (row.stream_cells stream.now) head_day) }
 {
     conn.query_all(
-        "SELECT nmi FROM mds_detail WHERE nmi = ?1 AND suffix = ?2 AND moment = ?3 AND configuration = ?4 AND register = ?5 AND datastream = ?6 AND meter = ?7 AND next = ?8",
-        &detail_cells(detail),
+        "SELECT day FROM mds_head WHERE nmi = ?1 AND suffix = ?2 ORDER BY day DESC LIMIT 1",
+        &stream_cells(stream),
     )
 }
 
@@ -117,13 +102,6 @@ pub(crate) fn head_stream_rows<S: Alter>(conn: &mut Connection<S>) -> Result<Vec
     ensures { (layout : Layout) → QueriesOf layout (state S.Store conn.old) (state S.Store conn.new) result (Selects head_tree [] stream_columns) }
 {
     conn.query_all("SELECT nmi, suffix FROM mds_head", &[])
-}
-
-/// The streams of all details.
-pub(crate) fn detail_stream_rows<S: Alter>(conn: &mut Connection<S>) -> Result<Vec<Row>, Error>
-    ensures { (layout : Layout) → QueriesOf layout (state S.Store conn.old) (state S.Store conn.new) result (Selects detail_tree [] stream_columns) }
-{
-    conn.query_all("SELECT nmi, suffix FROM mds_detail", &[])
 }
 
 /// The streams of all periods.

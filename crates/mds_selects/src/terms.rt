@@ -1,7 +1,6 @@
 //! Rows that queries answer, as terms. `None` where a row isn't one that the store writes.
 
 ghost use Rattle.std.specs.Prelude.{◌≡◌, ◌≢◌, ◌<◌, ◌≤◌, ◌+◌, ◌^◌, ◌∷◌, ℕ, ℤ, List, Option, length, pos, unsigned_abs, Some, IfNone, IfOk, IfSome, IsTrue, OnErr};
-ghost use Rattle.std.specs.Bool.{OnFalse};
 ghost use Rattle.std.specs.Str.{is_utf8};
 ghost use Rattle.sqlite.specs.declared.types.Value.TheVariants.{Int, Null, Text};
 ghost use Rattle.sqlite.specs.Order.{column};
@@ -13,26 +12,25 @@ ghost use Rattle.mds_quantity.specs.Unit.{unit_text};
 ghost use Rattle.mds_quantity.specs.declared.unit.Unit.{Unit as UnitValue};
 ghost use Rattle.mds_marks.specs.Quality.{QualityValue, is_quality, null, quality_text};
 ghost use Rattle.mds_marks.specs.Reading.{ReadingValue};
-ghost use Rattle.mds_world.specs.Facts.Fact.{DetailIs, EventIs, HeadIs, VersionIs};
-ghost use Rattle.mds_world.specs.declared.facts.Detail.{Detail as DetailValue};
+ghost use Rattle.mds_world.specs.Facts.Fact.{EventIs, HeadIs, VersionIs};
 ghost use Rattle.mds_world.specs.declared.facts.Head.{Head as HeadValue};
 ghost use Rattle.mds_world.specs.declared.facts.Key.{Key as KeyValue};
 ghost use Rattle.mds_tables.specs.Cells.{letter_text, number_cell, optional_cell};
-ghost use Rattle.mds_tables.specs.RowFacts.{detail_fact, event_fact, head_fact, letter_in, natural_at, optional_at, quality_named, text_at as bytes_in, unit_named, version_fact};
-ghost use Rattle.mds_terms.specs.BorrowedTexts.{details_in, event_in, text_of};
+ghost use Rattle.mds_tables.specs.RowFacts.{event_fact, head_fact, letter_in, optional_at, quality_named, text_at as bytes_in, unit_named, version_fact};
+ghost use Rattle.mds_terms.specs.BorrowedTexts.{event_in, text_of};
 ghost use Rattle.mds_terms.specs.Event.{EventValue, is_trans};
 ghost use Rattle.mds_terms.specs.Printable.{is_printable};
-ghost use Rattle.mds_selects.specs.Shown.{IsDetailRow, amount_in, shown_details, shown_key, shown_reading};
-ghost use Rattle.mds_selects.specs.Written.{BeginsWith, IsDay, IsMoment, IsRowOfDetail, IsRowOfEvent, IsRowOfHead, IsRowOfVersion, text_length};
+ghost use Rattle.mds_selects.specs.Shown.{amount_in, shown_key, shown_reading};
+ghost use Rattle.mds_selects.specs.Written.{BeginsWith, IsDay, IsMoment, IsRowOfEvent, IsRowOfHead, IsRowOfVersion};
 
 use mds_keeper::Unavailable;
 use mds_marks::flags::NULL;
 use mds_marks::{Mark, Quality, Reading, Reason, qualities_read_back};
 use mds_quantity::{Quantity, Unit, units_read_back};
 use mds_terms::{
-    Day, DetailsRef, Event, EventRef, Length, Moment, Nmi, PrintableText, Stream, Suffix, TransCode,
+    Day, Event, EventRef, Length, Moment, Nmi, PrintableText, Stream, Suffix, TransCode,
 };
-use mds_world::{Detail, Head, Key};
+use mds_world::{Head, Key};
 use sqlite::Row;
 use sqlite::types::ValueRef;
 use std::alloc::Global;
@@ -260,91 +258,12 @@ fn key_in(row: &Row) -> Option<Key>
     })
 }
 
-/// The day in a column, which is -1 where there is none. `None` where the number is neither.
-fn next_at(row: &Row, at: usize) -> Option<Option<Day>>
-    ensures some { IfSome result (λ day. optional_at row.now at ≡ day) }
-    ensures none { IfNone result ((day : Option ℕ) → IfSome day IsDay → column row.now at ≢ optional_cell day) }
-{
-    match int_at(row, at)? {
-        -1 => Some(None),
-        number => Some(Some(Day::from_number(number)?)),
-    }
-}
-
 /// The printable text in a column.
 fn printable_at<'a>(row: &'a Row, at: usize) -> Option<PrintableText<'a>>
     ensures some { IfSome result (λ text. column row.now at ≡ Text (text_of text)) }
     ensures none { IfNone result ((text : List ℕ) → IsTrue (is_printable text) → column row.now at ≢ Text text) }
 {
     PrintableText::read(text_at(row, at)?)
-}
-
-/// What a row says of a meter, borrowed from it.
-fn details_ref_in<'a>(row: &'a Row) -> Option<DetailsRef<'a>>
-    ensures some { IfSome result (λ details. shown_details row.now ≡ details_in details) }
-    ensures none { IfNone result ((detail : DetailValue) → ¬ IsRowOfDetail row.now detail) }
-{
-    Some(DetailsRef {
-        configuration: printable_at(row, 3)?,
-        register: printable_at(row, 4)?,
-        datastream: printable_at(row, 5)?,
-        meter: printable_at(row, 6)?,
-        next: next_at(row, 7)?,
-    })
-}
-
-/// Whether the moment and the next day of a row of details are ones that the store writes.
-pub(crate) fn is_detail_row(row: &Row) -> bool
-    ensures yes { IsTrue result → IsDetailRow row.now }
-    ensures no { OnFalse result ((detail : DetailValue) → ¬ IsRowOfDetail row.now detail) }
-{
-    is_natural_at(row, 2) && is_optional_at(row, 7)
-}
-
-/// Whether a column has a number that isn't below 0.
-fn is_natural_at(row: &Row, at: usize) -> bool
-    ensures yes { IsTrue result → natural_at row.now at < 2 ^ 63 }
-    ensures no { OnFalse result ((n : ℕ) → column row.now at ≢ number_cell n) }
-{
-    match int_at(row, at) {
-        Some(number) => number >= 0,
-        None => false,
-    }
-}
-
-/// Whether a column has a number that isn't below -1.
-fn is_optional_at(row: &Row, at: usize) -> bool
-    ensures yes { IsTrue result → IfSome (optional_at row.now at) (λ n. n < 2 ^ 63) }
-    ensures no { OnFalse result ((n : Option ℕ) → column row.now at ≢ optional_cell n) }
-{
-    match int_at(row, at) {
-        Some(number) => number >= -1,
-        None => false,
-    }
-}
-
-/// The details that a row is. It takes memory only for their texts.
-pub(crate) fn detail_in(alloc: Global, row: &Row) -> Result<Detail, Unavailable>
-    ensures ok { IfOk result (λ detail. detail_fact (Null ∷ row.now) ≡ DetailIs detail) }
-    ensures err { OnErr result ((detail : DetailValue) → IsRowOfDetail row.now detail → 0 < text_length detail.details) }
-{
-    let Some(stream) = stream_in(row) else {
-        return Err(Unavailable);
-    };
-    let Some(moment) = moment_at(row, 2) else {
-        return Err(Unavailable);
-    };
-    let Some(details) = details_ref_in(row) else {
-        return Err(Unavailable);
-    };
-    let Ok(details) = details.to_details(alloc) else {
-        return Err(Unavailable);
-    };
-    Ok(Detail {
-        stream,
-        moment,
-        details,
-    })
 }
 
 /// The transaction code in a column, whose text is empty where there is none. `None` where it is neither.

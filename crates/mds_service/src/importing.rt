@@ -8,8 +8,9 @@ ghost use Rattle.mds_service.specs.Crashes.{GoesBy};
 ghost use Rattle.mds_service.specs.Machine.{ImportStep, TakesIn};
 
 use crate::accumulating::import_nem13;
+use crate::details::new_details;
 use crate::gathering::{Gathered, gather};
-use crate::news::new_notes;
+use crate::news::new_events;
 use crate::settling::settle;
 use mds_keeper::{Keeper, MergeCounts, Stop};
 use mds_messages::Answer;
@@ -86,10 +87,10 @@ pub fn import_delivery<K: Keeper>(alloc: Global, keeper: &mut K, delivery: Deliv
         details,
         events,
     } = gathered;
-    let Ok(details) = new_notes(alloc, keeper, details) else {
+    let Ok(details) = new_details(alloc, keeper, details) else {
         return Answer::Unavailable;
     };
-    let Ok(events) = new_notes(alloc, keeper, events) else {
+    let Ok(events) = new_events(alloc, keeper, events) else {
         return Answer::Unavailable;
     };
     let Ok((mut additions, counts)) = settle(alloc, merges) else {

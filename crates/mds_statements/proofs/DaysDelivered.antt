@@ -28,20 +28,21 @@ events_dayless : (events : List EventValue) → days_of (map EventOf events) ≡
 events_dayless [] = refl
 events_dayless (event ∷ events) = events_dayless events
 
-days_of_days : (block : Block) (days : List DeliveredDay) → days_of (flat_map (day_statements block) days) ≡ map (day_in block) days
-days_of_days block [] = refl
-days_of_days block (day ∷ days) =
+days_of_days : (moment : ℕ) (block : Block) (days : List DeliveredDay)
+    → days_of (flat_map (day_statements moment block) days) ≡ map (day_in block) days
+days_of_days moment block [] = refl
+days_of_days moment block (day ∷ days) =
     ap (λ t. day_in block day ∷ t)
-    (flat_map-append days_in (map EventOf day.events.items) (flat_map (day_statements block) days)
-    ∙ ap (λ t. t ++ days_of (flat_map (day_statements block) days)) (events_dayless day.events.items)
-    ∙ days_of_days block days)
+    (flat_map-append days_in (map EventOf day.events.items) (flat_map (day_statements moment block) days)
+    ∙ ap (λ t. t ++ days_of (flat_map (day_statements moment block) days)) (events_dayless day.events.items)
+    ∙ days_of_days moment block days)
 
 -- the days that blocks state under a header of a moment
 pub days_of_statements : (moment : ℕ) (blocks : List Block) → days_of (flat_map (block_statements moment) blocks) ≡ blocks_days blocks
 days_of_statements moment [] = refl
 days_of_statements moment (block ∷ blocks) =
-    flat_map-append days_in (flat_map (day_statements block) block.days.items) (flat_map (block_statements moment) blocks)
-    ∙ ap (λ t. t ++ days_of (flat_map (block_statements moment) blocks)) (days_of_days block block.days.items)
+    flat_map-append days_in (flat_map (day_statements moment block) block.days.items) (flat_map (block_statements moment) blocks)
+    ∙ ap (λ t. t ++ days_of (flat_map (block_statements moment) blocks)) (days_of_days moment block block.days.items)
     ∙ ap (λ t. block_days block ++ t) (days_of_statements moment blocks)
 
 -- the days of a delivery are, in order, those of each block

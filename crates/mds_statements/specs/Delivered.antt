@@ -1,8 +1,8 @@
 -- What a delivery holds, as the statements of a file in the order of its lines.
 use Rattle.std.specs.Prelude.{ℕ, List, ◌∷◌, map}
 use Rattle.std.specs.List.{flat_map}
-use Rattle.mds_statements.specs.Statements.{DayStatement, HeaderValue, Statement}
-use Rattle.mds_statements.specs.Statements.Statement.{HeaderOf, DetailsOf, DayOf, EventOf}
+use Rattle.mds_statements.specs.Statements.{DayStatement, DetailsStatement, HeaderValue, Statement, StreamStatement}
+use Rattle.mds_statements.specs.Statements.Statement.{HeaderOf, StreamOf, DetailsOf, DayOf, EventOf}
 use Rattle.mds_statements.specs.declared.blocks.Block.{Block}
 use Rattle.mds_statements.specs.declared.blocks.DeliveredDay.{DeliveredDay}
 use Rattle.mds_statements.specs.declared.delivery.Delivery.{Delivery}
@@ -23,22 +23,35 @@ day_in block day = record {
   readings = day.readings;
 }
 
--- a day and its events
-abbrev pub day_statements : Block → DeliveredDay → List Statement
-day_statements block day = DayOf (day_in block day) ∷ map EventOf day.events.items
+-- the stream of a block of a file whose header is of a moment
+abbrev pub stream_of : ℕ → Block → StreamStatement
+stream_of moment block = record {
+  line = block.line;
+  stream = block.stream;
+  length = block.length;
+  unit = block.unit;
+  moment = moment;
+  details = block.details;
+}
 
--- a block of a file whose header is of a moment, and its days
+-- the details of a day of that block
+abbrev pub details_of : ℕ → Block → DeliveredDay → DetailsStatement
+details_of moment block day = record {
+  stream = block.stream;
+  date = day.date;
+  moment = moment;
+  details = block.details;
+}
+
+-- its details, the day and its events
+abbrev pub day_statements : ℕ → Block → DeliveredDay → List Statement
+day_statements moment block day =
+    DetailsOf (details_of moment block day) ∷ DayOf (day_in block day) ∷ map EventOf day.events.items
+
+-- that block and its days
 abbrev pub block_statements : ℕ → Block → List Statement
 block_statements moment block =
-    DetailsOf (record {
-      line = block.line;
-      stream = block.stream;
-      length = block.length;
-      unit = block.unit;
-      moment = moment;
-      details = block.details;
-    })
-    ∷ flat_map (day_statements block) block.days.items
+    StreamOf (stream_of moment block) ∷ flat_map (day_statements moment block) block.days.items
 
 abbrev pub delivery_statements : Delivery → List Statement
 delivery_statements delivery =

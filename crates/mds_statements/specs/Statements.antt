@@ -16,12 +16,19 @@ pub record HeaderValue : Type 0 where
   pub sender : List ℕ
   pub receiver : List ℕ
 
--- a 200: its line, the stream with the length of its intervals and its unit, and the details of the header's moment
+-- a 200: its line, the stream with the length of its intervals and its unit, the details, and the header's moment
 pub record StreamStatement : Type 0 where
   pub line : ℕ
   pub stream : Stream
   pub length : ℕ
   pub unit : MeasureUnit
+  pub moment : ℕ
+  pub details : DetailsValue
+
+-- the details that a 300 states of its day: those of the 200 that governs it, with the header's moment
+pub record DetailsStatement : Type 0 where
+  pub stream : Stream
+  pub date : ℕ
   pub moment : ℕ
   pub details : DetailsValue
 
@@ -44,7 +51,8 @@ pub record PeriodStatement : Type 0 where
 
 pub data Statement : Type 0 where
   HeaderOf : HeaderValue → Statement
-  DetailsOf : StreamStatement → Statement
+  StreamOf : StreamStatement → Statement
+  DetailsOf : DetailsStatement → Statement
   DayOf : DayStatement → Statement
   EventOf : EventValue → Statement
   PeriodOf : PeriodStatement → Statement

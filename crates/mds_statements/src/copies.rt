@@ -53,7 +53,7 @@ impl Block {
 impl DeliveredDay {
     /// A copy of the day with its readings and events. It fails only where memory is refused.
     pub fn try_clone(&self) -> Result<DeliveredDay, AllocError>
-        ensures { IfOk result (λ day. (block : ABlock) → day_statements block day ≡ day_statements block self.now) }
+        ensures { IfOk result (λ day. (moment : ℕ) (block : ABlock) → day_statements moment block day ≡ day_statements moment block self.now) }
     {
         Ok(DeliveredDay {
             line: self.line,
@@ -79,8 +79,8 @@ fn copy_blocks(alloc: Global, blocks: &[Block]) -> Result<Vec<Block>, AllocError
 
 /// Copies of days, in the same order.
 fn copy_days(alloc: Global, days: &[DeliveredDay]) -> Result<Vec<DeliveredDay>, AllocError>
-    ensures { IfOk result (λ copies. (block : ABlock)
-        → flat_map (day_statements block) copies.items ≡ flat_map (day_statements block) days.now) }
+    ensures { IfOk result (λ copies. (moment : ℕ) (block : ABlock)
+        → flat_map (day_statements moment block) copies.items ≡ flat_map (day_statements moment block) days.now) }
 {
     let mut copies = Vec::with_capacity(alloc, days.len())?;
     for day in days {

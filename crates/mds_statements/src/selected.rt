@@ -9,16 +9,17 @@ pub struct SelectedDay {
     pub date: Day,
     pub length: Length,
     pub unit: Unit,
+    /// What is known of its meter on that day.
+    pub details: Details,
     /// When its readings were updated.
     pub update: Moment,
     /// One for each interval, in order.
     pub readings: Vec<Reading>,
 }
 
-/// A stream, what is known of its meter, and its selected days, of which there may be none.
+/// A stream and its selected days, of which there may be none.
 #[derive(Drop)]
 pub struct SelectedStream {
     pub stream: Stream,
-    pub details: Details,
     pub days: Vec<SelectedDay>,
 }

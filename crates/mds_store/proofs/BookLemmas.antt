@@ -28,15 +28,14 @@ use Rattle.mds_keeper.specs.Queries.{AreDaysOf}
 use Rattle.mds_keeper.specs.declared.day_book.Version.{Version}
 use Rattle.mds_keeper.proofs.BookFacts.{from_book}
 use Rattle.mds_tables.specs.Cells.{day_cells}
-use Rattle.mds_tables.specs.Layouts.{Layout, rows_layout, world_with}
-use Rattle.mds_tables.specs.RowFacts.{head_fact, natural_at, version_fact}
+use Rattle.mds_tables.specs.Layouts.{Layout, world_with}
+use Rattle.mds_tables.specs.RowFacts.{head_fact, natural_at}
 use Rattle.mds_tables.specs.Stores.{Begins}
-use Rattle.mds_tables.specs.Tables.{schema_1, schema_with}
+use Rattle.mds_tables.specs.Tables.{schema_with}
 use Rattle.mds_selects.proofs.Adding.{member_at}
-use Rattle.mds_selects.proofs.Latest.{place_of}
-use Rattle.mds_selects.proofs.Listed.{Tells, head_on, listed, version_on}
-use Rattle.mds_selects.proofs.Named.{Names, of_head, of_row}
-use Rattle.mds_selects.specs.Shown.{AreVersionsIn}
+use Rattle.mds_selects.proofs.MemberLemmas.{place_of}
+use Rattle.mds_selects.proofs.Listed.{Tells, head_on}
+use Rattle.mds_selects.proofs.Named.{Names, of_head}
 use Rattle.mds_store.specs.Ranges.{AreBooksIn, AreOfDay, IsBookOf, SelectsRange}
 
 -- ---- books that are cut one after the other
@@ -427,59 +426,3 @@ module _ (layout : Layout) (s : Stream) (first last : ℕ) (small : last < 2 ^ 6
     );
     ascending = up;
   }
-
--- ---- where each version has a row
-
-abbrev version_columns : List ℕ
-version_columns = 1 ∷ 2 ∷ 3 ∷ 4 ∷ 5 ∷ 6 ∷ 7 ∷ 8 ∷ 9 ∷ []
-
--- the day of a version's fact
-abbrev day_of : ℕ → Fact → ℕ
-day_of none (HeadIs head) = none
-day_of none (VersionIs key reading) = key.day
-day_of none (DetailIs detail) = none
-day_of none (EventIs event) = none
-day_of none (PeriodIs key content) = none
-day_of none (HolidayIs date) = none
-day_of none (JobIs id content count) = none
-
--- a row says a version
-version_at : (r : Row) → (key : Key) × (reading : ReadingValue) × (version_fact r ≡ VersionIs key reading)
-version_at r = (_, _, refl)
-
-abbrev SaysRow : Row → Fact → Type 0
-SaysRow row f = version_fact (Null ∷ row) ≡ f
-
-module _ (s : Stream) (first last : ℕ) (small : last < 2 ^ 63) (trees : Trees) (sound : IsSound schema_1 trees) (rows : List Row)
-    (of_rows : SelectsRange 4 s first last version_columns trees rows) where
-  row_on : (day : ℕ) → day ≤ last → (r : Row) → Member r (trees 4) → Begins (day_cells s day) r ↔ IsOn s day (version_fact r)
-  row_on day to = version_on rows_layout s day (omega (arith, to, small)) trees sound
-
-  row_told : (f : Fact) → Tells version_fact rows f → Names version_fact (trees 4) f × IsOnRange s first last f
-  row_told = told_in version_fact 4 version_columns trees rows s first last of_rows (λ r. refl) row_on
-
-  named : (f : Fact) → Names version_fact (trees 4) f → f ∈ world_with rows_layout trees
-  named f n =
-      let at = version_at n.0 in
-      subst (λ g. g ∈ world_with rows_layout trees) (sym at.2 ∙ n.2) ((of_row trees at.0 at.1).1 (n.0, n.1, at.2))
-
-  pub say_rows : SayVersions rows_layout trees s first last rows SaysRow AreVersionsIn
-  say_rows = record {
-    told = λ row f m is. let t = row_told f (row, m, is) in (named f t.0, t.1);
-    of_day = λ row key reading is. ap (day_of 0) is;
-    tells = λ key reading h on.
-        tells_in version_fact 4 version_columns trees rows s first last of_rows (λ r. refl) row_on (VersionIs key reading)
-        ((of_row trees key reading).0 h) on;
-    listed = λ day to mine versions are alike among.
-        listed rows_layout s day (omega (arith, to, small)) trees sound mine versions are (λ f t.
-        let o = (row_told f (t.0, among t.0 t.1, t.2)).1 in
-        let on : IsOn s o.day (version_fact (Null ∷ t.0)) = subst (IsOn s o.day) (sym t.2) o.on in
-        subst (IsOn s day) t.2 (on.0, of_all (λ row. natural_at row 2 ≡ day) mine alike t.0 t.1));
-  }
-
-pub finds_days : (s : Stream) (first last : ℕ) → last < 2 ^ 63 → (trees : Trees) → IsSound schema_1 trees → (heads rows : List Row)
-    → SelectsRange 2 s first last head_columns trees heads → SelectsRange 4 s first last version_columns trees rows
-    → (books : List BookValue) → AreBooksIn AreVersionsIn s heads rows [] books → AllPairs IsBefore books
-    → AreDaysOf (world_with rows_layout trees) s first last books
-finds_days s first last small trees sound heads rows of_heads of_rows =
-    are_days rows_layout s first last small trees sound heads rows of_heads SaysRow AreVersionsIn (say_rows s first last small trees sound rows of_rows)

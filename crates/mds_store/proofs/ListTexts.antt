@@ -104,20 +104,3 @@ select_heads_is more = refl
 pub select_heads_plain : (more : More) → IsPlain (understood (schema_with more) select_heads) × (reads_listing (schema_with more) select_heads ≡ false)
 unfolding understood everything
 select_heads_plain more = ((refl, refl), refl)
-
-abbrev pub select_versions : List ℕ
-select_versions = codes "SELECT nmi, suffix, day, slot, moment, quality, code, note, amount FROM mds_version WHERE nmi = ?1 AND suffix = ?2 AND day >= ?3 AND day <= ?4 ORDER BY day, slot, moment"
-
-abbrev pub versions_query : Query
-versions_query =
-    from_one 4 range_tests (columns_at (1 ∷ 2 ∷ 3 ∷ 4 ∷ 5 ∷ 6 ∷ 7 ∷ 8 ∷ 9 ∷ [])) ((col 1 3, rising) ∷ (col 1 4, rising)
-    ∷ (col 1 5, rising) ∷ [])
-
-pub select_versions_is : (more : More) → command_of (understood (schema_with more) select_versions)
-    ≡ Select (record { lets = []; body = versions_query }) (codes "nmi" ∷ codes "suffix" ∷ codes "day" ∷ codes "slot" ∷ codes "moment" ∷ codes "quality" ∷ codes "code" ∷ codes "note" ∷ codes "amount" ∷ [])
-unfolding understood everything
-select_versions_is more = refl
-
-pub select_versions_plain : (more : More) → IsPlain (understood (schema_with more) select_versions) × (reads_listing (schema_with more) select_versions ≡ false)
-unfolding understood everything
-select_versions_plain more = ((refl, refl), refl)

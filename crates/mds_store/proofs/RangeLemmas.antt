@@ -17,7 +17,7 @@ use Rattle.sqlite_value.specs.declared.keys.Collation.TheVariants.{Binary}
 use Rattle.mds_names.specs.declared.stream.Stream.{Stream}
 use Rattle.mds_tables.specs.Cells.{day_cells, number_cell, range_cells}
 use Rattle.mds_tables.specs.RowFacts.{int_at}
-use Rattle.mds_selects.proofs.DetailLemmas.{counted}
+use Rattle.mds_selects.proofs.KeyLemmas.{counted}
 use Rattle.mds_selects.proofs.KeyLemmas.{cells_equal, equal_cells, truth_of}
 use Rattle.mds_selects.proofs.TypedLemmas.{both}
 use Rattle.mds_selects.proofs.TypedRows.{HasKeyCells, begins_at, begins_by}

@@ -1,54 +1,22 @@
-//! The days of a range, found by two queries, whatever its length. A store that can't answer is unavailable (U1). So is one that
-//! holds a row that it didn't write.
+//! The days of a range, by the rows of their heads and those of their versions. A store that holds a row which it didn't write is
+//! unavailable (U1).
 
-ghost use Rattle.std.specs.Prelude.{◌≡◌, ◌≢◌, ◌<◌, ◌≤◌, ◌↔◌, ℕ, false, List, [], ◌∷◌, drop, length, take, IfOk, IsTrue};
+ghost use Rattle.std.specs.Prelude.{◌≡◌, ◌≢◌, ◌<◌, ◌≤◌, ◌↔◌, ℕ, List, [], ◌∷◌, drop, length, take, IfOk, IsTrue};
 ghost use Rattle.std.specs.Bool.{OnFalse};
 ghost use Rattle.std.specs.List.{AllPairs};
-ghost use Rattle.sqlite.specs.Held.{state};
 ghost use Rattle.sqlite_value.specs.Order.{Row as RowValue, column};
-ghost use Rattle.mds_keeper.specs.Queries.{AreDaysOf};
+ghost use Rattle.mds_keeper.specs.Content.{rows_of};
 ghost use Rattle.mds_keeper.specs.declared.day_book.Version.{Version as VersionValue};
 ghost use Rattle.mds_tables.specs.Cells.{number_cell};
-ghost use Rattle.mds_tables.specs.Queries.{Answers};
-ghost use Rattle.mds_tables.specs.RowFacts.{natural_at, world_in};
-ghost use Rattle.mds_tables.specs.Stores.{Holds};
-ghost use Rattle.mds_selects.specs.Shown.{AreVersionsIn};
+ghost use Rattle.mds_tables.specs.RowFacts.{natural_at};
 ghost use Rattle.mds_store.specs.Ranges.{AreBooksIn, AreOfDay, IsBookOf};
 
-use crate::rows::{head_range_rows, version_range_rows};
-use mds_keeper::{DayBook, Unavailable, Version};
-use mds_selects::{all_versions, day_at, head_in};
-use mds_tables::ready;
+use mds_keeper::{DayBook, Unavailable, VersionRows};
+use mds_selects::{day_at, head_in};
 use mds_terms::{Day, Length, Stream};
 use mds_world::Head;
-use sqlite::{Alter, Connection, Row};
+use sqlite::Row;
 use std::alloc::Global;
-
-/// The known days of a stream from a first to a last one, ascending, each with all its versions.
-pub(crate) fn days_of<S: Alter>(
-    alloc: Global,
-    conn: &mut Connection<S>,
-    stream: &Stream,
-    first: Day,
-    last: Day,
-) -> Result<Vec<DayBook>, Unavailable>
-    requires { conn.old.in_transaction ≡ false }
-    ensures { Answers Holds (state S.Store conn.old) (state S.Store conn.new) result
-        (λ trees books. AreDaysOf (world_in trees) stream.now first last books.items) }
-{
-    let Ok(_) = ready(conn) else {
-        return Err(Unavailable);
-    };
-    let Ok(heads) = head_range_rows(conn, stream, first, last) else {
-        return Err(Unavailable);
-    };
-    let Ok(versions) = version_range_rows(conn, stream, first, last) else {
-        return Err(Unavailable);
-    };
-    // For the proof: a day's number is at most that of the last day.
-    let _ = last.number();
-    all_books::<EachRow>(alloc, stream, &heads, &versions)
-}
 
 /// How the versions of a day are read from rows that a query shows.
 pub trait ReadVersions {
@@ -56,23 +24,8 @@ pub trait ReadVersions {
     ghost are: { List RowValue → List (ℕ × VersionValue) → Type 0 };
 
     /// The versions of rows of a day with intervals of this length, each with its interval.
-    fn read(alloc: Global, length: Length, rows: &[Row]) -> Result<Vec<(u16, Version)>, Unavailable>
-        ensures { IfOk result (λ versions. are rows.now versions.items) };
-}
-
-/// Each row is a version.
-pub struct EachRow;
-
-impl ReadVersions for EachRow {
-    ghost are = { AreVersionsIn };
-
-    fn read(
-        alloc: Global,
-        _length: Length,
-        rows: &[Row],
-    ) -> Result<Vec<(u16, Version)>, Unavailable> {
-        all_versions(alloc, rows)
-    }
+    fn read(alloc: Global, length: Length, rows: &[Row]) -> Result<VersionRows, Unavailable>
+        ensures { IfOk result (λ versions. are rows.now (rows_of versions)) };
 }
 
 /// The days of heads, in ascending order, with all of these versions.
@@ -144,9 +97,9 @@ fn book_of<V: ReadVersions>(
         return Err(Unavailable);
     };
     let form = Some((head.length, head.unit));
-    match DayBook::new(*stream, head.day, form, versions) {
-        Some(book) => Ok(book),
-        None => Err(Unavailable),
+    match DayBook::of_rows(alloc, *stream, head.day, form, versions) {
+        Ok(Some(book)) => Ok(book),
+        _ => Err(Unavailable),
     }
 }
 

@@ -7,7 +7,7 @@ ghost use Rattle.mds_tables.specs.Cells as row;
 ghost use Rattle.mds_tables.specs.Layouts.{Layout};
 ghost use Rattle.mds_tables.specs.Queries.{QueriesOf};
 ghost use Rattle.mds_tables.specs.Stores.{Selects};
-ghost use Rattle.mds_tables.specs.Tables.{head_columns, head_tree, holiday_day, holiday_tree, job_body, job_total, job_tree, period_body, period_columns, period_tree, version_columns, version_tree};
+ghost use Rattle.mds_tables.specs.Tables.{head_columns, head_tree, holiday_day, holiday_tree, job_body, job_total, job_tree, period_body, period_columns, period_tree};
 ghost use Rattle.mds_store.specs.Ranges.{SelectsRange};
 
 use mds_jobs::JobId;
@@ -70,21 +70,6 @@ pub fn head_range_rows<S: Alter>(
 {
     conn.query_all(
         "SELECT nmi, suffix, day, length, unit FROM mds_head WHERE nmi = ?1 AND suffix = ?2 AND day >= ?3 AND day <= ?4 ORDER BY day",
-        &range_cells(stream, first, last),
-    )
-}
-
-/// The versions of a range of days, by day, interval and update.
-pub(crate) fn version_range_rows<S: Alter>(
-    conn: &mut Connection<S>,
-    stream: &Stream,
-    first: Day,
-    last: Day,
-) -> Result<Vec<Row>, Error>
-    ensures { (layout : Layout) → QueriesOf layout (state S.Store conn.old) (state S.Store conn.new) result (SelectsRange version_tree stream.now first last version_columns) }
-{
-    conn.query_all(
-        "SELECT nmi, suffix, day, slot, moment, quality, code, note, amount FROM mds_version WHERE nmi = ?1 AND suffix = ?2 AND day >= ?3 AND day <= ?4 ORDER BY day, slot, moment",
         &range_cells(stream, first, last),
     )
 }

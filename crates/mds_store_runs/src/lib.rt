@@ -1,6 +1,6 @@
-//! Runs of the machine over a store in tables.
+//! Runs of the machine over a store of packed days.
 #![tactic(auto)]
 
 mod runs;
 
-pub use runs::{run_packs, run_rows};
+pub use runs::run_packs;

@@ -1,41 +1,19 @@
-//! What a run over a store in tables promises, in the words of the library.
+//! What a run over a store of packed days promises, in the words of the library.
 
 ghost use Rattle.std.specs.Prelude.{◌≡◌, IfOk, IsTrue};
 ghost use Rattle.sqlite.specs.Held.{state};
 ghost use Rattle.sqlite.specs.State.{HasCleanDisk};
 ghost use Rattle.sqlite_trees.specs.Tree.{Trees};
 ghost use Rattle.mds_world.specs.World.{IsLawful, World};
-ghost use Rattle.mds_tables.specs.RowFacts.{world_in};
-ghost use Rattle.mds_tables.specs.Stores.{world_kept, world_of};
-ghost use Rattle.mds_pack_rows.specs.PacksLayout.{packs_layout, world_2};
+ghost use Rattle.mds_tables.specs.Stores.{world_kept};
+ghost use Rattle.mds_pack_rows.specs.DailyLayout.{daily_layout, world_3};
 ghost use Rattle.mds_service.specs.Crashes.{MayLeave};
 ghost use Rattle.mds_service.specs.Machine.{Run};
 
 use mds_pack_store::PackKeeper;
 use mds_service::{Answer, Request, run};
-use mds_store::RowKeeper;
 use sqlite::Alter;
 use std::alloc::{AllocError, Global};
-
-/// Answers requests in their order over a store in tables: one answer for each.
-pub fn run_rows<S: Alter>(
-    alloc: Global,
-    keeper: &mut RowKeeper<S>,
-    requests: &[Request],
-) -> Result<Vec<Answer>, AllocError>
-    // While the disk gives back what was written, all answers are those of a run of the machine. The run goes from the
-    // World that the tables named to a lawful one. The tables name the latter where the connection is still open. An
-    // open after a crash may find tables that name it, or it with one more whole request whose answer was Unavailable.
-    ensures run { IfOk result (λ answers. HasCleanDisk (state S.Store keeper.new.conn)
-        → IsTrue (state S.Store keeper.old.conn).is_open → IsLawful (world_of (state S.Store keeper.old.conn))
-        → (w : World) × IsLawful w
-        × Run (world_of (state S.Store keeper.old.conn)) requests.now answers.items w
-        × (IsTrue (state S.Store keeper.new.conn).is_open → world_of (state S.Store keeper.new.conn) ≡ w)
-        × ((trees : Trees) → (state S.Store keeper.new.conn).may_leave trees
-        → MayLeave w requests.now answers.items (world_in trees))) }
-{
-    run(alloc, keeper, requests)
-}
 
 /// Answers requests in their order over a store of packed days: one answer for each.
 pub fn run_packs<S: Alter>(
@@ -43,14 +21,16 @@ pub fn run_packs<S: Alter>(
     keeper: &mut PackKeeper<S>,
     requests: &[Request],
 ) -> Result<Vec<Answer>, AllocError>
-    // The same promise, where the World is what the tables of schema 2 name.
+    // While the disk gives back what was written, all answers are those of a run of the machine. The run goes from the
+    // World that the tables named to a lawful one. The tables name the latter where the connection is still open. An
+    // open after a crash may find tables that name it, or it with one more whole request whose answer was Unavailable.
     ensures run { IfOk result (λ answers. HasCleanDisk (state S.Store keeper.new.conn)
-        → IsTrue (state S.Store keeper.old.conn).is_open → IsLawful (world_kept packs_layout (state S.Store keeper.old.conn))
+        → IsTrue (state S.Store keeper.old.conn).is_open → IsLawful (world_kept daily_layout (state S.Store keeper.old.conn))
         → (w : World) × IsLawful w
-        × Run (world_kept packs_layout (state S.Store keeper.old.conn)) requests.now answers.items w
-        × (IsTrue (state S.Store keeper.new.conn).is_open → world_kept packs_layout (state S.Store keeper.new.conn) ≡ w)
+        × Run (world_kept daily_layout (state S.Store keeper.old.conn)) requests.now answers.items w
+        × (IsTrue (state S.Store keeper.new.conn).is_open → world_kept daily_layout (state S.Store keeper.new.conn) ≡ w)
         × ((trees : Trees) → (state S.Store keeper.new.conn).may_leave trees
-        → MayLeave w requests.now answers.items (world_2 trees))) }
+        → MayLeave w requests.now answers.items (world_3 trees))) }
 {
     run(alloc, keeper, requests)
 }

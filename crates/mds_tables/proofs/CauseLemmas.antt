@@ -63,10 +63,6 @@ pub failed_since : (a b c : State) → a.faults ≤ b.faults → IsTrue b.is_ope
 failed_since a b c up is_open limit e (inl h) = inl (fails_since a b c ⊥ ⊥ (λ x. x) up is_open e h)
 failed_since a b c up is_open limit e (inr h) = inr (rw limit at h)
 
-pub failed_until : (a b c : State) → b.faults ≤ c.faults → (e : Error) → HasFailed a b e → HasFailed a c e
-failed_until a b c up e (inl h) = inl (fails_until a b c ⊥ ⊥ (λ x. x) up e h)
-failed_until a b c up e (inr h) = inr h
-
 -- a text that is one statement, with so many parameters, which doesn't read the time
 abbrev pub IsWhole : List ℕ → ℕ → Result Compiled CompileError → Type 0
 IsWhole sql count (Ok c) = (length sql ≤ c.tail) × (length c.names ≡ count) × (c.formats ≡ [])

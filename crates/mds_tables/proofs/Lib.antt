@@ -5,9 +5,7 @@ pub mod CreateTexts
 pub mod Creates
 pub mod FactLemmas
 pub mod InsertLemmas
-pub mod InsertTexts
 pub mod KnownLemmas
-pub mod LayoutLemmas
 pub mod MadeLemmas
 pub mod OpenTexts
 pub mod SayLemmas

@@ -1,5 +1,5 @@
 -- What the texts that add rows mean, whatever tables stand behind those that every schema has.
-use Rattle.std.proofs.Common.{◌≡◌, List, ℕ, [], ◌∷◌, ◌++◌, codes, refl}
+use Rattle.std.proofs.Common.{◌≡◌, List, ℕ, [], ◌∷◌, codes, refl}
 use Rattle.sqlite.specs.Command.TheVariants.{Insert}
 use Rattle.sqlite.specs.Listing.{understood}
 use Rattle.sqlite.specs.Source.TheVariants.{Values}
@@ -36,55 +36,6 @@ insert_head_is more = refl
 pub insert_head_plain : (more : More) → IsPlain (understood (schema_with more) insert_head)
 unfolding understood everything
 insert_head_plain more = (refl, refl)
-
-abbrev pub insert_version : List ℕ
-insert_version = codes "INSERT INTO mds_version (nmi, suffix, day, slot, moment, quality, code, note, amount) VALUES (?1, ?2, ?3, ?4, ?5, ?6, ?7, ?8, ?9)"
-
-abbrev pub version_terms : List Term
-version_terms = lit Null ∷ col 0 0 ∷ col 0 1 ∷ col 0 2 ∷ col 0 3 ∷ col 0 4 ∷ col 0 5 ∷ col 0 6 ∷ col 0 7 ∷ col 0 8 ∷ []
-
-pub insert_version_is : (more : More) → command_of (understood (schema_with more) insert_version) ≡ Insert 2 (Values version_terms 10)
-unfolding understood everything
-insert_version_is more = refl
-
-pub insert_version_plain : (more : More) → IsPlain (understood (schema_with more) insert_version)
-unfolding understood everything
-insert_version_plain more = (refl, refl)
-
--- eight versions of one day, which is named once
-abbrev pub insert_versions : List ℕ
-insert_versions = codes "INSERT INTO mds_version (nmi, suffix, day, slot, moment, quality, code, note, amount) VALUES (?1, ?2, ?3, ?4, ?5, ?6, ?7, ?8, ?9), (?1, ?2, ?3, ?10, ?11, ?12, ?13, ?14, ?15), (?1, ?2, ?3, ?16, ?17, ?18, ?19, ?20, ?21), (?1, ?2, ?3, ?22, ?23, ?24, ?25, ?26, ?27), (?1, ?2, ?3, ?28, ?29, ?30, ?31, ?32, ?33), (?1, ?2, ?3, ?34, ?35, ?36, ?37, ?38, ?39), (?1, ?2, ?3, ?40, ?41, ?42, ?43, ?44, ?45), (?1, ?2, ?3, ?46, ?47, ?48, ?49, ?50, ?51)"
-
--- the row whose own cells begin at this place
-abbrev row_terms : ℕ → ℕ → ℕ → ℕ → ℕ → ℕ → List Term
-row_terms a b c d e f = lit Null ∷ col 0 0 ∷ col 0 1 ∷ col 0 2 ∷ col 0 a ∷ col 0 b ∷ col 0 c ∷ col 0 d ∷ col 0 e ∷ col 0 f ∷ []
-
-abbrev pub eight_terms : List Term
-eight_terms =
-    row_terms 3 4 5 6 7 8 ++ (row_terms 9 10 11 12 13 14 ++ (row_terms 15 16 17 18 19 20 ++ (row_terms 21 22 23 24 25 26
-    ++ (row_terms 27 28 29 30 31 32 ++ (row_terms 33 34 35 36 37 38 ++ (row_terms 39 40 41 42 43 44 ++ row_terms 45 46 47 48 49 50))))))
-
-pub insert_versions_is : (more : More) → command_of (understood (schema_with more) insert_versions) ≡ Insert 2 (Values eight_terms 10)
-unfolding understood everything
-insert_versions_is more = refl
-
-pub insert_versions_plain : (more : More) → IsPlain (understood (schema_with more) insert_versions)
-unfolding understood everything
-insert_versions_plain more = (refl, refl)
-
-abbrev pub insert_detail : List ℕ
-insert_detail = codes "INSERT INTO mds_detail (nmi, suffix, moment, configuration, register, datastream, meter, next) VALUES (?1, ?2, ?3, ?4, ?5, ?6, ?7, ?8)"
-
-abbrev pub detail_terms : List Term
-detail_terms = lit Null ∷ col 0 0 ∷ col 0 1 ∷ col 0 2 ∷ col 0 3 ∷ col 0 4 ∷ col 0 5 ∷ col 0 6 ∷ col 0 7 ∷ []
-
-pub insert_detail_is : (more : More) → command_of (understood (schema_with more) insert_detail) ≡ Insert 3 (Values detail_terms 9)
-unfolding understood everything
-insert_detail_is more = refl
-
-pub insert_detail_plain : (more : More) → IsPlain (understood (schema_with more) insert_detail)
-unfolding understood everything
-insert_detail_plain more = (refl, refl)
 
 abbrev pub insert_event : List ℕ
 insert_event = codes "INSERT INTO mds_event (nmi, suffix, day, trans, ticket, moment, reading) VALUES (?1, ?2, ?3, ?4, ?5, ?6, ?7)"

@@ -1,6 +1,5 @@
 -- The columns of the row that names a fact (profile), without a rowid.
-use Rattle.std.specs.Prelude.{ℕ, ℤ, pos, negsuc, List, [], ◌∷◌, ◌++◌, Option, Some, None, unwrap_or}
-use Rattle.std.specs.List.{flat_map}
+use Rattle.std.specs.Prelude.{ℕ, ℤ, pos, negsuc, List, [], ◌∷◌, Option, Some, None, unwrap_or}
 use Rattle.sqlite_value.specs.Order.{Row}
 use Rattle.sqlite.specs.declared.types.Value.{Value}
 use Rattle.sqlite.specs.declared.types.Value.TheVariants.{Int, Text}
@@ -10,7 +9,6 @@ use Rattle.mds_marks.specs.Quality.{quality_text}
 use Rattle.mds_marks.specs.Reading.{ReadingValue}
 use Rattle.mds_terms.specs.Event.{EventValue}
 use Rattle.mds_statements.specs.declared.periods.PeriodKey.{PeriodKey}
-use Rattle.mds_keeper.specs.declared.day_book.Version.{Version}
 use Rattle.mds_world.specs.declared.facts.Detail.{Detail}
 use Rattle.mds_world.specs.declared.facts.Head.{Head}
 use Rattle.mds_world.specs.declared.facts.Key.{Key}
@@ -43,23 +41,10 @@ version_cells k r =
     ∷ Text (quality_text r.mark.quality) ∷ optional_cell r.mark.reason.code ∷ Text r.mark.reason.text
     ∷ Int (unwrap_or r.value (pos 0)) ∷ []
 
--- those of a version behind the ones that name its day: as far as its quality, and what is left
-abbrev pub slot_cells : ℕ → ℕ → List ℕ → Row
-slot_cells interval update quality = number_cell interval ∷ number_cell update ∷ Text quality ∷ []
-
-abbrev pub reading_cells : ReadingValue → Row
-reading_cells r =
-    optional_cell r.mark.reason.code ∷ Text r.mark.reason.text ∷ Int (unwrap_or r.value (pos 0)) ∷ []
-
--- the columns that name a day, and behind them those of its versions
-abbrev pub day_and_versions : Stream → ℕ → List (ℕ × Version) → Row
-day_and_versions s day rows =
-    day_cells s day
-    ++ flat_map (λ row. slot_cells row.0 row.1.update (quality_text row.1.reading.mark.quality) ++ reading_cells row.1.reading) rows
-
+-- details of a day
 abbrev pub detail_cells : Detail → Row
 detail_cells d =
-    Text d.stream.nmi ∷ Text d.stream.suffix ∷ number_cell d.moment ∷ Text d.details.configuration
+    Text d.stream.nmi ∷ Text d.stream.suffix ∷ number_cell d.day ∷ number_cell d.moment ∷ Text d.details.configuration
     ∷ Text d.details.register ∷ Text d.details.datastream ∷ Text d.details.meter ∷ optional_cell d.details.next ∷ []
 
 abbrev pub letter_text : Option ℕ → List ℕ

@@ -1,5 +1,5 @@
--- How a store is laid out (profile): the tables that every schema has, then more, and how all of them say versions. What a layout
--- leaves open stands here alone, so that what is said and proved of any layout holds of each.
+-- How a store is laid out (profile): the tables that every schema has, then more, and how all of them say versions and details of
+-- days. What a layout leaves open stands here alone, so that what is said and proved of any layout holds of each.
 use Rattle.std.specs.Prelude.{◌≡◌, ◌==◌, ◌≤◌, ℕ, List, [], ◌∷◌, Bool, true, false, cond, length, map}
 use Rattle.std.proofs.Common.{inl, inr, refl, sym, ap, subst}
 use Rattle.std.specs.FinSet as set
@@ -12,29 +12,30 @@ use Rattle.sqlite_schema.specs.declared.schema.Keys.TheVariants.{Enforced}
 use Rattle.sqlite_trees.specs.Tree.{Trees}
 use Rattle.sqlite_value.specs.Order.{Row}
 use Rattle.mds_world.specs.Facts.{Fact}
-use Rattle.mds_world.specs.Facts.Fact.{VersionIs}
+use Rattle.mds_world.specs.Facts.Fact.{DetailIs, VersionIs}
 use Rattle.mds_world.specs.Lists.{Member}
 use Rattle.mds_world.specs.World.{World}
 use Rattle.mds_tables.specs.RowFacts.{facts_with, version_fact, versions_in}
 use Rattle.mds_tables.specs.Tables.{More, no_more, schema_with, trees_taken, version_tree}
 
--- the fact is a version
-abbrev pub IsVersion : Fact → Type 0
-IsVersion (VersionIs key reading) = Unit {0}
-IsVersion _ = ⊥
+-- the fact is a version, or details of a day
+abbrev pub IsOwn : Fact → Type 0
+IsOwn (VersionIs key reading) = Unit {0}
+IsOwn (DetailIs detail) = Unit {0}
+IsOwn _ = ⊥
 
 pub record Layout : Type 0 where
   -- what mds_schema says
   pub number : ℕ
   -- the tables behind those that every schema has
   pub more : More
-  -- the versions that the tables say, and nothing but versions
-  pub versions : Trees → List Fact
-  pub only : (trees : Trees) (fact : Fact) → Member fact (versions trees) → IsVersion fact
+  -- the versions and the details of days that the tables say, and nothing else
+  pub own : Trees → List Fact
+  pub only : (trees : Trees) (fact : Fact) → Member fact (own trees) → IsOwn fact
   -- none where mds_version and those tables have no row, and the same where they have the same rows
-  pub silent : (trees : Trees) → trees version_tree ≡ [] → AllByRecursion (λ (table : Table). trees table.tree ≡ []) more.tables → versions trees ≡ []
+  pub silent : (trees : Trees) → trees version_tree ≡ [] → AllByRecursion (λ (table : Table). trees table.tree ≡ []) more.tables → own trees ≡ []
   pub steady : (old new : Trees) → new version_tree ≡ old version_tree → AllByRecursion (λ (table : Table). new table.tree ≡ old table.tree) more.tables
-      → versions new ≡ versions old
+      → own new ≡ own old
   -- no foreign key changes a row
   pub idle : (tree : ℕ) (olds news : List Row) → works (schema_with more) Enforced 0 tree olds news ≡ []
   -- the trees of those tables, and the tables of those indexes, come behind all others
@@ -43,17 +44,17 @@ pub record Layout : Type 0 where
 
 -- The World that the rows of the tables name.
 abbrev pub world_with : Layout → Trees → World
-world_with layout trees = set.from_list (facts_with layout.versions trees)
+world_with layout trees = set.from_list (facts_with layout.own trees)
 
--- ---- the layout of schema 1: a row for each version
+-- ---- the layout of schema 1: a row for each version, and no details of days
 
 pub either : {X : Type 0} (b : Bool) (x : X) → cond b x x ≡ x
 either true x = refl
 either false x = refl
 
-pub only_rows : (rows : List Row) (fact : Fact) → Member fact (map version_fact rows) → IsVersion fact
+pub only_rows : (rows : List Row) (fact : Fact) → Member fact (map version_fact rows) → IsOwn fact
 only_rows [] fact m = absurd m
-only_rows (row ∷ rows) fact (inl is) = subst IsVersion (sym is) tt
+only_rows (row ∷ rows) fact (inl is) = subst IsOwn (sym is) tt
 only_rows (row ∷ rows) fact (inr m) = only_rows rows fact m
 
 pub idle_rows : (tree : ℕ) (olds news : List Row) → works (schema_with no_more) Enforced 0 tree olds news ≡ []
@@ -63,7 +64,7 @@ abbrev pub rows_layout : Layout
 rows_layout = record {
   number = 1;
   more = no_more;
-  versions = versions_in;
+  own = versions_in;
   only = λ trees. only_rows (trees version_tree);
   silent = λ trees none _. ap (map version_fact) none;
   steady = λ old new same _. ap (map version_fact) same;

@@ -8,7 +8,7 @@ use Rattle.sqlite.specs.State.{HasCleanDisk, State}
 use Rattle.sqlite_catalog.specs.Listing.{IsSound}
 use Rattle.sqlite_schema.specs.declared.schema.Table.{Table}
 use Rattle.sqlite_trees.specs.Tree.{Trees}
-use Rattle.mds_tables.specs.Layouts.{Layout, rows_layout, world_with}
+use Rattle.mds_tables.specs.Layouts.{Layout, world_with}
 use Rattle.mds_tables.specs.Stores.{IsStoreOf}
 use Rattle.mds_tables.specs.Tables.{indexes_1, no_schema, schema_with, tables_1, tables_with}
 
@@ -65,14 +65,3 @@ pub record HasMadeOf (layout : Layout) (old : State) (left : Trees) : Type 0 whe
   pub made : IsTrue old.is_open → old.now.schema ≡ no_schema
       → KeepsNothingOf layout (record { schema = schema_with layout.more; trees = left })
   pub sound : IsTrue old.is_open → old.now.schema ≡ no_schema → IsSound (schema_with layout.more) left
-
--- ---- the same of the layout of schema 1
-
-abbrev pub KeepsNothing : Database → Type 0
-KeepsNothing = KeepsNothingOf rows_layout
-
-abbrev pub IsMade : State → State → Type 0
-IsMade = IsMadeOf rows_layout
-
-abbrev pub LeavesMade : State → Trees → Type 0
-LeavesMade = LeavesMadeOf rows_layout

@@ -2,7 +2,6 @@
 -- Each row of these tables names one fact, whoever wrote it.
 use Rattle.std.specs.Prelude.{ℕ, ◌+◌, ◌^◌, ℤ, pos, negsuc, List, [], ◌∷◌, ◌++◌, map, Option, Some, None, unwrap_or, ◌==◌, if◌then◌else◌}
 use Rattle.std.proofs.Common.{suc, zero}
-use Rattle.std.specs.FinSet as set
 use Rattle.sqlite_rules.specs.Edit.{id_in}
 use Rattle.sqlite_trees.specs.Tree.{Trees}
 use Rattle.sqlite_value.specs.Order.{Row, bytes, column}
@@ -12,10 +11,10 @@ use Rattle.mds_marks.specs.Reading.{ReadingValue}
 use Rattle.mds_jobs.specs.Bodies.{job_in, parts_of}
 pub use Rattle.mds_jobs.specs.Bodies.{unit_named}
 use Rattle.mds_statements.specs.Bodies.{content_of_body}
-use Rattle.mds_world.specs.Facts.{Fact, head_at, key_at}
+use Rattle.mds_terms.specs.Details.{DetailsValue}
+use Rattle.mds_world.specs.Facts.{Fact, detail_at, head_at, key_at}
 use Rattle.mds_world.specs.Facts.Fact.{DetailIs, EventIs, HeadIs, HolidayIs, JobIs, PeriodIs, VersionIs}
-use Rattle.mds_world.specs.World.{World}
-use Rattle.mds_tables.specs.Tables.{detail_tree, event_tree, head_tree, holiday_tree, job_tree, period_tree, version_tree}
+use Rattle.mds_tables.specs.Tables.{event_tree, head_tree, holiday_tree, job_tree, period_tree, version_tree}
 
 abbrev pub text_at : Row → ℕ → List ℕ
 text_at row at = bytes (column row at)
@@ -64,18 +63,19 @@ version_fact row =
     VersionIs (key_at (stream_in row) (natural_at row 3) (natural_at row 4) (natural_at row 5))
     (reading_in (quality_named (text_at row 6)) (optional_at row 7) (text_at row 8) (int_at row 9))
 
+-- the five details from a column on
+abbrev pub details_from : Row → ℕ → DetailsValue
+details_from row at = record {
+  configuration = text_at row at;
+  register = text_at row (at + 1);
+  datastream = text_at row (at + 2);
+  meter = text_at row (at + 3);
+  next = optional_at row (at + 4);
+}
+
+-- a row of mds_daydetail
 abbrev pub detail_fact : Row → Fact
-detail_fact row = DetailIs (record {
-  stream = stream_in row;
-  moment = natural_at row 3;
-  details = record {
-    configuration = text_at row 4;
-    register = text_at row 5;
-    datastream = text_at row 6;
-    meter = text_at row 7;
-    next = optional_at row 8;
-  };
-})
+detail_fact row = DetailIs (detail_at (stream_in row) (natural_at row 3) (natural_at row 4) (details_from row 5))
 
 -- A transaction code, which is absent where its text is empty. A longer text, which the store never writes, is taken as
 -- a letter that there isn't.
@@ -115,19 +115,12 @@ holiday_fact row = HolidayIs (natural_at row 1)
 abbrev pub job_fact : Row → Fact
 job_fact row = JobIs (text_at row 1) (job_in (parts_of (text_at row 2))) (natural_at row 3)
 
--- the facts of the rows of each table, one table after the other, where the versions are said in this way
+-- The facts of the rows of each table, one table after the other. How versions and details of days are said is the schema's own.
 abbrev pub facts_with : (Trees → List Fact) → Trees → List Fact
-facts_with versions trees =
-    map head_fact (trees head_tree) ++ versions trees ++ map detail_fact (trees detail_tree) ++ map event_fact (trees event_tree)
-    ++ map period_fact (trees period_tree) ++ map holiday_fact (trees holiday_tree) ++ map job_fact (trees job_tree)
+facts_with own trees =
+    map head_fact (trees head_tree) ++ own trees ++ map event_fact (trees event_tree) ++ map period_fact (trees period_tree)
+    ++ map holiday_fact (trees holiday_tree) ++ map job_fact (trees job_tree)
 
 -- those of rows that say a version each
 abbrev pub versions_in : Trees → List Fact
 versions_in trees = map version_fact (trees version_tree)
-
-abbrev pub facts_in : Trees → List Fact
-facts_in = facts_with versions_in
-
--- The World that the rows of the tables name.
-abbrev pub world_in : Trees → World
-world_in trees = set.from_list (facts_in trees)

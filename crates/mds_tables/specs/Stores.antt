@@ -9,18 +9,19 @@ use Rattle.sqlite_value.specs.Order.{Row, column}
 use Rattle.mds_marks.specs.Reading.{ReadingValue}
 use Rattle.mds_world.specs.Lists.{Member}
 use Rattle.mds_world.specs.World.{World, union}
+use Rattle.mds_world.specs.declared.facts.Detail.{Detail}
 use Rattle.mds_world.specs.declared.facts.Key.{Key}
-use Rattle.mds_keeper.specs.Content.{content, versions_of}
+use Rattle.mds_keeper.specs.Content.{content, details_of, versions_of}
 use Rattle.mds_keeper.specs.declared.additions.Additions.{Additions}
 use Rattle.mds_jobs.specs.Bodies.{IsJobBody}
 use Rattle.mds_jobs.specs.Jobs.{content_of}
 use Rattle.mds_jobs.specs.declared.job.Job.{Job}
 use Rattle.mds_statements.specs.Bodies.{IsPeriodBody}
 use Rattle.mds_statements.specs.declared.periods.Period.{Period}
-use Rattle.mds_tables.specs.Cells.{detail_cells, event_cells, head_cells, holiday_cells, job_cells, period_cells, version_cells}
+use Rattle.mds_tables.specs.Cells.{event_cells, head_cells, holiday_cells, job_cells, period_cells}
 use Rattle.mds_tables.specs.Layouts.{Layout, rows_layout, world_with}
 use Rattle.mds_tables.specs.RowFacts.{int_at}
-use Rattle.mds_tables.specs.Tables.{detail_tree, event_tree, head_tree, holiday_tree, job_tree, period_tree, schema_tree, schema_version, schema_with, version_tree}
+use Rattle.mds_tables.specs.Tables.{detail_tree, event_tree, head_tree, holiday_tree, job_tree, period_tree, schema_tree, schema_version, schema_with}
 
 -- what mds_schema says
 abbrev pub versions_said : Trees → List ℤ
@@ -78,35 +79,35 @@ AreRowsOf IsRow (thing ∷ things) (row ∷ rows) = IsRow thing row × AreRowsOf
 AreRowsOf IsRow [] (row ∷ rows) = ⊥
 AreRowsOf IsRow (thing ∷ things) [] = ⊥
 
--- What became of the rows of versions once these versions are added, which each layout says by itself.
+-- What became of the rows of versions and of details of days once these are added, which each layout says by itself.
 abbrev pub Gained : Type 1
-Gained = Trees → Trees → List (Key × ReadingValue) → Type 0
+Gained = Trees → Trees → List (Key × ReadingValue) → List Detail → Type 0
 
 -- Each table has the rows of its facts among the additions, column by column, beside those that were there, and no other.
-pub record AddsOf (HasVersions : Gained) (old new : Trees) (additions : Additions) : Type 0 where
+pub record AddsOf (HasOwn : Gained) (old new : Trees) (additions : Additions) : Type 0 where
   pub schema : new schema_tree ≡ old schema_tree
   pub heads : Gains head_tree (map head_cells additions.heads.items) old new
-  pub versions : HasVersions old new (versions_of additions.days.items)
-  pub details : Gains detail_tree (map detail_cells additions.details.items) old new
+  pub own : HasOwn old new (versions_of additions.days.items) (details_of additions.details.items)
+  pub undated : new detail_tree ≡ old detail_tree
   pub events : Gains event_tree (map event_cells additions.events.items) old new
   pub periods : (rows : List Row) × AreRowsOf IsPeriodRow additions.periods.items rows × Gains period_tree rows old new
   pub holidays : Gains holiday_tree (map holiday_cells additions.holidays.items) old new
   pub jobs : (rows : List Row) × AreRowsOf IsJobRow additions.jobs.items rows × Gains job_tree rows old new
 
 -- The additions are committed to what was kept.
-pub record CommitsOf (layout : Layout) (HasVersions : Gained) (old new : State) (additions : Additions) : Type 0 where
+pub record CommitsOf (layout : Layout) (HasOwn : Gained) (old new : State) (additions : Additions) : Type 0 where
   pub was_open : IsTrue old.is_open
   pub is_open : IsTrue new.is_open
   pub store : IsStoreOf layout new.committed
-  pub rows : AddsOf HasVersions old.committed.trees new.committed.trees additions
+  pub rows : AddsOf HasOwn old.committed.trees new.committed.trees additions
   pub world : world_kept layout new ≡ union (world_kept layout old) (content additions)
 
 -- What a crash may leave of a commit that wasn't told: a store that keeps all of the additions beside what was kept.
-pub record LeavesAddedOf (layout : Layout) (HasVersions : Gained) (old : State) (additions : Additions) (left : Trees) : Type 0 where
+pub record LeavesAddedOf (layout : Layout) (HasOwn : Gained) (old : State) (additions : Additions) (left : Trees) : Type 0 where
   pub was_open : IsTrue old.is_open
   pub store : IsStoreOf layout (record { schema = schema_with layout.more; trees = left })
   pub sound : IsSound (schema_with layout.more) left
-  pub rows : AddsOf HasVersions old.committed.trees left additions
+  pub rows : AddsOf HasOwn old.committed.trees left additions
   pub world : world_with layout left ≡ union (world_kept layout old) (content additions)
 
 -- the first columns of a row of a tree, behind its rowid, are these
@@ -138,19 +139,3 @@ Holds = HoldsOf rows_layout
 
 abbrev pub HoldsTables : State → Type 0
 HoldsTables = HoldsTablesOf rows_layout
-
-abbrev pub world_of : State → World
-world_of = world_kept rows_layout
-
--- each version has a row
-abbrev pub HasRows : Gained
-HasRows old new versions = Gains version_tree (map (λ version. version_cells version.0 version.1) versions) old new
-
-abbrev pub Adds : Trees → Trees → Additions → Type 0
-Adds = AddsOf HasRows
-
-abbrev pub Commits : State → State → Additions → Type 0
-Commits = CommitsOf rows_layout HasRows
-
-abbrev pub LeavesAdded : State → Additions → Trees → Type 0
-LeavesAdded = LeavesAddedOf rows_layout HasRows

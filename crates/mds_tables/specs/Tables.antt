@@ -41,6 +41,10 @@ job_tree = 14
 abbrev pub trees_taken : ℕ
 trees_taken = 16
 
+-- That of mds_daydetail, which schema 3 has behind them and behind mds_pack.
+abbrev pub daydetail_tree : ℕ
+daydetail_tree = 18
+
 -- a column of a type, NOT NULL and of a STRICT table
 abbrev pub needed : List ℕ → Kind → Column
 needed name kind =
@@ -107,9 +111,6 @@ period_key = 1 ∷ 2 ∷ 3 ∷ 4 ∷ 5 ∷ 6 ∷ []
 abbrev pub schema_version : ℕ
 schema_version = 1
 
-abbrev pub detail_nmi : ℕ
-detail_nmi = 1
-
 abbrev pub event_nmi : ℕ
 event_nmi = 1
 
@@ -136,9 +137,6 @@ head_columns = 1 ∷ 2 ∷ 3 ∷ 4 ∷ 5 ∷ []
 abbrev pub version_columns : List ℕ
 version_columns = 1 ∷ 2 ∷ 3 ∷ 4 ∷ 5 ∷ 6 ∷ 7 ∷ 8 ∷ 9 ∷ []
 
-abbrev pub detail_columns : List ℕ
-detail_columns = detail_key
-
 abbrev pub event_columns : List ℕ
 event_columns = event_key
 
@@ -155,7 +153,7 @@ head_table =
     ∷ [])
     day_key
 
--- a version's day has a head
+-- the day of a version, or of details, has a head
 abbrev pub to_head : Reference
 to_head = record {
   columns = day_key;

@@ -1,16 +1,16 @@
 //! The columns of rows, lent from the terms that they say.
 
-ghost use Rattle.std.specs.Prelude.{◌≡◌, ◌≤◌, [], ◌∷◌, pos, take, unwrap_or};
+ghost use Rattle.std.specs.Prelude.{◌≡◌, ◌≤◌, [], ◌∷◌, take};
 ghost use Rattle.sqlite.specs.Values.{bound};
 ghost use Rattle.sqlite.specs.declared.types.Value.TheVariants.{Int, Text};
-ghost use Rattle.mds_marks.specs.Quality.{quality_text};
+ghost use Rattle.mds_keeper.specs.Content.{detail_on};
 ghost use Rattle.mds_tables.specs.Cells as row;
 
 use mds_jobs::JobId;
-use mds_marks::Reading;
+use mds_keeper::DetailDays;
 use mds_statements::PeriodKey;
 use mds_terms::{Day, Event, Moment, Stream};
-use mds_world::{Detail, Head, Key};
+use mds_world::Head;
 use sqlite::types::ValueRef;
 
 /// The columns that name a stream.
@@ -59,79 +59,20 @@ pub fn head_cells<'a>(head: &'a Head) -> [ValueRef<'a>; 5]
     ]
 }
 
-/// The columns of a version, of which the text of its quality is given.
-pub fn version_cells<'a>(key: &'a Key, reading: &'a Reading, quality: &'a [u8]) -> [ValueRef<'a>; 9]
-    requires { quality.now ≡ quality_text reading.now.mark.quality }
-    ensures { bound result ≡ row.version_cells key.now reading.now }
+/// The columns of details, on one of their days.
+pub fn detail_cells<'a>(details: &'a DetailDays, day: Day) -> [ValueRef<'a>; 9]
+    ensures { bound result ≡ row.detail_cells (detail_on details.now day) }
 {
     [
-        ValueRef::Text(key.stream.nmi.text().as_bytes()),
-        ValueRef::Text(key.stream.suffix.text().as_bytes()),
-        ValueRef::Int(key.day.number()),
-        ValueRef::Int(i64::from(key.interval)),
-        ValueRef::Int(key.update.seconds()),
-        ValueRef::Text(quality),
-        ValueRef::Int(code_cell(reading)),
-        ValueRef::Text(reading.mark().reason.text().as_bytes()),
-        ValueRef::Int(amount_cell(reading)),
-    ]
-}
-
-/// The columns of a version behind those that name its day, as far as the text of its quality.
-pub fn slot_cells<'a>(interval: u16, update: Moment, quality: &'a [u8]) -> [ValueRef<'a>; 3]
-    ensures { bound result ≡ row.slot_cells interval update quality.now }
-{
-    [
-        ValueRef::Int(i64::from(interval)),
-        ValueRef::Int(update.seconds()),
-        ValueRef::Text(quality),
-    ]
-}
-
-/// The columns of a version behind its quality.
-pub fn reading_cells<'a>(reading: &'a Reading) -> [ValueRef<'a>; 3]
-    ensures { bound result ≡ row.reading_cells reading.now }
-{
-    [
-        ValueRef::Int(code_cell(reading)),
-        ValueRef::Text(reading.mark().reason.text().as_bytes()),
-        ValueRef::Int(amount_cell(reading)),
-    ]
-}
-
-/// The code of a reading's reason, and -1 where it has none.
-fn code_cell(reading: &Reading) -> i64
-    ensures { Int result ≡ row.optional_cell reading.now.mark.reason.code }
-{
-    match reading.mark().reason.code() {
-        Some(code) => i64::from(code),
-        None => -1,
-    }
-}
-
-/// The value of a reading in millionths, and 0 where it has none.
-fn amount_cell(reading: &Reading) -> i64
-    ensures { result ≡ unwrap_or reading.now.value (pos 0) }
-{
-    match reading.value() {
-        Some(value) => value.millionths(),
-        None => 0,
-    }
-}
-
-/// The columns of details.
-pub fn detail_cells<'a>(detail: &'a Detail) -> [ValueRef<'a>; 8]
-    ensures { bound result ≡ row.detail_cells detail.now }
-{
-    [
-        ValueRef::Text(detail.stream.nmi.text().as_bytes()),
-        ValueRef::Text(detail.stream.suffix.text().as_bytes()),
-        ValueRef::Int(detail.moment.seconds()),
-        ValueRef::Text(detail.details.configuration().as_bytes()),
-        ValueRef::Text(detail.details.register().as_bytes()),
-        ValueRef::Text(detail.details.datastream().as_bytes()),
-        ValueRef::Text(detail.details.meter().as_bytes()),
-        ValueRef::Int(next_cell(detail.details.next())),
+        ValueRef::Text(details.stream.nmi.text().as_bytes()),
+        ValueRef::Text(details.stream.suffix.text().as_bytes()),
+        ValueRef::Int(day.number()),
+        ValueRef::Int(details.moment.seconds()),
+        ValueRef::Text(details.details.configuration().as_bytes()),
+        ValueRef::Text(details.details.register().as_bytes()),
+        ValueRef::Text(details.details.datastream().as_bytes()),
+        ValueRef::Text(details.details.meter().as_bytes()),
+        ValueRef::Int(next_cell(details.details.next())),
     ]
 }
 

@@ -8,9 +8,8 @@ mod readiness;
 
 pub use cells::{
     day_cells, detail_cells, event_cells, head_cells, holiday_cells, id_cells, job_cells,
-    letter_of, period_cells, period_key_cells, range_cells, reading_cells, slot_cells,
-    stream_cells, version_cells,
+    letter_of, period_cells, period_key_cells, range_cells, stream_cells,
 };
 pub use known::{are_indexes, are_tables, are_to_head, has_schema_1, is_key_index, is_keyed};
-pub use making::{make_empty, make_tables, say_version};
+pub use making::{make_empty, say_version};
 pub use readiness::ready;

@@ -1,17 +1,16 @@
 //! Makes the tables.
 
-ghost use Rattle.std.specs.Prelude.{◌≡◌, ◌+◌, ◌<◌, false, pos, IfErr, IsTrue, OnErr, OnOk};
+ghost use Rattle.std.specs.Prelude.{◌≡◌, ◌+◌, ◌<◌, pos, IfErr, IsTrue, OnOk};
 ghost use Rattle.sqlite.specs.Held.{state};
 ghost use Rattle.sqlite.specs.State.{HasCleanDisk, KeepsCommit, Survives};
 ghost use Rattle.mds_tables.specs.Causes.{HasFailed};
-ghost use Rattle.mds_tables.specs.Layouts.{Layout, rows_layout};
-ghost use Rattle.mds_tables.specs.Making.{AreEmpty, CommitsMadeOf, HasMadeOf, IsMade, LeavesMade, MakesThere, SaysVersionOf, schema_of};
+ghost use Rattle.mds_tables.specs.Layouts.{Layout};
+ghost use Rattle.mds_tables.specs.Making.{AreEmpty, MakesThere, SaysVersionOf, schema_of};
 ghost use Rattle.mds_tables.specs.Texts.{create};
 ghost use Rattle.mds_tables.specs.Tables.{no_schema, schema_1, schema_with, tables_with};
 
-use crate::readiness::ready;
 use sqlite::types::ValueRef;
-use sqlite::{Alter, Connection, Error, Transaction};
+use sqlite::{Alter, Error, Transaction};
 
 /// The statement that makes a table, by its number. A table comes after those that it refers to.
 fn statement(n: usize) -> &'static str
@@ -84,38 +83,4 @@ pub fn say_version<S: Alter>(tx: &mut Transaction<'_, S>, number: i64) -> Result
         &[ValueRef::Int(number)],
     )?;
     Ok(())
-}
-
-/// Makes the tables and that row in a transaction of its own.
-fn make_all<S: Alter>(conn: &mut Connection<S>) -> Result<(), Error>
-    requires { conn.old.in_transaction ≡ false }
-    ensures ok { HasCleanDisk (state S.Store conn.new) → OnOk result (CommitsMadeOf rows_layout (state S.Store conn.old) (state S.Store conn.new)) }
-    ensures err { HasCleanDisk (state S.Store conn.new) → OnErr result (KeepsCommit (state S.Store conn.old) (state S.Store conn.new)) }
-    ensures cause { HasCleanDisk (state S.Store conn.new) → IsTrue (state S.Store conn.old).is_open
-        → (state S.Store conn.old).now.schema ≡ no_schema
-        → IfErr result (HasFailed (state S.Store conn.old) (state S.Store conn.new)) }
-    ensures mode { conn.new.in_transaction ≡ false }
-    ensures survives { Survives (state S.Store conn.old) (state S.Store conn.new) (HasMadeOf rows_layout (state S.Store conn.old)) }
-{
-    let mut tx = conn.transaction();
-    make_empty(&mut tx)?;
-    say_version(&mut tx, 1)?;
-    tx.commit()
-}
-
-/// Makes the tables of schema 1 in a database that has none, and says in them that it is 1. It does all of that in one
-/// transaction. A crash leaves what was there, or all of it.
-pub fn make_tables<S: Alter>(conn: &mut Connection<S>) -> Result<(), Error>
-    requires { conn.old.in_transaction ≡ false }
-    ensures ok { HasCleanDisk (state S.Store conn.new) → OnOk result (IsMade (state S.Store conn.old) (state S.Store conn.new)) }
-    ensures err { HasCleanDisk (state S.Store conn.new) → OnErr result (KeepsCommit (state S.Store conn.old) (state S.Store conn.new)) }
-    // No rule of the database is against these tables. So it is the store that fails, or the limit of steps.
-    ensures cause { HasCleanDisk (state S.Store conn.new)
-        → (IsTrue (state S.Store conn.old).is_open → (state S.Store conn.old).committed.schema ≡ no_schema)
-        → IfErr result (HasFailed (state S.Store conn.old) (state S.Store conn.new)) }
-    ensures mode { conn.new.in_transaction ≡ false }
-    ensures survives { Survives (state S.Store conn.old) (state S.Store conn.new) (LeavesMade (state S.Store conn.old)) }
-{
-    ready(conn)?;
-    make_all(conn)
 }

@@ -1,10 +1,9 @@
-//! Tries the libraries without a store in a file: over a keeper in memory, and over one of rows in a database in memory.
+//! Tries the libraries without a store in a file: over a keeper in memory, and over a store whose files lie in memory.
 //!
 //! Without words it makes the call that README shows, and prints the answers. `mds_trials serve PORT COUNT` serves so many
-//! connections to a port of 127.0.0.1 from an empty keeper, one after the other, and ends. `mds_trials serve-rows PORT COUNT` serves
-//! the same from a store of rows (schema 1). The other words measure, over the keeper in memory. `mds_trials deliver PATH` reads all
-//! that a NEM12 file states. `mds_trials imports PATH` takes the file into an empty keeper, and then again.
-//! `mds_trials exports PATH FROM TO` takes it in and exports each of its streams in that range.
+//! connections to a port of 127.0.0.1 from an empty keeper, one after the other, and ends. The other words measure, over the keeper in
+//! memory. `mds_trials deliver PATH` reads all that a NEM12 file states. `mds_trials imports PATH` takes the file into an empty keeper,
+//! and then again. `mds_trials exports PATH FROM TO` takes it in and exports each of its streams in that range.
 //!
 //! `mds_trials applies PATH` reads a NEM12 file once and applies what it states twice. Then it takes the file itself in.
 //!
@@ -27,17 +26,14 @@ use crate::stops::stop_in_turn;
 use mds_answers::{list_json, short_json};
 use mds_arguments::{ExportArguments, export_request};
 use mds_http::{StoreHandler, listen, serve_connections};
-use mds_keeper::Keeper;
 use mds_memory::MemoryKeeper;
 use mds_nem12::read_nem12;
 use mds_records::FileKind;
 use mds_service::{Answer, Request, apply, apply_delivery, run};
-use mds_store::create;
 use mds_terms::{Day, Stream};
 use mds_wire::Routes;
-use sqlite::{Alter, Connection};
 use std::alloc::{AllocError, Global};
-use std::io::{ErrorKind, Write};
+use std::io::Write;
 use std::process::ExitCode;
 use std::time::Instant;
 use std::{env, fs, io};
@@ -66,9 +62,6 @@ fn run_words(rt: &HostRuntime) -> io::Result<bool> {
             stop_in_turn(rt, path.as_str(), files.as_str(), manner.as_str())
         }
         [what, port, count] if what.as_str() == "serve" => serve(rt, port.as_str(), count.as_str()),
-        [what, port, count] if what.as_str() == "serve-rows" => {
-            serve_rows(rt, port.as_str(), count.as_str())
-        }
         [what, path, from, to] if what.as_str() == "exports" => {
             time_exports(rt, path.as_str(), from.as_str(), to.as_str())
         }
@@ -78,7 +71,7 @@ fn run_words(rt: &HostRuntime) -> io::Result<bool> {
 
 fn usage(rt: &HostRuntime) -> io::Result<bool> {
     println!(rt;
-        "usage: mds_trials [serve PORT COUNT | serve-rows PORT COUNT | deliver PATH | imports PATH | exports PATH FROM TO | applies PATH | cuts PATH | pieces PATH SEED | stops PATH FILES MANNER]"
+        "usage: mds_trials [serve PORT COUNT | deliver PATH | imports PATH | exports PATH FROM TO | applies PATH | cuts PATH | pieces PATH SEED | stops PATH FILES MANNER]"
     )?;
     Ok(false)
 }
@@ -160,47 +153,15 @@ fn apply_twice(rt: &HostRuntime, path: &str) -> io::Result<bool> {
 
 /// Serves so many connections to a port, one after the other, from an empty keeper in memory.
 fn serve(rt: &HostRuntime, port: &str, count: &str) -> io::Result<bool> {
-    let mut handler = StoreHandler {
-        keeper: MemoryKeeper::new(rt.alloc()),
-    };
-    serve_keeper(rt, &mut handler, port, count)
-}
-
-/// Serves so many connections to a port, one after the other, from an empty store of rows in a database in memory.
-fn serve_rows(rt: &HostRuntime, port: &str, count: &str) -> io::Result<bool> {
-    let conn = Connection::open_in_memory(rt.alloc())?;
-    serve_database(rt, conn, port, count)
-}
-
-/// Makes a store of rows in an empty database, and serves so many connections from it. It fails only where memory is wanting.
-fn serve_database<S: Alter + Drop>(
-    rt: &HostRuntime,
-    conn: Connection<S>,
-    port: &str,
-    count: &str,
-) -> io::Result<bool> {
-    match create(rt.alloc(), conn) {
-        Ok(keeper) => {
-            let mut handler = StoreHandler { keeper };
-            serve_keeper(rt, &mut handler, port, count)
-        }
-        Err(_) => Err(io::Error::from(ErrorKind::OutOfMemory)),
-    }
-}
-
-/// Serves so many connections to a port, one after the other, from a keeper.
-fn serve_keeper<K: Keeper>(
-    rt: &HostRuntime,
-    handler: &mut StoreHandler<K>,
-    port: &str,
-    count: &str,
-) -> io::Result<bool> {
     let (Ok(port), Ok(count)) = (port.parse::<u16>(), count.parse::<u32>()) else {
         return usage(rt);
     };
     let routes = Routes::new(rt.alloc())?;
     let listener = listen(rt, port)?;
-    serve_connections(rt, &routes, handler, &listener, count);
+    let mut handler = StoreHandler {
+        keeper: MemoryKeeper::new(rt.alloc()),
+    };
+    serve_connections(rt, &routes, &mut handler, &listener, count);
     Ok(true)
 }
 

@@ -6,23 +6,21 @@ use mds_http::{StoreHandler, serve_one};
 use mds_keeper::Keeper;
 use mds_lines::Counted;
 use mds_migrate::{MigrateFault, Migrated, migrate};
-use mds_pack_store::PackKeeper;
-use mds_store::{RowKeeper, StoreFault};
+use mds_pack_store::{PackKeeper, adopt, create};
+use mds_store::StoreFault;
 use mds_wire::RouteFinder;
 use sqlite::{Alter, Connection};
 use std::io;
 use std::io::Write;
 
-/// The steps: a store of packed days (schema 2) is made or taken, or one of rows (schema 1). Any other is a migration.
+/// The steps: a store (schema 3) is made or taken, or a text of SQL is run. Any other is a migration.
 const CREATE: u8 = b'c';
 
 const ADOPT: u8 = b'a';
 
-const CREATE_ROWS: u8 = b'C';
+const EXECUTE: u8 = b'e';
 
-const ADOPT_ROWS: u8 = b'A';
-
-/// Does the steps of a list with a database. A step is a byte, and a list of requests for the store that is there then.
+/// Does the steps of a list with a database. A step is a byte, and a list of requests for the store that is there then, or the text.
 pub fn do_steps<F: RouteFinder, S: Alter>(
     rt: &HostRuntime,
     routes: &F,
@@ -47,40 +45,23 @@ fn do_step<F: RouteFinder, S: Alter>(
     conn: Connection<S>,
     step: &[u8],
 ) -> Connection<S> {
-    let [word, requests @ ..] = step else {
+    let [word, given @ ..] = step else {
         return conn;
     };
     let alloc = rt.alloc();
     match *word {
-        CREATE => in_packs(rt, routes, mds_pack_store::create(alloc, conn), requests),
-        ADOPT => in_packs(rt, routes, mds_pack_store::adopt(alloc, conn), requests),
-        CREATE_ROWS => in_rows(rt, routes, mds_store::create(alloc, conn), requests),
-        ADOPT_ROWS => in_rows(rt, routes, mds_store::adopt(alloc, conn), requests),
+        CREATE => in_store(rt, routes, create(alloc, conn), given),
+        ADOPT => in_store(rt, routes, adopt(alloc, conn), given),
+        EXECUTE => executed(rt, conn, given),
         _ => migrated(rt, conn),
     }
 }
 
-/// Serves requests from a store of packed days, if it could be had.
-fn in_packs<F: RouteFinder, S: Alter>(
+/// Serves requests from a store, if it could be had.
+fn in_store<F: RouteFinder, S: Alter>(
     rt: &HostRuntime,
     routes: &F,
     had: Result<PackKeeper<S>, (StoreFault, Connection<S>)>,
-    requests: &[u8],
-) -> Connection<S> {
-    match had {
-        Ok(keeper) => serve_all(rt, routes, keeper, requests).into_connection(),
-        Err((fault, conn)) => {
-            tell(rt, code_of(fault));
-            conn
-        }
-    }
-}
-
-/// Serves requests from a store of rows, if it could be had.
-fn in_rows<F: RouteFinder, S: Alter>(
-    rt: &HostRuntime,
-    routes: &F,
-    had: Result<RowKeeper<S>, (StoreFault, Connection<S>)>,
     requests: &[u8],
 ) -> Connection<S> {
     match had {
@@ -99,6 +80,22 @@ fn code_of(fault: StoreFault) -> &'static [u8] {
         StoreFault::EarlierSchema => b"U2\n",
         StoreFault::OtherSchema => b"U3\n",
     }
+}
+
+/// Runs the statements of a text.
+fn executed<S: Alter>(rt: &HostRuntime, conn: Connection<S>, text: &[u8]) -> Connection<S> {
+    let mut conn = conn;
+    let has_run = match str::from_utf8(text) {
+        Ok(sql) => conn.execute_batch(sql).is_ok(),
+        Err(_) => false,
+    };
+    tell(rt, word_of(has_run));
+    conn
+}
+
+/// What a text of SQL came to.
+fn word_of(has_run: bool) -> &'static [u8] {
+    if has_run { b"done\n" } else { b"U1\n" }
 }
 
 fn migrated<S: Alter>(rt: &HostRuntime, conn: Connection<S>) -> Connection<S> {

@@ -31,7 +31,7 @@ pub enum Words<'a> {
         store: &'a str,
         has_sums: bool,
     },
-    /// The store of schema 1 in the file of a name is taken to packed days.
+    /// The store of an earlier schema in the file of a name is taken to schema 3.
     Migrate {
         store: &'a str,
     },

@@ -1,14 +1,16 @@
 -- Worlds that agree, are closed or are lawful, by what they are made of.
 use Rattle.std.specs.Prelude.{ℕ, List}
 use Rattle.std.proofs.Common.{inl, inr}
+use Rattle.mds_names.specs.declared.stream.Stream.{Stream}
 use Rattle.mds_marks.specs.Reading.{ReadingValue}
+use Rattle.mds_world.specs.declared.facts.Detail.{Detail}
 use Rattle.mds_world.specs.declared.facts.Head.{Head}
 use Rattle.mds_world.specs.declared.facts.Key.{Key}
 use Rattle.mds_world.specs.Facts.{Fact, JobContent}
-use Rattle.mds_world.specs.Facts.Fact.{HeadIs, VersionIs, PeriodIs, JobIs}
+use Rattle.mds_world.specs.Facts.Fact.{HeadIs, VersionIs, DetailIs, PeriodIs, JobIs}
 use Rattle.mds_world.proofs.Members.{in_union, union_left, union_right}
 use Rattle.mds_world.specs.Sets.{◌∈◌}
-use Rattle.mds_world.specs.World.{Agrees, HasHead, HasVersion, IsClosed, IsLawful, World, union}
+use Rattle.mds_world.specs.World.{Agrees, HasHead, HasVersion, IsClosed, IsKnownDay, IsLawful, World, union}
 
 -- Each rule is of two facts. So a World agrees where any two of its facts lie in one that does.
 pub pairs_agree : (w : World)
@@ -22,12 +24,16 @@ pairs_agree w both = record {
 pub agrees_within : (w part : World) → ((f : Fact) → f ∈ part → f ∈ w) → Agrees w → Agrees part
 agrees_within w part more agrees = pairs_agree part (λ f g h k. (w, agrees, more f h, more g k))
 
--- what a version or a head needs is there in a larger World too
+-- what a version, a head or details need is there in a larger World too
 pub wider_head : (w v : World) → ((f : Fact) → f ∈ w → f ∈ v) → (key : Key) → HasHead w key → HasHead v key
 wider_head w v more key h = (h.0, more (HeadIs h.0) h.1, h.2, h.3, h.4, h.5)
 
 pub wider_version : (w v : World) → ((f : Fact) → f ∈ w → f ∈ v) → (head : Head) → HasVersion w head → HasVersion v head
 wider_version w v more head h = (h.0, h.1, more (VersionIs h.0 h.1) h.2, h.3, h.4)
+
+pub wider_day : (w v : World) → ((f : Fact) → f ∈ w → f ∈ v) → (stream : Stream) (day : ℕ) → IsKnownDay w stream day
+    → IsKnownDay v stream day
+wider_day w v more stream day h = (h.0, more (HeadIs h.0) h.1, h.2, h.3)
 
 pub union_closed : (a b : World) → IsClosed a → IsClosed b → IsClosed (union a b)
 union_closed a b x y = record {
@@ -39,14 +45,19 @@ union_closed a b x y = record {
     | inl p ↦ wider_version a (union a b) (union_left a b) head (x.versioned head p)
     | inr q ↦ wider_version b (union a b) (union_right a b) head (y.versioned head q)
   ];
+  detailed = λ detail h. elim (in_union a b (DetailIs detail) h) [
+    | inl p ↦ wider_day a (union a b) (union_left a b) detail.stream detail.day (x.detailed detail p)
+    | inr q ↦ wider_day b (union a b) (union_right a b) detail.stream detail.day (y.detailed detail q)
+  ];
 }
 
 -- facts without a day's need nothing
 pub closed_without : (s : World) → ((key : Key) (reading : ReadingValue) → VersionIs key reading ∈ s → ⊥)
-    → ((head : Head) → HeadIs head ∈ s → ⊥) → IsClosed s
-closed_without s no_version no_head = record {
+    → ((head : Head) → HeadIs head ∈ s → ⊥) → ((detail : Detail) → DetailIs detail ∈ s → ⊥) → IsClosed s
+closed_without s no_version no_head no_detail = record {
   headed = λ key reading h. absurd (no_version key reading h);
   versioned = λ head h. absurd (no_head head h);
+  detailed = λ detail h. absurd (no_detail detail h);
 }
 
 -- a lawful World stays so with closed facts that agree with it, among which there is no job

@@ -1,5 +1,10 @@
+pub mod Details
+pub mod Greatest
 pub mod Lawful
 pub mod Lists
 pub mod Members
+pub mod Nearest
+pub mod Orders
+pub mod Returned
 pub mod Sets
 pub mod Worlds

@@ -1,16 +1,18 @@
--- What is current: of an interval, of a day, and of a stream (profile). Each is a greatest one of the facts, whenever
--- they came.
-use Rattle.std.specs.Prelude.{◌≡◌, ◌⊎◌, ◌≤◌, ℕ, [], None, true}
+-- What is current: of an interval, of a day, and of a stream (profile). Each is a greatest one of the facts, whenever they came. A
+-- meter that is exchanged on a day has its details from that day on.
+use Rattle.std.specs.Prelude.{◌≡◌, ◌↔◌, ◌⊎◌, ◌≤◌, ℕ, [], None, true}
 use Rattle.std.specs.Ordering.{is_le, nat_cmp, ordering_then}
+use Rattle.std.specs.declared.cmp.Ordering.{Ordering}
 use Rattle.mds_quantity.specs.declared.unit.Unit.{Unit as MeasureUnit}
 use Rattle.mds_names.specs.declared.stream.Stream.{Stream}
 use Rattle.mds_marks.specs.Mark.{bare_null}
 use Rattle.mds_marks.specs.Reading.{ReadingValue}
 use Rattle.mds_terms.specs.Details.{DetailsValue, details_cmp}
+use Rattle.mds_world.specs.declared.facts.Detail.{Detail}
 use Rattle.mds_world.specs.Facts.{head_at, key_at}
 use Rattle.mds_world.specs.Facts.Fact.{DetailIs, HeadIs, VersionIs}
 use Rattle.mds_world.specs.Sets.{◌∈◌}
-use Rattle.mds_world.specs.World.{IsCurrent, World}
+use Rattle.mds_world.specs.World.{IsCurrent, IsKnownDay, World}
 
 -- an interval has no version
 abbrev pub HasNoVersion : World → Stream → ℕ → ℕ → Type 0
@@ -45,20 +47,61 @@ pub record IsLatest (w : World) (stream : Stream) (day update : ℕ) : Type 0 wh
   pub greatest : (interval other : ℕ) (reading : ReadingValue) → IsCurrent w stream day interval other reading
       → other ≤ update
 
--- The details of a stream of the greatest pair: of the latest header, and among those the greatest field by field.
-pub record IsGreatestDetail (w : World) (stream : Stream) (moment : ℕ) (details : DetailsValue) : Type 0 where
-  pub held : DetailIs (record { stream = stream; moment = moment; details = details }) ∈ w
-  pub greatest : (other : ℕ) (of_other : DetailsValue)
-      → DetailIs (record { stream = stream; moment = other; details = of_other }) ∈ w
-      → is_le (ordering_then (nat_cmp other moment) (details_cmp of_other details)) ≡ true
+-- by the day, then the moment, and then the details field by field
+abbrev pub detail_cmp : Detail → Detail → Ordering
+detail_cmp a b =
+    ordering_then (nat_cmp a.day b.day) (ordering_then (nat_cmp a.moment b.moment) (details_cmp a.details b.details))
+
+-- Details of a stream that hold on a day: they are of that day, or of one before.
+abbrev pub IsUpto : World → Stream → ℕ → Detail → Type 0
+IsUpto w stream day detail = (DetailIs detail ∈ w) × (detail.stream ≡ stream) × (detail.day ≤ day)
+
+-- The greatest of those: of the nearest day that has some, under the latest header, and among those the greatest field by field.
+pub record IsGreatestDetail (w : World) (stream : Stream) (day : ℕ) (detail : Detail) : Type 0 where
+  pub held : IsUpto w stream day detail
+  pub greatest : (other : Detail) → IsUpto w stream day other → is_le (detail_cmp other detail) ≡ true
 
 -- five empty ones
 abbrev pub no_details : DetailsValue
 no_details = record { configuration = []; register = []; datastream = []; meter = []; next = None }
 
--- The current details of a stream: those of the greatest pair, and five empty ones where there are none.
-abbrev pub IsCurrentDetails : World → Stream → DetailsValue → Type 0
-IsCurrentDetails w stream details =
-    ((moment : ℕ) × IsGreatestDetail w stream moment details)
-    ⊎ (((moment : ℕ) (other : DetailsValue)
-    → DetailIs (record { stream = stream; moment = moment; details = other }) ∈ w → ⊥) × (details ≡ no_details))
+-- The current details of a day: those of its greatest pair of moment and details. Where it has none they are those of the
+-- nearest earlier day of the stream that has some, else five empty ones. The day needn't be known.
+abbrev pub IsCurrentDetails : World → Stream → ℕ → DetailsValue → Type 0
+IsCurrentDetails w stream day details =
+    ((detail : Detail) × IsGreatestDetail w stream day detail × (details ≡ detail.details))
+    ⊎ (((other : Detail) → IsUpto w stream day other → ⊥) × (details ≡ no_details))
+
+-- The last known day of a stream.
+pub record IsLastDay (w : World) (stream : Stream) (day : ℕ) : Type 0 where
+  pub known : IsKnownDay w stream day
+  pub last : (other : ℕ) → IsKnownDay w stream other → other ≤ day
+
+-- What is known of a stream's meter now: the current details of its last known day, and five empty ones where it has no known day.
+abbrev pub IsStreamDetails : World → Stream → DetailsValue → Type 0
+IsStreamDetails w stream details =
+    ((day : ℕ) × IsLastDay w stream day × IsCurrentDetails w stream day details)
+    ⊎ (((day : ℕ) → IsKnownDay w stream day → ⊥) × (details ≡ no_details))
+
+-- Details that come back to a World, each of a day and current there. Nothing is said of their moments.
+abbrev pub DetailsComeFrom : World → World → Type 0
+DetailsComeFrom w back = (detail : Detail) → DetailIs detail ∈ back → IsCurrentDetails w detail.stream detail.day detail.details
+
+-- a day has the same current details in both
+abbrev pub HasSameDetails : World → World → Stream → ℕ → Type 0
+HasSameDetails a b stream day =
+    (details : DetailsValue) → IsCurrentDetails a stream day details ↔ IsCurrentDetails b stream day details
+
+-- Details of just this day, under the latest header, and among those the greatest.
+pub record IsGreatestOfDay (w : World) (stream : Stream) (day : ℕ) (detail : Detail) : Type 0 where
+  pub held : IsUpto w stream day detail
+  pub here : detail.day ≡ day
+  pub greatest : (other : Detail) → IsUpto w stream day other → other.day ≡ day
+      → is_le (ordering_then (nat_cmp other.moment detail.moment) (details_cmp other.details detail.details)) ≡ true
+
+-- Current details in two steps: the nearest day that has some, and of that day the greatest pair.
+abbrev pub IsNearestDetails : World → Stream → ℕ → DetailsValue → Type 0
+IsNearestDetails w stream day details =
+    ((of : ℕ) × (detail : Detail) × (of ≤ day) × IsGreatestOfDay w stream of detail
+    × ((other : Detail) → IsUpto w stream day other → other.day ≤ of) × (details ≡ detail.details))
+    ⊎ (((other : Detail) → IsUpto w stream day other → ⊥) × (details ≡ no_details))

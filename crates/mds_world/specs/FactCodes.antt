@@ -14,7 +14,7 @@ use Rattle.mds_terms.specs.Event.{EventValue}
 use Rattle.mds_world.specs.declared.facts.Key.{Key}
 use Rattle.mds_world.specs.declared.facts.Head.{Head}
 use Rattle.mds_world.specs.declared.facts.Detail.{Detail}
-use Rattle.mds_world.specs.Facts.{Fact, PeriodContent, JobContent, head_at, key_at}
+use Rattle.mds_world.specs.Facts.{Fact, PeriodContent, JobContent, detail_at, head_at, key_at}
 use Rattle.mds_statements.specs.declared.periods.PeriodKey.{PeriodKey}
 use Rattle.mds_world.specs.Facts.Fact.{HeadIs, VersionIs, DetailIs, EventIs, PeriodIs, HolidayIs, JobIs}
 
@@ -169,9 +169,9 @@ coded_key =
 
 coded_detail : Coded Detail
 coded_detail =
-    code_by _ (coded× coded_stream (coded× coded_ℕ coded_details))
-    (λ d. (d.stream, (d.moment, d.details)))
-    (λ p. record { stream = p.0; moment = p.1.0; details = p.1.1 })
+    code_by _ (coded× coded_stream (coded× coded_ℕ (coded× coded_ℕ coded_details)))
+    (λ d. (d.stream, (d.day, (d.moment, d.details))))
+    (λ p. detail_at p.0 p.1.0 p.1.1.0 p.1.1.1)
     (λ _. refl)
 
 coded_period_key : Coded PeriodKey

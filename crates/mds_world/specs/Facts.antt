@@ -4,6 +4,7 @@ use Rattle.std.specs.Prelude.{ℕ, List, Option}
 use Rattle.mds_quantity.specs.declared.unit.Unit.{Unit as MeasureUnit}
 use Rattle.mds_names.specs.declared.stream.Stream.{Stream}
 use Rattle.mds_marks.specs.Reading.{ReadingValue}
+use Rattle.mds_terms.specs.Details.{DetailsValue}
 use Rattle.mds_terms.specs.Event.{EventValue}
 pub use Rattle.mds_statements.specs.Statements.{PeriodContent}
 use Rattle.mds_statements.specs.declared.periods.PeriodKey.{PeriodKey}
@@ -18,6 +19,10 @@ key_at stream day interval update = record { stream = stream; day = day; interva
 -- the head of a day of a stream, with the length of its intervals and its unit
 abbrev pub head_at : Stream → ℕ → ℕ → MeasureUnit → Head
 head_at stream day length unit = record { stream = stream; day = day; length = length; unit = unit }
+
+-- the details of a day of a stream, under the moment of a header
+abbrev pub detail_at : Stream → ℕ → ℕ → DetailsValue → Detail
+detail_at stream day moment details = record { stream = stream; day = day; moment = moment; details = details }
 
 -- a substitution job: its whole content
 pub record JobContent : Type 0 where

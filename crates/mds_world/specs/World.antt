@@ -41,10 +41,15 @@ HasVersion w head =
     (key : Key) × (reading : ReadingValue) × (VersionIs key reading ∈ w)
     × (key.stream ≡ head.stream) × (key.day ≡ head.day)
 
--- What each fact needs is there: a version has its head, and a head has a version.
+-- A known day has a head.
+abbrev pub IsKnownDay : World → Stream → ℕ → Type 0
+IsKnownDay w stream day = (head : Head) × (HeadIs head ∈ w) × (head.stream ≡ stream) × (head.day ≡ day)
+
+-- What each fact needs is there: a version has its head, a head has a version, and details are of a known day.
 pub record IsClosed (w : World) : Type 0 where
   pub headed : (key : Key) (reading : ReadingValue) → VersionIs key reading ∈ w → HasHead w key
   pub versioned : (head : Head) → HeadIs head ∈ w → HasVersion w head
+  pub detailed : (detail : Detail) → DetailIs detail ∈ w → IsKnownDay w detail.stream detail.day
 
 -- It agrees, a job has one content and one count, and it is closed.
 pub record IsLawful (w : World) : Type 0 where
@@ -69,16 +74,11 @@ IsOn stream day (PeriodIs key content) = ⊥
 IsOn stream day (HolidayIs date) = ⊥
 IsOn stream day (JobIs id content count) = ⊥
 
--- A known day has a head.
-abbrev pub IsKnownDay : World → Stream → ℕ → Type 0
-IsKnownDay w stream day = (head : Head) × (HeadIs head ∈ w) × (head.stream ≡ stream) × (head.day ≡ day)
-
--- A known stream has a head, details or a period.
+-- A known stream has a head or a period.
 abbrev pub IsKnownStream : World → Stream → Type 0
 IsKnownStream w stream =
     ((head : Head) × (HeadIs head ∈ w) × (head.stream ≡ stream))
-    ⊎ (((detail : Detail) × (DetailIs detail ∈ w) × (detail.stream ≡ stream))
-    ⊎ ((key : PeriodKey) × (content : PeriodContent) × (PeriodIs key content ∈ w) × (key.stream ≡ stream)))
+    ⊎ ((key : PeriodKey) × (content : PeriodContent) × (PeriodIs key content ∈ w) × (key.stream ≡ stream))
 
 -- the event is of a day of a stream
 abbrev pub IsEventOf : Stream → ℕ → EventValue → Type 0

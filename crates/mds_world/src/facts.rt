@@ -1,10 +1,11 @@
 //! What facts are about.
 
 ghost use Rattle.std.specs.Prelude.{◌≡◌, ◌+◌, ◌<◌, IfOk, OnErr, length};
+ghost use Rattle.mds_world.specs.Current.{no_details};
 
 use mds_quantity::Unit;
 use mds_terms::{Day, Details, Length, Moment, Stream};
-use std::alloc::AllocError;
+use std::alloc::{AllocError, Global};
 use std::cmp::Ordering;
 
 /// A day of a stream. Its order goes by the stream, and then by the day.
@@ -73,10 +74,12 @@ pub struct Key {
     pub update: Moment,
 }
 
-/// The details of a stream, and the moment of the header that they came under.
+/// The details of a day of a stream, and the moment of the header that they came under. Its order goes by the stream, the day, the
+/// moment, and then the details.
 #[derive(PartialEq, Eq, PartialOrd, Ord, Drop)]
 pub struct Detail {
     pub stream: Stream,
+    pub day: Day,
     pub moment: Moment,
     pub details: Details,
 }
@@ -91,8 +94,19 @@ impl Detail {
     {
         Ok(Detail {
             stream: self.stream,
+            day: self.day,
             moment: self.moment,
             details: self.details.try_clone()?,
         })
     }
+}
+
+/// Details of which nothing is known: five empty ones. They take no memory.
+#[tactic(auto, unfolding(mds_terms::specs::Details::details_of))]
+pub fn empty_details(alloc: Global) -> Details
+    ensures { result ≡ no_details }
+{
+    Details::read(alloc, b"", b"", b"", b"", b"")
+        .unwrap()
+        .unwrap()
 }

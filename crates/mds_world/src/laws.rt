@@ -1,10 +1,14 @@
 //! Laws of the World. The functions do nothing.
 
-ghost use Rattle.std.specs.Prelude.{◌≡◌, ◌+◌, ◌++◌, ℕ, List};
+ghost use Rattle.std.specs.Prelude.{◌≡◌, ◌↔◌, ◌+◌, ◌++◌, ℕ, List};
 ghost use Rattle.mds_names.specs.declared.stream.Stream.{Stream};
 ghost use Rattle.mds_marks.specs.Reading.{ReadingValue};
+ghost use Rattle.mds_terms.specs.Details.{DetailsValue};
 ghost use Rattle.mds_statements.specs.Statements.{Statement};
+ghost use Rattle.mds_world.specs.Current.{DetailsComeFrom, HasSameDetails, IsCurrentDetails, IsNearestDetails};
+ghost use Rattle.mds_world.specs.declared.facts.Detail.{Detail as DetailValue};
 ghost use Rattle.mds_world.specs.Facts.{Fact};
+ghost use Rattle.mds_world.specs.Facts.Fact.{DetailIs};
 ghost use Rattle.mds_world.specs.Sets.{◌∈◌};
 ghost use Rattle.mds_world.specs.World.{World, Agrees, IsCurrent, union};
 ghost use Rattle.mds_world.specs.Counts.{counted, added_by, known_by};
@@ -43,4 +47,25 @@ pub fn one_current()
 /// A part of a World that agrees agrees as well.
 pub fn parts_agree()
     ensures { (w part : World) → ((fact : Fact) → fact ∈ part → fact ∈ w) → Agrees w → Agrees part }
+{}
+
+/// Each day of a stream has current details, and no others.
+pub fn one_details()
+    ensures some { (w : World) (stream : Stream) (day : ℕ) → (d : DetailsValue) × IsCurrentDetails w stream day d }
+    ensures one { (w : World) (stream : Stream) (day : ℕ) (d e : DetailsValue) → IsCurrentDetails w stream day d
+        → IsCurrentDetails w stream day e → d ≡ e }
+{}
+
+/// The current details of a day are the greatest pair of the nearest day that has some.
+pub fn nearest_details()
+    ensures { (w : World) (stream : Stream) (day : ℕ) (d : DetailsValue)
+        → IsCurrentDetails w stream day d ↔ IsNearestDetails w stream day d }
+{}
+
+/// Details that come back change the current details of no day. Alone they are those of their days.
+pub fn details_come_back()
+    ensures beside { (w back : World) → DetailsComeFrom w back → (stream : Stream) (day : ℕ)
+        → HasSameDetails w (union w back) stream day }
+    ensures alone { (w back : World) → DetailsComeFrom w back → (detail : DetailValue) → DetailIs detail ∈ back
+        → HasSameDetails w back detail.stream detail.day }
 {}

@@ -6,7 +6,8 @@
 mod facts;
 mod laws;
 
-pub use facts::{Detail, Head, Key, StreamDay};
+pub use facts::{Detail, Head, Key, StreamDay, empty_details};
 pub use laws::{
-    any_order, counts_grow, known_or_added, one_current, parts_agree, repeated_facts_add_nothing,
+    any_order, counts_grow, details_come_back, known_or_added, nearest_details, one_current,
+    one_details, parts_agree, repeated_facts_add_nothing,
 };

@@ -2,10 +2,10 @@
 use Rattle.std.specs.Prelude.{Result, Ok, Err}
 use Rattle.mds_store.specs.declared.starting.StoreFault.{StoreFault}
 use Rattle.mds_store.specs.declared.starting.StoreFault.TheVariants as store
-use Rattle.mds_migrate.specs.declared.migrating.Migrated.{Migrated}
-use Rattle.mds_migrate.specs.declared.migrating.Migrated.TheVariants as migrated
-use Rattle.mds_migrate.specs.declared.migrating.MigrateFault.{MigrateFault}
-use Rattle.mds_migrate.specs.declared.migrating.MigrateFault.TheVariants as fault
+use Rattle.mds_migrate.specs.declared.outcome.Migrated.{Migrated}
+use Rattle.mds_migrate.specs.declared.outcome.Migrated.TheVariants as migrated
+use Rattle.mds_migrate.specs.declared.outcome.MigrateFault.{MigrateFault}
+use Rattle.mds_migrate.specs.declared.outcome.MigrateFault.TheVariants as fault
 use Rattle.mds_requests.specs.declared.files.RequestFault.{RequestFault}
 use Rattle.mds_requests.specs.declared.files.RequestFault.TheVariants as request
 use Rattle.mds_desk.specs.declared.outcome.Outcome.{Outcome}

@@ -6,7 +6,7 @@ ghost use Rattle.mdstore.specs.Refusals.{of_migration, of_store};
 use crate::place::{Place, Standing};
 use mds_desk::Outcome;
 use mds_keeper::Keeper;
-use mds_migrate::{MigrateFault, Migrated, migrate};
+use mds_migrate::{MigrateFault, Migrated, migrate_all};
 use mds_pack_store::{adopt, create};
 use mds_store::StoreFault;
 use sqlite::{Alter, Connection, Error, ErrorCode, FileFrom, FileStore, Files, Wary};
@@ -47,7 +47,7 @@ pub(crate) fn in_store<T: Task + Drop>(rt: &HostRuntime, path: &str, task: T) ->
     in_file(rt, path, Adopt { task })
 }
 
-/// Takes the store of a path, which isn't made where there is none, to packed days. A store of these is left as it is.
+/// Takes the store of a path, which isn't made where there is none, to schema 3. A store of that is left as it is.
 pub(crate) fn migrate_store(rt: &HostRuntime, path: &str) -> Outcome {
     in_file(rt, path, Migrate)
 }
@@ -121,14 +121,14 @@ impl<T: Task + Drop> DatabaseTask for Adopt<T> {
     }
 }
 
-/// To take the store that it is to packed days.
+/// To take the store that it is to schema 3.
 #[derive(Drop)]
 struct Migrate;
 
 impl DatabaseTask for Migrate {
     fn run<S: Alter>(self, rt: &HostRuntime, conn: Connection<S>) -> (Connection<S>, Outcome) {
         let mut conn = conn;
-        let outcome = of_migration(migrate(rt.alloc(), &mut conn));
+        let outcome = of_migration(migrate_all(rt.alloc(), &mut conn));
         (conn, outcome)
     }
 }

@@ -1,5 +1,6 @@
 use Rattle.std.proofs.Common.{refl}
 use Rattle.mds_jobs.specs.Jobs.{content_of}
+use Rattle.mds_keeper.specs.LentVersions.{lent_reading}
 use Rattle.mds_fill.proofs.BookValues.{other_flag, other_form, usable_is}
 use Rattle.mds_fill.proofs.usable.usable_value.Goals as goal
 
@@ -10,10 +11,12 @@ returns-then-not-has_form_of c = λ w d is.
 
 pub returns-then-not-is_actual_or_final : goal.returns-then-not-is_actual_or_final
 returns-then-not-is_actual_or_final c = λ w d is.
-    other_flag w (content_of c.args.job.now) d _ c.args.interval c.in-Some.version.now is c.is_lawful.ensures
+    let version = c.in-Some.version in
+    other_flag w (content_of c.args.job.now) d _ c.args.interval version.update (lent_reading version) is c.is_lawful.ensures
     c.in-Some.ensures.some c.if-not-is_actual_or_final.ensures
 
 pub returns : goal.returns
 returns c = λ w d is.
-    usable_is w (content_of c.args.job.now) d _ c.args.interval c.in-Some.version.now _ is c.is_lawful.ensures
-    (c.if-not-has_form_of.ensures.0 refl) c.in-Some.ensures.some c.if-not-is_actual_or_final.ensures c.value.ensures.value
+    let version = c.in-Some.version in
+    usable_is w (content_of c.args.job.now) d _ c.args.interval version.update (lent_reading version) version.value is
+    c.is_lawful.ensures (c.if-not-has_form_of.ensures.0 refl) c.in-Some.ensures.some c.if-not-is_actual_or_final.ensures refl

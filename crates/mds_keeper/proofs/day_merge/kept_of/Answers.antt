@@ -9,10 +9,10 @@ pub returns-then-has_all-clause-same : goal.returns-then-has_all-clause-same
 returns-then-has_all-clause-same c =
     let all : held_count c.args.book.now c.args.update 1 c.args.readings ≡ length c.args.readings =
     omega (arith, c.requires.held, c.if-has_all.true, c.len.ensures.value) in
-    kept_same _ _ _ c.is_lawful.ensures (subst (AllPairs IsBefore) c.ascending_rows.ensures.value c.ascending_rows.ensures.ascending) c.requires.whole all
+    kept_same _ _ _ c.is_lawful.ensures (subst (AllPairs IsBefore) c.lent_rows.ensures.value c.lent_rows.ensures.ascending) c.requires.whole all
 
 pub returns-then-has_all-clause-kept : goal.returns-then-has_all-clause-kept
 returns-then-has_all-clause-kept c = λ _.
     let all : held_count c.args.book.now c.args.update 1 c.args.readings ≡ length c.args.readings =
     omega (arith, c.requires.held, c.if-has_all.true, c.len.ensures.value) in
-    kept_in_book _ _ _ c.is_lawful.ensures (subst (AllPairs IsBefore) c.ascending_rows.ensures.value c.ascending_rows.ensures.ascending) c.requires.whole all
+    kept_in_book _ _ _ c.is_lawful.ensures (subst (AllPairs IsBefore) c.lent_rows.ensures.value c.lent_rows.ensures.ascending) c.requires.whole all

@@ -1,6 +1,7 @@
 use Rattle.std.proofs.Common.{subst, sym, take}
 use Rattle.std.proofs.lemmas.List.{take_all}
-use Rattle.mds_memory.proofs.Notes.{AreWith, as_before, in_more, in_take, more_notes, notes_in, same_notes}
+use Rattle.mds_memory.proofs.Keys.{AreWith, as_before, in_more, in_take}
+use Rattle.mds_memory.proofs.Notes.{more_notes, notes_in, same_notes}
 use Rattle.mds_memory.proofs.stored_notes.insert_notes.Goals as goal
 
 pub returns-in_default-clause-err : goal.returns-in_default-clause-err

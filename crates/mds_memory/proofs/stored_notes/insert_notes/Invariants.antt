@@ -1,5 +1,5 @@
 use Rattle.std.proofs.Common.{take}
-use Rattle.mds_memory.proofs.Notes.{AreWith}
+use Rattle.mds_memory.proofs.Keys.{AreWith}
 use Rattle.mds_memory.proofs.stored_notes.insert_notes.Given as goal
 
 abbrev pub invariant-loop-i : goal.invariant-loop-i

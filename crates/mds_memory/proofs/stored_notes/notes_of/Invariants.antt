@@ -1,18 +1,13 @@
 use Rattle.std.proofs.Common.{◌≡◌, ◌++◌, map}
-use Rattle.mds_world.specs.Facts.Fact.{DetailIs, EventIs, HolidayIs}
+use Rattle.mds_world.specs.Facts.Fact.{EventIs, HolidayIs}
 use Rattle.mds_memory.specs.Stored.{note_fact}
 use Rattle.mds_memory.proofs.stored_notes.notes_of.Given as goal
 
-abbrev pub invariant-loop-detail : goal.invariant-loop-detail
-invariant-loop-detail l =
-    map note_fact l.notes.items ++ map DetailIs l.detail-iterator.rest.items ≡ map DetailIs l.fn.details.items
-
 abbrev pub invariant-loop-event : goal.invariant-loop-event
 invariant-loop-event l =
-    map note_fact l.notes.items ++ map EventIs l.event-iterator.rest.items
-    ≡ map DetailIs l.fn.details.items ++ map EventIs l.fn.events.items
+    map note_fact l.notes.items ++ map EventIs l.event-iterator.rest.items ≡ map EventIs l.fn.events.items
 
 abbrev pub invariant-loop-day : goal.invariant-loop-day
 invariant-loop-day l =
     map note_fact l.notes.items ++ map HolidayIs l.day-iterator.rest.items
-    ≡ map DetailIs l.fn.details.items ++ map EventIs l.fn.events.items ++ map HolidayIs l.fn.holidays.items
+    ≡ map EventIs l.fn.events.items ++ map HolidayIs l.fn.holidays.items

@@ -1,7 +1,7 @@
 use Rattle.std.proofs.Common.{subst, arith}
 use Rattle.sqlite.specs.Held.{state}
 use Rattle.mds_selects.specs.Shown.{AreVersionsIn}
-use Rattle.mds_pack_rows.proofs.PutLemmas.{if_ok}
+use Rattle.mds_pack_rows.proofs.PutLemmas.{if_ok, kept_since}
 use Rattle.mds_migrate.proofs.PackingLemmas.{packs_day}
 use Rattle.mds_migrate.proofs.packing.pack_day_of.Goals as goal
 
@@ -14,3 +14,16 @@ returns-clause-ok g c =
     c.in-Some.ensures.some (omega (arith, c.number.ensures.last)) c.in_ok-rows.rows.items versions
     (subst (λ rows. AreVersionsIn rows versions) c.as_slice.ensures.value c.in_ok-all_versions.ensures) c.in_ok-rows.ensures.ok)
     c.put_day.ensures.ok
+
+pub returns-in_err-rows-clause-kept : goal.returns-in_err-rows-clause-kept
+returns-in_err-rows-clause-kept g c there = c.version_rows.ensures.kept there.clean there.rest.more there.schema
+
+pub returns-in_err-all_versions-clause-kept : goal.returns-in_err-all_versions-clause-kept
+returns-in_err-all_versions-clause-kept g c there = c.version_rows.ensures.kept there.clean there.rest.more there.schema
+
+pub returns-clause-kept : goal.returns-clause-kept
+returns-clause-kept g c there =
+    let later = c.put_day.ensures.survives.clean in
+    kept_since (state g.S.Store c.args.tx.now.conn.now) (state g.S.Store c.version_rows.new.tx.conn.now) (state g.S.Store c.put_day.new.tx.conn.now)
+    later (λ clean. (c.in_ok-rows.ensures.ok clean).same)
+    (c.version_rows.ensures.kept (omega (arith, there.clean, later)) there.rest.more there.schema) c.put_day.ensures.kept there

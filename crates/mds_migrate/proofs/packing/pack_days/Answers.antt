@@ -14,7 +14,7 @@ loop-row-init g c =
       same = c.all_heads.ensures.same_reference;
       later = omega arith;
       survives = c.all_heads.ensures.survives;
-      kept = λ there. c.all_heads.ensures.kept there.clean there.schema;
+      kept = λ there. c.all_heads.ensures.kept there.clean there.rest.more there.schema;
       packs = packs_since old new new (omega arith) (λ clean. (c.in_ok-heads.ensures.ok clean).same) c.in_ok-heads.ensures.goes_on [] (packs_none new);
     }
 
@@ -55,3 +55,6 @@ returns-clause-ok g c =
     take_all c.loop-row.row-index heads (omega arith) ∙ c.as_slice-row-items.ensures.value in
     packs_every old (state g.S.Store c.all_heads.new.tx.conn.now) new c.loop-row.invariant.later c.in_ok-heads.heads.items c.in_ok-heads.ensures.ok
     (subst (PacksDays old new) all c.loop-row.invariant.packs)
+
+pub returns-in_err-heads-clause-kept : goal.returns-in_err-heads-clause-kept
+returns-in_err-heads-clause-kept g c there = c.all_heads.ensures.kept there.clean there.rest.more there.schema

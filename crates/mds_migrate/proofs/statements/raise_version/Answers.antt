@@ -1,14 +1,12 @@
-use Rattle.std.proofs.Common.{◌≡◌, [], ◌∷◌, arith, refl, sym, ◌∙◌}
+use Rattle.std.proofs.Common.{◌≡◌, [], ◌∷◌, arith, of_z, refl, rules, sym, to_z, to_z-of_z, w64, ◌∙◌}
 use Rattle.sqlite.specs.Held.{state}
 use Rattle.sqlite.specs.State.{HasCleanDisk, KeepsCommit}
 use Rattle.sqlite.proofs.InsideLemmas.{keeps_then}
-use Rattle.mds_tables.specs.Stores.{FindsOf, SelectsAll}
-use Rattle.mds_tables.specs.Tables.{schema_tree}
-use Rattle.mds_selects.proofs.QueryLemmas.{finds_every}
-use Rattle.mds_pack_rows.specs.PackTables.{schema_2}
-use Rattle.mds_pack_rows.specs.PacksLayout.{packs_layout}
-use Rattle.mds_pack_rows.specs.Putting.{GoesOn}
-use Rattle.mds_pack_rows.proofs.AskLemmas.{fails_kept, shown_kept, shown_on}
+use Rattle.mds_tables.specs.Stores.{SelectsAll}
+use Rattle.mds_tables.specs.Tables.{More, schema_tree, schema_with}
+use Rattle.mds_pack_rows.specs.PackTables.{packs_then}
+use Rattle.mds_pack_rows.specs.Putting.{FindsThere, GoesOn}
+use Rattle.mds_pack_rows.proofs.AskLemmas.{fails_kept, finds_all, shown_kept, shown_on}
 use Rattle.mds_pack_rows.proofs.PutLemmas.{if_ok, one_row}
 use Rattle.mds_pack_rows.proofs.PutLemmas.{on_then}
 use Rattle.mds_migrate.proofs.StatementLemmas.{raises}
@@ -19,23 +17,24 @@ use Rattle.mds_migrate.proofs.statements.raise_version.Goals.{In-Ok}
 
 -- the rowids were found
 finds : (g : Over) (c : In-Ok g) → HasCleanDisk (state g.S.Store c.query_all.new.self.conn.now)
-    → FindsOf packs_layout (state g.S.Store c.args.tx.now.conn.now) (state g.S.Store c.query_all.new.self.conn.now)
+    → FindsThere (state g.S.Store c.args.tx.now.conn.now) (state g.S.Store c.query_all.new.self.conn.now)
     (λ trees. SelectsAll schema_tree rowid_columns trees c.in-Ok.rows.items)
 finds g c clean =
-    rw c.in-Ok.is at
-    (finds_every packs_layout select_rowids select_rowids_plain schema_tree rowid_columns _ (λ db. refl) select_rowids_is
-    (state g.S.Store c.args.tx.now.conn.now) (state g.S.Store c.query_all.new.self.conn.now) (λ v. v.items) c.query_all.result (c.query_all.ensures.ok clean))
+    finds_all select_rowids schema_tree rowid_columns _ select_rowids_plain (λ db. refl) select_rowids_is
+    (state g.S.Store c.args.tx.now.conn.now) (state g.S.Store c.query_all.new.self.conn.now) c.in-Ok.rows.items
+    (rw c.in-Ok.is at (c.query_all.ensures.ok clean))
 
 -- and nothing was committed
-kept : (g : Over) (c : In-Ok g) → HasCleanDisk (state g.S.Store c.query_all.new.self.conn.now) → (state g.S.Store c.args.tx.now.conn.now).now.schema ≡ schema_2
+kept : (g : Over) (c : In-Ok g) → HasCleanDisk (state g.S.Store c.query_all.new.self.conn.now)
+    → (rest : More) → (state g.S.Store c.args.tx.now.conn.now).now.schema ≡ schema_with (packs_then rest)
     → KeepsCommit (state g.S.Store c.args.tx.now.conn.now) (state g.S.Store c.query_all.new.self.conn.now)
-kept g c clean has =
-    shown_kept select_rowids select_rowids_plain.0 (state g.S.Store c.args.tx.now.conn.now) (state g.S.Store c.query_all.new.self.conn.now) [] has
+kept g c clean rest has =
+    shown_kept (schema_with (packs_then rest)) select_rowids (select_rowids_plain rest).0 (state g.S.Store c.args.tx.now.conn.now) (state g.S.Store c.query_all.new.self.conn.now) [] has
     c.in-Ok.rows.items (rw c.in-Ok.is at (c.query_all.ensures.ok clean))
 
 pub returns-in_default-clause-kept : goal.returns-in_default-clause-kept
 returns-in_default-clause-kept g c there =
-    fails_kept select_rowids select_rowids_plain.0 (state g.S.Store c.args.tx.now.conn.now) (state g.S.Store c.query_all.new.self.conn.now) [] there.schema
+    fails_kept (schema_with (packs_then there.rest.more)) select_rowids (select_rowids_plain there.rest.more).0 (state g.S.Store c.args.tx.now.conn.now) (state g.S.Store c.query_all.new.self.conn.now) [] there.schema
     c.in_default.field-0 (rw c.in_default.is at (c.query_all.ensures.err there.clean))
 
 pub returns-in-len1-clause-goes_on : goal.returns-in-len1-clause-goes_on
@@ -55,17 +54,18 @@ returns-in-len1-clause-ok g c =
     let new = state g.S.Store c.replace_version.new.tx.conn.now in
     let found = finds g (goal.at.returns-in-len1-clause-ok g c).In-Ok in
     let shown = c.row-item.result in
+    let same : to_z w64 (of_z w64 c.args.number) ≡ c.args.number = to_z-of_z {w = w64} {z = c.args.number} (search rules) in
     let alone : c.in-Ok.rows.items ≡ shown ∷ [] = sym c.as_slice.ensures.value ∙ one_row _ shown (omega arith) c.row-item.is in
     if_ok c.replace_version.result _ _
-    (λ raise there _.
-    raises old mid new c.replace_version.ensures.survives.clean (λ clean. (found clean).same) c.in-Ok.rows.items shown alone found raise there)
-    c.replace_version.ensures.ok
+    (λ raise there said _.
+    raises c.args.number old mid new c.replace_version.ensures.survives.clean (λ clean. (found clean).same) c.in-Ok.rows.items shown alone found raise there)
+    (rw same at c.replace_version.ensures.ok)
 
 pub returns-in-len1-clause-kept : goal.returns-in-len1-clause-kept
 returns-in-len1-clause-kept g c there =
     keeps_then (state g.S.Store c.args.tx.now.conn.now) (state g.S.Store c.query_all.new.self.conn.now) (state g.S.Store c.replace_version.new.tx.conn.now)
-    (kept g (goal.at.returns-in-len1-clause-kept g c).In-Ok (omega (arith, there.clean, c.replace_version.ensures.survives.clean)) there.schema)
+    (kept g (goal.at.returns-in-len1-clause-kept g c).In-Ok (omega (arith, there.clean, c.replace_version.ensures.survives.clean)) there.rest.more there.schema)
     (c.replace_version.ensures.kept there.clean)
 
 pub returns-clause-kept : goal.returns-clause-kept
-returns-clause-kept g c there = kept g (goal.at.returns-clause-kept g c).In-Ok there.clean there.schema
+returns-clause-kept g c there = kept g (goal.at.returns-clause-kept g c).In-Ok there.clean there.rest.more there.schema

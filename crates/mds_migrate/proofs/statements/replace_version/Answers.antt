@@ -12,9 +12,10 @@ returns-clause-ok g c =
     let old = state g.S.Store c.args.tx.now.conn.now in
     let new = state g.S.Store c.execute.new.self.conn.now in
     let same : to_z w64 (of_z w64 c.in-Some.id) ≡ c.in-Some.id = to_z-of_z {w = w64} {z = c.in-Some.id} (search rules) in
-    raises_row c.in-Some.id old new c.args.shown.now c.in-Some.ensures.some
-    (λ clean. subst (λ n. ExecutesInside 0 update_version (Int c.in-Some.id ∷ []) old new (Ok n)) c.if-not-is_replaced.false
-    (rw (c.in-Ok.is, c.id_cells.ensures, same) at (c.execute.ensures.runs clean (still _ _ _ _ c.execute.ensures.ended c.in-Ok.is))))
+    let says : to_z w64 (of_z w64 c.args.number) ≡ c.args.number = to_z-of_z {w = w64} {z = c.args.number} (search rules) in
+    raises_row c.in-Some.id c.args.number old new c.args.shown.now c.in-Some.ensures.some
+    (λ clean. subst (λ n. ExecutesInside 0 update_version (Int c.in-Some.id ∷ Int c.args.number ∷ []) old new (Ok n)) c.if-not-is_replaced.false
+    (rw (c.in-Ok.is, c.id_cells.ensures, same, says) at (c.execute.ensures.runs clean (still _ _ _ _ c.execute.ensures.ended c.in-Ok.is))))
 
 pub returns-in_default-execute-clause-kept : goal.returns-in_default-execute-clause-kept
 returns-in_default-execute-clause-kept g c clean =

@@ -1,6 +1,6 @@
 use Rattle.std.proofs.Common.{◌≡◌, ◌++◌, map, refl, ap, subst, ◌∙◌, arith, take, take_all}
 use Rattle.sqlite.specs.Held.{state}
-use Rattle.mds_inserts.proofs.EightDays.{chunks_are, flat}
+use Rattle.mds_pack_rows.proofs.EightLemmas.{chunks_are, flat}
 use Rattle.mds_keeper.specs.Content.{version_fact, versions_of}
 use Rattle.mds_tables.proofs.CallLemmas.{keeps_same, survives_more, survives_same}
 use Rattle.mds_pack_rows.specs.Putting.{PutsFacts}

@@ -15,4 +15,7 @@ returns-clause-kept g c there =
     let later = c.put_day.ensures.survives.clean in
     kept_since (state g.S.Store c.args.tx.now.conn.now) (state g.S.Store c.length_of_day.new.tx.conn.now)
     (state g.S.Store c.put_day.new.tx.conn.now) later (λ clean. (c.in_ok-length.ensures.ok clean).same)
-    (c.length_of_day.ensures.kept (omega (arith, there.clean, later)) there.schema) c.put_day.ensures.kept there
+    (c.length_of_day.ensures.kept (omega (arith, there.clean, later)) there.rest.more there.schema) c.put_day.ensures.kept there
+
+pub returns-in_err-length-clause-kept : goal.returns-in_err-length-clause-kept
+returns-in_err-length-clause-kept g c there = c.length_of_day.ensures.kept there.clean there.rest.more there.schema

@@ -17,8 +17,8 @@ returns-in-len1-clause-ok g c =
     let alone : c.in_ok-rows.rows.items ≡ shown ∷ [] = sym c.as_slice.ensures.value ∙ one_row _ shown (omega arith) c.row-item.is in
     if_ok c.lay_over.result _ _
     (lays_since old mid new c.lay_over.ensures.survives.clean (λ clean. (found clean).same) c.in_ok-rows.ensures.goes_on c.args.stream.now c.args.day c.args.update shown c.args.readings.now
-    (λ clean has whole. subst (λ rows. Selects pack_tree (row.key_cells c.args.stream.now c.args.day c.args.update) body_columns old.now.trees rows) alone
-    ((found clean).shows has whole)))
+    (λ clean rest has whole. subst (λ rows. Selects pack_tree (row.key_cells c.args.stream.now c.args.day c.args.update) body_columns old.now.trees rows) alone
+    ((found clean).shows rest has whole)))
     c.lay_over.ensures.ok
 
 pub returns-in-empty-clause-ok : goal.returns-in-empty-clause-ok
@@ -31,9 +31,15 @@ returns-in-empty-clause-ok g c =
 pub returns-in-empty-clause-kept : goal.returns-in-empty-clause-kept
 returns-in-empty-clause-kept g c there =
     keeps_then (state g.S.Store c.args.tx.now.conn.now) (state g.S.Store c.body_rows.new.tx.conn.now) (state g.S.Store c.add_row.new.tx.conn.now)
-    (c.body_rows.ensures.kept (omega (arith, there.clean, c.add_row.ensures.survives.clean)) there.schema) (c.add_row.ensures.kept there.clean)
+    (c.body_rows.ensures.kept (omega (arith, there.clean, c.add_row.ensures.survives.clean)) there.rest.more there.schema) (c.add_row.ensures.kept there.clean)
 
 pub returns-in-len1-clause-kept : goal.returns-in-len1-clause-kept
 returns-in-len1-clause-kept g c there =
     keeps_then (state g.S.Store c.args.tx.now.conn.now) (state g.S.Store c.body_rows.new.tx.conn.now) (state g.S.Store c.lay_over.new.tx.conn.now)
-    (c.body_rows.ensures.kept (omega (arith, there.clean, c.lay_over.ensures.survives.clean)) there.schema) (c.lay_over.ensures.kept there.clean)
+    (c.body_rows.ensures.kept (omega (arith, there.clean, c.lay_over.ensures.survives.clean)) there.rest.more there.schema) (c.lay_over.ensures.kept there.clean)
+
+pub returns-in_err-rows-clause-kept : goal.returns-in_err-rows-clause-kept
+returns-in_err-rows-clause-kept g c there = c.body_rows.ensures.kept there.clean there.rest.more there.schema
+
+pub returns-clause-kept : goal.returns-clause-kept
+returns-clause-kept g c there = c.body_rows.ensures.kept there.clean there.rest.more there.schema

@@ -2,7 +2,7 @@ use Rattle.std.proofs.Common.{◌≡◌, ap, sym, true≢false, ◌∙◌}
 use Rattle.std.specs.List.{flat_map}
 use Rattle.sqlite.specs.Held.{state}
 use Rattle.sqlite.specs.Values.{bound}
-use Rattle.mds_inserts.proofs.EightLemmas.{itself, untouched}
+use Rattle.mds_pack_rows.proofs.RefusedLemmas.{itself, untouched}
 use Rattle.mds_tables.proofs.CallLemmas.{still}
 use Rattle.mds_pack_rows.specs.Eights.{columns_of}
 use Rattle.mds_pack_rows.proofs.EightLemmas.{eight_there, none_there}

@@ -8,6 +8,6 @@ unreachable-requires c =
     c.in_default-latest_update.ensures.none
 
 pub returns-clause-some : goal.returns-clause-some
-returns-clause-some c = λ w is.
-    selected_of w c.args.book.now _ is c.day.ensures (sym c.head.ensures ∙ c.in-Some.is)
+returns-clause-some c = λ w is details.
+    selected_of w c.args.book.now _ is c.day.ensures (sym c.head.ensures ∙ c.in-Some.is) details
     c.in-Some-latest_update.ensures.some (c.in_ok-readings.ensures w is)

@@ -1,13 +1,12 @@
-use Rattle.std.proofs.Common.{ap, ◌∙◌}
-use Rattle.mds_marks.specs.declared.mark.Mark.{Mark}
+use Rattle.mds_keeper.specs.LentVersions.{lent_reading}
 use Rattle.mds_registers.proofs.BookReadings.{null_by, null_without}
 use Rattle.mds_registers.proofs.stretches.is_null.Goals as goal
 
 pub returns-in-Some : goal.returns-in-Some
 returns-in-Some c = λ w is.
-    null_by w c.args.book.now c.args.interval c.in-Some.version.now.update c.in-Some.version.now.reading c.flag.result is
-    c.is_lawful.ensures c.in-Some.ensures.some
-    (c.flag.ensures.value ∙ ap (λ (m : Mark). m.quality.flag) c.mark.ensures.value)
+    let version = c.in-Some.version in
+    null_by w c.args.book.now c.args.interval version.update (lent_reading version) c.flag.result is c.is_lawful.ensures
+    c.in-Some.ensures.some c.flag.ensures.value
 
 pub returns-in-None : goal.returns-in-None
 returns-in-None c = λ w is. null_without w c.args.book.now c.args.interval is c.in-None.ensures.none

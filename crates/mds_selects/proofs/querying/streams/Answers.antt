@@ -13,26 +13,21 @@ returns-in_default-head_stream_rows g c layout =
     let ready = steady layout c.in-Ok.ensures.ok c.ready.ensures.survives c.ready.ensures.mode in
     unanswered (tables_held layout (state g.S.Store c.args.conn.now)) ready (c.in_default-head_stream_rows.ensures layout) _
 
-pub returns-in_default-detail_stream_rows : goal.returns-in_default-detail_stream_rows
-returns-in_default-detail_stream_rows g c layout =
-    let ready = steady layout c.in-Ok.ensures.ok c.ready.ensures.survives c.ready.ensures.mode in
-    unanswered (tables_held layout (state g.S.Store c.args.conn.now)) (and_then ready (c.in-Ok-head_stream_rows.ensures layout)) (c.in_default-detail_stream_rows.ensures layout) _
-
 pub returns-in_default-period_stream_rows : goal.returns-in_default-period_stream_rows
 returns-in_default-period_stream_rows g c layout =
     let ready = steady layout c.in-Ok.ensures.ok c.ready.ensures.survives c.ready.ensures.mode in
-    unanswered (tables_held layout (state g.S.Store c.args.conn.now)) (and_then (and_then ready (c.in-Ok-head_stream_rows.ensures layout)) (c.in-Ok-detail_stream_rows.ensures layout)) (c.in_default-period_stream_rows.ensures layout) _
+    unanswered (tables_held layout (state g.S.Store c.args.conn.now)) (and_then ready (c.in-Ok-head_stream_rows.ensures layout))
+    (c.in_default-period_stream_rows.ensures layout) _
 
 pub returns : goal.returns
 returns g c layout =
     let heads = c.in-Ok-head_stream_rows.heads.items in
-    let details = c.in-Ok-detail_stream_rows.details.items in
     let periods = c.in-Ok-period_stream_rows.periods.items in
     let ready = steady layout c.in-Ok.ensures.ok c.ready.ensures.survives c.ready.ensures.mode in
-    let asked = and_then (and_then ready (c.in-Ok-head_stream_rows.ensures layout)) (c.in-Ok-detail_stream_rows.ensures layout) in
+    let asked = and_then ready (c.in-Ok-head_stream_rows.ensures layout) in
     answers (tables_held layout (state g.S.Store c.args.conn.now)) (and_then asked (c.in-Ok-period_stream_rows.ensures layout)) c.all_streams.result
-    (λ known. with_both c.all_streams.result (λ streams. AreStreamsIn heads details periods streams.items)
+    (λ known. with_both c.all_streams.result (λ streams. AreStreamsIn heads periods streams.items)
     (λ streams. AllPairs (λ a b. stream_cmp a b ≡ Less) streams.items) _
-    (λ streams. finds_streams layout _ known.0.0.0 heads details periods known.0.0.1 known.0.1 known.1 streams.items)
-    (rw (c.deref.ensures.value, c.deref-2.ensures.value, c.deref-3.ensures.value) at c.all_streams.ensures.each)
+    (λ streams. finds_streams layout _ known.0.0 heads periods known.0.1 known.1 streams.items)
+    (rw (c.deref.ensures.value, c.deref-2.ensures.value) at c.all_streams.ensures.each)
     c.all_streams.ensures.ascending)

@@ -1,6 +1,5 @@
-use Rattle.std.proofs.Common.{◌∙◌, ap, refl, subst, sym}
-use Rattle.mds_keeper.specs.Books.{book_world}
-use Rattle.mds_keeper.specs.BookRows.{Fits, IsBook, Misfits}
+use Rattle.std.proofs.Common.{refl, subst}
+use Rattle.mds_keeper.specs.BookRows.{Fits, Misfits}
 use Rattle.mds_keeper.proofs.BooksMade.{is_book, misfit_refused, same_world, two_refused}
 use Rattle.mds_keeper.proofs.day_book.DayBook.new.Goals as goal
 
@@ -19,30 +18,20 @@ returns-then-not-fit-clause-none c =
     c.in-Some.ensures.some.1 (subst (Misfits c.args.head) c.deref.ensures.value c.if-not-fit.ensures)
 
 pub invariant_of-result : goal.invariant_of-result
-invariant_of-result c =
-    subst (λ rows. IsBook (record {
-      stream = c.args.stream;
-      day = c.args.day;
-      head = c.args.head;
-      rows = rows;
-    })) (sym c.own.ensures)
-    (is_book (record {
-      stream = c.args.stream;
-      day = c.args.day;
-      head = c.args.head;
-      rows = c.in-Some.rows.items;
-    }) c.in-Some.ensures.some.0 (subst (Fits c.args.head) c.deref.ensures.value c.if-not-fit.ensures))
+invariant_of-result c = (
+  is_book (record {
+    stream = c.args.stream;
+    day = c.args.day;
+    head = c.args.head;
+    rows = c.in-Some.rows.items;
+  }) c.in-Some.ensures.some.0 (subst (Fits c.args.head) c.deref.ensures.value c.if-not-fit.ensures),
+  tt,
+)
 
 pub returns-clause-some : goal.returns-clause-some
 returns-clause-some c = (
   refl,
   refl,
   refl,
-  ap (λ rows. book_world (record {
-    stream = c.args.stream;
-    day = c.args.day;
-    head = c.args.head;
-    rows = rows;
-  })) c.own.ensures
-      ∙ same_world c.args.stream c.args.day c.args.head c.args.versions.items c.in-Some.rows.items c.in-Some.ensures.some.1,
+  same_world c.args.stream c.args.day c.args.head c.args.versions.items c.in-Some.rows.items c.in-Some.ensures.some.1,
 )

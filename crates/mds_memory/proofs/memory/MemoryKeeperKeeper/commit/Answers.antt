@@ -4,50 +4,62 @@ use Rattle.mds_world.specs.Facts.Fact.{HeadIs}
 use Rattle.mds_world.specs.World.{Agrees, IsLawful, union}
 use Rattle.mds_keeper.specs.Content.{content, job_fact, period_fact, version_fact, versions_of}
 use Rattle.mds_memory.specs.Stored.{IsChange, days_world, stored_world}
-use Rattle.mds_memory.proofs.Kept.{committed, lawful_days, lawful_jobs, notes_absent, notes_apart, periods_agree}
+use Rattle.mds_memory.specs.StoredDetails.{all_details}
+use Rattle.mds_memory.proofs.Kept.{committed, details_absent, details_apart, lawful_days, lawful_jobs, notes_absent, notes_apart, periods_agree}
 use Rattle.mds_memory.proofs.Told.{added}
 use Rattle.mds_memory.proofs.memory.MemoryKeeperKeeper.commit.Goals as goal
-use Rattle.mds_memory.proofs.memory.MemoryKeeperKeeper.commit.Goals.{After-drop-notes-2}
+use Rattle.mds_memory.proofs.memory.MemoryKeeperKeeper.commit.Goals.{After-drop-meters-2}
 
 pub changed_days-requires-clause-lawful : goal.changed_days-requires-clause-lawful
 changed_days-requires-clause-lawful c =
-    lawful_days c.self.inside.days c.self.inside.notes c.self.inside.jobs c.self.inside.periods c.args.additions
+    lawful_days c.self.inside.days c.self.inside.details c.self.inside.notes c.self.inside.jobs c.self.inside.periods c.args.additions
     (rw c.self.view_is (c.requires.lawful tt (rw c.self.view_is at c.self.invariant.lawful)))
 
-pub insert_notes-requires-clause-apart : goal.insert_notes-requires-clause-apart
-insert_notes-requires-clause-apart c =
-    rw c.deref-3.ensures.value (notes_apart c.args.self.now c.args.additions c.in_ok-notes.notes.items (c.requires.new tt (rw c.self.view_is at c.self.invariant.lawful)) c.in_ok-notes.ensures)
+pub insert_both-requires-clause-details : goal.insert_both-requires-clause-details
+insert_both-requires-clause-details c =
+    let new = c.requires.new tt (rw c.self.view_is at c.self.invariant.lawful) in
+    rw c.deref-3.ensures.value (
+      details_apart c.args.self.now c.args.additions (all_details c.in_ok-meters.meters.items) new c.in_ok-meters.ensures,
+      details_absent c.self.inside.days c.self.inside.details c.self.inside.notes c.self.inside.jobs c.self.inside.periods
+          c.args.self.now c.args.additions (all_details c.in_ok-meters.meters.items) c.self.view_is new c.in_ok-meters.ensures,
+    )
 
-pub insert_notes-requires-clause-absent : goal.insert_notes-requires-clause-absent
-insert_notes-requires-clause-absent c =
-    rw c.deref-3.ensures.value
-    (notes_absent c.self.inside.days c.self.inside.notes c.self.inside.jobs c.self.inside.periods c.args.self.now c.args.additions c.in_ok-notes.notes.items c.self.view_is
-    (c.requires.new tt (rw c.self.view_is at c.self.invariant.lawful)) c.in_ok-notes.ensures)
+pub insert_both-requires-clause-notes : goal.insert_both-requires-clause-notes
+insert_both-requires-clause-notes c =
+    let new = c.requires.new tt (rw c.self.view_is at c.self.invariant.lawful) in
+    rw c.deref-4.ensures.value (
+      notes_apart c.args.self.now c.args.additions c.in_ok-notes.notes.items new c.in_ok-notes.ensures,
+      notes_absent c.self.inside.days c.self.inside.details c.self.inside.notes c.self.inside.jobs c.self.inside.periods
+          c.args.self.now c.args.additions c.in_ok-notes.notes.items c.self.view_is new c.in_ok-notes.ensures,
+    )
 
 pub put_jobs-requires-clause-lawful : goal.put_jobs-requires-clause-lawful
 put_jobs-requires-clause-lawful c =
     subst (λ w. IsLawful (union w (set.from_list (map job_fact c.args.additions.jobs.items)))) (sym c.make_places.ensures.same)
-    (lawful_jobs c.self.inside.days c.self.inside.notes c.self.inside.jobs c.self.inside.periods c.args.additions
+    (lawful_jobs c.self.inside.days c.self.inside.details c.self.inside.notes c.self.inside.jobs c.self.inside.periods c.args.additions
     (rw c.self.view_is (c.requires.lawful tt (rw c.self.view_is at c.self.invariant.lawful))))
 
 pub put_periods-requires-clause-agrees : goal.put_periods-requires-clause-agrees
 put_periods-requires-clause-agrees c =
     subst (λ w. Agrees (union w (set.from_list (map period_fact c.args.additions.periods.items)))) (sym c.make_keys.ensures.same)
-    (periods_agree c.self.inside.days c.self.inside.notes c.self.inside.jobs c.self.inside.periods c.args.additions
+    (periods_agree c.self.inside.days c.self.inside.details c.self.inside.notes c.self.inside.jobs c.self.inside.periods c.args.additions
     (rw c.self.view_is (c.requires.lawful tt (rw c.self.view_is at c.self.invariant.lawful))))
 
-made : (c : After-drop-notes-2)
-    → stored_world c.put_days.new.days c.insert_notes.new.notes c.put_jobs.new.jobs c.put_periods.new.periods
-    ≡ union (stored_world c.self.inside.days c.self.inside.notes c.self.inside.jobs c.self.inside.periods) (content c.args.additions)
+made : (c : After-drop-meters-2)
+    → stored_world c.put_days.new.days c.insert_both.new.details c.insert_both.new.notes c.put_jobs.new.jobs c.put_periods.new.periods
+    ≡ union (stored_world c.self.inside.days c.self.inside.details c.self.inside.notes c.self.inside.jobs c.self.inside.periods) (content c.args.additions)
 made c =
     let change = c.in_ok-changed.ensures in
     let here : IsChange (days_world c.make_room.new.days) (set.from_list (map HeadIs c.args.additions.heads.items ++ map version_fact (versions_of c.args.additions.days.items))) c.in_ok-changed.changed =
     subst (λ w. IsChange w (set.from_list (map HeadIs c.args.additions.heads.items ++ map version_fact (versions_of c.args.additions.days.items))) c.in_ok-changed.changed)
     (sym c.make_room.ensures.same) change.1 in
-    committed c.self.inside.days c.put_days.new.days c.self.inside.notes c.insert_notes.new.notes c.self.inside.jobs c.put_jobs.new.jobs c.self.inside.periods c.put_periods.new.periods c.args.additions c.in_ok-notes.notes.items
+    committed c.self.inside.days c.put_days.new.days c.self.inside.details c.insert_both.new.details c.self.inside.notes c.insert_both.new.notes c.self.inside.jobs c.put_jobs.new.jobs c.self.inside.periods c.put_periods.new.periods c.args.additions
+    (all_details c.in_ok-meters.meters.items) c.in_ok-notes.notes.items
     (c.put_days.ensures.put _ here
     ∙ ap (λ w. union w (set.from_list (map HeadIs c.args.additions.heads.items ++ map version_fact (versions_of c.args.additions.days.items)))) c.make_room.ensures.same)
-    (rw c.deref-3.ensures.value at c.in_ok-insert_notes.ensures.ok)
+    (rw c.deref-3.ensures.value at c.in_ok-insert_both.ensures.ok_details)
+    c.in_ok-meters.ensures
+    (rw c.deref-4.ensures.value at c.in_ok-insert_both.ensures.ok_notes)
     c.in_ok-notes.ensures
     (c.put_jobs.ensures.put ∙ ap (λ w. union w (set.from_list (map job_fact c.args.additions.jobs.items))) c.make_places.ensures.same)
     (c.put_periods.ensures.put

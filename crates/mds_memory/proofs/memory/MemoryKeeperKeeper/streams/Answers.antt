@@ -5,8 +5,6 @@ use Rattle.mds_memory.proofs.memory.MemoryKeeperKeeper.streams.Goals as goal
 pub returns : goal.returns
 returns c =
     let k = c.self.inside in
-    told c.self.view_is (known_streams k.days k.notes k.jobs k.periods c.in_ok-of_days.of_days.items c.in_ok-of_details.of_details.items
-    c.in_ok-of_periods.of_periods.items c.in_ok-others.others.items _ c.in_ok-of_days.ensures c.in_ok-of_details.ensures
-    c.in_ok-of_periods.ensures
-    (rw (c.deref.ensures.value, c.deref-2.ensures.value) at c.in_ok-others.ensures.each)
-    (rw (c.deref-3.ensures.value, c.deref-4.ensures.value) at c.in_ok-streams.ensures.each) c.in_ok-streams.ensures.ascending)
+    told c.self.view_is (known_streams k.days k.details k.notes k.jobs k.periods c.in_ok-of_days.of_days.items
+    c.in_ok-of_periods.of_periods.items _ c.in_ok-of_days.ensures c.in_ok-of_periods.ensures
+    (rw (c.deref.ensures.value, c.deref-2.ensures.value) at c.in_ok-streams.ensures.each) c.in_ok-streams.ensures.ascending)

@@ -1,0 +1,97 @@
+-- What queries of mds_daydetail show, and what their rows say. A row that is shown has no rowid before its columns.
+use Rattle.std.specs.Prelude.{◌≡◌, ◌≤◌, ◌<◌, ◌+◌, ◌^◌, ◌↔◌, ℕ, List, [], ◌∷◌, length, true, All, IfSome, IsTrue}
+use Rattle.std.specs.List.{AllPairs}
+use Rattle.std.specs.Ordering.{is_le, nat_cmp, ordering_then}
+use Rattle.sqlite.specs.declared.types.Value.TheVariants.{Text}
+use Rattle.sqlite_trees.specs.Tree.{Trees}
+use Rattle.sqlite_value.specs.Order.{Row, column}
+use Rattle.mds_names.specs.declared.stream.Stream.{Stream}
+use Rattle.mds_terms.specs.Details.{DetailsValue, details_cmp, is_details}
+use Rattle.mds_world.specs.Lists.{Member}
+use Rattle.mds_keeper.specs.Content.{detail_on}
+use Rattle.mds_keeper.specs.declared.additions.DetailDays.{DetailDays}
+use Rattle.mds_tables.specs.Cells.{day_cells, detail_cells, number_cell, optional_cell}
+use Rattle.mds_tables.specs.RowFacts.{details_from, natural_at, optional_at}
+use Rattle.mds_tables.specs.Stores.{Begins, Selects}
+use Rattle.mds_tables.specs.Tables.{daydetail_tree}
+use Rattle.mds_selects.specs.Written.{IsDay, IsMoment}
+
+-- one of the rows begins with these columns
+abbrev pub HasRow : Trees → Row → Type 0
+HasRow trees key = (row : Row) × Member row (trees daydetail_tree) × Begins key row
+
+-- ---- the nearest day
+
+-- What is shown of the nearest day up to one: nothing where no day up to it has a row. A row that says a day says the nearest one.
+abbrev pub ShowsNearest : Stream → ℕ → Trees → List Row → Type 0
+ShowsNearest s day trees [] = (of : ℕ) → of ≤ day → HasRow trees (day_cells s of) → ⊥
+ShowsNearest s day trees (shown ∷ more) =
+    (of : ℕ) → column shown 0 ≡ number_cell of
+    → (of ≤ day) × HasRow trees (day_cells s of)
+    × ((other : ℕ) → other ≤ day → HasRow trees (day_cells s other) → other ≤ of)
+
+-- ---- the details of a day
+
+-- the columns that are shown of them: the moment, and the five details
+abbrev pub details_columns : List ℕ
+details_columns = 4 ∷ 5 ∷ 6 ∷ 7 ∷ 8 ∷ 9 ∷ []
+
+-- the details of a row, behind its moment
+abbrev pub shown_details : Row → DetailsValue
+shown_details row = details_from row 1
+
+-- A row that the store can have written: its moment isn't below 0, nor its next day below -1.
+abbrev pub IsDetailRow : Row → Type 0
+IsDetailRow row = (natural_at row 0 < 2 ^ 63) × IfSome (optional_at row 5) (λ day. day < 2 ^ 63)
+
+-- rows of later moments first, and of one moment those of greater details
+abbrev pub AreLatestFirst : List Row → Type 0
+AreLatestFirst rows =
+    AllPairs (λ a b. is_le (ordering_then (nat_cmp (natural_at b 0) (natural_at a 0)) (details_cmp (shown_details b) (shown_details a))) ≡ true) rows
+
+-- all rows of a day, in that order where the store can have written them
+abbrev pub ShowsDetails : Stream → ℕ → Trees → List Row → Type 0
+ShowsDetails s day trees rows =
+    Selects daydetail_tree (day_cells s day) details_columns trees rows × (All (λ row. IsDetailRow row) rows → AreLatestFirst rows)
+
+-- the first row tells the details
+abbrev pub TellsFirst : List Row → DetailsValue → Type 0
+TellsFirst [] details = ⊥
+TellsFirst (row ∷ rows) details = shown_details row ≡ details
+
+-- a row is shown of details that the store writes
+pub record IsRowOf (row : Row) (seconds : ℕ) (details : DetailsValue) : Type 0 where
+  pub cells : row
+      ≡ number_cell seconds ∷ Text details.configuration ∷ Text details.register ∷ Text details.datastream ∷ Text details.meter
+      ∷ optional_cell details.next ∷ []
+  pub moment : IsMoment seconds
+  pub lawful : IsTrue (is_details details)
+  pub next : IfSome details.next IsDay
+
+-- a row of details that the store writes
+abbrev pub IsWritten : Row → Type 0
+IsWritten row = (moment : ℕ) × (details : DetailsValue) × IsRowOf row moment details
+
+-- the bytes of the texts of details
+abbrev pub text_length : DetailsValue → ℕ
+text_length d = length d.configuration + length d.register + length d.datastream + length d.meter
+
+-- ---- the days that have some details
+
+-- what is asked for them: the details, with the first and the last day of a range
+abbrev pub days_cells : DetailDays → ℕ → ℕ → Row
+days_cells d first last =
+    Text d.stream.nmi ∷ Text d.stream.suffix ∷ number_cell first ∷ number_cell last ∷ number_cell d.moment
+    ∷ Text d.details.configuration ∷ Text d.details.register ∷ Text d.details.datastream ∷ Text d.details.meter
+    ∷ optional_cell d.details.next ∷ []
+
+-- each day of the range that has a row of the details, alone in a row
+abbrev pub ShowsDaysWith : DetailDays → ℕ → ℕ → Trees → List Row → Type 0
+ShowsDaysWith details first last trees rows =
+    (shown : Row) → Member shown rows
+    ↔ ((day : ℕ) × (first ≤ day) × (day ≤ last) × HasRow trees (detail_cells (detail_on details day)) × (shown ≡ number_cell day ∷ []))
+
+-- those days of a list that no row says are left
+abbrev pub AreLeft : List ℕ → List Row → List ℕ → Type 0
+AreLeft old rows left =
+    (day : ℕ) → Member day left ↔ (Member day old × ((row : Row) → Member row rows → column row 0 ≡ number_cell day → ⊥))

@@ -1,0 +1,9 @@
+//! The details of days, asked of a store of schema 3.
+#![tactic(auto)]
+
+mod querying;
+mod rows;
+mod terms;
+
+pub use querying::{are_detail_rows, current_details, days_without};
+pub use terms::details_at;

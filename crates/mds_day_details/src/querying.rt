@@ -1,0 +1,193 @@
+//! What is asked of the details of days, found by queries. A store that can't answer is unavailable (U1). So is one that holds a
+//! row that it didn't write.
+
+ghost use Rattle.std.specs.Prelude.{◌≡◌, ◌≢◌, ◌<◌, ◌≤◌, ◌^◌, ℕ, List, [], ◌∷◌, false, All, IfNone, IfOk, IfSome, IsTrue, OnErr, OnOk, Some};
+ghost use Rattle.std.specs.Bool.{OnFalse};
+ghost use Rattle.std.specs.BTreeSet.{IsFromIterResult};
+ghost use Rattle.sqlite.specs.Held.{state};
+ghost use Rattle.sqlite_value.specs.Order.{Row as RowValue, column};
+ghost use Rattle.mds_terms.specs.Details.{DetailsValue};
+ghost use Rattle.mds_world.specs.Current.{IsCurrentDetails};
+ghost use Rattle.mds_world.specs.Lists.{Member};
+ghost use Rattle.mds_keeper.specs.Queries.{AreDaysWithout};
+ghost use Rattle.mds_tables.specs.Cells.{number_cell};
+ghost use Rattle.mds_tables.specs.Queries.{Answers};
+ghost use Rattle.mds_tables.specs.Stores.{HoldsOf};
+ghost use Rattle.mds_selects.specs.Shown.{SaysDay};
+ghost use Rattle.mds_selects.specs.Written.{IsDay};
+ghost use Rattle.mds_pack_rows.specs.DailyLayout.{daily_layout, world_3};
+ghost use Rattle.mds_day_details.specs.Shown.{AreLeft, IsDetailRow, IsRowOf, IsWritten, TellsFirst, text_length};
+
+use crate::rows::{days_with_rows, details_rows, nearest_rows};
+use crate::terms::{details_at, is_detail_row};
+use mds_keeper::{DetailDays, Unavailable};
+use mds_selects::{day_at, in_order};
+use mds_tables::ready;
+use mds_terms::{Day, Details, Stream};
+use mds_world::empty_details;
+use sqlite::{Alter, Connection, Row};
+use std::alloc::{AllocError, Global};
+use std::collections::BTreeSet;
+
+/// The current details of a day of a stream, which need not be known: its own, or those of the nearest earlier day that has some.
+/// All rows of that one day are read. A single row of a query with a LIMIT wouldn't tell of one beside it that the store didn't write.
+pub fn current_details<S: Alter>(
+    alloc: Global,
+    conn: &mut Connection<S>,
+    stream: &Stream,
+    day: Day,
+) -> Result<Details, Unavailable>
+    requires { conn.old.in_transaction ≡ false }
+    ensures { Answers (HoldsOf daily_layout) (state S.Store conn.old) (state S.Store conn.new) result
+        (λ trees. IsCurrentDetails (world_3 trees) stream.now day) }
+{
+    let Ok(_) = ready(conn) else {
+        return Err(Unavailable);
+    };
+    let Ok(found) = nearest_rows(conn, stream, day) else {
+        return Err(Unavailable);
+    };
+    // For the proof: a day's number is at most that of the last day.
+    let _ = day.number();
+    let nearest = first_day(&found)?;
+    let Some(of) = nearest else {
+        return Ok(empty_details(alloc));
+    };
+    let Ok(rows) = details_rows(conn, stream, of) else {
+        return Err(Unavailable);
+    };
+    first_details(alloc, &rows)
+}
+
+/// The day of the first row. `None` where there is no row.
+fn first_day(rows: &[Row]) -> Result<Option<Day>, Unavailable>
+    ensures ok { IfOk result (SaysDay rows.now) }
+    ensures err { OnErr result ((row : RowValue) × (later : List RowValue) × (rows.now ≡ row ∷ later)
+        × ((day : ℕ) → IsDay day → column row 0 ≢ number_cell day)) }
+{
+    match rows {
+        [first, ..] => match day_at(first, 0) {
+            Some(day) => Ok(Some(day)),
+            None => Err(Unavailable),
+        },
+        [] => Ok(None),
+    }
+}
+
+/// The details of the first row, where all rows are ones that the store can have written.
+fn first_details(alloc: Global, rows: &[Row]) -> Result<Details, Unavailable>
+    ensures first { IfOk result (TellsFirst rows.now) }
+    ensures all { IfOk result (λ details. All (λ row. IsDetailRow row) rows.now) }
+    ensures err { OnErr result (All IsWritten rows.now → rows.now ≢ [] → (row : RowValue) × (later : List RowValue) × (rows.now ≡ row ∷ later)
+        × ((moment : ℕ) (details : DetailsValue) → IsRowOf row moment details → 0 < text_length details)) }
+{
+    let are_lawful = are_detail_rows(rows);
+    if !are_lawful {
+        return Err(Unavailable);
+    }
+    match rows {
+        [first, ..] => details_at(alloc, first),
+        [] => Err(Unavailable),
+    }
+}
+
+/// Whether all rows are ones of details that the store can have written.
+pub fn are_detail_rows(rows: &[Row]) -> bool
+    ensures yes { IsTrue result → All (λ row. IsDetailRow row) rows.now }
+    ensures no { OnFalse result (¬ All IsWritten rows.now) }
+{
+    for i in 0..rows.len() {
+        let is_lawful = is_detail_row(&rows[i]);
+        if !is_lawful {
+            return false;
+        }
+    }
+    true
+}
+
+/// Those of the days that don't have these details yet, current or not. They are ascending, each once. It is one query, whatever the
+/// count of days.
+pub fn days_without<S: Alter>(
+    alloc: Global,
+    conn: &mut Connection<S>,
+    details: &DetailDays,
+) -> Result<Vec<Day>, Unavailable>
+    requires { conn.old.in_transaction ≡ false }
+    ensures { Answers (HoldsOf daily_layout) (state S.Store conn.old) (state S.Store conn.new) result
+        (λ trees days. AreDaysWithout (world_3 trees) details.now days.items) }
+{
+    let Ok(_) = ready(conn) else {
+        return Err(Unavailable);
+    };
+    let Ok(mut left) = set_of(alloc, &details.days) else {
+        return Err(Unavailable);
+    };
+    let Some(ends) = ends_of(&left) else {
+        return Ok(Vec::new(alloc));
+    };
+    let (first, last) = ends;
+    let Ok(rows) = days_with_rows(conn, details, first, last) else {
+        return Err(Unavailable);
+    };
+    // For the proof: a day's number is at most that of the last day, and the other numbers are below 2^63.
+    let _ = last.number();
+    are_small(details);
+    take_shown(&mut left, &rows)?;
+    in_order(alloc, left)
+}
+
+/// The days, each once.
+fn set_of(alloc: Global, days: &[Day]) -> Result<BTreeSet<Day>, AllocError>
+    ensures { IfOk result (IsFromIterResult ⟦<Day as Ord>⟧.cmp days.now) }
+{
+    days.iter().copied().collect(alloc)
+}
+
+/// The least and the greatest of the days.
+fn ends_of(days: &BTreeSet<Day>) -> Option<(Day, Day)>
+    ensures some { IfSome result (λ ends. (day : ℕ) → Member day days.now.keys → (ends.0 ≤ day) × (day ≤ ends.1)) }
+    ensures none { IfNone result (days.now.keys ≡ []) }
+{
+    Some((*days.first()?, *days.last()?))
+}
+
+/// The numbers of details are far below the greatest that a column can hold. The function does nothing.
+fn are_small(details: &DetailDays)
+    ensures moment { details.now.moment < 2 ^ 63 }
+    ensures next { (n : ℕ) → details.now.details.next ≡ Some n → n < 2 ^ 63 }
+{
+    // For the proof: the seconds of a moment are below those of all days there are.
+    let _ = details.moment.seconds();
+    is_small_day(details.details.next());
+}
+
+/// The number of a day is far below the greatest that a column can hold.
+fn is_small_day(day: Option<Day>)
+    ensures { (n : ℕ) → day ≡ Some n → n < 2 ^ 63 }
+{
+    if let Some(day) = day {
+        // For the proof: a day's number is at most that of the last day.
+        let _ = day.number();
+    }
+}
+
+/// Takes the days that rows say out of a set.
+fn take_shown(left: &mut BTreeSet<Day>, rows: &[Row]) -> Result<(), Unavailable>
+    ensures { OnOk result (AreLeft left.old.keys rows.now left.new.keys) }
+{
+    for i in 0..rows.len() {
+        take_day(left, &rows[i])?;
+    }
+    Ok(())
+}
+
+/// Takes the day that a row says out of a set.
+fn take_day(left: &mut BTreeSet<Day>, row: &Row) -> Result<(), Unavailable>
+    ensures { OnOk result (AreLeft left.old.keys (row.now ∷ []) left.new.keys) }
+{
+    let Some(day) = day_at(row, 0) else {
+        return Err(Unavailable);
+    };
+    left.remove(&day);
+    Ok(())
+}

@@ -1,5 +1,0 @@
-use Rattle.mds_keeper.proofs.Walks.{IsWalked}
-use Rattle.mds_keeper.proofs.day_merge.count_held.Given as goal
-
-abbrev pub invariant-loop-i : goal.invariant-loop-i
-invariant-loop-i l = IsWalked l.book l.update l.readings l.left l.held l.i

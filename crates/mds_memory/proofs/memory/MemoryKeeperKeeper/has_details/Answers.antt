@@ -1,6 +1,0 @@
-use Rattle.mds_memory.proofs.Kept.{both_same, detail_same}
-use Rattle.mds_memory.proofs.Told.{told}
-use Rattle.mds_memory.proofs.memory.MemoryKeeperKeeper.has_details.Goals as goal
-
-pub returns : goal.returns
-returns c = let k = c.self.inside in told c.self.view_is (both_same _ _ _ (detail_same k.days k.notes k.jobs k.periods _) c.in_ok-has_details.ensures)

@@ -1,0 +1,285 @@
+-- The parts of the step to schema 3, one after another.
+use Rattle.std.proofs.Common.{◌≡◌, ◌≤◌, ◌↔◌, inl, inr, ℕ, ℤ, [], ◌∷◌, List, map, pos, IsTrue, sym, ap, subst, ◌∙◌, arith}
+use Rattle.std.specs.List.{flat_map}
+use Rattle.sqlite.specs.State.{HasCleanDisk, KeepsCommit, State}
+use Rattle.sqlite.proofs.InsideLemmas.{keeps_then}
+use Rattle.sqlite_catalog.specs.Listing.{IsSound}
+use Rattle.sqlite_schema.specs.declared.schema.Schema.{Schema}
+use Rattle.sqlite_trees.specs.Tree.{Trees}
+use Rattle.sqlite_trees.specs.View.{doubt}
+use Rattle.sqlite_value.specs.Order.{Row}
+use Rattle.mds_world.specs.Facts.{head_at}
+use Rattle.mds_world.specs.Facts.Fact.{DetailIs, EventIs, HeadIs, HolidayIs, JobIs, PeriodIs, VersionIs}
+use Rattle.mds_world.specs.Lists.{Member}
+use Rattle.mds_world.specs.Sets.{◌∈◌}
+use Rattle.mds_world.specs.declared.facts.Detail.{Detail}
+use Rattle.mds_world.specs.declared.facts.Head.{Head}
+use Rattle.mds_world.proofs.Lists.{in_map, map_in}
+use Rattle.mds_world.proofs.Members.{in_list, in_union, list_in, union_right}
+use Rattle.mds_tables.specs.Making.{MakesThere}
+use Rattle.mds_tables.specs.RowFacts.{detail_fact, event_fact, head_fact, holiday_fact, int_at, job_fact, natural_at, period_fact, stream_in, text_at, unit_named}
+use Rattle.mds_tables.specs.Stores.{versions_said}
+use Rattle.mds_tables.specs.Tables.{daydetail_tree, detail_tree, event_tree, head_tree, holiday_tree, job_tree, period_tree, schema_tree}
+use Rattle.mds_inserts.specs.Parts.{detail_part}
+use Rattle.mds_inserts.specs.Writing.{IsMore, KeepsOthers}
+use Rattle.mds_inserts.proofs.RowLemmas.{detail_bare, more, of, says_details}
+use Rattle.mds_selects.proofs.Named.{Names, of_event, of_head, of_holiday, of_job, of_period, of_version}
+use Rattle.mds_pack_rows.specs.DailyLayout.{daily_layout, daydetails_behind, versions_packed, world_3}
+use Rattle.mds_pack_rows.specs.DailyPutting.{IsThereDaily, MakesDaydetail}
+use Rattle.mds_pack_rows.specs.DailyTables.{schema_3, tables_3}
+use Rattle.mds_pack_rows.specs.PackFacts.{pack_facts}
+use Rattle.mds_pack_rows.specs.PackTables.{pack_tree, schema_2}
+use Rattle.mds_pack_rows.specs.PacksLayout.{packs_layout}
+use Rattle.mds_pack_rows.specs.Putting.{GoesOn, IsThere}
+use Rattle.mds_day_details.proofs.DetailCells.{named}
+use Rattle.mds_migrate.specs.Dating.{Dates, IsOfKnownDay}
+use Rattle.mds_migrate.specs.Migrated.{HasDated, IsFor, TakesOn, dating}
+use Rattle.mds_migrate.specs.Migrating.{Clears, Raises}
+use Rattle.mds_migrate.specs.OldDetails.{Becomes, Comes}
+use Rattle.mds_migrate.proofs.DatingLemmas.{greatest_as}
+
+-- ---- what the tables become
+
+-- every table but those of details is as it was, and mds_daydetail says these details
+record IsCarried (old new : Trees) (details : List Detail) : Type 0 where
+  heads : new head_tree ≡ old head_tree
+  packs : new pack_tree ≡ old pack_tree
+  events : new event_tree ≡ old event_tree
+  periods : new period_tree ≡ old period_tree
+  holidays : new holiday_tree ≡ old holiday_tree
+  jobs : new job_tree ≡ old job_tree
+  dated : IsMore (map detail_fact (new daydetail_tree)) [] (map DetailIs details)
+  are : (detail : Detail) → Member detail details ↔ IsOfKnownDay old detail
+
+-- what the same rows say
+across : {A C : Type 0} (P : List Row → Type 0) (xs ys : List Row) → A ↔ P xs → C ↔ P ys → xs ≡ ys → A ↔ C
+across P xs ys one two same = ((λ a. two.1 (subst P same (one.0 a))), (λ c. one.1 (subst P (sym same) (two.0 c))))
+
+-- the stream and the day of a row of a head
+abbrev head_in : Row → Head
+head_in row = head_at (stream_in row) (natural_at row 3) (natural_at row 4) (unit_named (text_at row 5))
+
+head_is : (row : Row) (head : Head) → head_fact row ≡ HeadIs head → head_in row ≡ head
+head_is row head e = cc
+
+module _ (old new : Trees) (details : List Detail) (c : IsCarried old new details) where
+  -- the details that mds_daydetail says
+  said : (x : Detail) → Member (DetailIs x) (map detail_fact (new daydetail_tree)) → Member x details
+  said x m =
+      elim (in_union (of []) (of (map DetailIs details)) (DetailIs x)
+      (subst (λ w. DetailIs x ∈ w) c.dated (list_in (map detail_fact (new daydetail_tree)) (DetailIs x) m))) [
+        | inl none ↦ absurd (in_list [] (DetailIs x) none)
+        | inr h ↦
+            let y = in_map DetailIs details (DetailIs x) (in_list (map DetailIs details) (DetailIs x) h) in
+            let is : DetailIs x ≡ DetailIs y.0 = y.2 in
+            let same : x ≡ y.0 = cc in
+            subst (λ d. Member d details) (sym same) y.1
+      ]
+
+  says : (x : Detail) → Member x details → Member (DetailIs x) (map detail_fact (new daydetail_tree))
+  says x m =
+      in_list (map detail_fact (new daydetail_tree)) (DetailIs x)
+      (subst (λ w. DetailIs x ∈ w) (sym c.dated)
+      (union_right (of []) (of (map DetailIs details)) (DetailIs x)
+      (list_in (map DetailIs details) (DetailIs x) (map_in DetailIs details x m))))
+
+  -- a day that mds_head says is known
+  known_day : (x : Detail) → IsOfKnownDay old x → Comes old (DetailIs x)
+  known_day x is = (
+    (
+      head_in is.head,
+      (of_head packs_layout old (head_in is.head)).1 (is.head, is.there, λ i. HeadIs (head_in is.head)),
+      sym is.stream,
+      sym is.day,
+    ),
+    is.greatest,
+  )
+
+  of_known : (x : Detail) → Comes old (DetailIs x) → IsOfKnownDay old x
+  of_known x it =
+      let day = it.0 in
+      let n = (of_head packs_layout old day.0).0 day.1 in
+      let same : head_in n.0 ≡ day.0 = head_is n.0 day.0 n.2 in
+      record {
+        head = n.0;
+        there = n.1;
+        stream = sym (ap (λ (h : Head). h.stream) same ∙ day.2);
+        day = sym (ap (λ (h : Head). h.day) same ∙ day.3);
+        greatest = it.1;
+      }
+
+  carried_becomes : Becomes old (world_3 new)
+  carried_becomes (HeadIs h) = across (λ rows. Names head_fact rows (HeadIs h)) _ _ (of_head daily_layout new h) (of_head packs_layout old h) c.heads
+  carried_becomes (VersionIs k v) =
+      let all = of_version daily_layout new k v in
+      let packed = versions_packed new k v in
+      across (λ rows. Member (VersionIs k v) (flat_map pack_facts rows)) (new pack_tree) (old pack_tree)
+      ((λ m. packed.0 (all.0 m)), (λ m. all.1 (packed.1 m))) (of_version packs_layout old k v) c.packs
+  carried_becomes (DetailIs x) = (
+    (λ m.
+        let n = (named new x).0 m in
+        let there : Member (DetailIs x) (map detail_fact (new daydetail_tree)) =
+        subst (λ f. Member f (map detail_fact (new daydetail_tree))) n.2 (map_in detail_fact (new daydetail_tree) n.0 n.1) in
+        known_day x ((c.are x).0 (said x there))),
+    (λ it.
+        let n = in_map detail_fact (new daydetail_tree) (DetailIs x) (says x ((c.are x).1 (of_known x it))) in
+        (named new x).1 (n.0, n.1, sym n.2)),
+  )
+  carried_becomes (EventIs v) = across (λ rows. Names event_fact rows (EventIs v)) _ _ (of_event daily_layout new v) (of_event packs_layout old v) c.events
+  carried_becomes (PeriodIs k v) = across (λ rows. Names period_fact rows (PeriodIs k v)) _ _ (of_period daily_layout new k v) (of_period packs_layout old k v) c.periods
+  carried_becomes (HolidayIs d) = across (λ rows. Names holiday_fact rows (HolidayIs d)) _ _ (of_holiday daily_layout new d) (of_holiday packs_layout old d) c.holidays
+  carried_becomes (JobIs id v n) = across (λ rows. Names job_fact rows (JobIs id v n)) _ _ (of_job daily_layout new id v n) (of_job packs_layout old id v n) c.jobs
+
+-- a day that the tables say before mds_daydetail is made
+known_as : (old new : Trees) → new head_tree ≡ old head_tree → new detail_tree ≡ old detail_tree → (x : Detail) → IsOfKnownDay old x → IsOfKnownDay new x
+known_as old new heads same x is = record {
+  head = is.head;
+  there = subst (Member is.head) (sym heads) is.there;
+  stream = is.stream;
+  day = is.day;
+  greatest = greatest_as old new same x.stream (record { stream = x.stream; moment = x.moment; details = x.details }) is.greatest;
+}
+
+-- ---- the chain
+
+-- what is kept of the tables of a schema that it has
+others_of : (tree : ℕ) (schema : Schema) (old new : State) → old.now.schema ≡ schema → KeepsOthers tree old.now.trees new.now.trees old.now.schema.tables
+    → KeepsOthers tree old.now.trees new.now.trees schema.tables
+others_of tree schema old new has = subst (λ (s : Schema). KeepsOthers tree old.now.trees new.now.trees s.tables) has
+
+there_3 : (a b : State) → HasCleanDisk b → IsTrue a.is_open → a.now.schema ≡ schema_3 → IsSound a.now.schema a.now.trees → IsThere a b
+there_3 a b clean o has sound =
+    record { clean = clean; is_open = o; rest = daydetails_behind; schema = has; sound = subst (λ schema. IsSound schema a.now.trees) has sound }
+
+module _ (a b c : State) (bc : doubt b.is_clean ≤ doubt c.is_clean)
+    (makes : HasCleanDisk b → IsTrue a.is_open → a.now.schema ≡ schema_2 → MakesDaydetail a b) where
+  at_b : HasCleanDisk c → IsTrue a.is_open → IsFor dating a.now → IsThereDaily b c
+  at_b clean o first =
+      let made = makes (omega (arith, clean, bc)) o first.store.store.schema in
+      record { clean = clean; is_open = made.is_open; schema = made.schema; sound = made.sound }
+
+  pub keeps_two : (HasCleanDisk b → KeepsCommit a b) → (IsThereDaily b c → KeepsCommit b c) → HasCleanDisk c → IsTrue a.is_open → IsFor dating a.now
+      → KeepsCommit a c
+  keeps_two one two clean o first = keeps_then a b c (one (omega (arith, clean, bc))) (two (at_b clean o first))
+
+  module _ (d : State) (cd : doubt c.is_clean ≤ doubt d.is_clean) (dates : IsThereDaily b c → Dates b c) (on : GoesOn b c) where
+    dated : HasCleanDisk c → IsTrue a.is_open → IsFor dating a.now → Dates b c
+    dated clean o first = dates (at_b clean o first)
+
+    at_c : HasCleanDisk d → IsTrue a.is_open → IsFor dating a.now → IsThere c d
+    at_c clean o first =
+        let early : HasCleanDisk c = omega (arith, clean, cd) in
+        let it = dated early o first in
+        record {
+          clean = clean;
+          is_open = on.is_open early (at_b early o first).is_open;
+          rest = daydetails_behind;
+          schema = it.puts.schema;
+          sound = it.puts.sound;
+        }
+
+    pub keeps_three : (HasCleanDisk b → KeepsCommit a b) → (IsThereDaily b c → KeepsCommit b c) → (IsThere c d → KeepsCommit c d) → HasCleanDisk d
+        → IsTrue a.is_open → IsFor dating a.now → KeepsCommit a d
+    keeps_three one two three clean o first =
+        keeps_then a c d (keeps_two one two (omega (arith, clean, cd)) o first) (three (at_c clean o first))
+
+    module _ (e : State) (de : doubt d.is_clean ≤ doubt e.is_clean) (clears : IsThere c d → Clears detail_tree c d) where
+      cleared : HasCleanDisk d → IsTrue a.is_open → IsFor dating a.now → Clears detail_tree c d
+      cleared clean o first = clears (at_c clean o first)
+
+      behind_d : HasCleanDisk d → IsTrue a.is_open → IsFor dating a.now → d.now.schema ≡ schema_3
+      behind_d clean o first = (cleared clean o first).schema ∙ (dated (omega (arith, clean, cd)) o first).puts.schema
+
+      at_d : HasCleanDisk e → IsTrue a.is_open → IsFor dating a.now → IsThere d e
+      at_d clean o first =
+          let early : HasCleanDisk d = omega (arith, clean, de) in
+          let it = cleared early o first in
+          there_3 d e clean it.is_open (behind_d early o first) it.sound
+
+      pub keeps_four : (HasCleanDisk b → KeepsCommit a b) → (IsThereDaily b c → KeepsCommit b c) → (IsThere c d → KeepsCommit c d)
+          → (IsThere d e → KeepsCommit d e) → HasCleanDisk e → IsTrue a.is_open → IsFor dating a.now → KeepsCommit a e
+      keeps_four one two three four clean o first =
+          keeps_then a d e (keeps_three one two three (omega (arith, clean, de)) o first) (four (at_d clean o first))
+
+      module _ (raises : IsThere d e → (was : ℤ) → versions_said d.now.trees ≡ was ∷ [] → Raises (pos 3) d e) where
+        module _ (clean : HasCleanDisk e) (o : IsTrue a.is_open) (first : IsFor dating a.now) where
+          clean_d : HasCleanDisk d
+          clean_d = omega (arith, clean, de)
+
+          clean_c : HasCleanDisk c
+          clean_c = omega (arith, clean, de, cd)
+
+          made : MakesDaydetail a b
+          made = makes (omega (arith, clean, de, cd, bc)) o first.store.store.schema
+
+          dates_others : KeepsOthers daydetail_tree b.now.trees c.now.trees tables_3
+          dates_others = (dated clean_c o first).puts.others
+
+          clears_others : KeepsOthers detail_tree c.now.trees d.now.trees tables_3
+          clears_others = others_of detail_tree schema_3 c d (dated clean_c o first).puts.schema (cleared clean_d o first).others
+
+          same_schema : d.now.trees schema_tree ≡ a.now.trees schema_tree
+          same_schema = clears_others.0 (λ e. omega arith) ∙ dates_others.0 (λ e. omega arith) ∙ made.others.0
+
+          raised : Raises (pos 3) d e
+          raised = raises (at_d clean o first) (pos 2) (ap (map (λ row. int_at row 1)) same_schema ∙ first.store.store.version)
+
+          raises_others : KeepsOthers schema_tree d.now.trees e.now.trees tables_3
+          raises_others = others_of schema_tree schema_3 d e (behind_d clean_d o first) raised.others
+
+          daydetails_gained : IsMore (map detail_fact (c.now.trees daydetail_tree)) (map detail_fact (b.now.trees daydetail_tree))
+              (map DetailIs (dated clean_c o first).details)
+          daydetails_gained =
+              let it = dated clean_c o first in
+              more detail_part detail_bare it.details (says_details it.details) b.now.trees c.now.trees it.puts.rows
+
+          same_dated : e.now.trees daydetail_tree ≡ c.now.trees daydetail_tree
+          same_dated = raises_others.1.1.1.1.1.1.1.1.1.0 (λ e. omega arith) ∙ clears_others.1.1.1.1.1.1.1.1.1.0 (λ e. omega arith)
+
+          carried : IsCarried a.now.trees e.now.trees (dated clean_c o first).details
+          carried = record {
+            heads = raises_others.1.0 (λ e. omega arith) ∙ clears_others.1.0 (λ e. omega arith) ∙ dates_others.1.0 (λ e. omega arith) ∙ made.others.1.0;
+            packs = raises_others.1.1.1.1.1.1.1.1.0 (λ e. omega arith) ∙ clears_others.1.1.1.1.1.1.1.1.0 (λ e. omega arith)
+                ∙ dates_others.1.1.1.1.1.1.1.1.0 (λ e. omega arith) ∙ made.others.1.1.1.1.1.1.1.1.0;
+            events = raises_others.1.1.1.1.0 (λ e. omega arith) ∙ clears_others.1.1.1.1.0 (λ e. omega arith)
+                ∙ dates_others.1.1.1.1.0 (λ e. omega arith) ∙ made.others.1.1.1.1.0;
+            periods = raises_others.1.1.1.1.1.0 (λ e. omega arith) ∙ clears_others.1.1.1.1.1.0 (λ e. omega arith)
+                ∙ dates_others.1.1.1.1.1.0 (λ e. omega arith) ∙ made.others.1.1.1.1.1.0;
+            holidays = raises_others.1.1.1.1.1.1.0 (λ e. omega arith) ∙ clears_others.1.1.1.1.1.1.0 (λ e. omega arith)
+                ∙ dates_others.1.1.1.1.1.1.0 (λ e. omega arith) ∙ made.others.1.1.1.1.1.1.0;
+            jobs = raises_others.1.1.1.1.1.1.1.0 (λ e. omega arith) ∙ clears_others.1.1.1.1.1.1.1.0 (λ e. omega arith)
+                ∙ dates_others.1.1.1.1.1.1.1.0 (λ e. omega arith) ∙ made.others.1.1.1.1.1.1.1.0;
+            dated = subst (λ rows. IsMore (map detail_fact rows) [] (map DetailIs (dated clean_c o first).details)) (sym same_dated)
+                (subst (λ rows. IsMore (map detail_fact (c.now.trees daydetail_tree)) (map detail_fact rows) (map DetailIs (dated clean_c o first).details))
+                made.none daydetails_gained);
+            are = λ x.
+                let it = (dated clean_c o first).are x in (
+                  (λ m. known_as b.now.trees a.now.trees (sym made.others.1.0) (sym made.others.1.1.1.0) x (it.0 m)),
+                  (λ is. it.1 (known_as a.now.trees b.now.trees made.others.1.0 made.others.1.1.1.0 x is)),
+                );
+          }
+
+          has_dated : HasDated a.now.trees e.now.trees
+          has_dated = record {
+            becomes = carried_becomes a.now.trees e.now.trees (dated clean_c o first).details carried;
+            version = raised.version;
+            unversioned = raises_others.1.1.0 (λ e. omega arith) ∙ clears_others.1.1.0 (λ e. omega arith)
+                ∙ dates_others.1.1.0 (λ e. omega arith) ∙ made.others.1.1.0 ∙ first.store.unversioned;
+            undated = raises_others.1.1.1.0 (λ e. omega arith) ∙ (cleared clean_d o first).none;
+            sound = subst (λ schema. IsSound schema e.now.trees) (raised.schema ∙ behind_d clean_d o first) raised.sound;
+          }
+
+        pub takes_on : MakesThere schema_2 schema_3 a b → GoesOn c d → GoesOn d e → TakesOn dating a e
+        takes_on one three four = record {
+          was_open = λ clean o.
+              one.was_open (omega (arith, clean, bc, cd, de))
+              (on.was_open (omega (arith, clean, cd, de)) (three.was_open (omega (arith, clean, de)) (four.was_open clean o)));
+          is_open = λ clean o.
+              four.is_open clean (three.is_open (omega (arith, clean, de))
+              (on.is_open (omega (arith, clean, cd, de)) (one.is_open (omega (arith, clean, bc, cd, de)) o)));
+          inside = λ clean o.
+              four.inside clean (three.inside (omega (arith, clean, de))
+              (on.inside (omega (arith, clean, cd, de)) (one.inside (omega (arith, clean, bc, cd, de)) o)));
+          schema = λ clean o first. (raised clean o first).schema ∙ behind_d (clean_d clean o first) o first;
+          taken = λ clean o first. has_dated clean o first;
+        }

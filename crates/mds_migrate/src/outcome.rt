@@ -1,0 +1,19 @@
+//! What a migration comes to.
+
+/// What a migration did.
+#[derive(Clone, Copy, Debug, PartialEq, Eq)]
+pub enum Migrated {
+    /// The store is one of the next schema.
+    Done,
+    /// It was one of schema 3.
+    AlreadyCurrent,
+}
+
+/// Why a database isn't migrated.
+#[derive(Clone, Copy, Debug, PartialEq, Eq)]
+pub enum MigrateFault {
+    /// The connection is in a transaction, or the store failed (U1). A row that the store didn't write makes it fail too.
+    Unavailable,
+    /// The database is a store of none of the schemas (U3).
+    OtherSchema,
+}

@@ -1,0 +1,116 @@
+//! The details of a file that aren't kept yet.
+
+ghost use Rattle.std.specs.Prelude.{◌↔◌, ◌⊎◌, IfOk, OnOk};
+ghost use Rattle.mds_world.specs.declared.facts.Detail.{Detail};
+ghost use Rattle.mds_world.specs.Facts.Fact.{DetailIs};
+ghost use Rattle.mds_world.specs.Lists.{Apart, Member};
+ghost use Rattle.mds_world.specs.Sets.{◌∈◌};
+ghost use Rattle.mds_keeper.specs.Content.{details_of, details_on};
+ghost use Rattle.mds_keeper.specs.Kept.{OfKept, Stays};
+ghost use Rattle.mds_service.specs.SharedDays.{HasDetail};
+
+use mds_keeper::{DetailDays, Keeper, Unavailable};
+use mds_terms::{Day, Details, Moment, Stream};
+use std::alloc::{AllocError, Global};
+use std::collections::BTreeMap;
+
+/// Details that days of a stream share, under one moment.
+#[derive(PartialEq, Eq, PartialOrd, Ord, Drop)]
+struct SharedDetails {
+    stream: Stream,
+    moment: Moment,
+    details: Details,
+}
+
+/// Those of the details that aren't kept yet, each once. Days of one stream that have equal details are asked for at once.
+pub(crate) fn new_details<K: Keeper>(
+    alloc: Global,
+    keeper: &mut K,
+    details: Vec<DetailDays>,
+) -> Result<Vec<DetailDays>, Unavailable>
+    ensures stays { Stays (K.kept keeper.old) (K.kept keeper.new) }
+    ensures apart { (K.kept keeper.new).honest → IfOk result (λ new. Apart (details_of new.items)) }
+    ensures just { OfKept (K.kept keeper.old) (K.kept keeper.new)
+        (λ w. IfOk result (λ new. (detail : Detail) → Member detail (details_of new.items)
+        ↔ (Member detail (details_of details.items) × (DetailIs detail ∈ w → ⊥)))) }
+{
+    // A file may state details before each day, and its streams in turn.
+    let together = put_together(alloc, details)?;
+    ask_all(alloc, keeper, together)
+}
+
+/// The days that share details, in the order of these.
+fn put_together(
+    alloc: Global,
+    details: Vec<DetailDays>,
+) -> Result<BTreeMap<SharedDetails, Vec<Day>>, AllocError>
+    ensures { IfOk result (λ together. (detail : Detail)
+        → HasDetail ⟦<SharedDetails as Ord>⟧.cmp together detail ↔ Member detail (details_of details.items)) }
+{
+    let mut together = BTreeMap::new(alloc);
+    for group in details {
+        put_group(&mut together, group)?;
+    }
+    Ok(together)
+}
+
+/// Puts days beside those before them that have the same details.
+fn put_group(
+    together: &mut BTreeMap<SharedDetails, Vec<Day>>,
+    group: DetailDays,
+) -> Result<(), AllocError>
+    ensures { OnOk result ((detail : Detail) → HasDetail ⟦<SharedDetails as Ord>⟧.cmp together.new detail
+        ↔ (HasDetail ⟦<SharedDetails as Ord>⟧.cmp together.old detail ⊎ Member detail (details_on group))) }
+{
+    let DetailDays {
+        stream,
+        moment,
+        details,
+        mut days,
+    } = group;
+    let shared = SharedDetails {
+        stream,
+        moment,
+        details,
+    };
+    if let Some(known) = together.get_mut(&shared) {
+        known.append(&mut days)?;
+        return Ok(());
+    }
+    together.insert(shared, days)?;
+    Ok(())
+}
+
+/// Of days that share details those that don't have them yet, each once.
+fn ask_all<K: Keeper>(
+    alloc: Global,
+    keeper: &mut K,
+    together: BTreeMap<SharedDetails, Vec<Day>>,
+) -> Result<Vec<DetailDays>, Unavailable>
+    ensures stays { Stays (K.kept keeper.old) (K.kept keeper.new) }
+    ensures apart { (K.kept keeper.new).honest → IfOk result (λ new. Apart (details_of new.items)) }
+    ensures just { OfKept (K.kept keeper.old) (K.kept keeper.new)
+        (λ w. IfOk result (λ new. (detail : Detail) → Member detail (details_of new.items)
+        ↔ (HasDetail ⟦<SharedDetails as Ord>⟧.cmp together detail × (DetailIs detail ∈ w → ⊥)))) }
+{
+    let mut new = Vec::new(alloc);
+    for (shared, days) in together {
+        let SharedDetails {
+            stream,
+            moment,
+            details,
+        } = shared;
+        let mut group = DetailDays {
+            stream,
+            moment,
+            details,
+            days,
+        };
+        let days = keeper.days_without(&group)?;
+        if !days.is_empty() {
+            group.days = days;
+            new.push(group)?;
+        }
+    }
+    Ok(new)
+}
