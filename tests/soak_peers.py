@@ -58,7 +58,9 @@ def talk(peer, data, ends, pause, leaves):
         if leaves == "reset":
             peer.setsockopt(socket.SOL_SOCKET, socket.SO_LINGER, struct.pack("ii", 1, 0))
         if ends:
-            peer.shutdown(socket.SHUT_WR)
+            # A connection that was reset meanwhile has no end to tell.
+            with contextlib.suppress(OSError):
+                peer.shutdown(socket.SHUT_WR)
     sent = time.monotonic()
     with contextlib.suppress(ConnectionError):
         while not leaves and (more := peer.recv(65536)):
