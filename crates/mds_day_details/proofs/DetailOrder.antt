@@ -43,13 +43,13 @@ use Rattle.mds_day_details.proofs.DetailTexts.{details_fall, details_query, sele
 no_less : (most n : ℕ) → most + n < most → ⊥
 no_less most n h = omega arith
 
-moment_order : (m n : ℤ) → natural m < 2 ^ 63 → natural n < 2 ^ 63 → int_cmp m n ≡ nat_cmp (natural m) (natural n)
+pub moment_order : (m n : ℤ) → natural m < 2 ^ 63 → natural n < 2 ^ 63 → int_cmp m n ≡ nat_cmp (natural m) (natural n)
 moment_order (pos a) (pos b) p q = counted a b
 moment_order (pos a) (negsuc b) p q = absurd (no_less (2 ^ 63) b q)
 moment_order (negsuc a) n p q = absurd (no_less (2 ^ 63) a p)
 
 -- -1, which stands for none, is below all days
-next_order : (m n : ℤ) → IfSome (optional m) (λ day. day < 2 ^ 63) → IfSome (optional n) (λ day. day < 2 ^ 63)
+pub next_order : (m n : ℤ) → IfSome (optional m) (λ day. day < 2 ^ 63) → IfSome (optional n) (λ day. day < 2 ^ 63)
     → int_cmp m n ≡ option_cmp nat_cmp (optional m) (optional n)
 next_order (pos a) (pos b) p q = counted a b
 next_order (pos a) (negsuc zero) p q = refl
@@ -60,7 +60,7 @@ next_order (negsuc zero) (negsuc (suc b)) p q = absurd (no_less (2 ^ 63) b q)
 next_order (negsuc (suc a)) n p q = absurd (no_less (2 ^ 63) a p)
 
 -- the order of rows that are shown, the greatest last
-abbrev shown_cmp : Row → Row → Ordering
+abbrev pub shown_cmp : Row → Row → Ordering
 shown_cmp = then_cmp (on (λ row. natural_at row 0) nat_cmp) (on shown_details details_cmp)
 
 shown_total : IsTotalOrder shown_cmp
@@ -68,11 +68,11 @@ shown_total = then_total (on_total (λ row. natural_at row 0) nat_cmp_total) (on
 
 -- ---- an output, and what it is sorted by
 
-record IsKeyed (o : Output) : Type 0 where
-  keys : o.0 ≡ Int (int_at o.1 0) ∷ Text (text_at o.1 1) ∷ Text (text_at o.1 2) ∷ Text (text_at o.1 3)
+pub record IsKeyed (o : Output) : Type 0 where
+  pub keys : o.0 ≡ Int (int_at o.1 0) ∷ Text (text_at o.1 1) ∷ Text (text_at o.1 2) ∷ Text (text_at o.1 3)
       ∷ Text (text_at o.1 4) ∷ Int (int_at o.1 5) ∷ []
 
-two : (x xx y yy : Ordering) → x ≡ xx → y ≡ yy → ordering_then x y ≡ ordering_then xx yy
+pub two : (x xx y yy : Ordering) → x ≡ xx → y ≡ yy → ordering_then x y ≡ ordering_then xx yy
 two x xx y yy p q = ap (λ o. ordering_then o y) p ∙ ap (ordering_then xx) q
 
 same_order : (a b : Output) → IsKeyed a → IsKeyed b → IsDetailRow a.1 → IsDetailRow b.1
@@ -97,31 +97,34 @@ turned Less h = absurd (cc)
 turned Equal h = refl
 turned Greater h = refl
 
-rises : (os : List Output) → AllByRecursion IsKeyed os → IsSorted (output_cmp details_query) os
-    → All (λ row. IsDetailRow row) (map second os) → IsSortedBy (λ x y. is_lt (shown_cmp y x)) (map second os)
-rises os keyed up of k d low high =
-    let e : Output = ([], []) in
-    let within : k + 1 < length os = omega (arith, length-map os second) in
-    let before : k < length os = omega arith in
-    let next : get_or (map second os) (k + 1) d ≡ second (get_or os (k + 1) e) =
-    get_or-map second os (k + 1) e d within in
-    let here : get_or (map second os) k d ≡ second (get_or os k e) = get_or-map second os k e d before in
-    let inside : k < length (map second os) = omega arith in
-    let of_next = subst IsDetailRow next (of (k + 1) d high) in
-    let of_here = subst IsDetailRow here (of k d inside) in
-    let same = same_order (get_or os (k + 1) e) (get_or os k e) (all_at IsKeyed os (k + 1) e keyed within)
-    (all_at IsKeyed os k e keyed before) of_next of_here in
-    ap (λ x. is_lt (shown_cmp (get_or (map second os) k d) x)) next
-    ∙ ap (λ x. is_lt (shown_cmp x (second (get_or os (k + 1) e)))) here ∙ ap is_lt (sym same) ∙ up k e low within
+-- an order of outputs that is the turned one of what they show
+module _ (cmp : Output → Output → Ordering)
+    (same : (a b : Output) → IsKeyed a → IsKeyed b → IsDetailRow a.1 → IsDetailRow b.1 → cmp a b ≡ shown_cmp b.1 a.1) where
+  rises : (os : List Output) → AllByRecursion IsKeyed os → IsSorted cmp os
+      → All (λ row. IsDetailRow row) (map second os) → IsSortedBy (λ x y. is_lt (shown_cmp y x)) (map second os)
+  rises os keyed up of k d low high =
+      let e : Output = ([], []) in
+      let within : k + 1 < length os = omega (arith, length-map os second) in
+      let before : k < length os = omega arith in
+      let next : get_or (map second os) (k + 1) d ≡ second (get_or os (k + 1) e) =
+      get_or-map second os (k + 1) e d within in
+      let here : get_or (map second os) k d ≡ second (get_or os k e) = get_or-map second os k e d before in
+      let inside : k < length (map second os) = omega arith in
+      let of_next = subst IsDetailRow next (of (k + 1) d high) in
+      let of_here = subst IsDetailRow here (of k d inside) in
+      let as_shown = same (get_or os (k + 1) e) (get_or os k e) (all_at IsKeyed os (k + 1) e keyed within)
+      (all_at IsKeyed os k e keyed before) of_next of_here in
+      ap (λ x. is_lt (shown_cmp (get_or (map second os) k d) x)) next
+      ∙ ap (λ x. is_lt (shown_cmp x (second (get_or os (k + 1) e)))) here ∙ ap is_lt (sym as_shown) ∙ up k e low within
 
-latest : (os : List Output) → AllByRecursion IsKeyed os → IsSorted (output_cmp details_query) os
-    → All (λ row. IsDetailRow row) (map second os) → AreLatestFirst (map second os)
-latest os keyed up of i j d low high =
-    let order : IsStrictWeakOrder (λ x y. is_lt (shown_cmp x y)) = ranks_by shown_total (λ (row : Row). row) in
-    let back = IsStrictWeakOrder-flip (λ x y. is_lt (shown_cmp x y)) order in
-    let up_to = rises os keyed up of in
-    let far = sorted_far (λ x y. is_lt (shown_cmp y x)) back (map second os) up_to i j d (omega arith) high in
-    ap is_le (shown_total.antisymm (get_or (map second os) j d) (get_or (map second os) i d)) ∙ turned _ far
+  pub latest : (os : List Output) → AllByRecursion IsKeyed os → IsSorted cmp os
+      → All (λ row. IsDetailRow row) (map second os) → AreLatestFirst (map second os)
+  latest os keyed up of i j d low high =
+      let order : IsStrictWeakOrder (λ x y. is_lt (shown_cmp x y)) = ranks_by shown_total (λ (row : Row). row) in
+      let back = IsStrictWeakOrder-flip (λ x y. is_lt (shown_cmp x y)) order in
+      let up_to = rises os keyed up of in
+      let far = sorted_far (λ x y. is_lt (shown_cmp y x)) back (map second os) up_to i j d (omega arith) high in
+      ap is_le (shown_total.antisymm (get_or (map second os) j d) (get_or (map second os) i d)) ∙ turned _ far
 
 -- ---- the query
 
@@ -149,7 +152,7 @@ module _ (s : Stream) (day : ℕ) (db : Trees) (sound : IsSound schema_3 db) whe
       let r = in_map show (filter pass (db daydetail_tree)) o (moved _ p.ordered p.same o m) in
       subst IsKeyed (sym r.2) (shown_keyed r.0 (filter_in pass (db daydetail_tree) r.0 r.1).0)) in
       let sound_rows = subst (All (λ row. IsDetailRow row)) p.shown of in
-      subst AreLatestFirst (sym p.shown) (latest p.ordered each p.sorted sound_rows)
+      subst AreLatestFirst (sym p.shown) (latest (output_cmp details_query) same_order p.ordered each p.sorted sound_rows)
 
   says_details : (rows : List Row) → PicksDetails rows → ShowsDetails s day db rows
   says_details rows p = (

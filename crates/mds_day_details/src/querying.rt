@@ -29,7 +29,8 @@ use sqlite::{Alter, Connection, Row};
 use std::alloc::{AllocError, Global};
 use std::collections::BTreeSet;
 
-/// The current details of a day of a stream, which need not be known: its own, or those of the nearest earlier day that has some.
+/// The current details of a day of a stream. They are its own, or those of the nearest earlier day that has some. The day need not be
+/// known.
 /// All rows of that one day are read. A single row of a query with a LIMIT wouldn't tell of one beside it that the store didn't write.
 pub fn current_details<S: Alter>(
     alloc: Global,

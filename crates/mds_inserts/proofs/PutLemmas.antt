@@ -4,21 +4,18 @@ use Rattle.std.specs.List.{AllByRecursion}
 use Rattle.std.proofs.lemmas.List.{append-nil, map-append, take_more}
 use Rattle.std.proofs.lemmas.List.Sorted.{IsPermutation-refl}
 use Rattle.sqlite.specs.Command.TheVariants.{Insert}
-use Rattle.sqlite.specs.Does.{Does}
+use Rattle.sqlite.specs.Does.{Does, Tally}
 use Rattle.sqlite.specs.Effect.{Database, value_rows}
 use Rattle.sqlite.specs.Listing.{understood}
 use Rattle.sqlite.specs.Schema.{Schema}
 use Rattle.sqlite.specs.Source.TheVariants.{Values}
 use Rattle.sqlite.specs.State.{ExecutesInside, HasCleanDisk, State, mode_of}
 use Rattle.sqlite.specs.Table.{Table}
-use Rattle.sqlite.specs.declared.types.Value.{Value}
-use Rattle.sqlite.specs.declared.types.Value.TheVariants.{Int, Null}
 use Rattle.sqlite.specs.Kind.TheVariants.{Integer}
 use Rattle.sqlite.proofs.Callers.{IsPlain, command_of, runs_as, statement_of}
 use Rattle.sqlite_catalog.specs.Listing.{IsSound}
 use Rattle.sqlite_rules.proofs.ActionLemmas.{no_works}
-use Rattle.sqlite_rules.specs.Edit.{next_rowid}
-use Rattle.sqlite_rules.specs.Cast.{cast, cast_all}
+use Rattle.sqlite_rules.specs.Cast.{cast}
 use Rattle.sqlite_schema.specs.declared.schema.Keys.TheVariants.{Enforced}
 use Rattle.sqlite_sql.specs.Term.{Term}
 use Rattle.sqlite_trees.specs.Tree.{Trees}
@@ -32,7 +29,7 @@ use Rattle.mds_world.specs.Facts.Fact.{EventIs, HeadIs, HolidayIs}
 use Rattle.mds_world.specs.declared.facts.Head.{Head}
 use Rattle.mds_keeper.specs.Content.{details_of, versions_of}
 use Rattle.mds_keeper.specs.declared.additions.Additions.{Additions}
-use Rattle.mds_tables.proofs.InsertLemmas.{Adds as OneMore, adds, cast_int, simple}
+use Rattle.mds_tables.proofs.InsertLemmas.{cast_int, simple}
 use Rattle.mds_tables.proofs.OpenTexts.{event_terms, head_terms, holiday_terms, insert_event, insert_event_is, insert_event_plain, insert_head, insert_head_is, insert_head_plain, insert_holiday, insert_holiday_is, insert_holiday_plain, insert_job, insert_job_is, insert_job_plain, insert_period, insert_period_is, insert_period_plain, job_terms, period_terms}
 use Rattle.mds_tables.specs.Cells.{event_cells, head_cells, holiday_cells, optional_cell}
 use Rattle.mds_tables.specs.RowFacts.{event_fact, head_fact, holiday_fact, job_fact, period_fact}
@@ -42,22 +39,24 @@ use Rattle.mds_tables.specs.Tables.{More, event_table, head_table, holiday_table
 use Rattle.mds_inserts.specs.MadeRows.{IsRowOfJob, IsRowOfPeriod}
 use Rattle.mds_inserts.specs.declared.jobs.JobRow.{JobRow}
 use Rattle.mds_inserts.specs.declared.periods.PeriodRow.{PeriodRow}
-use Rattle.mds_inserts.specs.Parts.{Part, event_part, head_part, holiday_part, job_part, period_part, rows_of}
-use Rattle.mds_inserts.specs.Refusals.{FailsToPut, RefusesOne, TakesAll, insert_of}
+use Rattle.mds_inserts.specs.Parts.{Part, Says, event_part, head_part, holiday_part, job_part, period_part, singly, statements_of}
+use Rattle.mds_inserts.specs.Refusals.{FailsToPut, RefusesOne, TakesAll, all_cells, insert_of}
 use Rattle.mds_inserts.specs.Writing.{IsMore, IsSteady, Keeps, KeepsBut, KeepsOthers, Puts, PutsAllOf, PutsOwn, PutsOwnThere, PutsRest, PutsRestThere, PutsThere, rest_trees}
 use Rattle.mds_tables.proofs.CauseLemmas.{IsWhole, fails_since, fails_until, stopped_as}
+use Rattle.sqlite.specs.Rows.{Outcome}
 use Rattle.sqlite.specs.declared.error.Error.{Error}
 use Rattle.sqlite_tied.specs.Compute.{everything}
 use Rattle.mds_tables.proofs.FactLemmas.{event_back, head_back}
-use Rattle.mds_inserts.proofs.RowLemmas.{gains_kept, gains_more, gains_one, job_rows_are, kept_gains, of, own_facts, period_rows_are, say_more, world_after}
+use Rattle.mds_inserts.proofs.ManyLemmas.{AddsAll, AreFit, adds_all, sources}
+use Rattle.mds_inserts.proofs.RowLemmas.{gains_kept, gains_more, job_rows_are, kept_gains, of, own_facts, period_rows_are, say_more, world_after}
 
 pub cast_optional : (o : Option ℕ) → cast Integer (optional_cell o) ≡ optional_cell o
 cast_optional None = cast_int _
 cast_optional (Some n) = cast_int _
 
--- ---- a row that is put, or refused
+-- ---- rows that are put, or refused
 
--- a text that puts one row into a table, whatever tables stand behind those that every schema has
+-- a text that puts rows into a table, whatever tables stand behind those that every schema has
 module _ (more : More) (table : Table) (at : ℕ) (text : List ℕ) (terms : List Term) (width : ℕ)
     (placed : slice_get (schema_with more).tables at ≡ Some (simple table))
     (is : command_of (understood (schema_with more) text) ≡ Insert at (Values terms width))
@@ -66,60 +65,59 @@ module _ (more : More) (table : Table) (at : ℕ) (text : List ℕ) (terms : Lis
   abbrev pub part : Part A
   part = record { place = at; tree = table.tree; cells = cells; fact = fact; read = read }
 
-  module _ (old new : State) (item : A) (shape : insert_of at (cells item) ≡ Insert at (Values terms width)) where
-    puts_row : (count : ℕ) → value_rows (cells item ++ []) width (length terms / width) terms ≡ (Null ∷ cells item) ∷ []
-        → cast_all table.columns (cells item) ≡ cells item
-        → old.now.schema ≡ schema_with more → ExecutesInside 0 text (cells item) old new (Ok count) → Puts (schema_with more) part old new (item ∷ [])
-    puts_row count one kept has ran =
+  module _ (old new : State) (items : List A) (values : Row) (count : ℕ)
+      (are : value_rows (values ++ []) width (length terms / width) terms ≡ sources (map cells items)) (fit : AreFit table (map cells items)) where
+    puts_rows : old.now.schema ≡ schema_with more → ExecutesInside 0 text values old new (Ok count) → Puts (schema_with more) part old new items
+    puts_rows has ran =
         let db = old.now.trees in
-        let values = cells item in
         let w = runs_as text values old new (schema_with more) has _ is plain count ran.0 in
         let stated = statement_of text (understood (schema_with more) text) in
         let does =
         subst (λ s. Does old.step_limit (mode_of old) values (record old.now { schema = s }) stated None
         (Insert at (Values terms width)) (Ok (w.tally, new.now))) has w.changed in
-        let it =
-        adds old.step_limit Enforced (schema_with more) table values db values terms width one kept (no_works (schema_with more) Enforced 0 table.tree)
-        (mode_of old) stated at w.tally new.now refl placed does in
-        let put : OneMore (schema_with more) db new.now.trees table values = it.1 in
+        let it = adds_all old.step_limit Enforced (schema_with more) table values db (map cells items) fit terms width are
+        (no_works (schema_with more) Enforced 0 table.tree) (mode_of old) stated at w.tally new.now refl placed does in
+        let put : AddsAll (schema_with more) db new.now.trees table (map cells items) = it.1 in
         record {
           schema = it.0;
-          rows =
-              subst (λ rows. IsPermutation (map (drop 1) (db table.tree) ++ values ∷ []) (map (drop 1) rows)) (sym put.rows)
-              (gains_one (Int (next_rowid (db table.tree))) values (db table.tree) put.fresh);
+          rows = put.rows;
           others = put.others;
           committed = ran.1.committed_is;
           sound = subst (λ s. IsSound s new.now.trees) it.0 w.sound;
-          took = (
-            w.tally,
-            new.now,
-            subst (λ k. Does old.step_limit (mode_of old) values old.now [] None k (Ok (w.tally, new.now))) (sym shape) w.changed,
-            refl,
-          );
         }
 
-    pub puts_there : (count : ℕ) → value_rows (cells item ++ []) width (length terms / width) terms ≡ (Null ∷ cells item) ∷ []
-        → cast_all table.columns (cells item) ≡ cells item
-        → ((id : Value) → read (id ∷ cells item) ≡ fact item)
-        → (HasCleanDisk new → ExecutesInside 0 text (cells item) old new (Ok count)) → PutsThere (schema_with more) part old new (item ∷ [])
-    puts_there count one kept says runs = record {
+    pub puts_there : Says part items → (HasCleanDisk new → ExecutesInside 0 text values old new (Ok count))
+        → PutsThere (schema_with more) part old new items
+    puts_there says runs = record {
       was_open = λ clean _. (runs clean).1.was_open;
       is_open = λ clean _. (runs clean).1.is_open;
       inside = λ clean _. (runs clean).1.mode;
-      puts = λ clean _ has _. puts_row count one kept has (runs clean);
-      said = (says, tt);
+      puts = λ clean _ has _. puts_rows has (runs clean);
+      said = says;
     }
 
-    pub fails_to_put : (e : Error) → IsWhole text (length (cells item)) (understood (schema_with more) text) → old.now.schema ≡ schema_with more
-        → ExecutesInside 0 text (cells item) old new (Err e) → FailsToPut old new (rows_of part (item ∷ [])) old.now e
+  -- the statement in the words of what may be refused
+  module _ (old new : State) (items : List A) (values : Row) (given : all_cells (map cells items) ≡ values)
+      (shape : insert_of at (map cells items) ≡ Insert at (Values terms width)) where
+    as_given : (outcome : Outcome (Tally × Database)) → Does old.step_limit (mode_of old) values old.now [] None (Insert at (Values terms width)) outcome
+        → Does old.step_limit (mode_of old) (all_cells (map cells items)) old.now [] None (insert_of at (map cells items)) outcome
+    as_given outcome does =
+        subst (λ v. Does old.step_limit (mode_of old) v old.now [] None (insert_of at (map cells items)) outcome) (sym given)
+        (subst (λ k. Does old.step_limit (mode_of old) values old.now [] None k outcome) (sym shape) does)
+
+    pub takes_all : (count : ℕ) → old.now.schema ≡ schema_with more → ExecutesInside 0 text values old new (Ok count)
+        → TakesAll old.step_limit (statements_of part (items ∷ [])) old.now new.now
+    takes_all count has ran =
+        let w = runs_as text values old new (schema_with more) has _ is plain count ran.0 in
+        (w.tally, new.now, as_given _ w.changed, refl)
+
+    pub fails_to_put : (e : Error) → IsWhole text (length values) (understood (schema_with more) text) → old.now.schema ≡ schema_with more
+        → ExecutesInside 0 text values old new (Err e) → FailsToPut old new (statements_of part (items ∷ [])) old.now e
     fails_to_put e whole has ran =
-        let because = λ (stop : Option Error)
-        (refused : Does old.step_limit (mode_of old) (cells item) old.now [] None (Insert at (Values terms width)) (Err stop)).
-        subst (λ k. Does old.step_limit (mode_of old) (cells item) old.now [] None k (Err stop)) (sym shape) refused in
-        elim (stopped_as text (cells item) old new (schema_with more) has (Insert at (Values terms width)) is plain whole tt e ran) [
-          | inl refused ↦ inr (inl (because (Some e) refused))
-          | inr failed ↦ inl (fails_until old new new _ (RefusesOne old.step_limit (rows_of part (item ∷ [])) old.now None)
-              (λ big. inl (because None big)) (omega arith) e failed)
+        elim (stopped_as text values old new (schema_with more) has (Insert at (Values terms width)) is plain whole tt e ran) [
+          | inl refused ↦ inr (inl (as_given _ refused))
+          | inr failed ↦ inl (fails_until old new new _ (RefusesOne old.step_limit (statements_of part (items ∷ [])) old.now None)
+              (λ big. inl (as_given _ big)) (omega arith) e failed)
         ]
 
 pub puts_head : (more : More) (old new : State) (h : Head) (count : ℕ) → unit_of (unit_text h.unit) ≡ Some h.unit
@@ -127,14 +125,14 @@ pub puts_head : (more : More) (old new : State) (h : Head) (count : ℕ) → uni
     → PutsThere (schema_with more) head_part old new (h ∷ [])
 puts_head more old new h count reads runs =
     puts_there more head_table 1 insert_head head_terms 6 refl (insert_head_is more) (insert_head_plain more) head_cells HeadIs head_fact
-    old new h refl count refl (rw (cast_int, cast_int)) (λ id. head_back id h reads) runs
+    old new (h ∷ []) (head_cells h) count refl (rw (cast_int, cast_int), tt) ((λ id. head_back id h reads), tt) runs
 
 pub puts_event : (more : More) (old new : State) (e : EventValue) (count : ℕ)
     → (HasCleanDisk new → ExecutesInside 0 insert_event (event_cells e) old new (Ok count))
     → PutsThere (schema_with more) event_part old new (e ∷ [])
 puts_event more old new e count runs =
     puts_there more event_table 4 insert_event event_terms 8 refl (insert_event_is more) (insert_event_plain more) event_cells EventIs
-    event_fact old new e refl count refl (rw (cast_int, cast_optional)) (λ id. event_back id e) runs
+    event_fact old new (e ∷ []) (event_cells e) count refl (rw (cast_int, cast_optional), tt) ((λ id. event_back id e), tt) runs
 
 abbrev period_row_cells : PeriodRow → Row
 period_row_cells = period_part.cells
@@ -144,14 +142,14 @@ pub puts_period : (more : More) (old new : State) (row : PeriodRow) (count : ℕ
     → PutsThere (schema_with more) period_part old new (row ∷ [])
 puts_period more old new row count runs =
     puts_there more period_table 5 insert_period period_terms 8 refl (insert_period_is more) (insert_period_plain more) period_row_cells
-    (period_part.fact) period_fact old new row refl count refl (rw (cast_int, cast_int, cast_int)) (λ id. refl) runs
+    (period_part.fact) period_fact old new (row ∷ []) (period_row_cells row) count refl (rw (cast_int, cast_int, cast_int), tt) ((λ id. refl), tt) runs
 
 pub puts_holiday : (more : More) (old new : State) (day : ℕ) (count : ℕ)
     → (HasCleanDisk new → ExecutesInside 0 insert_holiday (holiday_cells day) old new (Ok count))
     → PutsThere (schema_with more) holiday_part old new (day ∷ [])
 puts_holiday more old new day count runs =
     puts_there more holiday_table 6 insert_holiday holiday_terms 2 refl (insert_holiday_is more) (insert_holiday_plain more) holiday_cells
-    HolidayIs holiday_fact old new day refl count refl (rw cast_int) (λ id. refl) runs
+    HolidayIs holiday_fact old new (day ∷ []) (holiday_cells day) count refl (rw cast_int, tt) ((λ id. refl), tt) runs
 
 abbrev job_row_cells : JobRow → Row
 job_row_cells = job_part.cells
@@ -161,7 +159,7 @@ pub puts_job : (more : More) (old new : State) (row : JobRow) (count : ℕ)
     → PutsThere (schema_with more) job_part old new (row ∷ [])
 puts_job more old new row count runs =
     puts_there more job_table 7 insert_job job_terms 4 refl (insert_job_is more) (insert_job_plain more) job_row_cells (job_part.fact) job_fact
-    old new row refl count refl (rw cast_int) (λ id. refl) runs
+    old new (row ∷ []) (job_row_cells row) count refl (rw cast_int, tt) ((λ id. refl), tt) runs
 
 head_whole : (more : More) → IsWhole insert_head 5 (understood (schema_with more) insert_head)
 unfolding understood everything
@@ -183,39 +181,65 @@ job_whole : (more : More) → IsWhole insert_job 3 (understood (schema_with more
 unfolding understood everything
 job_whole more = (omega arith, refl, refl)
 
+pub takes_head : (more : More) (old new : State) (h : Head) (count : ℕ) → old.now.schema ≡ schema_with more
+    → ExecutesInside 0 insert_head (head_cells h) old new (Ok count) → TakesAll old.step_limit (singly head_part (h ∷ [])) old.now new.now
+takes_head more old new h count has ran =
+    takes_all more head_table 1 insert_head head_terms 6 refl (insert_head_is more) (insert_head_plain more) head_cells HeadIs head_fact
+    old new (h ∷ []) (head_cells h) refl refl count has ran
+
 pub fails_head : (more : More) (old new : State) (h : Head) (e : Error) → old.now.schema ≡ schema_with more
-    → ExecutesInside 0 insert_head (head_cells h) old new (Err e) → FailsToPut old new (rows_of head_part (h ∷ [])) old.now e
+    → ExecutesInside 0 insert_head (head_cells h) old new (Err e) → FailsToPut old new (singly head_part (h ∷ [])) old.now e
 fails_head more old new h e has ran =
     fails_to_put more head_table 1 insert_head head_terms 6 refl (insert_head_is more) (insert_head_plain more) head_cells HeadIs head_fact
-    old new h refl e (head_whole more) has ran
+    old new (h ∷ []) (head_cells h) refl refl e (head_whole more) has ran
+
+pub takes_event : (more : More) (old new : State) (event : EventValue) (count : ℕ) → old.now.schema ≡ schema_with more
+    → ExecutesInside 0 insert_event (event_cells event) old new (Ok count) → TakesAll old.step_limit (singly event_part (event ∷ [])) old.now new.now
+takes_event more old new event count has ran =
+    takes_all more event_table 4 insert_event event_terms 8 refl (insert_event_is more) (insert_event_plain more) event_cells EventIs event_fact
+    old new (event ∷ []) (event_cells event) refl refl count has ran
 
 pub fails_event : (more : More) (old new : State) (event : EventValue) (e : Error) → old.now.schema ≡ schema_with more
-    → ExecutesInside 0 insert_event (event_cells event) old new (Err e)
-    → FailsToPut old new (rows_of event_part (event ∷ [])) old.now e
+    → ExecutesInside 0 insert_event (event_cells event) old new (Err e) → FailsToPut old new (singly event_part (event ∷ [])) old.now e
 fails_event more old new event e has ran =
-    fails_to_put more event_table 4 insert_event event_terms 8 refl (insert_event_is more) (insert_event_plain more) event_cells EventIs
-    event_fact old new event refl e (event_whole more) has ran
+    fails_to_put more event_table 4 insert_event event_terms 8 refl (insert_event_is more) (insert_event_plain more) event_cells EventIs event_fact
+    old new (event ∷ []) (event_cells event) refl refl e (event_whole more) has ran
+
+pub takes_period : (more : More) (old new : State) (row : PeriodRow) (count : ℕ) → old.now.schema ≡ schema_with more
+    → ExecutesInside 0 insert_period (period_row_cells row) old new (Ok count) → TakesAll old.step_limit (singly period_part (row ∷ [])) old.now new.now
+takes_period more old new row count has ran =
+    takes_all more period_table 5 insert_period period_terms 8 refl (insert_period_is more) (insert_period_plain more) period_row_cells (period_part.fact) period_fact
+    old new (row ∷ []) (period_row_cells row) refl refl count has ran
 
 pub fails_period : (more : More) (old new : State) (row : PeriodRow) (e : Error) → old.now.schema ≡ schema_with more
-    → ExecutesInside 0 insert_period (period_row_cells row) old new (Err e)
-    → FailsToPut old new (rows_of period_part (row ∷ [])) old.now e
+    → ExecutesInside 0 insert_period (period_row_cells row) old new (Err e) → FailsToPut old new (singly period_part (row ∷ [])) old.now e
 fails_period more old new row e has ran =
-    fails_to_put more period_table 5 insert_period period_terms 8 refl (insert_period_is more) (insert_period_plain more) period_row_cells
-    (period_part.fact) period_fact old new row refl e (period_whole more) has ran
+    fails_to_put more period_table 5 insert_period period_terms 8 refl (insert_period_is more) (insert_period_plain more) period_row_cells (period_part.fact) period_fact
+    old new (row ∷ []) (period_row_cells row) refl refl e (period_whole more) has ran
+
+pub takes_holiday : (more : More) (old new : State) (day : ℕ) (count : ℕ) → old.now.schema ≡ schema_with more
+    → ExecutesInside 0 insert_holiday (holiday_cells day) old new (Ok count) → TakesAll old.step_limit (singly holiday_part (day ∷ [])) old.now new.now
+takes_holiday more old new day count has ran =
+    takes_all more holiday_table 6 insert_holiday holiday_terms 2 refl (insert_holiday_is more) (insert_holiday_plain more) holiday_cells HolidayIs holiday_fact
+    old new (day ∷ []) (holiday_cells day) refl refl count has ran
 
 pub fails_holiday : (more : More) (old new : State) (day : ℕ) (e : Error) → old.now.schema ≡ schema_with more
-    → ExecutesInside 0 insert_holiday (holiday_cells day) old new (Err e)
-    → FailsToPut old new (rows_of holiday_part (day ∷ [])) old.now e
+    → ExecutesInside 0 insert_holiday (holiday_cells day) old new (Err e) → FailsToPut old new (singly holiday_part (day ∷ [])) old.now e
 fails_holiday more old new day e has ran =
-    fails_to_put more holiday_table 6 insert_holiday holiday_terms 2 refl (insert_holiday_is more) (insert_holiday_plain more) holiday_cells
-    HolidayIs holiday_fact old new day refl e (holiday_whole more) has ran
+    fails_to_put more holiday_table 6 insert_holiday holiday_terms 2 refl (insert_holiday_is more) (insert_holiday_plain more) holiday_cells HolidayIs holiday_fact
+    old new (day ∷ []) (holiday_cells day) refl refl e (holiday_whole more) has ran
+
+pub takes_job : (more : More) (old new : State) (row : JobRow) (count : ℕ) → old.now.schema ≡ schema_with more
+    → ExecutesInside 0 insert_job (job_row_cells row) old new (Ok count) → TakesAll old.step_limit (singly job_part (row ∷ [])) old.now new.now
+takes_job more old new row count has ran =
+    takes_all more job_table 7 insert_job job_terms 4 refl (insert_job_is more) (insert_job_plain more) job_row_cells (job_part.fact) job_fact
+    old new (row ∷ []) (job_row_cells row) refl refl count has ran
 
 pub fails_job : (more : More) (old new : State) (row : JobRow) (e : Error) → old.now.schema ≡ schema_with more
-    → ExecutesInside 0 insert_job (job_row_cells row) old new (Err e)
-    → FailsToPut old new (rows_of job_part (row ∷ [])) old.now e
+    → ExecutesInside 0 insert_job (job_row_cells row) old new (Err e) → FailsToPut old new (singly job_part (row ∷ [])) old.now e
 fails_job more old new row e has ran =
     fails_to_put more job_table 7 insert_job job_terms 4 refl (insert_job_is more) (insert_job_plain more) job_row_cells (job_part.fact) job_fact
-    old new row refl e (job_whole more) has ran
+    old new (row ∷ []) (job_row_cells row) refl refl e (job_whole more) has ran
 
 -- ---- rows that are put one after another
 
@@ -228,32 +252,32 @@ kept_others : (tree : ℕ) (a b c : Trees) (tables : List Table) → KeepsOthers
 kept_others tree a b c [] p q = tt
 kept_others tree a b c (t ∷ ts) p q = (λ other. q.0 other ∙ p.0 other, kept_others tree a b c ts p.1 q.1)
 
--- a database that takes some rows and then others takes all of them
-takes_then : (limit : Option ℕ) (xs ys : List (ℕ × Row)) (a b c : Database) → TakesAll limit xs a b → TakesAll limit ys b c
+-- a database that takes some statements and then others takes all of them
+pub takes_then : (limit : Option ℕ) (xs ys : List (ℕ × List Row)) (a b c : Database) → TakesAll limit xs a b → TakesAll limit ys b c
     → TakesAll limit (xs ++ ys) a c
 takes_then limit [] ys a b c p q = subst (λ db. TakesAll limit ys db c) p q
 takes_then limit (x ∷ xs) ys a b c p q = (p.0, p.1, p.2, takes_then limit xs ys p.1 b c p.3 q)
 
--- one that refuses a row of some refuses a row of these and others
-refuses_more : (limit : Option ℕ) (xs ys : List (ℕ × Row)) (db : Database) (stop : Option Error) → RefusesOne limit xs db stop
+-- one that refuses one of some refuses one of these and others
+refuses_more : (limit : Option ℕ) (xs ys : List (ℕ × List Row)) (db : Database) (stop : Option Error) → RefusesOne limit xs db stop
     → RefusesOne limit (xs ++ ys) db stop
 refuses_more limit [] ys db stop h = absurd h
 refuses_more limit (x ∷ xs) ys db stop (inl h) = inl h
 refuses_more limit (x ∷ xs) ys db stop (inr (tally, next, took, h)) = inr (tally, next, took, refuses_more limit xs ys next stop h)
 
--- and one that took some refuses a row of these and others, where it then refuses one of the others
-refuses_later : (limit : Option ℕ) (xs ys : List (ℕ × Row)) (a b : Database) (stop : Option Error) → TakesAll limit xs a b
+-- and one that took some refuses one of these and others, where it then refuses one of the others
+refuses_later : (limit : Option ℕ) (xs ys : List (ℕ × List Row)) (a b : Database) (stop : Option Error) → TakesAll limit xs a b
     → RefusesOne limit ys b stop → RefusesOne limit (xs ++ ys) a stop
 refuses_later limit [] ys a b stop p h = subst (λ db. RefusesOne limit ys db stop) p h
 refuses_later limit (x ∷ xs) ys a b stop p h = inr (p.0, p.1, p.2, refuses_later limit xs ys p.1 b stop p.3 h)
 
-pub fails_more : (a c : State) (xs ys : List (ℕ × Row)) (db : Database) (e : Error) → FailsToPut a c xs db e
+pub fails_more : (a c : State) (xs ys : List (ℕ × List Row)) (db : Database) (e : Error) → FailsToPut a c xs db e
     → FailsToPut a c (xs ++ ys) db e
 fails_more a c xs ys db e (inl failed) =
     inl (fails_until a c c _ _ (λ big. refuses_more a.step_limit xs ys db None big) (omega arith) e failed)
 fails_more a c xs ys db e (inr refused) = inr (refuses_more a.step_limit xs ys db (Some e) refused)
 
-pub fails_later : (a b c : State) (xs ys : List (ℕ × Row)) (e : Error) → a.faults ≤ b.faults → IsTrue b.is_open
+pub fails_later : (a b c : State) (xs ys : List (ℕ × List Row)) (e : Error) → a.faults ≤ b.faults → IsTrue b.is_open
     → b.step_limit ≡ a.step_limit → TakesAll a.step_limit xs a.now b.now → FailsToPut b c ys b.now e
     → FailsToPut a c (xs ++ ys) a.now e
 fails_later a b c xs ys e up is_open limit took (inl failed) =
@@ -274,33 +298,30 @@ module _ (under : Schema) {A : Type 0} (part : Part A) where
       others = same_others part.tree s.now.trees under.tables;
       committed = refl;
       sound = sound;
-      took = refl;
     };
     said = tt;
   }
 
-  puts_then : (a b c : State) (xs ys : List A) → b.step_limit ≡ a.step_limit → Puts under part a b xs → Puts under part b c ys
+  puts_then : (a b c : State) (xs ys : List A) → Puts under part a b xs → Puts under part b c ys
       → Puts under part a c (xs ++ ys)
-  puts_then a b c xs ys limit p q = record {
+  puts_then a b c xs ys p q = record {
     schema = q.schema;
     rows = subst (λ rows. Gains part.tree rows a.now.trees c.now.trees) (sym (map-append part.cells xs ys))
         (gains_more part.tree (map part.cells xs) (map part.cells ys) a.now.trees b.now.trees c.now.trees p.rows q.rows);
     others = kept_others part.tree a.now.trees b.now.trees c.now.trees under.tables p.others q.others;
     committed = q.committed ∙ p.committed;
     sound = q.sound;
-    took = subst (λ rows. TakesAll a.step_limit rows a.now c.now) (sym (map-append {B = ℕ × Row} (λ item. (part.place, part.cells item)) xs ys))
-        (takes_then a.step_limit (rows_of part xs) (rows_of part ys) a.now b.now c.now p.took (rw limit at (q.took)));
   }
 
-  pub there_then : (a b c : State) (xs ys : List A) → doubt b.is_clean ≤ doubt c.is_clean → b.step_limit ≡ a.step_limit
+  pub there_then : (a b c : State) (xs ys : List A) → doubt b.is_clean ≤ doubt c.is_clean
       → PutsThere under part a b xs → PutsThere under part b c ys → PutsThere under part a c (xs ++ ys)
-  there_then a b c xs ys later limit p q = record {
+  there_then a b c xs ys later p q = record {
     was_open = λ clean o. p.was_open (omega arith) (q.was_open clean o);
     is_open = λ clean o. q.is_open clean (p.is_open (omega arith) o);
     inside = λ clean o. q.inside clean (p.inside (omega arith) o);
     puts = λ clean o has sound.
         let first = p.puts (omega arith) o has sound in
-        puts_then a b c xs ys limit first (q.puts clean (p.is_open (omega arith) o) first.schema first.sound);
+        puts_then a b c xs ys first (q.puts clean (p.is_open (omega arith) o) first.schema first.sound);
     said = say_more part xs ys p.said q.said;
   }
 
@@ -425,8 +446,8 @@ module _ (layout : Layout) (HasOwn : Gained) (steady : IsSteady layout.more HasO
         kept_gains 14 _ a.now.trees c.now.trees h.now.trees (q.others.1.1.1.1.1.1.0 ∙ p.others.1.1.1.1.1.1.1.0 (λ e. omega arith)) r.planned
 
     -- Each table has the rows of its part, and no other.
-    adds_all : AddsOf HasOwn a.now.trees h.now.trees added
-    adds_all =
+    all_added : AddsOf HasOwn a.now.trees h.now.trees added
+    all_added =
         let one = a.now.trees in
         let two = b.now.trees in
         let three = c.now.trees in
@@ -468,7 +489,7 @@ module _ (layout : Layout) (HasOwn : Gained) (steady : IsSteady layout.more HasO
         schema = λ clean o has sound. (parts clean o has sound).2.schema;
         added = λ clean o has sound.
             let all = parts clean o has sound in
-            let rows = adds_all all.0 all.1 all.2 in
+            let rows = all_added all.0 all.1 all.2 in
             record {
               rows = rows;
               world = world_after layout HasOwn a.now.trees h.now.trees added periods jobs of_periods of_jobs p.said

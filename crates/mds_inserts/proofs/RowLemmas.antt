@@ -80,7 +80,7 @@ shuffled_of xs ys p =
     ∙ sym (contains-from_list total ys q))
 
 -- more in both of two parts
-more_both : (xs ys us vs fs gs : List Fact) → IsMore us xs fs → IsMore vs ys gs → IsMore (us ++ vs) (xs ++ ys) (fs ++ gs)
+pub more_both : (xs ys us vs fs gs : List Fact) → IsMore us xs fs → IsMore vs ys gs → IsMore (us ++ vs) (xs ++ ys) (fs ++ gs)
 more_both xs ys us vs fs gs p q =
     let x = of xs in
     let y = of ys in

@@ -1,6 +1,7 @@
 -- How what is added becomes rows (profile).
-use Rattle.std.specs.Prelude.{◌≡◌, ℕ, List, ◌∷◌, ◌++◌, map, string_bytes}
+use Rattle.std.specs.Prelude.{◌≡◌, ℕ, ◌*◌, ◌/◌, List, [], ◌∷◌, ◌++◌, drop, length, map, string_bytes}
 use Rattle.std.specs.List.{AllByRecursion}
+use Rattle.std.specs.Simd.{first_chunks}
 use Rattle.sqlite.specs.declared.types.Value.{Value}
 use Rattle.sqlite_value.specs.Order.{Row}
 use Rattle.mds_terms.specs.Event.{EventValue}
@@ -60,12 +61,20 @@ job_part = record {
 abbrev pub Says : {A : Type 0} → Part A → List A → Type 0
 Says part = AllByRecursion (λ item. (id : Value) → part.read (id ∷ part.cells item) ≡ part.fact item)
 
--- their rows, each with the place of its table
-abbrev pub rows_of : {A : Type 0} → Part A → List A → List (ℕ × Row)
-rows_of part items = map (λ item. (part.place, part.cells item)) items
+-- statements that put the rows of these things into their table, each those of one list
+abbrev pub statements_of : {A : Type 0} → Part A → List (List A) → List (ℕ × List Row)
+statements_of part = map (λ items. (part.place, map part.cells items))
 
--- The rows behind those of heads, versions and details, in the order in which they are put. Those of accumulations and of jobs are given.
-abbrev pub rest_in : Additions → List PeriodRow → List JobRow → List (ℕ × Row)
+-- one by one
+abbrev pub singly : {A : Type 0} → Part A → List A → List (ℕ × List Row)
+singly part items = statements_of part (map (λ item. item ∷ []) items)
+
+-- eight at a time, where so many are left, and the others one by one
+abbrev pub by_eights : {A : Type 0} → Part A → List A → List (ℕ × List Row)
+by_eights part items = statements_of part (first_chunks 8 (length items / 8) items) ++ singly part (drop (length items / 8 * 8) items)
+
+-- What is put behind heads, versions and details, in this order. The rows of accumulations and of jobs are given.
+abbrev pub rest_in : Additions → List PeriodRow → List JobRow → List (ℕ × List Row)
 rest_in additions periods jobs =
-    rows_of event_part additions.events.items
-    ++ (rows_of period_part periods ++ (rows_of holiday_part additions.holidays.items ++ rows_of job_part jobs))
+    singly event_part additions.events.items
+    ++ (singly period_part periods ++ (singly holiday_part additions.holidays.items ++ singly job_part jobs))

@@ -23,7 +23,7 @@ use Rattle.mds_tables.specs.Stores.{AddsOf, Gained, Gains}
 use Rattle.mds_tables.specs.Tables.{More, detail_table, event_table, head_table, holiday_table, job_table, period_table, schema_table, schema_with, version_tree}
 use Rattle.mds_inserts.specs.declared.jobs.JobRow.{JobRow}
 use Rattle.mds_inserts.specs.declared.periods.PeriodRow.{PeriodRow}
-use Rattle.mds_inserts.specs.Parts.{Part, Says, event_part, holiday_part, job_part, period_part, rows_of}
+use Rattle.mds_inserts.specs.Parts.{Part, Says, event_part, holiday_part, job_part, period_part}
 use Rattle.mds_inserts.specs.Refusals.{FailsToPut, TakesAll}
 
 -- every table but that of a tree is as it was
@@ -47,7 +47,6 @@ module _ (under : Schema) {A : Type 0} (part : Part A) (old new : State) (items 
     pub others : KeepsOthers part.tree old.now.trees new.now.trees under.tables
     pub committed : new.committed ≡ old.committed
     pub sound : IsSound under new.now.trees
-    pub took : TakesAll old.step_limit (rows_of part items) old.now new.now
 
   -- The same, where the connection is open and the schema is this. The row of each, under any rowid, says its fact.
   pub record PutsThere : Type 0 where
@@ -119,23 +118,18 @@ pub record IsFit (under : Schema) (state : State) : Type 0 where
   pub is_open : IsTrue state.is_open
   pub sound : IsSound under state.now.trees
 
--- What a call in a transaction does that puts these rows: it commits nothing, and this is done where it is Ok. Else the store
--- failed, or the tables refuse one of the rows. That is told under a schema, where something is given.
-pub record Changes {X : Type 0} (under : Schema) (Given Done : Type 0) (rows : List (ℕ × Row)) (old new : State) (result : Result X Error) : Type 0 where
+-- What a call in a transaction does that puts rows by these statements, each with the place of its table: it commits nothing, and
+-- this is done where it is Ok. Else the store failed, or the tables refuse one of the statements. That is told under a schema.
+pub record Changes {X : Type 0} (under : Schema) (Done : Type 0) (puts : List (ℕ × List Row)) (old new : State) (result : Result X Error) : Type 0 where
   pub ok : OnOk result Done
-  pub cause : HasCleanDisk new → IsTrue old.in_transaction → old.now.schema ≡ under → Given → IfErr result (FailsToPut old new rows old.now)
+  pub took : HasCleanDisk new → old.now.schema ≡ under → IsFit under old → OnOk result (TakesAll old.step_limit puts old.now new.now)
+  pub cause : HasCleanDisk new → IsTrue old.in_transaction → old.now.schema ≡ under → IsFit under old → IfErr result (FailsToPut old new puts old.now)
   pub kept : HasCleanDisk new → KeepsCommit old new
   pub survives : Survives old new (λ _. ⊥)
 
--- a call that puts the row of a thing
-abbrev pub PutsOne : {A X : Type 0} → Schema → Part A → State → State → Result X Error → A → Type 0
-PutsOne under part old new result item =
-    Changes under (Unit {0}) (PutsThere under part old new (item ∷ [])) (rows_of part (item ∷ [])) old new result
-
--- one that puts the rows of several, one after another
-abbrev pub PutsEach : {A X : Type 0} → Schema → Part A → State → State → Result X Error → List A → Type 0
-PutsEach under part old new result items =
-    Changes under (IsFit under old) (PutsThere under part old new items) (rows_of part items) old new result
+-- a call that puts the rows of things of one kind
+abbrev pub PutsEach : {A X : Type 0} → Schema → Part A → List (ℕ × List Row) → State → State → Result X Error → List A → Type 0
+PutsEach under part puts old new result items = Changes under (PutsThere under part old new items) puts old new result
 
 module _ (layout : Layout) (HasOwn : Gained) where
   -- All of the additions are in the tables, beside what was there.

@@ -7,4 +7,4 @@ mod putting;
 
 pub use jobs::{JobRow, job_rows};
 pub use periods::{PeriodRow, period_rows};
-pub use putting::{put_heads, put_rest};
+pub use putting::{TOGETHER, put_heads, put_rest};

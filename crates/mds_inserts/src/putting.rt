@@ -1,10 +1,13 @@
 //! Rows that are put into the tables that every schema has, in a transaction.
 
-ghost use Rattle.std.specs.Prelude.{◌≡◌};
+ghost use Rattle.std.specs.Prelude.{◌≡◌, [], ◌∷◌, length};
+ghost use Rattle.std.specs.List.{flat_map};
 ghost use Rattle.sqlite.specs.Held.{state};
+ghost use Rattle.sqlite.specs.Values.{bound};
+ghost use Rattle.mds_tables.specs.Cells.{head_cells as cells_of_head};
 ghost use Rattle.mds_tables.specs.Tables.{More, schema_with};
-ghost use Rattle.mds_inserts.specs.Parts.{Part, event_part, head_part, holiday_part, job_part, period_part, rest_in};
-ghost use Rattle.mds_inserts.specs.Writing.{Changes, IsFit, PutsEach, PutsOne, PutsRestThere};
+ghost use Rattle.mds_inserts.specs.Parts.{Part, by_eights, event_part, head_part, holiday_part, job_part, period_part, rest_in, singly, statements_of};
+ghost use Rattle.mds_inserts.specs.Writing.{Changes, PutsEach, PutsRestThere};
 
 use crate::jobs::JobRow;
 use crate::periods::PeriodRow;
@@ -13,7 +16,12 @@ use mds_quantity::units_read_back;
 use mds_tables::{event_cells, head_cells, holiday_cells, job_cells, letter_of, period_cells};
 use mds_terms::{Day, Event};
 use mds_world::Head;
+use sqlite::types::ValueRef;
 use sqlite::{Alter, Error, Transaction};
+
+/// How many rows one statement puts, where so many are left. A statement of one row spends half of its time on other things than
+/// the row.
+pub const TOGETHER: usize = 8;
 
 /// What becomes one row of a table, whatever tables stand behind those that every schema has.
 trait Put {
@@ -23,13 +31,13 @@ trait Put {
     /// Puts its row.
     fn put<S: Alter>(&self, tx: &mut Transaction<'_, S>) -> Result<(), Error>
         ensures same_reference { tx.new.conn.ghost_name ≡ tx.old.conn.ghost_name }
-        ensures puts { (more : More) → PutsOne (schema_with more) part (state S.Store tx.old.conn.now) (state S.Store tx.new.conn.now) result self.now };
+        ensures puts { (more : More) → PutsEach (schema_with more) part (singly part (self.now ∷ [])) (state S.Store tx.old.conn.now) (state S.Store tx.new.conn.now) result (self.now ∷ []) };
 }
 
 /// Puts the row of each.
 fn put_each<T: Put, S: Alter>(tx: &mut Transaction<'_, S>, items: &[T]) -> Result<(), Error>
     ensures same_reference { tx.new.conn.ghost_name ≡ tx.old.conn.ghost_name }
-    ensures puts { (more : More) → PutsEach (schema_with more) T.part (state S.Store tx.old.conn.now) (state S.Store tx.new.conn.now) result items.now }
+    ensures puts { (more : More) → PutsEach (schema_with more) T.part (singly T.part items.now) (state S.Store tx.old.conn.now) (state S.Store tx.new.conn.now) result items.now }
 {
     for item in items {
         item.put(tx)?;
@@ -40,9 +48,52 @@ fn put_each<T: Put, S: Alter>(tx: &mut Transaction<'_, S>, items: &[T]) -> Resul
 /// Puts the rows of heads, whatever tables stand behind those that every schema has.
 pub fn put_heads<S: Alter>(tx: &mut Transaction<'_, S>, heads: &[Head]) -> Result<(), Error>
     ensures same_reference { tx.new.conn.ghost_name ≡ tx.old.conn.ghost_name }
-    ensures puts { (more : More) → PutsEach (schema_with more) head_part (state S.Store tx.old.conn.now) (state S.Store tx.new.conn.now) result heads.now }
+    ensures puts { (more : More) → PutsEach (schema_with more) head_part (by_eights head_part heads.now) (state S.Store tx.old.conn.now) (state S.Store tx.new.conn.now) result heads.now }
 {
-    put_each(tx, heads)
+    let (eights, rest) = heads.as_chunks::<TOGETHER>();
+    for eight in eights {
+        put_eight(tx, eight)?;
+    }
+    put_each(tx, rest)
+}
+
+/// Puts the rows of eight heads by one statement.
+fn put_eight<S: Alter>(tx: &mut Transaction<'_, S>, heads: &[Head; TOGETHER]) -> Result<(), Error>
+    ensures same_reference { tx.new.conn.ghost_name ≡ tx.old.conn.ghost_name }
+    ensures puts { (more : More) → PutsEach (schema_with more) head_part (statements_of head_part (heads.now ∷ [])) (state S.Store tx.old.conn.now) (state S.Store tx.new.conn.now) result heads.now }
+{
+    units_read_back();
+    let cells = eight_cells(heads);
+    tx.execute(
+        "INSERT INTO mds_head (nmi, suffix, day, length, unit) VALUES (?1, ?2, ?3, ?4, ?5), (?6, ?7, ?8, ?9, ?10), (?11, ?12, ?13, ?14, ?15), (?16, ?17, ?18, ?19, ?20), (?21, ?22, ?23, ?24, ?25), (?26, ?27, ?28, ?29, ?30), (?31, ?32, ?33, ?34, ?35), (?36, ?37, ?38, ?39, ?40)",
+        cells.as_flattened(),
+    )?;
+    Ok(())
+}
+
+/// The columns of eight heads.
+fn eight_cells<'a>(heads: &'a [Head]) -> [[ValueRef<'a>; 5]; 8]
+    requires { length heads.now ≡ 8 }
+    ensures { bound (flat_map (λ x. x) result) ≡ flat_map cells_of_head heads.now }
+{
+    let a = &heads[0];
+    let b = &heads[1];
+    let c = &heads[2];
+    let d = &heads[3];
+    let e = &heads[4];
+    let f = &heads[5];
+    let g = &heads[6];
+    let h = &heads[7];
+    [
+        head_cells(a),
+        head_cells(b),
+        head_cells(c),
+        head_cells(d),
+        head_cells(e),
+        head_cells(f),
+        head_cells(g),
+        head_cells(h),
+    ]
 }
 
 /// Puts the rows behind those of heads, versions and details, whatever tables stand behind those that every schema has.
@@ -53,7 +104,7 @@ pub fn put_rest<S: Alter>(
     jobs: &[JobRow],
 ) -> Result<(), Error>
     ensures same_reference { tx.new.conn.ghost_name ≡ tx.old.conn.ghost_name }
-    ensures puts { (more : More) → Changes (schema_with more) (IsFit (schema_with more) (state S.Store tx.old.conn.now))
+    ensures puts { (more : More) → Changes (schema_with more)
         (PutsRestThere (schema_with more) (state S.Store tx.old.conn.now) (state S.Store tx.new.conn.now) additions.now periods.now jobs.now)
         (rest_in additions.now periods.now jobs.now) (state S.Store tx.old.conn.now) (state S.Store tx.new.conn.now) result }
 {

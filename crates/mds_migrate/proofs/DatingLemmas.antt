@@ -30,8 +30,7 @@ use Rattle.mds_tables.specs.Cells.{stream_cells}
 use Rattle.mds_tables.specs.RowFacts.{head_fact, natural_at, stream_in}
 use Rattle.mds_tables.specs.Stores.{Gains, Selects}
 use Rattle.mds_tables.specs.Tables.{More, detail_tree, head_columns, head_tree, schema_with}
-use Rattle.mds_inserts.specs.Parts.{detail_part, rows_of}
-use Rattle.mds_inserts.specs.Refusals.{TakesAll}
+use Rattle.mds_inserts.specs.Parts.{detail_part}
 use Rattle.mds_inserts.specs.Writing.{KeepsOthers, Puts, PutsThere}
 use Rattle.mds_inserts.proofs.PutLemmas.{none_there, there_then}
 use Rattle.mds_selects.proofs.Listed.{on_stream, stream_on}
@@ -173,7 +172,7 @@ module _ (a b c : State) (later : doubt b.is_clean ≤ doubt c.is_clean) where
   }
 
   -- after a query rows are put
-  module _ (limit : b.step_limit ≡ a.step_limit) (stays : Stays a b) where
+  module _ (stays : Stays a b) where
     puts_now : (items : List Detail) → HasCleanDisk c → IsTrue a.is_open → a.now.schema ≡ schema_3 → IsSound schema_3 a.now.trees
         → PutsThere schema_3 detail_part b c items → Puts schema_3 detail_part a c items
     puts_now items clean o has sound puts =
@@ -187,8 +186,6 @@ module _ (a b c : State) (later : doubt b.is_clean ≤ doubt c.is_clean) where
           others = subst (λ (d : Database). KeepsOthers detail_part.tree d.trees c.now.trees schema_3.tables) now q.others;
           committed = q.committed ∙ stays.committed early o has;
           sound = q.sound;
-          took = subst (λ (d : Database). TakesAll a.step_limit (rows_of detail_part items) d c.now) now
-              (subst (λ most. TakesAll most (rows_of detail_part items) b.now c.now) limit q.took);
         }
 
     pub puts_since : (items : List Detail) → PutsThere schema_3 detail_part b c items → PutsThere schema_3 detail_part a c items
@@ -262,12 +259,12 @@ of_known_day trees shown s day of on None is = absurd is
 of_known_day trees shown s day of on (Some latest) is = of_one_day trees shown s day of on latest.details is
 
 -- The greatest details of the stream of a head were known, and then put on its day.
-pub dates_day : (a b c : State) → doubt b.is_clean ≤ doubt c.is_clean → b.step_limit ≡ a.step_limit → (shown : Row) (head : Head)
+pub dates_day : (a b c : State) → doubt b.is_clean ≤ doubt c.is_clean → (shown : Row) (head : Head)
     → head_fact (Null ∷ shown) ≡ HeadIs head → (before after : Option Latest) → Knows a b before after head.stream
     → PutsThere schema_3 detail_part b c (known_on after head.day) → DatesDays a c before after (shown ∷ [])
-dates_day a b c later limit shown head is before after knows puts = record {
+dates_day a b c later shown head is before after knows puts = record {
   details = known_on after head.day;
-  puts = puts_since a b c later limit knows.stays (known_on after head.day) puts;
+  puts = puts_since a b c later knows.stays (known_on after head.day) puts;
   are = λ there was.
       let known = knows.known (there_before a b c later there) was in
       let of : stream_in (Null ∷ shown) ≡ head.stream = ap (stream_of head.stream) is in
@@ -285,10 +282,10 @@ kept_since a b c later first next there = keeps_then a b c (first (there_before 
 -- ---- one day after another
 
 -- of no heads there are none
-pub dates_since : (a b : State) → b.step_limit ≡ a.step_limit → Stays a b → DatesDays a b None None []
-dates_since a b limit stays = record {
+pub dates_since : (a b : State) → Stays a b → DatesDays a b None None []
+dates_since a b stays = record {
   details = [];
-  puts = puts_since a b b (omega arith) limit stays [] (none_there schema_3 detail_part b);
+  puts = puts_since a b b (omega arith) stays [] (none_there schema_3 detail_part b);
   are = λ there _. ((λ detail. ((λ m. absurd m), (λ p. absurd p.1))), tt);
 }
 
@@ -330,7 +327,7 @@ of_both trees xs ys one two p q d = (
   ]),
 )
 
-module _ (a b c : State) (later : doubt b.is_clean ≤ doubt c.is_clean) (limit : b.step_limit ≡ a.step_limit) (x y z : Option Latest) where
+module _ (a b c : State) (later : doubt b.is_clean ≤ doubt c.is_clean) (x y z : Option Latest) where
   there_after : (details : List Detail) → PutsThere schema_3 detail_part a b details → IsThereDaily a c → IsThereDaily b c
   there_after details puts there =
       let early : HasCleanDisk b = omega (arith, there.clean, later) in
@@ -340,7 +337,7 @@ module _ (a b c : State) (later : doubt b.is_clean ≤ doubt c.is_clean) (limit 
   dates_both : (xs ys : List Row) → DatesDays a b x y xs → DatesDays b c y z ys → DatesDays a c x z (xs ++ ys)
   dates_both xs ys p q = record {
     details = p.details ++ q.details;
-    puts = there_then schema_3 detail_part a b c p.details q.details later limit p.puts q.puts;
+    puts = there_then schema_3 detail_part a b c p.details q.details later p.puts q.puts;
     are = λ there was.
         let before = there_before a b c later there in
         let first = p.puts.puts before.clean before.is_open before.schema before.sound in

@@ -45,9 +45,9 @@ pub fn migrate_all<S: Alter>(
     }
 }
 
-/// Takes a store one step further: from schema 1 to packed days (schema 2), all versions included, or from there to details of days
-/// (schema 3), where each known day has the details that its stream had. It is whole, or nothing is changed: a crash leaves the store as it
-/// was, or that of the next schema. It holds all heads of days in memory, and of the versions those of one day at a time. A connection
+/// Takes a store one step further. From schema 1 it goes to packed days (schema 2), with all versions. From there it goes to details of
+/// days (schema 3): each known day has the details that its stream had. The step is whole, or nothing is changed. A crash leaves the store
+/// as it was, or that of the next schema. It holds all heads of days in memory, and of the versions those of one day at a time. A connection
 /// that is in a transaction stays as it is (U1).
 pub fn migrate<S: Alter>(alloc: Global, conn: &mut Connection<S>) -> Result<Migrated, MigrateFault>
     ensures done { IfOk result (λ it. HasCleanDisk (state S.Store conn.new) → Answered (state S.Store conn.old) (state S.Store conn.new) it) }

@@ -1,10 +1,8 @@
 -- Eight new days whose rows one statement puts.
-use Rattle.std.proofs.Common.{◌≡◌, ◌≤◌, ◌<◌, ◌+◌, ◌*◌, ◌/◌, ◌++◌, ℕ, zero, suc, Bool, List, [], ◌∷◌, drop, get_or, length, map, take, IsTrue, IfOk, IfSome, Ok, Err, None, Some, Option, Result, refl, sym, ap, subst, ◌∙◌, arith}
+use Rattle.std.proofs.Common.{◌≡◌, ◌≤◌, ◌<◌, ◌+◌, ◌/◌, ◌++◌, ℕ, Bool, List, [], ◌∷◌, get_or, length, map, take, IsTrue, IfOk, IfSome, Ok, Err, None, Some, Option, Result, refl, sym, ap, subst, ◌∙◌, arith}
 use Rattle.std.proofs.lemmas.Grind.{flat_map-append}
-use Rattle.std.proofs.lemmas.List.{append-nil, map-append, take-append-drop, take_more}
-use Rattle.std.proofs.Math.Seq.{take-add}
+use Rattle.std.proofs.lemmas.List.{append-nil, map-append, take_more}
 use Rattle.std.specs.List.{flat_map}
-use Rattle.std.specs.Simd.{first_chunks}
 use Rattle.sqlite.specs.Command.TheVariants.{Insert}
 use Rattle.sqlite.specs.Does.{Does}
 use Rattle.sqlite.specs.Effect.{Database, IsDatabase, value_rows}
@@ -30,14 +28,14 @@ use Rattle.mds_keeper.specs.declared.day_book.Version.{Version}
 use Rattle.mds_tables.specs.Stores.{Gains}
 use Rattle.mds_tables.specs.Tables.{More, schema_with}
 use Rattle.mds_inserts.specs.Writing.{KeepsOthers}
-use Rattle.mds_pack_rows.proofs.EightCells.{eight_got}
+use Rattle.mds_inserts.proofs.Eights.{eight_got}
 use Rattle.mds_inserts.proofs.RowLemmas.{of}
 use Rattle.mds_pack_rows.specs.Eights.{SayDays, SaysDay, columns_of, said_by}
 use Rattle.mds_pack_rows.specs.PackFacts.{body_facts, pack_facts, pack_versions, readings_in}
 use Rattle.mds_pack_rows.specs.PackTables.{pack_table, pack_tree, packs_then}
 use Rattle.mds_pack_rows.specs.Putting.{ChangesPacks, NamesMore, PutsFacts, SayRows}
 use Rattle.mds_pack_rows.specs.declared.statements.PackRow.{PackRow}
-use Rattle.mds_pack_rows.proofs.ManyLemmas.{AddsAll, AreFit, adds_all, sources}
+use Rattle.mds_inserts.proofs.ManyLemmas.{AddsAll, AreFit, adds_all, sources}
 use Rattle.mds_pack_rows.proofs.PackTexts.{eight_terms, insert_packs, insert_packs_is, insert_packs_plain, pack_place}
 use Rattle.mds_pack_rows.proofs.PutLemmas.{fits, is_database, others_in, puts_as, puts_then, ran_on, rows_say, same_others, says_day}
 use Rattle.mds_pack_rows.proofs.RefusedLemmas.{StaysAs}
@@ -168,27 +166,3 @@ pub puts_both : (a b c : State) → doubt b.is_clean ≤ doubt c.is_clean → (x
     → PutsFacts a c (map version_fact (versions_of (xs ++ ys)))
 puts_both a b c later xs ys p q =
     subst (PutsFacts a c) (sym (facts_both xs ys)) (puts_then a b c later (map version_fact (versions_of xs)) (map version_fact (versions_of ys)) p q)
-
--- what lies in several arrays, as one list
-abbrev pub flat : {X : Type 0} → List (List X) → List X
-flat xss = flat_map (λ xs. xs) xss
-
-flat_chunks : {X : Type 0} (n k : ℕ) (xs : List X) → flat (first_chunks n k xs) ≡ take (k * n) xs
-flat_chunks n zero xs = let none : 0 ≡ 0 * n = omega arith in ap (λ k. take k xs) none
-flat_chunks n (suc k) xs =
-    let size : n + k * n ≡ suc k * n = omega arith in
-    ap (λ l. take n xs ++ l) (flat_chunks n k (drop n xs)) ∙ sym (take-add n (k * n) xs) ∙ ap (λ m. take m xs) size
-
--- the arrays and what is left are the whole
-pub chunks_are : {X : Type 0} (xs : List X) (k : ℕ) (chunks : List (List X)) (back : List X) → chunks ≡ first_chunks 8 k xs → back ≡ drop (k * 8) xs
-    → flat chunks ++ back ≡ xs
-chunks_are xs k chunks back front rest =
-    (λ i. flat (front i) ++ rest i) ∙ ap (λ l. l ++ drop (k * 8) xs) (flat_chunks 8 k xs) ∙ take-append-drop (k * 8) xs
-
--- the arrays up to a place, and the next
-pub flat_more : {X : Type 0} (xss : List (List X)) (at : ℕ) (xs : List X) → at < length xss → xs ≡ get_or xss at xs
-    → flat (take at xss) ++ xs ≡ flat (take (at + 1) xss)
-flat_more xss at xs low is =
-    sym (ap flat (take_more xss at xs low ∙ ap (λ y. take at xss ++ y ∷ []) (sym is))
-    ∙ flat_map-append (λ ys. ys) (take at xss) (xs ∷ [])
-    ∙ ap (λ l. flat (take at xss) ++ l) (append-nil xs))

@@ -1,25 +1,22 @@
 -- Versions that are put into mds_pack, and then details into mds_daydetail, as what the layout of schema 3 says by itself.
-use Rattle.std.proofs.Common.{◌≡◌, ◌++◌, List, map, sym, ap, subst, ◌∙◌, arith}
+use Rattle.std.proofs.Common.{◌≡◌, List, map, ap, subst, ◌∙◌, arith}
 use Rattle.std.specs.List.{flat_map}
 use Rattle.sqlite.specs.State.{HasCleanDisk, State}
 use Rattle.sqlite_catalog.specs.Listing.{IsSound}
 use Rattle.sqlite_value.specs.Order.{Row}
 use Rattle.mds_marks.specs.Reading.{ReadingValue}
-use Rattle.mds_world.specs.FactOrder.{exact, total}
-use Rattle.mds_world.specs.Facts.{Fact}
 use Rattle.mds_world.specs.Facts.Fact.{DetailIs}
 use Rattle.mds_world.specs.World.{union}
 use Rattle.mds_world.specs.declared.facts.Detail.{Detail}
 use Rattle.mds_world.specs.declared.facts.Key.{Key}
-use Rattle.mds_world.proofs.Sets.{list_append, union_assoc, union_comm}
 use Rattle.mds_keeper.specs.Content.{version_fact}
 use Rattle.mds_tables.specs.Cells.{detail_cells}
 use Rattle.mds_tables.specs.RowFacts.{detail_fact}
 use Rattle.mds_tables.specs.Stores.{Gains}
 use Rattle.mds_tables.specs.Tables.{daydetail_tree}
 use Rattle.mds_inserts.specs.Parts.{detail_part}
-use Rattle.mds_inserts.specs.Writing.{IsMore, IsSteady, KeepsOthers, Puts, PutsOwn, PutsOwnThere, PutsThere}
-use Rattle.mds_inserts.proofs.RowLemmas.{detail_bare, gains_kept, kept_gains, more, of, says_details}
+use Rattle.mds_inserts.specs.Writing.{IsSteady, KeepsOthers, Puts, PutsOwn, PutsOwnThere, PutsThere}
+use Rattle.mds_inserts.proofs.RowLemmas.{detail_bare, gains_kept, kept_gains, more, more_both, of, says_details}
 use Rattle.mds_pack_rows.specs.DailyLayout.{daily_layout, daydetails_behind}
 use Rattle.mds_pack_rows.specs.DailyPutting.{HasDaily}
 use Rattle.mds_pack_rows.specs.DailyTables.{daily, schema_3, tables_3}
@@ -27,19 +24,6 @@ use Rattle.mds_pack_rows.specs.PackFacts.{pack_facts, pack_versions}
 use Rattle.mds_pack_rows.specs.PackTables.{pack_tree}
 use Rattle.mds_pack_rows.specs.Putting.{ChangesPacks, NamesMore, PutsFacts}
 use Rattle.mds_pack_rows.proofs.PutLemmas.{others_of}
-
--- more in both of two parts
-both_more : (xs ys us vs fs gs : List Fact) → IsMore us xs fs → IsMore vs ys gs → IsMore (us ++ vs) (xs ++ ys) (fs ++ gs)
-both_more xs ys us vs fs gs p q =
-    let x = of xs in
-    let y = of ys in
-    let f = of fs in
-    let g = of gs in
-    list_append total exact us vs ∙ (λ i. union (p i) (q i)) ∙ union_assoc total exact x f (union y g)
-    ∙ ap (union x) (sym (union_assoc total exact f y g) ∙ ap (λ w. union w g) (union_comm total exact f y)
-    ∙ union_assoc total exact y f g)
-    ∙ sym (union_assoc total exact x y (union f g))
-    ∙ (λ i. union (sym (list_append total exact xs ys) i) (sym (list_append total exact fs gs) i))
 
 -- what is told of them reads mds_pack and mds_daydetail alone
 pub steady_daily : IsSteady daily HasDaily
@@ -67,7 +51,7 @@ module _ (a b c : State) (later : HasCleanDisk c → HasCleanDisk b) (versions :
       record {
         schema = q.schema;
         rows = (packs, dates);
-        names = both_more (pack_versions one) (map detail_fact (one daydetail_tree)) (pack_versions last) (map detail_fact (last daydetail_tree))
+        names = more_both (pack_versions one) (map detail_fact (one daydetail_tree)) (pack_versions last) (map detail_fact (last daydetail_tree))
             (map version_fact versions) (map DetailIs details) packs (more detail_part detail_bare details (says_details details) one last dates);
         others = (
           q.others.0 (λ e. omega arith) ∙ packed.0 (λ e. omega arith),

@@ -3,12 +3,10 @@ pub mod BodyLemmas
 pub mod CommitLemmas
 pub mod DayLemmas
 pub mod DetailLemmas
-pub mod EightCells
 pub mod EightLemmas
 pub mod LaidLemmas
 pub mod LayoutLemmas
 pub mod MakingTexts
-pub mod ManyLemmas
 pub mod PackTexts
 pub mod PutLemmas
 pub mod RefusedLemmas

@@ -12,6 +12,7 @@ ghost use Rattle.mds_pack_rows.specs.Putting.{IsThere, PutsFacts};
 
 use crate::grouping::{has_some, put_each_day, spread};
 use crate::statements::{PackRow, insert_eight};
+use mds_inserts::TOGETHER;
 use mds_keeper::{DayVersions, Unavailable, Version, VersionRows};
 use mds_packs::{pack_day, pack_readings};
 use mds_runs::DayReadings;
@@ -20,10 +21,6 @@ use mds_world::Head;
 use sqlite::{Alter, Transaction};
 use std::alloc::{AllocError, Global};
 use std::cmp::Ordering;
-
-/// How many new days one statement puts, where so many are left. A statement of one row spends a third of its time on other
-/// things than the row.
-const TOGETHER: usize = 8;
 
 /// Puts versions of days, each of which has its head. Those of a day and an update that lie together go into one row at once. It
 /// is unavailable where a version is kept already, or has an interval that its day doesn't have. Days are new whose heads are

@@ -9,7 +9,13 @@ use mds_keeper::Keeper;
 use mds_migrate::{MigrateFault, Migrated, migrate_all};
 use mds_pack_store::{adopt, create};
 use mds_store::StoreFault;
-use sqlite::{Alter, Connection, Error, ErrorCode, FileFrom, FileStore, Files, Wary};
+use sqlite::{Alter, Connection, FileFrom, FileStore, Files, Leftover, Options, Wary};
+use sqlite_std_file::OpenError;
+use std::hash::{BuildHasher, RandomState};
+
+/// How many pages are kept that were read. They take 2 MB, as sqlite3 has it. The library's own open keeps four times as many, and makes room
+/// for all of them at once.
+const PAGES_KEPT: usize = 500;
 
 /// What is done with an open store. It is written over any keeper, so that it is proved without all that the library says of files.
 pub(crate) trait Task {
@@ -166,21 +172,57 @@ fn in_database<T: DatabaseTask + Drop>(
     new_has_sums: bool,
     task: T,
 ) -> Outcome {
-    match Connection::open_from(rt, path, new_has_sums, Wary) {
+    match open_database(rt, path, new_has_sums) {
         Ok(conn) => {
             let (conn, outcome) = task.run(rt, conn);
             close(rt, place, conn, outcome)
         }
-        Err((_, Some(left))) => {
+        Err(OpenFault::Database(left)) => {
             place.restore(rt, &left.into_files());
             Outcome::Unavailable
         }
         // Another process has the file: what it finds there is its own.
-        Err((Error::SqliteFailure(ErrorCode::DatabaseBusy), None)) => Outcome::Unavailable,
-        Err((_, None)) => {
+        Err(OpenFault::Busy) => Outcome::Unavailable,
+        Err(OpenFault::Files) => {
             place.take_away_file(rt);
             Outcome::Unavailable
         }
+    }
+}
+
+/// Why a database isn't open.
+enum OpenFault {
+    /// Another process has its file.
+    Busy,
+    /// Its files can't be opened.
+    Files,
+    /// They hold no database that can be read. They are left as they are.
+    Database(Leftover<FileFrom<Wary>>),
+}
+
+/// Opens the database of a path. It is the library's open by a path, but for the pages that are kept.
+fn open_database(
+    rt: &HostRuntime,
+    path: &str,
+    new_has_sums: bool,
+) -> Result<Connection<FileStore<FileFrom<Wary>>>, OpenFault> {
+    // SQLite takes these for other things than paths.
+    if path == ":memory:" || path.starts_with("file:") {
+        return Err(OpenFault::Files);
+    }
+    let files = match sqlite_std_file::open(rt, path, Wary) {
+        Ok(files) => files,
+        Err(OpenError::Busy) => return Err(OpenFault::Busy),
+        Err(_) => return Err(OpenFault::Files),
+    };
+    let Ok(random) = RandomState::new(rt) else {
+        return Err(OpenFault::Files);
+    };
+    let mut options = Options::new(random.hash_one(&0u8));
+    options.cache_pages = PAGES_KEPT;
+    match Connection::open_files_with(rt.alloc(), files, options, new_has_sums) {
+        Ok(conn) => Ok(conn),
+        Err((_, left)) => Err(OpenFault::Database(left)),
     }
 }
 

@@ -1,6 +1,7 @@
 use Rattle.std.proofs.Common.{◌≡◌, Ok, take}
 use Rattle.sqlite.specs.Held.{state}
 use Rattle.mds_tables.specs.Tables.{More, schema_with}
+use Rattle.mds_inserts.specs.Parts.{singly}
 use Rattle.mds_inserts.specs.Writing.{PutsEach}
 use Rattle.mds_inserts.proofs.putting.put_each.Given as goal
 
@@ -8,6 +9,6 @@ abbrev pub invariant-loop-item : goal.invariant-loop-item
 invariant-loop-item g l =
     record {
       same : l.tx.conn.ghost_name ≡ l.initial.tx.conn.ghost_name;
-      puts : (more : More) → PutsEach {X = Unit {0}} (schema_with more) g.T.Put.part (state g.S.Store l.fn.tx.conn.now)
-          (state g.S.Store l.tx.conn.now) (Ok tt) (take l.item-index l.items);
+      puts : (more : More) → PutsEach {X = Unit {0}} (schema_with more) g.T.Put.part (singly g.T.Put.part (take l.item-index l.items))
+          (state g.S.Store l.fn.tx.conn.now) (state g.S.Store l.tx.conn.now) (Ok tt) (take l.item-index l.items);
     }

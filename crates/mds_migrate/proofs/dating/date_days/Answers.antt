@@ -15,7 +15,7 @@ loop-row-init g c =
       later = omega arith;
       survives = c.all_heads.ensures.survives;
       kept = λ there. c.all_heads.ensures.kept there.clean daydetails there.schema;
-      dates = dates_since old new c.all_heads.ensures.survives.limit
+      dates = dates_since old new
           (stays_found old new c.in_ok-heads.ensures.goes_on (λ clean. (c.in_ok-heads.ensures.ok clean).same));
     }
 
@@ -31,8 +31,8 @@ loop-row-preserved g c =
       same = more.same_reference ∙ before.same;
       later = omega (arith, before.later, later);
       survives = survives_more old mid new before.survives more.survives;
-      kept = kept_then old mid new later before.survives.limit None c.loop-row.known c.date_day.new.known _ before.dates before.kept more.kept;
-      dates = dates_next old mid new later before.survives.limit None c.loop-row.known c.date_day.new.known c.as_slice-row-items.result.now
+      kept = kept_then old mid new later None c.loop-row.known c.date_day.new.known _ before.dates before.kept more.kept;
+      dates = dates_next old mid new later None c.loop-row.known c.date_day.new.known c.as_slice-row-items.result.now
           c.loop-row.row-index c.row-item.result c.loop-row-test.true c.row-item.is before.dates more.ok;
     }
 

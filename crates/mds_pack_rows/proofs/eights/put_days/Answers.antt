@@ -1,10 +1,10 @@
 use Rattle.std.proofs.Common.{◌≡◌, ◌++◌, map, refl, ap, subst, ◌∙◌, arith, take, take_all}
 use Rattle.sqlite.specs.Held.{state}
-use Rattle.mds_pack_rows.proofs.EightLemmas.{chunks_are, flat}
 use Rattle.mds_keeper.specs.Content.{version_fact, versions_of}
 use Rattle.mds_tables.proofs.CallLemmas.{keeps_same, survives_more, survives_same}
 use Rattle.mds_pack_rows.specs.Putting.{PutsFacts}
-use Rattle.mds_pack_rows.proofs.EightLemmas.{flat_more, puts_both}
+use Rattle.mds_inserts.proofs.Eights.{chunks_are, flat, flat_more}
+use Rattle.mds_pack_rows.proofs.EightLemmas.{puts_both}
 use Rattle.mds_pack_rows.proofs.PutLemmas.{if_ok, kept_then, puts_none}
 use Rattle.mds_pack_rows.proofs.eights.put_days.Goals as goal
 
