@@ -128,6 +128,12 @@ module _ (trees : Trees) (sound : IsSound schema_3 trees) where
             sym first ∙ here.4,
           )
 
+    pub finds_own : (day : ℕ) → day < 2 ^ 63 → (rows : List Row) → ShowsDetails s day trees rows → All (λ row. IsDetailRow row) rows
+        → (details : DetailsValue) → TellsFirst rows details → IsCurrentDetails (world_3 trees) s day details
+    finds_own day low rows all lawful details first =
+        let it = greatest day low rows all.0 rows refl (all.1 lawful) details first in
+        (nearest (world_3 trees) s day details).1 (inl (day, it.0, omega arith, it.1, (λ other upto. upto.2), it.2))
+
     pub finds_current : (day : ℕ) → day < 2 ^ 63 → (found : List Row) → ShowsNearest s day trees found → (of : ℕ)
         → SaysDay found (Some of) → (rows : List Row) → ShowsDetails s of trees rows → All (λ row. IsDetailRow row) rows
         → (details : DetailsValue) → TellsFirst rows details → IsCurrentDetails (world_3 trees) s day details

@@ -30,7 +30,7 @@ use std::alloc::{AllocError, Global};
 use std::collections::BTreeSet;
 
 /// The current details of a day of a stream. They are its own, or those of the nearest earlier day that has some. The day need not be
-/// known.
+/// known. Most days have some, so these are asked for first.
 /// All rows of that one day are read. A single row of a query with a LIMIT wouldn't tell of one beside it that the store didn't write.
 pub fn current_details<S: Alter>(
     alloc: Global,
@@ -45,11 +45,17 @@ pub fn current_details<S: Alter>(
     let Ok(_) = ready(conn) else {
         return Err(Unavailable);
     };
+    // For the proof: a day's number is at most that of the last day.
+    let _ = day.number();
+    let Ok(own) = details_rows(conn, stream, day) else {
+        return Err(Unavailable);
+    };
+    if !own.is_empty() {
+        return first_details(alloc, &own);
+    }
     let Ok(found) = nearest_rows(conn, stream, day) else {
         return Err(Unavailable);
     };
-    // For the proof: a day's number is at most that of the last day.
-    let _ = day.number();
     let nearest = first_day(&found)?;
     let Some(of) = nearest else {
         return Ok(empty_details(alloc));
