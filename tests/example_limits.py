@@ -97,7 +97,7 @@ def limits():
         (file, added(0, VERSIONS)),
         (tell_day(MARKED_DAY), told_day(MARKED_DAY, marks, "20240102000000", 5, events)),
         (tell_day(UPDATED_DAY), told_day(UPDATED_DAY, {1: f"A,,,{UPDATES}"}, f"{UPDATED_DAY}0000{UPDATES:02}", 5)),
-        (tell_versions(UPDATED_DAY, FIVE_MINUTES), told_versions(UPDATED_DAY, FIVE_MINUTES, *versions)),
+        (tell_versions(UPDATED_DAY, FIVE_MINUTES), told_versions(UPDATED_DAY, FIVE_MINUTES, *versions, length=5)),
         (tell_day(LONG_DATES[-1]), told_day(LONG_DATES[-1], {1: "A,,,1"}, "20240103000000", 5)),
         (tell_gaps("20240101", "20250203"), gaps(*unknown)),
         (tell_finals(MARKED_DAY, MARKED_DAY), finals(*stretches)),

@@ -58,7 +58,7 @@ DAY_OF_FIVE_MINUTES = [
     (take_in(FIVE_MINUTES, day("20240101", 287 * ["1"], "20240102010203"), END), refused("L5", line=3, field=290)),
     (tell_day("20240101"), refused("M10")),
     (take_in(FIVE_MINUTES, day("20240101", 288 * ["1"], "20240102010203"), END), added(288, 0)),
-    (tell_versions("20240101", 288), told_versions("20240101", 288, "20240102010203,A,,,1")),
+    (tell_versions("20240101", 288), told_versions("20240101", 288, "20240102010203,A,,,1", length=5)),
     (tell_versions("20240101", 289), refused("M10")),
 ]
 
@@ -226,7 +226,7 @@ CORRECTED = take_in(FIVE_MINUTES, day("20240101", 288 * ["1"], "20240102010203")
 TWO_UPDATES = [
     (CORRECTED, added(576, 0)),
     (tell_day("20240101"), told_day("20240101", {1: "S14,1,,1"}, "20240103000000", 5)),
-    (tell_versions("20240101", 288), told_versions("20240101", 288, "20240102010203,A,,,1", "20240103000000,S14,1,,1")),
+    (tell_versions("20240101", 288), told_versions("20240101", 288, "20240102010203,A,,,1", "20240103000000,S14,1,,1", length=5)),
     (CORRECTED, added(0, 576)),
 ]
 

@@ -77,7 +77,7 @@ FIELDS = ["1141", "01", "11", "11", "METSER66", "E", "000021.2", "20031001103230
 DAY = {"date": "20240103", "events": [], "length": 30, "nmi": NMI, "readings": 48 * [["A", "", "", "1.5"]], "suffix": "E1", "unit": "kWh",
        "update": "20240104010203"}
 VERSIONS = {"date": "20240103", "interval": 7, "nmi": NMI, "suffix": "E1", 
-            "versions": [["20240103230000", "A", "", "", "9"], ["20240104010203", "A", "", "", "1.5"]]}
+            "versions": [["20240103230000", "A", "", "", "9", "30"], ["20240104010203", "A", "", "", "1.5", "30"]]}
 PERIODS = {"nmi": NMI, "periods": [{"fields": FIELDS, "notes": [["N", "", "A", ""]]}], "suffix": "11"}
 NO_NAMES = dict.fromkeys(["configuration", "datastream", "meter", "next", "register"], "")
 STREAMS = [{**NO_NAMES, "nmi": NMI, "suffix": "11"},

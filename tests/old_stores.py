@@ -271,11 +271,20 @@ def build(store, schema):
         database.executescript(file.read())
 
 
+def with_length(name, answer):
+    """An answer as it is told now: a version has the length of its interval, which the programs of schemas 1 and 2 didn't tell."""
+    kind, *parts = name.split()
+    if kind != "versions":
+        return answer
+    length = str(1440 // LENGTHS.get(tuple(parts[:2]), 48))
+    return [[[*version, length] for version in versions] for versions in answer]
+
+
 def kept_answers():
     """What the programs printed of the steps, what they printed of them again, and what they answered."""
     with open(ANSWERS, encoding="utf-8") as file:
         whole = json.load(file)
-    return whole["printed"], whole["again"], whole["answers"]
+    return whole["printed"], whole["again"], {name: with_length(name, answer) for name, answer in whole["answers"].items()}
 
 
 def write(folder):

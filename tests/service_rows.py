@@ -186,8 +186,8 @@ def stream(nmi, suffix, configuration="", register="", datastream="", meter="", 
             "suffix": suffix}
 
 
-def versions_told(interval, *versions, date="20240101"):
-    return told(date=date, interval=interval, nmi="NEM1201009", suffix="E1", versions=list(versions))
+def versions_told(interval, *versions, date="20240101", length=30):
+    return told(date=date, interval=interval, nmi="NEM1201009", suffix="E1", versions=[[*version, str(length)] for version in versions])
 
 
 STREAMS_TOLD = told(streams=[stream("NEM1201009", suffix, suffix, "1", "N1", "01009") for suffix in ["B1", "E1"]])

@@ -121,7 +121,7 @@ TEXTS = [
     ("POST", "/v1/imports", LAST_DAY.format(*[""] * 288, "N,,,20240127000000,"), told(added=288, known=0)),
     ("POST", "/v1/imports", LAST_DAY.format(*["0"] * 288, "E52,0,no read,20240128000001,"), told(added=288, known=0)),
     ("GET", "/v1/versions/NEM1201009/E1/99991231/288", "",
-     versions_told(288, ["20240127000000", *NULL], ["20240128000001", "E52", "0", "no read", "0"], date="99991231")),
+     versions_told(288, ["20240127000000", *NULL], ["20240128000001", "E52", "0", "no read", "0"], date="99991231", length=5)),
 ]
 
 # Jobs as they come, of a day whose like day has 48 times 2. A job has these members, and one or some behind them; where one stands twice,

@@ -139,7 +139,7 @@ class Meter:
         day = day or self.day(number)
         if not day.updates:
             return rows.UNKNOWN_DAY
-        versions = [[moment_text(update), *reading_told(readings[interval - 1])]
+        versions = [[moment_text(update), *reading_told(readings[interval - 1]), "30"]
                     for update, readings in sorted(day.updates.items()) if readings[interval - 1]]
         return rows.told(date=date_text(number), interval=interval, nmi=self.nmi, suffix="E1", versions=versions)
 

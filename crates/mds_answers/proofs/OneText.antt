@@ -1,5 +1,5 @@
 -- An answer is told by one value, so that it has one text.
-use Rattle.std.proofs.Common.{◌≡◌, ℕ, ◌==◌, ◌<◌, false, List, [], ◌∷◌, length, Option, Some, None, option_map, refl, sym, ap, ◌∙◌, arith}
+use Rattle.std.proofs.Common.{◌≡◌, ℕ, ◌==◌, ◌<◌, false, List, [], ◌∷◌, ◌++◌, decimal, length, Option, Some, None, option_map, refl, sym, ap, ◌∙◌, arith}
 use Rattle.std.proofs.lemmas.Bool.Decides.{nat_tests}
 use Rattle.serde_json.specs.Data.{Data}
 use Rattle.serde_json.specs.Written.{compact_text}
@@ -62,7 +62,8 @@ one_event one event a b p q = p.2 ∙ ap (λ moment. texts (trans_text event.tra
 
 one_version : HasOneText moment_of → HasOne IsVersion
 one_version one version a b p q =
-    p.2 ∙ ap (λ update. texts (update ∷ reading_texts version.reading)) (one p.0 q.0 version.update p.1 q.1) ∙ sym q.2
+    p.2 ∙ ap (λ update. texts (update ∷ (reading_texts version.reading ++ decimal version.length ∷ [])))
+    (one p.0 q.0 version.update p.1 q.1) ∙ sym q.2
 
 one_period : HasOneText moment_of → HasOne IsPeriod
 one_period one period a b p q = let same : p.0 ≡ q.0 = one p.0 q.0 period.key.update p.1 q.1 in cc

@@ -1,6 +1,6 @@
 -- What the machine answers, as JSON (RFC 8259; which members there are is the profile's). A value and its compact text are those
 -- of the library `serde_json`. A day, and a moment, stands as the text that reads as it, of which there is one.
-use Rattle.std.specs.Prelude.{◌≡◌, ℕ, ◌==◌, Bool, true, false, if◌then◌else◌, List, [], ◌∷◌, ◌++◌, map, codes, Some}
+use Rattle.std.specs.Prelude.{◌≡◌, ℕ, ◌==◌, Bool, true, false, if◌then◌else◌, List, [], ◌∷◌, ◌++◌, map, codes, decimal, Some}
 use Rattle.serde_json.specs.Data.{Data, array, number, object, string, boolean, unsigned, Members, no_members, member}
 use Rattle.serde_json.specs.View.{items_of}
 use Rattle.serde_json.specs.Written.{compact_text}
@@ -67,11 +67,11 @@ IsEvent event json =
     (moment : List ℕ) × (optional moment_of moment ≡ Some event.moment)
     × (json ≡ texts (trans_text event.trans ∷ event.ticket ∷ moment ∷ event.reading ∷ []))
 
--- a version: its update, and its reading
+-- a version: its update, its reading, and the minutes of its interval
 abbrev pub IsVersion : Version → Data → Type 0
 IsVersion version json =
     (update : List ℕ) × (moment_of update ≡ Some version.update)
-    × (json ≡ texts (update ∷ reading_texts version.reading))
+    × (json ≡ texts (update ∷ (reading_texts version.reading ++ decimal version.length ∷ [])))
 
 -- a known day
 abbrev pub IsDayData : DayAnswer → Data → Type 0

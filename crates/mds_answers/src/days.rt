@@ -1,6 +1,6 @@
 //! Days and versions as JSON.
 
-ghost use Rattle.std.specs.Prelude.{◌≡◌, ◌++◌, [], IfOk, OnOk, map, string_bytes};
+ghost use Rattle.std.specs.Prelude.{◌≡◌, ◌++◌, [], IfOk, OnOk, decimal, map, string_bytes};
 ghost use Rattle.serde_json.specs.Data.{array, object, string};
 ghost use Rattle.serde_json.specs.View.{items_of, members_view, view};
 ghost use Rattle.mds_marks.specs.Quality.{quality_text};
@@ -14,7 +14,7 @@ use itoa::Buffer;
 use mds_keeper::Version;
 use mds_messages::{DayAnswer, VersionsAnswer};
 use mds_quantity::Quantity;
-use mds_terms::{Event, Quality, Reading, TransCode};
+use mds_terms::{Event, Length, Quality, Reading, TransCode};
 use serde_json::{Map, Value, push, put};
 use std::alloc::{AllocError, Global};
 
@@ -29,17 +29,27 @@ impl ToJson for Reading {
     }
 }
 
-/// Its update, and its reading.
+/// Its update, its reading, and the minutes of its interval.
 impl ToJson for Version {
     ghost told_as = { IsVersion };
 
     fn to_json(&self, alloc: Global) -> Result<Value, AllocError> {
         let mut list = Vec::new(alloc);
-        let update = moment_text(alloc, self.update)?;
-        list.push(Value::from(update))?;
-        push_reading(&mut list, alloc, &self.reading)?;
+        push_version(&mut list, alloc, self)?;
         Ok(Value::from(list))
     }
+}
+
+/// Appends the texts of a version. The list is lent, so that nothing is dropped where memory is refused.
+fn push_version(list: &mut Vec<Value>, alloc: Global, version: &Version) -> Result<(), AllocError>
+    requires none { list.old.items ≡ [] }
+    ensures { OnOk result (IsVersion version.now (array (items_of (map view list.new.items)))) }
+{
+    let update = moment_text(alloc, version.update)?;
+    push(list, Value::from(update))?;
+    push_reading(list, alloc, &version.reading)?;
+    let length = length_text(alloc, version.length)?;
+    push(list, Value::from(length))
 }
 
 /// Appends the texts of a reading. The list is lent, so that nothing is dropped where memory is refused.
@@ -85,6 +95,15 @@ fn value_text(alloc: Global, value: Option<Quantity>) -> Result<String, AllocErr
     if let Some(value) = value {
         value.write_to(&mut text)?;
     }
+    Ok(text)
+}
+
+/// The text of a length, its minutes.
+fn length_text(alloc: Global, length: Length) -> Result<String, AllocError>
+    ensures { IfOk result (λ text. string_bytes text ≡ decimal length) }
+{
+    let mut text = String::new(alloc);
+    length.write_to(&mut text)?;
     Ok(text)
 }
 

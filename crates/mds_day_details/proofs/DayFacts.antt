@@ -20,7 +20,7 @@ use Rattle.mds_world.specs.Sets.{◌∈◌}
 use Rattle.mds_world.specs.World.{World}
 use Rattle.mds_world.specs.declared.facts.Detail.{Detail}
 use Rattle.mds_keeper.specs.Content.{detail_on}
-use Rattle.mds_keeper.specs.Queries.{AreDaysWithout}
+use Rattle.mds_keeper.specs.Queries.{AreDaysWithout, AreDetailsBetween}
 use Rattle.mds_keeper.specs.declared.additions.DetailDays.{DetailDays}
 use Rattle.mds_tables.specs.Cells.{day_cells, detail_cells, number_cell}
 use Rattle.mds_tables.specs.RowFacts.{int_at, natural, natural_at, optional, optional_at, text_at}
@@ -32,17 +32,12 @@ use Rattle.mds_selects.proofs.MemberLemmas.{place_of}
 use Rattle.mds_selects.proofs.TypedRows.{begins_at, begins_by, optional_back, small, small_option, some_cell}
 use Rattle.mds_pack_rows.specs.DailyLayout.{world_3}
 use Rattle.mds_pack_rows.specs.DailyTables.{schema_3}
-use Rattle.mds_day_details.specs.Shown.{AreLatestFirst, AreLeft, HasRow, IsDetailRow, ShowsDaysWith, ShowsDetails, ShowsNearest, TellsFirst, details_columns, shown_details}
+use Rattle.mds_day_details.specs.Shown.{AreLatestFirst, AreLeft, HasRow, IsBelow, IsDetailRow, IsTold, ShowsDaysWith, ShowsDetails, ShowsNearest, ShowsRange, TellsDays, TellsFirst, details_columns, range_columns, shown_day, shown_details}
 use Rattle.mds_day_details.proofs.DetailCells.{detail_in, detail_is, named, row_cells}
 
 -- ---- the order of rows
 
--- a is no later than b, and of one moment no greater
-abbrev IsBelow : Row → Row → Type 0
-IsBelow a b =
-    is_le (ordering_then (nat_cmp (natural_at a 0) (natural_at b 0)) (details_cmp (shown_details a) (shown_details b))) ≡ true
-
-below_self : (a : Row) → IsBelow a a
+pub below_self : (a : Row) → IsBelow a a
 below_self a =
     let one : nat_cmp (natural_at a 0) (natural_at a 0) ≡ Equal = tied_itself nat_cmp_total (natural_at a 0) in
     let two : details_cmp (shown_details a) (shown_details a) ≡ Equal = tied_itself details_total (shown_details a) in
@@ -53,6 +48,12 @@ below_first row rest sorted r (inl e) = subst (λ x. IsBelow x row) (sym e) (bel
 below_first row rest sorted r (inr m) =
     let at = place_of rest r row m in
     subst (λ x. IsBelow x row) at.2 (sorted 0 (suc at.0) row (omega arith) (omega (arith, at.1)))
+
+-- the same of the details that they tell
+details_below : (a b : Row) (d e : Detail) → natural_at a 0 ≡ d.moment → natural_at b 0 ≡ e.moment → shown_details a ≡ d.details
+    → shown_details b ≡ e.details → IsBelow a b
+    → is_le (ordering_then (nat_cmp d.moment e.moment) (details_cmp d.details e.details)) ≡ true
+details_below a b d e m n p q below = (λ i. is_le (ordering_then (nat_cmp (sym m i) (sym n i)) (details_cmp (sym p i) (sym q i)))) ∙ below
 
 module _ (trees : Trees) (sound : IsSound schema_3 trees) where
   -- ---- current details
@@ -123,7 +124,7 @@ module _ (trees : Trees) (sound : IsSound schema_3 trees) where
               greatest = λ other upto day.
                   let t = tells other upto day in
                   let below = below_first row rest sorted t.0 (subst (Member t.0) is t.1) in
-                  (λ i. is_le (ordering_then (nat_cmp (sym t.2 i) (sym here.3 i)) (details_cmp (sym t.3 i) (sym here.4 i)))) ∙ below;
+                  details_below t.0 row other d t.2 here.3 t.3 here.4 below;
             },
             sym first ∙ here.4,
           )
@@ -143,6 +144,74 @@ module _ (trees : Trees) (sound : IsSound schema_3 trees) where
         let it = greatest of (omega (arith, low, to)) rows all.0 rows refl (all.1 lawful) details first in
         (nearest (world_3 trees) s day details).1
         (inl (of, it.0, to, it.1, (λ other upto. near.2 other.day upto.2 (has_row day low other upto)), it.2))
+
+    -- ---- the current details of the days of a range
+
+    module _ (first last : ℕ) (low : last < 2 ^ 63) (rows : List Row) (shows : ShowsRange s first last trees rows)
+        (told : List (ℕ × DetailsValue)) (tells : TellsDays rows told) where
+      -- a row that is shown tells details of its day, which is in the range
+      of_row : (x : Row) → Member x rows
+          → (d : Detail) × (DetailIs d ∈ world_3 trees) × (d.stream ≡ s) × (d.day ≡ shown_day x) × (first ≤ d.day) × (d.day ≤ last)
+          × (natural_at x 0 ≡ d.moment) × (shown_details x ≡ d.details)
+      of_row x m =
+          let r = (shows.0 x).0 m in
+          let at = on_day s r.2.0 r.0 r.2.3 in
+          let day = at.1 in
+          let from = r.2.1 in
+          let to = r.2.2 in (
+            detail_in r.0,
+            (named trees (detail_in r.0)).1 (r.0, r.1, refl),
+            at.0,
+            sym (ap shown_day r.3),
+            omega (arith, day, from),
+            omega (arith, day, to),
+            ap (λ y. natural_at y 0) r.3,
+            ap shown_details r.3,
+          )
+
+      -- details of a day of the range are told by a row that is shown
+      has_shown : (d : Detail) → DetailIs d ∈ world_3 trees → d.stream ≡ s → first ≤ d.day → d.day ≤ last
+          → (x : Row) × Member x rows × (shown_day x ≡ d.day) × (natural_at x 0 ≡ d.moment) × (shown_details x ≡ d.details)
+      has_shown d h of from to =
+          let r = row_of d.day (omega (arith, low, to)) d h of refl in
+          let x = map (column r.0) range_columns in (
+            x,
+            (shows.0 x).1 (r.0, r.1, (d.day, from, to, r.3), refl),
+            ap (λ (e : Detail). e.day) r.2,
+            ap (λ (e : Detail). e.moment) r.2,
+            ap (λ (e : Detail). e.details) r.2,
+          )
+
+      current : (entry : ℕ × DetailsValue) → IsTold rows entry
+          → (first ≤ entry.0) × (entry.0 ≤ last) × IsCurrentDetails (world_3 trees) s entry.0 entry.1
+      current entry it =
+          let here = of_row it.0 it.1 in
+          let d = here.0 in
+          let day : d.day ≡ entry.0 = here.3 ∙ it.2 in
+          let from = here.4 in
+          let to = here.5 in
+          let greatest : IsGreatestOfDay (world_3 trees) s entry.0 d = record {
+            held = (here.1, here.2, omega (arith, day));
+            here = day;
+            greatest = λ other upto same.
+                let t = has_shown other upto.0 upto.1 (omega (arith, same, day, from)) (omega (arith, same, day, to)) in
+                let below = it.4 t.0 t.1 (t.2 ∙ same) in
+                details_below t.0 it.0 other d t.3 here.6 t.4 here.7 below;
+          } in (
+            omega (arith, day, from),
+            omega (arith, day, to),
+            (nearest (world_3 trees) s entry.0 entry.1).1
+                (inl (entry.0, d, omega arith, greatest, (λ other upto. upto.2), sym it.3 ∙ here.7)),
+          )
+
+      pub finds_between : AreDetailsBetween (world_3 trees) s first last told
+      finds_between = record {
+        each = λ entry m. current entry (tells.each entry m);
+        all = λ d h of from to.
+            let t = has_shown d h of from to in
+            subst (λ n. Member n (map (λ (entry : ℕ × DetailsValue). entry.0) told)) t.2 (tells.all t.0 t.1);
+        ascending = tells.ascending;
+      }
 
   -- ---- the days without some details
 

@@ -1,5 +1,5 @@
 -- The rows of mds_daydetail: the types of their columns, and the facts that they name.
-use Rattle.std.proofs.Common.{◌≡◌, ◌↔◌, inl, inr, ℕ, ◌+◌, List, [], ◌∷◌, Option, Some, None, codes, refl, sym, subst, map, unwrap_or}
+use Rattle.std.proofs.Common.{◌≡◌, ◌↔◌, inl, inr, ℕ, ◌+◌, List, [], ◌∷◌, Option, Some, None, codes, length, refl, sym, subst, map, unwrap_or}
 use Rattle.sqlite.specs.declared.types.Value.TheVariants.{Int, Text}
 use Rattle.sqlite_catalog.specs.Listing.{IsSound}
 use Rattle.sqlite_schema.specs.declared.schema.Constraint.TheVariants.{Datatype, NotNull}
@@ -22,7 +22,7 @@ use Rattle.mds_selects.proofs.TypedLemmas.{AreFor, AreTyped, alike, both}
 use Rattle.mds_selects.proofs.TypedRows.{HasKeyCells}
 use Rattle.mds_pack_rows.specs.DailyLayout.{daily_layout, day_details, world_3}
 use Rattle.mds_pack_rows.specs.DailyTables.{daily, daydetail_table, schema_3}
-use Rattle.mds_pack_rows.specs.PackFacts.{facts_from, pack_facts, pack_versions, readings_in}
+use Rattle.mds_pack_rows.specs.PackFacts.{facts_from, minutes_of, pack_facts, pack_versions, readings_in}
 use Rattle.mds_pack_rows.specs.PackTables.{pack_tree}
 
 -- ---- the types of the columns
@@ -78,15 +78,17 @@ pub detail_is : (r : Row) (d : Detail) → detail_fact r ≡ DetailIs d → deta
 detail_is r d e = cc
 
 -- packed days say no details
-none_from : (s : Stream) (day update interval : ℕ) (readings : List (Option ReadingValue)) (d : Detail)
-    → Member (DetailIs d) (facts_from s day update interval readings) → ⊥
-none_from s day update interval [] d m = absurd m
-none_from s day update interval (None ∷ readings) d m = none_from s day update (interval + 1) readings d m
-none_from s day update interval (Some r ∷ readings) d (inl e) = cc
-none_from s day update interval (Some r ∷ readings) d (inr m) = none_from s day update (interval + 1) readings d m
+none_from : (s : Stream) (day minutes update interval : ℕ) (readings : List (Option ReadingValue)) (d : Detail)
+    → Member (DetailIs d) (facts_from s day minutes update interval readings) → ⊥
+none_from s day minutes update interval [] d m = absurd m
+none_from s day minutes update interval (None ∷ readings) d m = none_from s day minutes update (interval + 1) readings d m
+none_from s day minutes update interval (Some r ∷ readings) d (inl e) = cc
+none_from s day minutes update interval (Some r ∷ readings) d (inr m) = none_from s day minutes update (interval + 1) readings d m
 
 none_in : (r : Row) (d : Detail) → Member (DetailIs d) (pack_facts r) → ⊥
-none_in r d m = none_from (stream_in r) (natural_at r 3) (natural_at r 4) 1 (unwrap_or (readings_in (text_at r 5)) []) d m
+none_in r d m =
+    let readings = unwrap_or (readings_in (text_at r 5)) [] in
+    none_from (stream_in r) (natural_at r 3) (minutes_of (length readings)) (natural_at r 4) 1 readings d m
 
 -- a World has the details that rows name
 pub named : (trees : Trees) (d : Detail) → (DetailIs d ∈ world_3 trees) ↔ Names detail_fact (trees daydetail_tree) (DetailIs d)

@@ -63,7 +63,7 @@ next_order (negsuc (suc a)) n p q = absurd (no_less (2 ^ 63) a p)
 abbrev pub shown_cmp : Row → Row → Ordering
 shown_cmp = then_cmp (on (λ row. natural_at row 0) nat_cmp) (on shown_details details_cmp)
 
-shown_total : IsTotalOrder shown_cmp
+pub shown_total : IsTotalOrder shown_cmp
 shown_total = then_total (on_total (λ row. natural_at row 0) nat_cmp_total) (on_total shown_details details_total)
 
 -- ---- an output, and what it is sorted by
@@ -86,13 +86,13 @@ same_order a b p q of og =
     (two _ _ _ _ (value_cmp-Text (text_at b.1 4) (text_at a.1 4))
     (then-Equal _ ∙ value_cmp-Int (int_at b.1 5) (int_at a.1 5) ∙ next_order (int_at b.1 5) (int_at a.1 5) og.1 of.1))))))
 
-all_at : {X : Type 0} (P : X → Type 0) (xs : List X) (k : ℕ) (d : X) → AllByRecursion P xs → k < length xs
+pub all_at : {X : Type 0} (P : X → Type 0) (xs : List X) (k : ℕ) (d : X) → AllByRecursion P xs → k < length xs
     → P (get_or xs k d)
 all_at P [] k d all low = absurd (omega arith)
 all_at P (x ∷ xs) zero d all low = all.0
 all_at P (x ∷ xs) (suc k) d all low = all_at P xs k d all.1 (omega arith)
 
-turned : (r : Ordering) → is_lt r ≡ false → is_le (ordering_reverse r) ≡ true
+pub turned : (r : Ordering) → is_lt r ≡ false → is_le (ordering_reverse r) ≡ true
 turned Less h = absurd (cc)
 turned Equal h = refl
 turned Greater h = refl

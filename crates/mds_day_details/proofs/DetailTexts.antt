@@ -11,10 +11,10 @@ use Rattle.sqlite_sql.specs.declared.ops.CompareOp.TheVariants.{Ge, Le}
 use Rattle.sqlite_tied.specs.Compute.{everything}
 use Rattle.sqlite_value.specs.declared.keys.Key.{Key}
 use Rattle.mds_tables.specs.Tables.{daydetail_tree}
-use Rattle.mds_selects.specs.Shown.{falling}
+use Rattle.mds_selects.specs.Shown.{falling, rising}
 use Rattle.mds_selects.proofs.SelectTexts.{columns_at, equals, first_of, from_one}
 use Rattle.mds_pack_rows.specs.DailyTables.{schema_3}
-use Rattle.mds_day_details.specs.Shown.{details_columns}
+use Rattle.mds_day_details.specs.Shown.{details_columns, range_columns}
 
 -- a column is at least, and at most, the parameter
 abbrev pub at_least : ℕ → ℕ → Term
@@ -68,6 +68,32 @@ select_details_is = refl
 pub select_details_plain : IsPlain (understood schema_3 select_details) × (reads_listing schema_3 select_details ≡ false)
 unfolding understood everything
 select_details_plain = ((refl, refl), refl)
+
+-- ---- the details of a range of days
+
+abbrev pub select_range : List ℕ
+select_range = codes "SELECT moment, configuration, register, datastream, meter, next, day FROM mds_daydetail WHERE nmi = ?1 AND suffix = ?2 AND day >= ?3 AND day <= ?4 ORDER BY day, moment DESC, configuration DESC, register DESC, datastream DESC, meter DESC, next DESC"
+
+-- a stream, and a range of days
+abbrev pub range_tests : List Term
+range_tests = equals 1 0 ∷ equals 2 1 ∷ at_least 3 2 ∷ at_most 3 3 ∷ []
+
+-- by day, and then as those of a day
+abbrev pub day_rises : List (Term × Key)
+day_rises = (col 1 3, rising) ∷ details_fall
+
+abbrev pub range_query : Query
+range_query = from_one daydetail_tree range_tests (columns_at range_columns) day_rises
+
+pub select_range_is : command_of (understood schema_3 select_range)
+    ≡ Select (record { lets = []; body = range_query }) (codes "moment" ∷ codes "configuration" ∷ codes "register"
+    ∷ codes "datastream" ∷ codes "meter" ∷ codes "next" ∷ codes "day" ∷ [])
+unfolding understood everything
+select_range_is = refl
+
+pub select_range_plain : IsPlain (understood schema_3 select_range) × (reads_listing schema_3 select_range ≡ false)
+unfolding understood everything
+select_range_plain = ((refl, refl), refl)
 
 -- ---- the days that have some details
 

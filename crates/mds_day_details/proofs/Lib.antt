@@ -6,3 +6,5 @@ pub mod DetailOrder
 pub mod DetailTexts
 pub mod NearestRows
 pub mod Numbers
+pub mod RangeRows
+pub mod Telling

@@ -1,5 +1,5 @@
 -- What queries of mds_daydetail show, and what their rows say. A row that is shown has no rowid before its columns.
-use Rattle.std.specs.Prelude.{◌≡◌, ◌≤◌, ◌<◌, ◌+◌, ◌^◌, ◌↔◌, ℕ, List, [], ◌∷◌, length, true, All, IfSome, IsTrue}
+use Rattle.std.specs.Prelude.{◌≡◌, ◌≤◌, ◌<◌, ◌+◌, ◌-◌, ◌^◌, ◌↔◌, ◌⊎◌, ℕ, List, [], ◌∷◌, ◌++◌, length, map, option_map, slice_get, true, All, IfSome, IsTrue, Some}
 use Rattle.std.specs.List.{AllPairs}
 use Rattle.std.specs.Ordering.{is_le, nat_cmp, ordering_then}
 use Rattle.sqlite.specs.declared.types.Value.TheVariants.{Text}
@@ -44,10 +44,14 @@ shown_details row = details_from row 1
 abbrev pub IsDetailRow : Row → Type 0
 IsDetailRow row = (natural_at row 0 < 2 ^ 63) × IfSome (optional_at row 5) (λ day. day < 2 ^ 63)
 
+-- a is no later than b, and of one moment its details are no greater
+abbrev pub IsBelow : Row → Row → Type 0
+IsBelow a b =
+    is_le (ordering_then (nat_cmp (natural_at a 0) (natural_at b 0)) (details_cmp (shown_details a) (shown_details b))) ≡ true
+
 -- rows of later moments first, and of one moment those of greater details
 abbrev pub AreLatestFirst : List Row → Type 0
-AreLatestFirst rows =
-    AllPairs (λ a b. is_le (ordering_then (nat_cmp (natural_at b 0) (natural_at a 0)) (details_cmp (shown_details b) (shown_details a))) ≡ true) rows
+AreLatestFirst rows = AllPairs (λ a b. IsBelow b a) rows
 
 -- all rows of a day, in that order where the store can have written them
 abbrev pub ShowsDetails : Stream → ℕ → Trees → List Row → Type 0
@@ -75,6 +79,57 @@ IsWritten row = (moment : ℕ) × (details : DetailsValue) × IsRowOf row moment
 -- the bytes of the texts of details
 abbrev pub text_length : DetailsValue → ℕ
 text_length d = length d.configuration + length d.register + length d.datastream + length d.meter
+
+-- ---- the details of a range of days
+
+-- the row begins with the stream, and a day from the first to the last
+abbrev pub IsInRange : Stream → ℕ → ℕ → Row → Type 0
+IsInRange s first last row = (day : ℕ) × (first ≤ day) × (day ≤ last) × Begins (day_cells s day) row
+
+-- the columns that are shown of them: those of a day's details, and then the day
+abbrev pub range_columns : List ℕ
+range_columns = 4 ∷ 5 ∷ 6 ∷ 7 ∷ 8 ∷ 9 ∷ 3 ∷ []
+
+-- the day of a row
+abbrev pub shown_day : Row → ℕ
+shown_day row = natural_at row 6
+
+-- a is of an earlier day than b, or of the same one and no less
+abbrev pub ComesFirst : Row → Row → Type 0
+ComesFirst a b = (shown_day a ≤ shown_day b) × (shown_day a ≡ shown_day b → IsBelow b a)
+
+-- rows of earlier days first, and those of one day latest first
+abbrev pub AreByDay : List Row → Type 0
+AreByDay rows = AllPairs (λ a b. ComesFirst a b) rows
+
+-- all rows of a range of days, in that order where the store can have written them
+abbrev pub ShowsRange : Stream → ℕ → ℕ → Trees → List Row → Type 0
+ShowsRange s first last trees rows =
+    ((shown : Row) → Member shown rows
+    ↔ ((row : Row) × Member row (trees daydetail_tree) × IsInRange s first last row × (shown ≡ map (column row) range_columns)))
+    × (All (λ row. IsDetailRow row) rows → AreByDay rows)
+
+-- the last entry is of the day
+abbrev pub EndsOn : ℕ → List (ℕ × DetailsValue) → Type 0
+EndsOn day told = option_map (λ entry. entry.0) (slice_get told (length told - 1)) ≡ Some day
+
+-- The details of a row come to the end, unless the last entry is of its day.
+abbrev pub TellsRow : List (ℕ × DetailsValue) → Row → List (ℕ × DetailsValue) → Type 0
+TellsRow old row new =
+    (EndsOn (shown_day row) old × (new ≡ old))
+    ⊎ ((EndsOn (shown_day row) old → ⊥) × (new ≡ old ++ (shown_day row, shown_details row) ∷ []))
+
+-- One of the rows is of the entry's day, none of that day is above it, and it tells the entry's details.
+abbrev pub IsTold : List Row → ℕ × DetailsValue → Type 0
+IsTold rows entry =
+    (row : Row) × Member row rows × (shown_day row ≡ entry.0) × (shown_details row ≡ entry.1)
+    × ((other : Row) → Member other rows → shown_day other ≡ entry.0 → IsBelow other row)
+
+-- The days of the rows, ascending, each once.
+pub record TellsDays (rows : List Row) (told : List (ℕ × DetailsValue)) : Type 0 where
+  pub each : (entry : ℕ × DetailsValue) → Member entry told → IsTold rows entry
+  pub all : (row : Row) → Member row rows → Member (shown_day row) (map (λ entry. entry.0) told)
+  pub ascending : AllPairs (λ a b. a.0 < b.0) told
 
 -- ---- the days that have some details
 

@@ -5,5 +5,5 @@ mod querying;
 mod rows;
 mod terms;
 
-pub use querying::{are_detail_rows, current_details, days_without};
+pub use querying::{are_detail_rows, current_details, days_without, details_between};
 pub use terms::details_at;

@@ -1,7 +1,7 @@
 //! What is asked of the details of days, found by queries. A store that can't answer is unavailable (U1). So is one that holds a
 //! row that it didn't write.
 
-ghost use Rattle.std.specs.Prelude.{◌≡◌, ◌≢◌, ◌<◌, ◌≤◌, ◌^◌, ℕ, List, [], ◌∷◌, false, All, IfNone, IfOk, IfSome, IsTrue, OnErr, OnOk, Some};
+ghost use Rattle.std.specs.Prelude.{◌≡◌, ◌≢◌, ◌↔◌, ◌<◌, ◌≤◌, ◌^◌, ℕ, List, [], ◌∷◌, false, All, IfNone, IfOk, IfSome, IsTrue, OnErr, OnOk, Some};
 ghost use Rattle.std.specs.Bool.{OnFalse};
 ghost use Rattle.std.specs.BTreeSet.{IsFromIterResult};
 ghost use Rattle.sqlite.specs.Held.{state};
@@ -9,16 +9,16 @@ ghost use Rattle.sqlite_value.specs.Order.{Row as RowValue, column};
 ghost use Rattle.mds_terms.specs.Details.{DetailsValue};
 ghost use Rattle.mds_world.specs.Current.{IsCurrentDetails};
 ghost use Rattle.mds_world.specs.Lists.{Member};
-ghost use Rattle.mds_keeper.specs.Queries.{AreDaysWithout};
+ghost use Rattle.mds_keeper.specs.Queries.{AreDaysWithout, AreDetailsBetween};
 ghost use Rattle.mds_tables.specs.Cells.{number_cell};
 ghost use Rattle.mds_tables.specs.Queries.{Answers};
 ghost use Rattle.mds_tables.specs.Stores.{HoldsOf};
 ghost use Rattle.mds_selects.specs.Shown.{SaysDay};
 ghost use Rattle.mds_selects.specs.Written.{IsDay};
 ghost use Rattle.mds_pack_rows.specs.DailyLayout.{daily_layout, world_3};
-ghost use Rattle.mds_day_details.specs.Shown.{AreLeft, IsDetailRow, IsRowOf, IsWritten, TellsFirst, text_length};
+ghost use Rattle.mds_day_details.specs.Shown.{AreByDay, AreLeft, EndsOn, IsDetailRow, IsRowOf, IsWritten, TellsDays, TellsFirst, TellsRow, text_length};
 
-use crate::rows::{days_with_rows, details_rows, nearest_rows};
+use crate::rows::{days_with_rows, details_rows, nearest_rows, range_rows};
 use crate::terms::{details_at, is_detail_row};
 use mds_keeper::{DetailDays, Unavailable};
 use mds_selects::{day_at, in_order};
@@ -110,6 +110,72 @@ pub fn are_detail_rows(rows: &[Row]) -> bool
         }
     }
     true
+}
+
+/// The current details of the days of a range that have details of their own, ascending, each day once. It is one query, whatever the
+/// count of days.
+/// All rows of these days are read, and tested to be ones that the store can have written. A row that it didn't write hides none.
+pub fn details_between<S: Alter>(
+    alloc: Global,
+    conn: &mut Connection<S>,
+    stream: &Stream,
+    first: Day,
+    last: Day,
+) -> Result<Vec<(Day, Details)>, Unavailable>
+    requires { conn.old.in_transaction ≡ false }
+    ensures { Answers (HoldsOf daily_layout) (state S.Store conn.old) (state S.Store conn.new) result
+        (λ trees rows. AreDetailsBetween (world_3 trees) stream.now first last rows.items) }
+{
+    let Ok(_) = ready(conn) else {
+        return Err(Unavailable);
+    };
+    // For the proof: a day's number is at most that of the last day.
+    let _ = last.number();
+    let Ok(rows) = range_rows(conn, stream, first, last) else {
+        return Err(Unavailable);
+    };
+    tell_days(alloc, &rows)
+}
+
+/// The details of the first row of each day, where all rows are ones that the store can have written. The rows are by day.
+fn tell_days(alloc: Global, rows: &[Row]) -> Result<Vec<(Day, Details)>, Unavailable>
+    ensures told { IfOk result (λ told. AreByDay rows.now → TellsDays rows.now told.items) }
+    ensures all { IfOk result (λ told. All (λ row. IsDetailRow row) rows.now) }
+{
+    let are_lawful = are_detail_rows(rows);
+    if !are_lawful {
+        return Err(Unavailable);
+    }
+    let mut told = Vec::new(alloc);
+    for i in 0..rows.len() {
+        tell_row(alloc, &mut told, &rows[i])?;
+    }
+    Ok(told)
+}
+
+/// Adds the day of a row with its details, unless the last entry is of that day.
+fn tell_row(alloc: Global, told: &mut Vec<(Day, Details)>, row: &Row) -> Result<(), Unavailable>
+    ensures { OnOk result (TellsRow told.old.items row.now told.new.items) }
+{
+    let Some(day) = day_at(row, 6) else {
+        return Err(Unavailable);
+    };
+    if ends_on(told, day) {
+        return Ok(());
+    }
+    let details = details_at(alloc, row)?;
+    told.push((day, details))?;
+    Ok(())
+}
+
+/// Whether the last entry is of the day.
+fn ends_on(told: &[(Day, Details)], day: Day) -> bool
+    ensures { IsTrue result ↔ EndsOn day told.now }
+{
+    match told.last() {
+        Some(entry) => entry.0 == day,
+        None => false,
+    }
 }
 
 /// Those of the days that don't have these details yet, current or not. They are ascending, each once. It is one query, whatever the

@@ -7,10 +7,10 @@ ghost use Rattle.sqlite.specs.declared.types.Value.TheVariants.{Int};
 ghost use Rattle.mds_tables.specs.Cells as row;
 ghost use Rattle.mds_tables.specs.Queries.{QueriesOf};
 ghost use Rattle.mds_pack_rows.specs.DailyLayout.{daily_layout};
-ghost use Rattle.mds_day_details.specs.Shown.{ShowsDaysWith, ShowsDetails, ShowsNearest, days_cells};
+ghost use Rattle.mds_day_details.specs.Shown.{ShowsDaysWith, ShowsDetails, ShowsNearest, ShowsRange, days_cells};
 
 use mds_keeper::DetailDays;
-use mds_tables::day_cells;
+use mds_tables::{day_cells, range_cells};
 use mds_terms::{Day, Stream};
 use sqlite::types::ValueRef;
 use sqlite::{Alter, Connection, Error, Row};
@@ -43,6 +43,21 @@ pub(crate) fn details_rows<S: Alter>(
     )
 }
 
+/// The details of the days of a range, each with its day: by day, and those of one day as its details are.
+pub(crate) fn range_rows<S: Alter>(
+    conn: &mut Connection<S>,
+    stream: &Stream,
+    first: Day,
+    last: Day,
+) -> Result<Vec<Row>, Error>
+    ensures { QueriesOf daily_layout (state S.Store conn.old) (state S.Store conn.new) result (ShowsRange stream.now first last) }
+{
+    conn.query_all(
+        "SELECT moment, configuration, register, datastream, meter, next, day FROM mds_daydetail WHERE nmi = ?1 AND suffix = ?2 AND day >= ?3 AND day <= ?4 ORDER BY day, moment DESC, configuration DESC, register DESC, datastream DESC, meter DESC, next DESC",
+        &range_cells(stream, first, last),
+    )
+}
+
 /// The days of a range that have these details.
 pub(crate) fn days_with_rows<S: Alter>(
     conn: &mut Connection<S>,
@@ -54,12 +69,12 @@ pub(crate) fn days_with_rows<S: Alter>(
 {
     conn.query_all(
         "SELECT day FROM mds_daydetail WHERE nmi = ?1 AND suffix = ?2 AND day >= ?3 AND day <= ?4 AND moment = ?5 AND configuration = ?6 AND register = ?7 AND datastream = ?8 AND meter = ?9 AND next = ?10",
-        &range_cells(details, first, last),
+        &asked_cells(details, first, last),
     )
 }
 
 /// The columns of details, with the first and the last day of a range in place of their day.
-fn range_cells<'a>(details: &'a DetailDays, first: Day, last: Day) -> [ValueRef<'a>; 10]
+fn asked_cells<'a>(details: &'a DetailDays, first: Day, last: Day) -> [ValueRef<'a>; 10]
     ensures { bound result ≡ days_cells details.now first last }
 {
     [

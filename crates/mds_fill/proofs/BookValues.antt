@@ -1,16 +1,19 @@
 -- What the book of a day says of the World.
-use Rattle.std.proofs.Common.{◌≡◌, ℕ, ℤ, Bool, true, false, Option, Some, None, refl, sym, ap, ◌∙◌, subst, arith}
+use Rattle.std.proofs.Common.{◌≡◌, ◌≤◌, ℕ, ℤ, Bool, true, false, Option, Some, None, refl, sym, ap, ◌∙◌, subst, inl, inr, arith}
 use Rattle.std.specs.Bool.{MatchBool}
 use Rattle.mds_quantity.specs.declared.unit.Unit.{Unit as MeasureUnit}
 use Rattle.mds_names.specs.declared.stream.Stream.{Stream}
+use Rattle.mds_marks.specs.Quality.{actual, final, null}
 use Rattle.mds_marks.specs.Reading.{ReadingValue}
-use Rattle.mds_world.specs.Facts.{JobContent, head_at, key_at}
+use Rattle.mds_world.specs.Current.{HasNoVersion, IsDayReading, IsFormOf, IsReading, no_reading}
+use Rattle.mds_world.specs.declared.facts.Head.{Head}
+use Rattle.mds_world.specs.Facts.{Fact, JobContent, head_at, key_at}
 use Rattle.mds_world.specs.Facts.Fact.{HeadIs, VersionIs}
 use Rattle.mds_world.specs.Sets.{◌∈◌}
-use Rattle.mds_world.specs.World.{IsCurrent, IsLawful, World}
+use Rattle.mds_world.specs.World.{IsCurrent, IsLawful, IsOn, World}
+use Rattle.mds_world.proofs.Worlds.{one_reading}
 use Rattle.mds_keeper.specs.Books.{BookValue, book_world}
-use Rattle.mds_keeper.proofs.BookFacts.{head_in_book, head_of_book}
-use Rattle.mds_fill.specs.Fills.{Finds, IsActualOrFinal, IsBookOf, IsProtected, IsUsable}
+use Rattle.mds_fill.specs.Fills.{Finds, IsActualOrFinal, IsBookOf, IsProtected, IsStale, IsUsable}
 
 -- what holds of a book's stream and day holds of those that it is of, and the other way
 at : (P : Stream → ℕ → Type 0) (w : World) (s : Stream) (d : ℕ) (book : BookValue) → IsBookOf w s d book
@@ -21,89 +24,166 @@ back : (P : Stream → ℕ → Type 0) (w : World) (s : Stream) (d : ℕ) (book 
     → P s d → P book.stream book.day
 back P w s d book is h = subst (λ n. P book.stream n) (sym is.of_day) (subst (λ t. P t d) (sym is.of_stream) h)
 
--- what is current in the book is current in the World, and the other way
-pub current_in : (w : World) (s : Stream) (d : ℕ) (book : BookValue) (i u : ℕ) (r : ReadingValue) → IsBookOf w s d book
-    → IsCurrent (book_world book) book.stream book.day i u r → IsCurrent w s d i u r
-current_in w s d book i u r is current = at (λ t n. IsCurrent w t n i u r) w s d book is (record {
-  held = is.facts.only _ current.held;
-  greatest = λ other of_other h. current.greatest other of_other (is.facts.whole _ (refl, refl) h);
-})
+-- a form and a version of the World's day are the book's
+form_out : (w : World) (s : Stream) (d : ℕ) (book : BookValue) (m : ℕ) (unit : MeasureUnit) → IsBookOf w s d book
+    → IsFormOf w s d m unit → IsFormOf (book_world book) book.stream book.day m unit
+form_out w s d book m unit is form =
+    is.facts.whole _ (refl, refl) (back (λ t n. IsFormOf w t n m unit) w s d book is form)
 
-pub current_out : (w : World) (s : Stream) (d : ℕ) (book : BookValue) (i u : ℕ) (r : ReadingValue) → IsBookOf w s d book
-    → IsCurrent w s d i u r → IsCurrent (book_world book) book.stream book.day i u r
-current_out w s d book i u r is current =
-    let here = back (λ t n. IsCurrent w t n i u r) w s d book is current in
+version_out : (w : World) (s : Stream) (d : ℕ) (book : BookValue) (m i u : ℕ) (r : ReadingValue) → IsBookOf w s d book
+    → VersionIs (key_at s d m i u) r ∈ w → VersionIs (key_at book.stream book.day m i u) r ∈ book_world book
+version_out w s d book m i u r is held =
+    is.facts.whole _ (refl, refl) (back (λ t n. VersionIs (key_at t n m i u) r ∈ w) w s d book is held)
+
+-- Worlds that have the same facts of a day show the same of it
+shows : (w v : World) (s : Stream) (d i : ℕ) (r : ReadingValue) → ((f : Fact) → IsOn s d f → f ∈ w → f ∈ v)
+    → ((f : Fact) → IsOn s d f → f ∈ v → f ∈ w) → IsDayReading w s d i r → IsDayReading v s d i r
+shows w v s d i r there here (inl (m, unit, form, inl (u, current))) = inl (
+  m,
+  unit,
+  there _ (refl, refl) form,
+  inl (
+    u,
     record {
-      held = is.facts.whole _ (refl, refl) here.held;
-      greatest = λ other of_other h. here.greatest other of_other (is.facts.only _ h);
-    }
+      held = there _ (refl, refl) current.held;
+      greatest = λ other of_other h. current.greatest other of_other (here _ (refl, refl) h);
+    },
+  ),
+)
+shows w v s d i r there here (inl (m, unit, form, inr (none, bare))) =
+    inl (m, unit, there _ (refl, refl) form, inr ((λ u q h. none u q (here _ (refl, refl) h)), bare))
+shows w v s d i r there here (inr (unknown, bare)) =
+    inr ((λ k. unknown (k.0, here (HeadIs k.0) (k.2, k.3) k.1, k.2, k.3)), bare)
 
--- an interval has one current reading
-one_current : (w : World) (s : Stream) (d i u v : ℕ) (a b : ReadingValue) → IsLawful w → IsCurrent w s d i u a
-    → IsCurrent w s d i v b → a ≡ b
-one_current w s d i u v a b lawful here other =
-    let up = here.greatest v b other.held in
-    let down = other.greatest u a here.held in
-    let same : v ≡ u = omega arith in
-    lawful.agrees.one_reading (key_at s d i u) a b here.held
-    (subst (λ n. VersionIs (key_at s d i n) b ∈ w) same other.held)
+-- what the book shows of an interval the World shows, and the other way
+shown_in : (w : World) (s : Stream) (d : ℕ) (book : BookValue) (i : ℕ) (r : ReadingValue) → IsBookOf w s d book
+    → IsDayReading (book_world book) book.stream book.day i r → IsDayReading w s d i r
+shown_in w s d book i r is shown = at (λ t n. IsDayReading w t n i r) w s d book is
+    (shows (book_world book) w book.stream book.day i r (λ f on h. is.facts.only f h) is.facts.whole shown)
 
--- the current reading of the book is that of the World
-same_current : (w : World) (s : Stream) (d : ℕ) (book : BookValue) (i u v : ℕ) (a b : ReadingValue) → IsBookOf w s d book
-    → IsLawful (book_world book) → IsCurrent (book_world book) book.stream book.day i u a → IsCurrent w s d i v b → a ≡ b
-same_current w s d book i u v a b is lawful here other =
-    one_current (book_world book) book.stream book.day i u v a b lawful here (current_out w s d book i v b is other)
+shown_out : (w : World) (s : Stream) (d : ℕ) (book : BookValue) (i : ℕ) (r : ReadingValue) → IsBookOf w s d book
+    → IsDayReading w s d i r → IsDayReading (book_world book) book.stream book.day i r
+shown_out w s d book i r is shown =
+    shows w (book_world book) book.stream book.day i r is.facts.whole (λ f on h. is.facts.only f h)
+    (back (λ t n. IsDayReading w t n i r) w s d book is shown)
 
--- whether the current reading of an interval protects it
-pub protects : (w : World) (s : Stream) (d : ℕ) (book : BookValue) (i u : ℕ) (r : ReadingValue) (b : Bool)
+-- an interval of a length has one reading
+one_read : (w : World) (s : Stream) (d m i : ℕ) (a b : ReadingValue) → IsLawful w → IsReading w s d m i a
+    → IsReading w s d m i b → a ≡ b
+one_read w s d m i a b lawful (inl x) (inl y) = (one_reading w s d m i x.0 y.0 a b lawful.agrees x.1 y.1).1
+one_read w s d m i a b lawful (inl x) (inr y) = absurd (y.0 x.0 a x.1.held)
+one_read w s d m i a b lawful (inr x) (inl y) = absurd (x.0 y.0 b y.1.held)
+one_read w s d m i a b lawful (inr x) (inr y) = x.1 ∙ sym y.1
+
+-- a day has one length and one unit
+pub one_form : (w : World) (s : Stream) (d m n : ℕ) (x y : MeasureUnit) → IsLawful w → IsFormOf w s d m x
+    → IsFormOf w s d n y → (m ≡ n) × (x ≡ y)
+one_form w s d m n x y lawful here other =
+    let one = lawful.agrees.one_head (head_at s d m x) (head_at s d n y) here other refl refl in
+    (ap (λ (h : Head). h.length) one, ap (λ (h : Head). h.unit) one)
+
+one_length : (w : World) (s : Stream) (d m n : ℕ) (x y : MeasureUnit) → IsLawful w → IsFormOf w s d m x
+    → IsFormOf w s d n y → m ≡ n
+one_length w s d m n x y lawful here other = (one_form w s d m n x y lawful here other).0
+
+-- an equal form is one of the book too
+pub same_form : (book : BookValue) (m n : ℕ) (x y : MeasureUnit) → m ≡ n → x ≡ y
+    → IsFormOf (book_world book) book.stream book.day m x → IsFormOf (book_world book) book.stream book.day n y
+same_form book m n x y e f = subst (λ h. HeadIs h ∈ book_world book) (λ i. head_at book.stream book.day (e i) (f i))
+
+-- a day shows one reading of an interval
+one_shown : (w : World) (s : Stream) (d i : ℕ) (a b : ReadingValue) → IsLawful w → IsDayReading w s d i a
+    → IsDayReading w s d i b → a ≡ b
+one_shown w s d i a b lawful (inl x) (inl y) =
+    let same : y.0 ≡ x.0 = one_length w s d y.0 x.0 y.1 x.1 lawful y.2 x.2 in
+    one_read w s d x.0 i a b lawful x.3 (subst (λ n. IsReading w s d n i b) same y.3)
+one_shown w s d i a b lawful (inl x) (inr y) = absurd (y.0 (head_at s d x.0 x.1, x.2, refl, refl))
+one_shown w s d i a b lawful (inr x) (inl y) = absurd (x.0 (head_at s d y.0 y.1, y.2, refl, refl))
+one_shown w s d i a b lawful (inr x) (inr y) = x.1 ∙ sym y.1
+
+-- the reading that the book shows is that of the World
+same_shown : (w : World) (s : Stream) (d : ℕ) (book : BookValue) (i : ℕ) (a b : ReadingValue) → IsBookOf w s d book
+    → IsLawful (book_world book) → IsDayReading (book_world book) book.stream book.day i a → IsDayReading w s d i b → a ≡ b
+same_shown w s d book i a b is lawful here other =
+    one_shown (book_world book) book.stream book.day i a b lawful here (shown_out w s d book i b is other)
+
+-- bare N is neither A nor F
+pub bare_is_neither : IsActualOrFinal no_reading.mark.quality.flag → ⊥
+bare_is_neither (inl e) = let f : null ≡ actual = e in omega arith
+bare_is_neither (inr e) = let f : null ≡ final = e in omega arith
+
+-- whether the reading of an interval protects it
+pub protects : (w : World) (s : Stream) (d : ℕ) (book : BookValue) (i : ℕ) (r : ReadingValue) (b : Bool)
     → IsBookOf w s d book → IsLawful (book_world book)
-    → IsCurrent (book_world book) book.stream book.day i u r
+    → IsDayReading (book_world book) book.stream book.day i r
     → MatchBool b (IsActualOrFinal r.mark.quality.flag) (IsActualOrFinal r.mark.quality.flag → ⊥)
     → MatchBool b (IsProtected w s d i) (IsProtected w s d i → ⊥)
-protects w s d book i u r true is lawful current flag = record {
+protects w s d book i r true is lawful shown flag =
+    record { reading = r; shown = shown_in w s d book i r is shown; flag = flag }
+protects w s d book i r false is lawful shown flag = λ p.
+    let same = same_shown w s d book i r p.reading is lawful shown p.shown in
+    flag (subst (λ (x : ReadingValue). IsActualOrFinal x.mark.quality.flag) (sym same) p.flag)
+
+-- whether an interval is stale, by the update of its current version
+pub stale_by : (w : World) (s : Stream) (d : ℕ) (book : BookValue) (i than m : ℕ) (unit : MeasureUnit) (u : ℕ)
+    (r : ReadingValue) (b : Bool) → IsBookOf w s d book → IsLawful (book_world book)
+    → IsFormOf (book_world book) book.stream book.day m unit
+    → IsCurrent (book_world book) book.stream book.day m i u r → MatchBool b (than ≤ u) (than ≤ u → ⊥)
+    → MatchBool b (IsStale w s d i than) (IsStale w s d i than → ⊥)
+stale_by w s d book i than m unit u r true is lawful form current late = record {
+  minutes = m;
+  of_day = λ length x other. one_length (book_world book) book.stream book.day length m x unit lawful (form_out w s d book length x is other) form;
   update = u;
   reading = r;
-  current = current_in w s d book i u r is current;
-  flag = flag;
+  held = at (λ t n. VersionIs (key_at t n m i u) r ∈ w) w s d book is (is.facts.only _ current.held);
+  late = late;
 }
-protects w s d book i u r false is lawful current flag = λ p.
-    let same = same_current w s d book i u p.update r p.reading is lawful current p.current in
-    flag (subst (λ (x : ReadingValue). IsActualOrFinal x.mark.quality.flag) (sym same) p.flag)
+stale_by w s d book i than m unit u r false is lawful form current late = λ stale.
+    let same : stale.minutes ≡ m = sym (stale.of_day m unit (at (λ t n. IsFormOf w t n m unit) w s d book is (is.facts.only _ form))) in
+    let held = version_out w s d book stale.minutes i stale.update stale.reading is stale.held in
+    let up : stale.update ≤ u = current.greatest stale.update stale.reading
+    (subst (λ n. VersionIs (key_at book.stream book.day n i stale.update) stale.reading ∈ book_world book) same held) in
+    late (omega (arith, up, stale.late))
+
+-- and one without a version of the day's length isn't
+pub never_stale : (w : World) (s : Stream) (d : ℕ) (book : BookValue) (i than : ℕ) → IsBookOf w s d book → IsLawful (book_world book)
+    → ((minutes : ℕ) (unit : MeasureUnit) → IsFormOf (book_world book) book.stream book.day minutes unit
+    → HasNoVersion (book_world book) book.stream book.day minutes i) → IsStale w s d i than → ⊥
+never_stale w s d book i than is lawful none stale =
+    let held = version_out w s d book stale.minutes i stale.update stale.reading is stale.held in
+    let head = lawful.closed.headed _ _ held in
+    none stale.minutes head.0 head.1 stale.update stale.reading held
 
 -- a day of another length or unit has no usable value
 pub other_form : (w : World) (job : JobContent) (d : ℕ) (book : BookValue) (i : ℕ) → IsBookOf w job.stream d book
-    → (◌≡◌ {A = Option (ℕ × MeasureUnit)} book.head (Some (job.length, job.unit)) → ⊥)
+    → (IsFormOf (book_world book) book.stream book.day job.length job.unit → ⊥)
     → (value : ℤ) → IsUsable w job d i value → ⊥
 other_form w job d book i is other value usable =
-    let known = back (λ t n. HeadIs (head_at t n job.length job.unit) ∈ w)
-    w job.stream d book is usable.known in
-    other (head_of_book book _ (is.facts.whole _ (refl, refl) known)).2
+    other (form_out w job.stream d book job.length job.unit is usable.known)
 
--- nor has one whose current reading isn't A or F
-pub other_flag : (w : World) (job : JobContent) (d : ℕ) (book : BookValue) (i u : ℕ) (r : ReadingValue)
+-- nor has one whose reading isn't A or F
+pub other_flag : (w : World) (job : JobContent) (d : ℕ) (book : BookValue) (i : ℕ) (r : ReadingValue)
     → IsBookOf w job.stream d book → IsLawful (book_world book)
-    → IsCurrent (book_world book) book.stream book.day i u r
+    → IsDayReading (book_world book) book.stream book.day i r
     → (IsActualOrFinal r.mark.quality.flag → ⊥) → (value : ℤ) → IsUsable w job d i value → ⊥
-other_flag w job d book i u r is lawful current flag value usable =
-    let same = same_current w job.stream d book i u usable.update r usable.reading is lawful current usable.current in
+other_flag w job d book i r is lawful shown flag value usable =
+    let same = same_shown w job.stream d book i r usable.reading is lawful shown usable.shown in
     flag (subst (λ (x : ReadingValue). IsActualOrFinal x.mark.quality.flag) (sym same) usable.flag)
 
--- and any other has its current reading's
-pub usable_is : (w : World) (job : JobContent) (d : ℕ) (book : BookValue) (i u : ℕ) (r : ReadingValue) (value : Option ℤ)
+-- and any other has its reading's
+pub usable_is : (w : World) (job : JobContent) (d : ℕ) (book : BookValue) (i : ℕ) (r : ReadingValue) (value : Option ℤ)
     → IsBookOf w job.stream d book → IsLawful (book_world book)
-    → ◌≡◌ {A = Option (ℕ × MeasureUnit)} book.head (Some (job.length, job.unit))
-    → IsCurrent (book_world book) book.stream book.day i u r
+    → IsFormOf (book_world book) book.stream book.day job.length job.unit
+    → IsDayReading (book_world book) book.stream book.day i r
     → IsActualOrFinal r.mark.quality.flag → value ≡ r.value → Finds (IsUsable w job d i) value
-usable_is w job d book i u r (Some value) is lawful form current flag e = record {
-  known = at (λ t n. HeadIs (head_at t n job.length job.unit) ∈ w) w job.stream d book is
-      (is.facts.only _ (head_in_book book (job.length, job.unit) form));
-  update = u;
+usable_is w job d book i r (Some value) is lawful form shown flag e = record {
+  known = at (λ t n. IsFormOf w t n job.length job.unit) w job.stream d book is (is.facts.only _ form);
   reading = r;
-  current = current_in w job.stream d book i u r is current;
+  shown = shown_in w job.stream d book i r is shown;
   flag = flag;
   same = sym e;
 }
-usable_is w job d book i u r None is lawful form current flag e = λ value usable.
-    let same = same_current w job.stream d book i u usable.update r usable.reading is lawful current usable.current in
+usable_is w job d book i r None is lawful form shown flag e = λ value usable.
+    let same = same_shown w job.stream d book i r usable.reading is lawful shown usable.shown in
     let none : ◌≡◌ {A = Option ℤ} None (Some value) = e ∙ ap (λ (x : ReadingValue). x.value) same ∙ usable.same in
     cc

@@ -5,13 +5,14 @@ use Rattle.mds_calendar.specs.Calendar.{last_day}
 use Rattle.mds_calendar.specs.Length.{count_of}
 use Rattle.mds_names.specs.declared.stream.Stream.{Stream}
 use Rattle.mds_quantity.specs.Rounding.{IsRounded, line_times_steps}
+use Rattle.mds_quantity.specs.declared.unit.Unit.{Unit as MeasureUnit}
 use Rattle.mds_marks.specs.Quality.{actual, final}
 use Rattle.mds_marks.specs.Reading.{ReadingValue}
-use Rattle.mds_world.specs.Current.{IsFormOf}
+use Rattle.mds_world.specs.Current.{IsDayReading, IsFormOf}
 use Rattle.mds_world.specs.Facts.{JobContent, key_at}
 use Rattle.mds_world.specs.Facts.Fact.{VersionIs, HolidayIs}
 use Rattle.mds_world.specs.Sets.{◌∈◌}
-use Rattle.mds_world.specs.World.{IsCurrent, World}
+use Rattle.mds_world.specs.World.{World}
 use Rattle.mds_keeper.specs.Books.{BookValue, IsDay}
 use Rattle.mds_keeper.specs.declared.refusal.Refusal.{Refusal}
 use Rattle.mds_keeper.specs.declared.refusal.RefusalCode.{RefusalCode}
@@ -33,24 +34,24 @@ IsActualOrFinal flag = (flag ≡ actual) ⊎ (flag ≡ final)
 -- A value that may stand in: that of a current reading A or F of a day with the job's length and unit.
 pub record IsUsable (w : World) (job : JobContent) (day interval : ℕ) (value : ℤ) : Type 0 where
   pub known : IsFormOf w job.stream day job.length job.unit
-  pub update : ℕ
   pub reading : ReadingValue
-  pub current : IsCurrent w job.stream day interval update reading
+  pub shown : IsDayReading w job.stream day interval reading
   pub flag : IsActualOrFinal reading.mark.quality.flag
   pub same : reading.value ≡ Some value
 
--- The interval's current reading is A or F, whatever length the day has.
+-- The interval's current reading is A or F.
 pub record IsProtected (w : World) (stream : Stream) (day interval : ℕ) : Type 0 where
-  pub update : ℕ
   pub reading : ReadingValue
-  pub current : IsCurrent w stream day interval update reading
+  pub shown : IsDayReading w stream day interval reading
   pub flag : IsActualOrFinal reading.mark.quality.flag
 
--- The interval has a version, current or not, whose update isn't before this one.
+-- A version of the interval, of the day's length where it has one, current or not, has an update that isn't before this one.
 pub record IsStale (w : World) (stream : Stream) (day interval than : ℕ) : Type 0 where
+  pub minutes : ℕ
+  pub of_day : (length : ℕ) (unit : MeasureUnit) → IsFormOf w stream day length unit → length ≡ minutes
   pub update : ℕ
   pub reading : ReadingValue
-  pub held : VersionIs (key_at stream day interval update) reading ∈ w
+  pub held : VersionIs (key_at stream day minutes interval update) reading ∈ w
   pub late : than ≤ update
 
 abbrev pub IsProtectedTarget : World → JobContent → ℕ → Type 0

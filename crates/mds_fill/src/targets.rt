@@ -54,7 +54,7 @@ fn is_protected(book: &DayBook, interval: u16) -> bool
     ensures { (w : World) (stream : Stream) (day : ℕ) → IsBookOf w stream day book.now
         → MatchBool result (IsProtected w stream day interval) (IsProtected w stream day interval → ⊥) }
 {
-    // For the proof: an interval of a book has one current reading.
+    // For the proof: a book's day shows one reading of an interval.
     book.is_lawful();
     match book.current(interval) {
         Some(version) => is_actual_or_final(version.mark),
@@ -76,11 +76,13 @@ fn first_stale(book: &DayBook, job: &Job) -> Option<u16>
     None
 }
 
-/// Whether an interval has a version whose update isn't before this one.
+/// Whether an interval has a version, of its day's length, whose update isn't before this one.
 fn is_stale(book: &DayBook, interval: u16, than: Moment) -> bool
     ensures { (w : World) (stream : Stream) (day : ℕ) → IsBookOf w stream day book.now
         → MatchBool result (IsStale w stream day interval than) (IsStale w stream day interval than → ⊥) }
 {
+    // For the proof: a book's day has one length.
+    book.is_lawful();
     // The current version is that of the greatest update, so no other needs to be looked at.
     match book.current(interval) {
         Some(version) => version.update.seconds() >= than.seconds(),

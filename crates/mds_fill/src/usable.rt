@@ -1,9 +1,11 @@
 //! The values of a day that may stand in for others.
 
-ghost use Rattle.std.specs.Prelude.{◌≡◌, ◌↔◌, ◌≤◌, ℕ, IsTrue, MatchOption, Some};
+ghost use Rattle.std.specs.Prelude.{◌↔◌, ◌≤◌, ℕ, IsTrue};
 ghost use Rattle.std.specs.Bool.{MatchBool};
 ghost use Rattle.mds_names.specs.declared.stream.Stream.{Stream};
+ghost use Rattle.mds_world.specs.Current.{IsFormOf};
 ghost use Rattle.mds_world.specs.World.{World};
+ghost use Rattle.mds_keeper.specs.Books.{book_world};
 ghost use Rattle.mds_jobs.specs.Jobs.{content_of};
 ghost use Rattle.mds_fill.specs.Fills.{Finds, HasAll, IsActualOrFinal, IsBookOf, IsLikeBook, IsLikeValue, IsUsable};
 
@@ -18,7 +20,7 @@ pub(crate) fn usable_value(book: &DayBook, job: &Job, interval: u16) -> Option<Q
     ensures { (w : World) (day : ℕ) → IsBookOf w job.now.stream day book.now
         → Finds (IsUsable w (content_of job.now) day interval) result }
 {
-    // For the proof: an interval of a book has one current reading.
+    // For the proof: a book's day shows one reading of an interval.
     book.is_lawful();
     if !has_form_of(book, job) {
         return None;
@@ -59,10 +61,12 @@ pub(crate) fn has_all(book: &DayBook, job: &Job) -> bool
 
 /// Whether a day is known with a job's length and unit.
 fn has_form_of(book: &DayBook, job: &Job) -> bool
-    ensures { IsTrue result ↔ (book.now.head ≡ Some (job.now.length, job.now.unit)) }
+    ensures { IsTrue result ↔ IsFormOf (book_world book.now) book.now.stream book.now.day job.now.length job.now.unit }
 {
-    match book.head() {
-        Some((length, unit)) => length.minutes() == job.length.minutes() && unit == job.unit,
+    // For the proof: a book's day has one form.
+    book.is_lawful();
+    match book.form() {
+        Some(form) => form.0.minutes() == job.length.minutes() && form.1 == job.unit,
         None => false,
     }
 }

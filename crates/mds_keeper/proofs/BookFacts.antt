@@ -7,6 +7,7 @@ use Rattle.mds_names.specs.declared.stream.Stream.{Stream}
 use Rattle.mds_marks.specs.Reading.{ReadingValue}
 use Rattle.mds_world.specs.declared.facts.Head.{Head}
 use Rattle.mds_world.specs.declared.facts.Key.{Key}
+use Rattle.mds_world.specs.Current.{IsFormOf}
 use Rattle.mds_world.specs.Facts.{Fact, head_at, key_at}
 use Rattle.mds_world.specs.Facts.Fact.{HeadIs, VersionIs}
 use Rattle.mds_world.proofs.Lawful.{agrees_within}
@@ -14,17 +15,17 @@ use Rattle.mds_world.proofs.Lists.{member_append, append_left, append_right, in_
 use Rattle.mds_world.specs.Lists.{Member}
 use Rattle.mds_world.proofs.Members.{in_list, list_in, same_by}
 use Rattle.mds_world.specs.Sets.{◌∈◌}
-use Rattle.mds_world.specs.World.{IsLawful, IsOn, World}
-use Rattle.mds_keeper.specs.BookRows.{Fits, Misfits, OneEach}
-use Rattle.mds_keeper.specs.Books.{BookValue, IsDay, book_facts, book_world, head_facts, row_fact}
+use Rattle.mds_world.specs.World.{IsLawful, IsOn, World, head_over}
+use Rattle.mds_keeper.specs.BookRows.{AreWithin, Fits, IsFormOfRows, Misfits, OneEach, OneLength}
+use Rattle.mds_keeper.specs.Books.{BookValue, IsDay, book_facts, book_world, head_facts, row_fact, row_head}
 use Rattle.mds_keeper.specs.declared.day_book.Version.{Version}
 
 -- where the fact of a book comes from
 pub from_book : (book : BookValue) (f : Fact) → f ∈ book_world book
-    → Member f (head_facts book.stream book.day book.head)
+    → Member f (head_facts book.stream book.day book.unit book.rows)
     ⊎ ((row : ℕ × Version) × Member row book.rows × (f ≡ row_fact book.stream book.day row))
 from_book book f h =
-    elim (member_append f (head_facts book.stream book.day book.head) (map (row_fact book.stream book.day) book.rows)
+    elim (member_append f (head_facts book.stream book.day book.unit book.rows) (map (row_fact book.stream book.day) book.rows)
     (in_list (book_facts book) f h)) [
       | inl a ↦ inl a
       | inr b ↦ inr (in_map (row_fact book.stream book.day) book.rows f b)
@@ -35,98 +36,101 @@ pub row_in_book : (book : BookValue) (row : ℕ × Version) → Member row book.
     → row_fact book.stream book.day row ∈ book_world book
 row_in_book book row m =
     list_in (book_facts book) (row_fact book.stream book.day row)
-    (append_right _ (head_facts book.stream book.day book.head) (map (row_fact book.stream book.day) book.rows)
+    (append_right _ (head_facts book.stream book.day book.unit book.rows) (map (row_fact book.stream book.day) book.rows)
     (map_in (row_fact book.stream book.day) book.rows row m))
 
-head_member : (stream : Stream) (day : ℕ) (head : Option (ℕ × MeasureUnit)) (form : ℕ × MeasureUnit) → head ≡ Some form
-    → Member (HeadIs (head_at stream day form.0 form.1)) (head_facts stream day head)
-head_member stream day None form e = absurd cc
-head_member stream day (Some other) form e =
-    let same : form ≡ other = cc in
-    inl (ap (λ (f : ℕ × MeasureUnit). HeadIs (head_at stream day f.0 f.1)) same)
+head_member : (stream : Stream) (day : ℕ) (known : Option MeasureUnit) (rows : List (ℕ × Version)) (row : ℕ × Version) → Member row rows
+    → (unit : MeasureUnit) → known ≡ Some unit → Member (row_head stream day unit row) (head_facts stream day known rows)
+head_member stream day None rows row m unit e = absurd cc
+head_member stream day (Some other) rows row m unit e =
+    let same : unit ≡ other = cc in
+    subst (λ u. Member (row_head stream day u row) (map (row_head stream day other) rows)) (sym same)
+    (map_in (row_head stream day other) rows row m)
 
--- its head is a fact of the book
-pub head_in_book : (book : BookValue) (form : ℕ × MeasureUnit) → book.head ≡ Some form
-    → HeadIs (head_at book.stream book.day form.0 form.1) ∈ book_world book
-head_in_book book form e =
+-- the head of a row is a fact of the book
+pub head_in_book : (book : BookValue) (row : ℕ × Version) → Member row book.rows → (unit : MeasureUnit) → book.unit ≡ Some unit
+    → row_head book.stream book.day unit row ∈ book_world book
+head_in_book book row m unit e =
     list_in (book_facts book) _
-    (append_left _ (head_facts book.stream book.day book.head) (map (row_fact book.stream book.day) book.rows)
-    (head_member book.stream book.day book.head form e))
+    (append_left _ (head_facts book.stream book.day book.unit book.rows) (map (row_fact book.stream book.day) book.rows)
+    (head_member book.stream book.day book.unit book.rows row m unit e))
 
-member_head : (stream : Stream) (day : ℕ) (head : Option (ℕ × MeasureUnit)) (f : Fact)
-    → Member f (head_facts stream day head)
-    → (form : ℕ × MeasureUnit) × (head ≡ Some form)
-    × (f ≡ HeadIs (head_at stream day form.0 form.1))
-member_head stream day None f m = absurd m
-member_head stream day (Some form) f (inl e) = (form, refl, e)
-member_head stream day (Some form) f (inr m) = absurd m
+pub member_head : (stream : Stream) (day : ℕ) (known : Option MeasureUnit) (rows : List (ℕ × Version)) (f : Fact)
+    → Member f (head_facts stream day known rows)
+    → (unit : MeasureUnit) × (known ≡ Some unit) × (row : ℕ × Version) × Member row rows × (f ≡ row_head stream day unit row)
+member_head stream day None rows f m = absurd m
+member_head stream day (Some unit) rows f m =
+    let n = in_map (row_head stream day unit) rows f m in (unit, refl, n.0, n.1, n.2)
 
 row_of_version : (stream : Stream) (day : ℕ) (key : Key) (reading : ReadingValue) (row : ℕ × Version)
     → VersionIs key reading ≡ row_fact stream day row
     → (key.stream ≡ stream) × (key.day ≡ day)
-    × (row ≡ (key.interval, record { update = key.update; reading = reading }))
+    × (row ≡ (key.interval, record { update = key.update; length = key.length; reading = reading }))
 row_of_version stream day key reading row e =
-    let own : Key = key_at stream day row.0 row.1.update in
+    let own : Key = key_at stream day row.1.length row.0 row.1.update in
     let same : own ≡ key = cc in
     let read : row.1.reading ≡ reading = cc in (
       ap (λ (k : Key). k.stream) (sym same),
       ap (λ (k : Key). k.day) (sym same),
-      (λ i. ((same i).interval, record { update = (same i).update; reading = read i })),
+      (λ i. ((same i).interval, record { update = (same i).update; length = (same i).length; reading = read i })),
     )
 
-not_of_head : (stream : Stream) (day : ℕ) (head : Option (ℕ × MeasureUnit)) (key : Key) (reading : ReadingValue)
-    → Member (VersionIs key reading) (head_facts stream day head) → ⊥
-not_of_head stream day None key reading m = m
-not_of_head stream day (Some form) key reading (inl e) = cc
-not_of_head stream day (Some form) key reading (inr m) = m
+not_of_head : (stream : Stream) (day : ℕ) (known : Option MeasureUnit) (rows : List (ℕ × Version)) (key : Key) (reading : ReadingValue)
+    → Member (VersionIs key reading) (head_facts stream day known rows) → ⊥
+not_of_head stream day known rows key reading m = let n = (member_head stream day known rows _ m).4 in cc
 
 -- a version of the book is one of its rows
 pub version_of_book : (book : BookValue) (key : Key) (reading : ReadingValue) → VersionIs key reading ∈ book_world book
     → (key.stream ≡ book.stream) × (key.day ≡ book.day)
-    × Member (key.interval, record { update = key.update; reading = reading }) book.rows
+    × Member (key.interval, record { update = key.update; length = key.length; reading = reading }) book.rows
 version_of_book book key reading h = elim (from_book book (VersionIs key reading) h) [
-  | inl a ↦ absurd (not_of_head book.stream book.day book.head key reading a)
+  | inl a ↦ absurd (not_of_head book.stream book.day book.unit book.rows key reading a)
   | inr b ↦
       let r = row_of_version book.stream book.day key reading b.0 b.2 in
       (r.0, r.1, subst (λ (row : ℕ × Version). Member row book.rows) r.2 b.1)
 ]
 
--- a head of the book is its one head
+-- a head of the book is that of a row
 pub head_of_book : (book : BookValue) (head : Head) → HeadIs head ∈ book_world book
-    → (head.stream ≡ book.stream) × (head.day ≡ book.day) × (book.head ≡ Some (head.length, head.unit))
+    → (head.stream ≡ book.stream) × (head.day ≡ book.day) × (book.unit ≡ Some head.unit)
+    × (row : ℕ × Version) × Member row book.rows × (row.1.length ≡ head.length)
 head_of_book book head h = elim (from_book book (HeadIs head) h) [
   | inl a ↦
-      let m = member_head book.stream book.day book.head (HeadIs head) a in
-      parts book.stream book.day book.head head m.0 m.1 m.2
+      let m = member_head book.stream book.day book.unit book.rows (HeadIs head) a in
+      parts head m.0 m.1 m.2 m.3 m.4
   | inr b ↦ absurd (not_row head b.0 b.2)
 ]
   where
-    parts : (stream : Stream) (day : ℕ) (known : Option (ℕ × MeasureUnit)) (head : Head) (form : ℕ × MeasureUnit)
-        → known ≡ Some form → HeadIs head ≡ HeadIs (head_at stream day form.0 form.1)
-        → (head.stream ≡ stream) × (head.day ≡ day) × (known ≡ Some (head.length, head.unit))
-    parts stream day known head form e f =
-        let same : head ≡ head_at stream day form.0 form.1 = cc in (
+    parts : (head : Head) (unit : MeasureUnit) → book.unit ≡ Some unit → (row : ℕ × Version) → Member row book.rows
+        → HeadIs head ≡ row_head book.stream book.day unit row
+        → (head.stream ≡ book.stream) × (head.day ≡ book.day) × (book.unit ≡ Some head.unit)
+        × (row : ℕ × Version) × Member row book.rows × (row.1.length ≡ head.length)
+    parts head unit e row m f =
+        let same : head ≡ head_at book.stream book.day row.1.length unit = cc in (
           ap (λ (h : Head). h.stream) same,
           ap (λ (h : Head). h.day) same,
-          e ∙ sym (ap (λ (h : Head). Some (h.length, h.unit)) same),
+          e ∙ sym (ap (λ (h : Head). Some h.unit) same),
+          row,
+          m,
+          sym (ap (λ (h : Head). h.length) same),
         )
 
     not_row : (head : Head) (row : ℕ × Version) → HeadIs head ≡ row_fact book.stream book.day row → ⊥
     not_row head row e = cc
 
 -- the versions of the book's own day are its rows
-pub row_of_book : (book : BookValue) (interval update : ℕ) (reading : ReadingValue)
-    → VersionIs (key_at book.stream book.day interval update) reading
+pub row_of_book : (book : BookValue) (minutes interval update : ℕ) (reading : ReadingValue)
+    → VersionIs (key_at book.stream book.day minutes interval update) reading
     ∈ book_world book
-    → Member (interval, record { update = update; reading = reading }) book.rows
-row_of_book book interval update reading h = (version_of_book book _ reading h).2
+    → Member (interval, record { update = update; length = minutes; reading = reading }) book.rows
+row_of_book book minutes interval update reading h = (version_of_book book _ reading h).2
 
 -- each fact of the book is on its day
 pub on_day : (book : BookValue) (f : Fact) → f ∈ book_world book → IsOn book.stream book.day f
 on_day book f h = elim (from_book book f h) [
   | inl a ↦
-      let m = member_head book.stream book.day book.head f a in
-      subst (IsOn book.stream book.day) (sym m.2) (refl, refl)
+      let m = member_head book.stream book.day book.unit book.rows f a in
+      subst (IsOn book.stream book.day) (sym m.4) (refl, refl)
   | inr b ↦ subst (IsOn book.stream book.day) (sym b.2) (refl, refl)
 ]
 
@@ -142,8 +146,8 @@ same_day w a b s d is_a is_b = same_by (book_world a) (book_world b)
     (λ f h. is_a.whole f
     (subst (λ n. IsOn a.stream n f) (sym d) (subst (λ t. IsOn t b.day f) (sym s) (on_day b f h))) (is_b.only f h))
 
--- books of one head whose rows have the same members are one World
-pub same_rows : (a b : BookValue) → a.stream ≡ b.stream → a.day ≡ b.day → a.head ≡ b.head
+-- books of one unit whose rows have the same members are one World
+pub same_rows : (a b : BookValue) → a.stream ≡ b.stream → a.day ≡ b.day → a.unit ≡ b.unit
     → ((row : ℕ × Version) → Member row a.rows → Member row b.rows)
     → ((row : ℕ × Version) → Member row b.rows → Member row a.rows)
     → book_world a ≡ book_world b
@@ -151,73 +155,85 @@ same_rows a b s d e there back = same_by (book_world a) (book_world b)
     (λ f h. within a b s d e there f h)
     (λ f h. within b a (sym s) (sym d) (sym e) back f h)
   where
-    within : (a b : BookValue) → a.stream ≡ b.stream → a.day ≡ b.day → a.head ≡ b.head
+    within : (a b : BookValue) → a.stream ≡ b.stream → a.day ≡ b.day → a.unit ≡ b.unit
         → ((row : ℕ × Version) → Member row a.rows → Member row b.rows)
         → (f : Fact) → f ∈ book_world a → f ∈ book_world b
     within a b s d e there f h = elim (from_book a f h) [
       | inl m ↦
-          list_in (book_facts b) f (append_left f (head_facts b.stream b.day b.head) (map (row_fact b.stream b.day) b.rows)
-          (subst (λ o. Member f (head_facts b.stream b.day o)) e
-          (subst (λ n. Member f (head_facts b.stream n a.head)) d
-          (subst (λ t. Member f (head_facts t a.day a.head)) s m))))
+          let n = member_head a.stream a.day a.unit a.rows f m in
+          subst (λ g. g ∈ book_world b) (sym (n.4 ∙ (λ i. row_head (s i) (d i) n.0 n.2)))
+          (head_in_book b n.2 (there n.2 n.3) n.0 (sym e ∙ n.1))
       | inr m ↦
           subst (λ g. g ∈ book_world b)
           (sym (m.2 ∙ ap (λ t. row_fact t a.day m.0) s ∙ ap (λ n. row_fact b.stream n m.0) d))
           (row_in_book b m.0 (there m.0 m.1))
     ]
 
+-- a row of a lawful book has a unit, and is within its length
+pub head_of_row : (book : BookValue) → IsLawful (book_world book) → (row : ℕ × Version) → Member row book.rows
+    → (unit : MeasureUnit) × (book.unit ≡ Some unit) × (1 ≤ row.0) × (row.0 ≤ count_of row.1.length)
+head_of_row book lawful row m =
+    let h = lawful.closed.headed _ _ (row_in_book book row m) in
+    let k = head_of_book book _ h.1 in
+    (h.0, k.2, h.2, h.3)
+
+-- the rows of a lawful book are of one length
+pub one_minutes : (book : BookValue) → IsLawful (book_world book) → OneLength book.rows
+one_minutes book lawful a b m n =
+    let p = head_of_row book lawful a m in
+    let one = head_in_book book a m p.0 p.1 in
+    let two = head_in_book book b n p.0 p.1 in
+    ap (λ (h : Head). h.length)
+    (lawful.agrees.one_head (head_at book.stream book.day a.1.length p.0) (head_at book.stream book.day b.1.length p.0) one two refl refl)
+
+-- a row of a lawful book is of the length of its form
+pub row_of_form : (book : BookValue) → IsLawful (book_world book) → (minutes : ℕ) (unit : MeasureUnit)
+    → IsFormOf (book_world book) book.stream book.day minutes unit → (row : ℕ × Version) → Member row book.rows
+    → row.1.length ≡ minutes
+row_of_form book lawful minutes unit form row m =
+    let k = head_of_book book (head_at book.stream book.day minutes unit) form in
+    one_minutes book lawful row k.3 m k.4 ∙ k.5
+
+-- the length of a row of the greatest update, with the unit, is the book's form
+pub form_in_book : (book : BookValue) (form : ℕ × MeasureUnit) → IsFormOfRows (Some form) book.rows → book.unit ≡ Some form.1
+    → IsFormOf (book_world book) book.stream book.day form.0 form.1
+form_in_book book form (row, m, same, top) e =
+    subst (λ n. HeadIs (head_at book.stream book.day n form.1) ∈ book_world book) same (head_in_book book row m form.1 e)
+
 -- a lawful book has one reading of an interval and update
 pub one_reading : (book : BookValue) → IsLawful (book_world book) → (a b : ℕ × Version) → Member a book.rows
     → Member b book.rows → a.0 ≡ b.0 → a.1.update ≡ b.1.update → a ≡ b
 one_reading book lawful a b m n e f =
-    let key : Key = key_at book.stream book.day b.0 b.1.update in
-    let at_b : a ≡ (b.0, record { update = b.1.update; reading = a.1.reading }) =
-    ap (λ i. (i, a.1)) e ∙ ap (λ u. (b.0, record { update = u; reading = a.1.reading })) f in
+    let l : a.1.length ≡ b.1.length = one_minutes book lawful a b m n in
+    let key : Key = key_at book.stream book.day b.1.length b.0 b.1.update in
+    let at_b : a ≡ (b.0, record { update = b.1.update; length = b.1.length; reading = a.1.reading }) =
+    λ i. (e i, record { update = f i; length = l i; reading = a.1.reading }) in
     let here = subst (λ (row : ℕ × Version). Member row book.rows) at_b m in
     let same = lawful.agrees.one_reading key a.1.reading b.1.reading
-    (row_in_book book (b.0, record { update = b.1.update; reading = a.1.reading }) here) (row_in_book book b n) in
-    at_b ∙ ap (λ (r : ReadingValue). (b.0, record { update = b.1.update; reading = r })) same
+    (row_in_book book (b.0, record { update = b.1.update; length = b.1.length; reading = a.1.reading }) here) (row_in_book book b n) in
+    at_b ∙ ap (λ (r : ReadingValue). (b.0, record { update = b.1.update; length = b.1.length; reading = r })) same
 
--- a row of a lawful book has a head, and is within it
-pub head_of_row : (book : BookValue) → IsLawful (book_world book) → (row : ℕ × Version) → Member row book.rows
-    → (form : ℕ × MeasureUnit) × (book.head ≡ Some form) × (1 ≤ row.0) × (row.0 ≤ count_of form.0)
-head_of_row book lawful row m =
-    let h = lawful.closed.headed _ _ (row_in_book book row m) in
-    let k = head_of_book book h.0 h.1 in
-    ((h.0.length, h.0.unit), k.2, h.4, h.5)
-
--- a lawful book with a head has a row
-pub row_of_head : (book : BookValue) → IsLawful (book_world book) → (form : ℕ × MeasureUnit) → book.head ≡ Some form
-    → (row : ℕ × Version) × Member row book.rows
-row_of_head book lawful form e =
-    let v = lawful.closed.versioned _ (head_in_book book form e) in
-    let r = version_of_book book v.0 v.1 v.2 in
-    ((v.0.interval, record { update = v.0.update; reading = v.1 }), r.2)
-
-same_head : (a b : Head) → a.stream ≡ b.stream → a.day ≡ b.day → ◌≡◌ {A = Option (ℕ × MeasureUnit)} (Some (a.length, a.unit)) (Some (b.length, b.unit))
+same_head : (a b : Head) → a.stream ≡ b.stream → a.day ≡ b.day → a.length ≡ b.length → ◌≡◌ {A = Option MeasureUnit} (Some a.unit) (Some b.unit)
     → a ≡ b
-same_head a b s d e =
-    let form : ◌≡◌ {A = ℕ × MeasureUnit} (a.length, a.unit) (b.length, b.unit) = cc in
-    λ i. head_at (s i) (d i) ((form i).0) ((form i).1)
+same_head a b s d l e =
+    let unit : a.unit ≡ b.unit = cc in
+    λ i. head_at (s i) (d i) (l i) (unit i)
 
-head_for : (head : Option (ℕ × MeasureUnit)) (rows : List (ℕ × Version)) → Fits head rows → (row : ℕ × Version)
-    → Member row rows → (form : ℕ × MeasureUnit) × (head ≡ Some form) × (1 ≤ row.0) × (row.0 ≤ count_of form.0)
-head_for None rows fits row m = absurd (subst (Member row) fits m)
-head_for (Some form) rows fits row m = (form, refl, (fits.1 row m).0, (fits.1 row m).1)
-
-row_for : (head : Option (ℕ × MeasureUnit)) (rows : List (ℕ × Version)) → Fits head rows → (form : ℕ × MeasureUnit)
-    → head ≡ Some form → (row : ℕ × Version) × Member row rows
-row_for None rows fits form e = absurd cc
-row_for (Some other) rows fits form e = fits.0
+-- rows that fit have a unit
+pub fits_row : (known : Option MeasureUnit) (rows : List (ℕ × Version)) → Fits known rows → (row : ℕ × Version) → Member row rows
+    → (unit : MeasureUnit) × (known ≡ Some unit) × OneLength rows × AreWithin rows
+fits_row None rows fits row m = absurd (subst (Member row) fits m)
+fits_row (Some unit) rows fits row m = (unit, refl, fits.0, fits.1)
 
 -- a book is lawful by what its rows are
-pub lawful_book : (book : BookValue) → OneEach book.rows → Fits book.head book.rows → IsLawful (book_world book)
+pub lawful_book : (book : BookValue) → OneEach book.rows → Fits book.unit book.rows → IsLawful (book_world book)
 lawful_book book each fits = record {
   agrees = record {
     one_head = λ a b h k s d.
         let m = head_of_book book a h in
         let n = head_of_book book b k in
-        same_head a b s d (sym m.2 ∙ n.2);
+        let f = fits_row book.unit book.rows fits m.3 m.4 in
+        same_head a b s d (sym m.5 ∙ f.2 m.3 n.3 m.4 n.4 ∙ n.5) (sym m.2 ∙ n.2);
     one_reading = λ key a b h k.
         let m = version_of_book book key a h in
         let n = version_of_book book key b k in
@@ -228,12 +244,21 @@ lawful_book book each fits = record {
   closed = record {
     headed = λ key reading h.
         let m = version_of_book book key reading h in
-        let f = head_for book.head book.rows fits _ m.2 in
-        (_, head_in_book book f.0 f.1, sym m.0, sym m.1, f.2, f.3);
+        let f = fits_row book.unit book.rows fits _ m.2 in
+        let within = f.3 _ m.2 in (
+          f.0,
+          subst (λ h. HeadIs h ∈ book_world book) (λ i. head_at (sym m.0 i) (sym m.1 i) key.length f.0) (head_in_book book _ m.2 f.0 f.1),
+          within.0,
+          within.1,
+        );
     versioned = λ head h.
-        let m = head_of_book book head h in
-        let r = row_for book.head book.rows fits _ m.2 in
-        (_, r.0.1.reading, row_in_book book r.0 r.1, sym m.0, sym m.1);
+        let m = head_of_book book head h in (
+          m.3.0,
+          m.3.1.update,
+          m.3.1.reading,
+          subst (λ k. VersionIs k m.3.1.reading ∈ book_world book)
+              (λ i. key_at (sym m.0 i) (sym m.1 i) (m.5 i) m.3.0 m.3.1.update) (row_in_book book m.3 m.4),
+        );
     detailed = λ detail h. absurd (on_day book _ h);
   };
 }
@@ -247,29 +272,26 @@ lawful_day w book lawful day = record {
     headed = λ key reading h.
         let m = version_of_book book key reading h in
         let g = lawful.closed.headed key reading (day.only _ h) in
-        (g.0, day.whole (HeadIs g.0) (g.2 ∙ m.0, g.3 ∙ m.1) g.1, g.2, g.3, g.4, g.5);
+        (g.0, day.whole (HeadIs (head_over key g.0)) (m.0, m.1) g.1, g.2, g.3);
     versioned = λ head h.
         let m = head_of_book book head h in
         let v = lawful.closed.versioned head (day.only _ h) in
-        (v.0, v.1, day.whole (VersionIs v.0 v.1) (v.3 ∙ m.0, v.4 ∙ m.1) v.2, v.3, v.4);
+        (v.0, v.1, v.2, day.whole (VersionIs (key_at head.stream head.day head.length v.0 v.1) v.2) (m.0, m.1) v.3);
     detailed = λ detail h. absurd (on_day book _ h);
   };
 }
 
-misfit : (head : Option (ℕ × MeasureUnit)) (rows : List (ℕ × Version))
-    → ((row : ℕ × Version) → Member row rows
-    → (form : ℕ × MeasureUnit) × (head ≡ Some form) × (1 ≤ row.0) × (row.0 ≤ count_of form.0))
-    → ((form : ℕ × MeasureUnit) → head ≡ Some form → (row : ℕ × Version) × Member row rows)
-    → Misfits head rows → ⊥
-misfit None rows heads some (row, m) = let f = heads row m in let e = f.1 in cc
-misfit (Some form) rows heads some (inl e) = let r = some form refl in subst (Member r.0) e r.1
-misfit (Some form) rows heads some (inr (row, m, bad)) =
+misfit : (known : Option MeasureUnit) (rows : List (ℕ × Version))
+    → ((row : ℕ × Version) → Member row rows → (unit : MeasureUnit) × (known ≡ Some unit) × (1 ≤ row.0) × (row.0 ≤ count_of row.1.length))
+    → OneLength rows → Misfits known rows → ⊥
+misfit None rows heads one (row, m) = let f = heads row m in let e = f.1 in cc
+misfit (Some unit) rows heads one (inl (a, b, m, n, other)) = other (one a b m n)
+misfit (Some unit) rows heads one (inr (row, m, bad)) =
     let f = heads row m in
-    let same : form ≡ f.0 = let e = f.1 in cc in
-    let high : row.0 ≤ count_of form.0 = subst (λ (g : ℕ × MeasureUnit). row.0 ≤ count_of g.0) (sym same) f.3 in
     let low = f.2 in
+    let high = f.3 in
     elim bad [ inl a ↦ omega arith | inr b ↦ omega arith ]
 
--- a lawful book's rows fit its head
-pub no_misfit : (book : BookValue) → IsLawful (book_world book) → Misfits book.head book.rows → ⊥
-no_misfit book lawful = misfit book.head book.rows (head_of_row book lawful) (row_of_head book lawful)
+-- a lawful book's rows fit its unit
+pub no_misfit : (book : BookValue) → IsLawful (book_world book) → Misfits book.unit book.rows → ⊥
+no_misfit book lawful = misfit book.unit book.rows (head_of_row book lawful) (one_minutes book lawful)

@@ -77,4 +77,4 @@ last_row rows end row h some e =
 
 -- a row, to read places of no row by
 pub no_row : ℕ × Version
-no_row = (0, record { update = 0; reading = no_reading })
+no_row = (0, record { update = 0; length = 0; reading = no_reading })

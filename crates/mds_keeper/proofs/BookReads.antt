@@ -1,73 +1,29 @@
 -- What the readers of a day's book say.
 use Rattle.std.specs.Prelude.{◌≡◌, ◌≢◌, ◌⊎◌, ◌+◌, ◌-◌, ◌<◌, ◌≤◌, ℕ, max, min, List, [], ◌∷◌, length, map, Option, Some, None, IfSome, IfNone, refl}
-use Rattle.std.specs.List.{AllPairs, fold, reduce}
+use Rattle.std.specs.List.{AllPairs, fold, reduce, slice_get}
 use Rattle.std.proofs.Common.{sym, ap, ◌∙◌, subst, inl, inr, arith, get_or, take, drop}
 use Rattle.std.proofs.lemmas.Bool.{cases_lt}
-use Rattle.std.proofs.lemmas.List.{get_or-take, length-take, length-take-le, get_or-drop, length-drop}
-use Rattle.mds_world.specs.Current.{HasNoVersion, IsLatest}
-use Rattle.mds_world.specs.Facts.{key_at}
+use Rattle.std.proofs.lemmas.List.{get_or-take, length-take, get_or-drop, length-drop}
+use Rattle.mds_world.specs.Current.{HasNoVersion, IsDayReading, IsFormOf, IsLatest, no_reading}
+use Rattle.mds_world.specs.declared.facts.Head.{Head}
+use Rattle.mds_names.specs.declared.stream.Stream.{Stream}
+use Rattle.mds_world.specs.Facts.{head_at, key_at}
 use Rattle.mds_world.specs.Facts.Fact.{VersionIs}
 use Rattle.mds_world.proofs.Lists.{in_map, map_in}
 use Rattle.mds_world.specs.Lists.{Member}
 use Rattle.mds_world.specs.Sets.{◌∈◌}
-use Rattle.mds_world.specs.World.{IsCurrent}
+use Rattle.mds_quantity.specs.declared.unit.Unit.{Unit as MeasureUnit}
+use Rattle.mds_world.specs.World.{IsCurrent, IsKnownDay, IsLawful, World}
 use Rattle.mds_keeper.specs.Books.{BookValue, book_world}
-use Rattle.mds_keeper.proofs.BookFacts.{row_in_book, row_of_book}
-use Rattle.mds_keeper.proofs.BookPlaces.{before_end, by_interval, last_row, later_update, member_at, no_row, place_of}
+use Rattle.mds_keeper.proofs.BookFacts.{form_in_book, head_of_book, row_in_book, row_of_book, row_of_form}
+use Rattle.mds_keeper.proofs.Rows.{member_get, row_found, same_some}
+use Rattle.std.proofs.lemmas.Option.{get_or_from_slice_get, slice_get_within}
+use Rattle.mds_keeper.proofs.BookPlaces.{before_end, member_at, no_row, place_of}
 use Rattle.mds_keeper.specs.BookPlaces.{EndsAt, StartsAt}
-use Rattle.mds_keeper.specs.BookRows.{AreVersionsOf, IsBefore}
+use Rattle.mds_keeper.specs.BookRows.{AreVersionsOf, IsBefore, IsFormOfRows, unit_of}
+use Rattle.mds_keeper.specs.LentVersions.{lent_reading, reading_of}
 use Rattle.mds_keeper.specs.declared.day_book.Version.{Version}
-
--- nothing stands before the end
-pub none_before : (book : BookValue) (interval end : ℕ) → EndsAt book.rows interval end → length (take end book.rows) ≤ 0
-    → HasNoVersion (book_world book) book.stream book.day interval
-none_before book interval end ends short update reading h =
-    let n : length (take end book.rows) ≡ end = length-take-le end book.rows ends.within in
-    let p = before_end book.rows interval end ends _ (row_of_book book interval update reading h) (omega arith) in
-    let less = p.1 in
-    omega arith
-
--- what stands last before the end is of a lower interval
-pub none_last : (book : BookValue) → AllPairs IsBefore book.rows → (interval end : ℕ) (row : ℕ × Version)
-    → EndsAt book.rows interval end → 0 < length (take end book.rows)
-    → row ≡ get_or (take end book.rows) (length (take end book.rows) - 1) row → row.0 ≢ interval
-    → HasNoVersion (book_world book) book.stream book.day interval
-none_last book up interval end row ends some is other update reading h =
-    let l = last_row book.rows end row ends.within some is in
-    let p = before_end book.rows interval end ends _ (row_of_book book interval update reading h) (omega arith) in
-    let less = p.1 in
-    let e : interval ≡ (get_or book.rows p.0 row).0 = ap (λ (r : ℕ × Version). r.0) (sym (p.3 row)) in
-    let f : row.0 ≡ (get_or book.rows (end - 1) row).0 = ap (λ (r : ℕ × Version). r.0) l.1 in
-    let one = l.0 in
-    let inside = ends.within in
-    let g = by_interval book.rows up p.0 (end - 1) row (omega arith) (omega arith) in
-    let b = ends.below (end - 1) row (omega arith) in
-    other (omega arith)
-
--- what stands last before the end is current
-pub current_last : (book : BookValue) → AllPairs IsBefore book.rows → (interval end : ℕ) (row : ℕ × Version)
-    → EndsAt book.rows interval end → 0 < length (take end book.rows)
-    → row ≡ get_or (take end book.rows) (length (take end book.rows) - 1) row → row.0 ≡ interval
-    → IsCurrent (book_world book) book.stream book.day interval row.1.update row.1.reading
-current_last book up interval end row ends some is same =
-    let l = last_row book.rows end row ends.within some is in
-    let one = l.0 in
-    let inside = ends.within in
-    let m : Member row book.rows =
-    subst (λ r. Member r book.rows) (sym l.1) (member_at book.rows (end - 1) row (omega arith)) in
-    record {
-      held = subst (λ i. VersionIs (key_at book.stream book.day i row.1.update)
-          row.1.reading ∈ book_world book) same (row_in_book book row m);
-      greatest = λ other of_other h.
-          let p = before_end book.rows interval end ends _ (row_of_book book interval other of_other h) (omega arith) in
-          let less = p.1 in
-          let e = ap (λ (r : ℕ × Version). r.0) (p.3 row) in
-          let f = ap (λ (r : ℕ × Version). r.0) l.1 in
-          let u = ap (λ (r : ℕ × Version). r.1.update) (p.3 row) in
-          let v = ap (λ (r : ℕ × Version). r.1.update) l.1 in
-          let g = later_update book.rows up p.0 (end - 1) row (omega arith) (omega arith) (e ∙ sym same ∙ f) in
-          omega arith;
-    }
+use Rattle.mds_keeper.specs.declared.lent_version.LentVersion.{LentVersion}
 
 -- the greatest of a number and a list
 fold_max : (a : ℕ) (xs : List ℕ) → (a ≤ fold max a xs) × ((x : ℕ) → Member x xs → x ≤ fold max a xs)
@@ -100,41 +56,44 @@ greatest_of (x ∷ xs) m e =
       (λ y n. elim n [ inl g ↦ omega arith | inr k ↦ let h = r.1 y k in omega arith ]),
     )
 
--- the greatest update of all versions is that of the current ones
-pub latest_is : (book : BookValue) (result : Option ℕ)
+-- The greatest update of all versions is that of the current ones, where all are of the form's length.
+pub latest_is : (book : BookValue) → IsLawful (book_world book) → (result : Option ℕ)
     → result ≡ reduce max (map (λ (row : ℕ × Version). row.1.update) book.rows)
-    → IfSome result (λ update. IsLatest (book_world book) book.stream book.day update)
-latest_is book None e = tt
-latest_is book (Some update) e =
+    → IfSome result (λ update. (minutes : ℕ) (unit : MeasureUnit) → IsFormOf (book_world book) book.stream book.day minutes unit
+    → IsLatest (book_world book) book.stream book.day minutes update)
+latest_is book lawful None e = tt
+latest_is book lawful (Some update) e = λ minutes unit form.
     let update_of : ℕ × Version → ℕ = λ row. row.1.update in
     let g = greatest_of (map update_of book.rows) update e in
     let r = in_map update_of book.rows update g.0 in
+    let same : r.0.1.length ≡ minutes = row_of_form book lawful minutes unit form r.0 r.1 in
     record {
       held = (
         r.0.0,
         r.0.1.reading,
         record {
-          held = subst (λ u. VersionIs (key_at book.stream book.day r.0.0 u)
-              r.0.1.reading ∈ book_world book) (sym r.2) (row_in_book book r.0 r.1);
+          held = subst (λ k. VersionIs k r.0.1.reading ∈ book_world book)
+              (λ i. key_at book.stream book.day (same i) r.0.0 (sym r.2 i)) (row_in_book book r.0 r.1);
           greatest = λ other of_other h.
-              g.1 other (map_in update_of book.rows _ (row_of_book book r.0.0 other of_other h));
+              g.1 other (map_in update_of book.rows _ (row_of_book book minutes r.0.0 other of_other h));
         },
       );
       greatest = λ interval other reading h.
-          g.1 other (map_in update_of book.rows _ (row_of_book book interval other reading h.held));
+          g.1 other (map_in update_of book.rows _ (row_of_book book minutes interval other reading h.held));
     }
 
 none_of : (xs : List ℕ) → None ≡ reduce max xs → (x : ℕ) → Member x xs → ⊥
 none_of [] e x m = m
 none_of (y ∷ xs) e x m = cc
 
-pub none_latest : (book : BookValue) (result : Option ℕ)
+pub none_latest : (book : BookValue) → IsLawful (book_world book) → (result : Option ℕ)
     → result ≡ reduce max (map (λ (row : ℕ × Version). row.1.update) book.rows)
-    → IfNone result ((interval : ℕ) → HasNoVersion (book_world book) book.stream book.day interval)
-none_latest book None e = λ interval update reading h.
-    none_of (map (λ (row : ℕ × Version). row.1.update) book.rows) e update
-    (map_in (λ (row : ℕ × Version). row.1.update) book.rows _ (row_of_book book interval update reading h))
-none_latest book (Some update) e = tt
+    → IfNone result (IsKnownDay (book_world book) book.stream book.day → ⊥)
+none_latest book lawful None e = λ known.
+    let h = head_of_book book known.0 known.1 in
+    none_of (map (λ (row : ℕ × Version). row.1.update) book.rows) e h.3.1.update
+    (map_in (λ (row : ℕ × Version). row.1.update) book.rows h.3 h.4)
+none_latest book lawful (Some update) e = tt
 
 -- the rows of an interval begin before they end
 pub start_before_end : (rows : List (ℕ × Version)) (interval start end : ℕ) → StartsAt rows interval start
@@ -173,18 +132,15 @@ versions_between book up interval start end starts ends =
     let low = starts.from (start + k) d (omega arith) p.0 in
     omega arith in
     record {
-      each = λ update reading. (
-        (λ m.
-            let p = place_of _ (take (end - start) (drop start rows)) m in
-            let q = at_part rows start (end - start) p.0 (interval, record { update = update; reading = reading }) p.1 in
-            let e = sym q.2 ∙ p.2 (interval, record { update = update; reading = reading }) in
-            row_in_book book (interval, record { update = update; reading = reading })
-            (subst (λ r. Member r rows) e
-            (member_at rows (start + p.0) (interval, record { update = update; reading = reading }) q.0))),
-        (λ h.
-            between rows interval start end starts ends (interval, record { update = update; reading = reading })
-            (row_of_book book interval update reading h) refl),
-      );
+      each = λ update minutes reading.
+          let row : ℕ × Version = (interval, record { update = update; length = minutes; reading = reading }) in (
+            (λ m.
+                let p = place_of _ (take (end - start) (drop start rows)) m in
+                let q = at_part rows start (end - start) p.0 row p.1 in
+                let e = sym q.2 ∙ p.2 row in
+                row_in_book book row (subst (λ r. Member r rows) e (member_at rows (start + p.0) row q.0))),
+            (λ h. between rows interval start end starts ends row (row_of_book book minutes interval update reading h) refl),
+          );
       here = λ k d h.
           let p = at_part rows start (end - start) k d h in
           ap (λ (r : ℕ × Version). r.0) p.2 ∙ here k d h;
@@ -221,3 +177,114 @@ versions_between book up interval start end starts ends =
         subst (λ r. Member r (take (end - start) (drop start rows)))
         (q.2 ∙ ap (λ i. get_or rows i row) back ∙ p.3 row)
         (member_at (take (end - start) (drop start rows)) (k - start) row n)
+
+-- ---- what a day shows of an interval
+
+-- the version of an interval of a length is current, and there is none where it says none
+pub record IsCurrentOf (book : BookValue) (minutes interval : ℕ) (lent : Option LentVersion) : Type 0 where
+  pub some : IfSome lent (λ version. (version.length ≡ minutes)
+      × IsCurrent (book_world book) book.stream book.day minutes interval version.update (lent_reading version))
+  pub none : IfNone lent (HasNoVersion (book_world book) book.stream book.day minutes interval)
+
+module _ (book : BookValue) (lawful : IsLawful (book_world book)) (minutes : ℕ) (unit : MeasureUnit)
+    (form : IsFormOf (book_world book) book.stream book.day minutes unit) (interval : ℕ) where
+  -- its length is that of the day
+  pub shown_some : (lent : Option LentVersion) → IsCurrentOf book minutes interval lent → IfSome lent (λ version. (unit : MeasureUnit)
+      × IsFormOf (book_world book) book.stream book.day version.length unit
+      × IsCurrent (book_world book) book.stream book.day version.length interval version.update (lent_reading version))
+  shown_some None is = tt
+  shown_some (Some version) is = (
+    unit,
+    subst (λ n. IsFormOf (book_world book) book.stream book.day n unit) (sym is.some.0) form,
+    subst (λ n. IsCurrent (book_world book) book.stream book.day n interval version.update (lent_reading version)) (sym is.some.0) is.some.1,
+  )
+
+  pub shown_none : (lent : Option LentVersion) → IsCurrentOf book minutes interval lent → IfNone lent ((size : ℕ) (other : MeasureUnit)
+      → IsFormOf (book_world book) book.stream book.day size other → HasNoVersion (book_world book) book.stream book.day size interval)
+  shown_none None is = λ size other too.
+      let same : minutes ≡ size = ap (λ (h : Head). h.length)
+      (lawful.agrees.one_head (head_at book.stream book.day minutes unit) (head_at book.stream book.day size other) form too refl refl) in
+      subst (λ n. HasNoVersion (book_world book) book.stream book.day n interval) same is.none
+  shown_none (Some version) is = tt
+
+  pub shown_reading : (lent : Option LentVersion) → IsCurrentOf book minutes interval lent
+      → IsDayReading (book_world book) book.stream book.day interval (reading_of lent)
+  shown_reading (Some version) is = inl (minutes, unit, form, inl (version.update, is.some.1))
+  shown_reading None is = inl (minutes, unit, form, inr (is.none, refl))
+
+-- a book without a row shows nothing
+module _ (book : BookValue) (none : book.rows ≡ []) where
+  pub unknown_book : IsKnownDay (book_world book) book.stream book.day → ⊥
+  unknown_book known = let h = head_of_book book known.0 known.1 in subst (Member h.3) none h.4
+
+  pub unknown_reading : (interval : ℕ) → IsDayReading (book_world book) book.stream book.day interval no_reading
+  unknown_reading interval = inr (unknown_book, refl)
+
+  pub unknown_form : (interval minutes : ℕ) (unit : MeasureUnit) → IsFormOf (book_world book) book.stream book.day minutes unit
+      → HasNoVersion (book_world book) book.stream book.day minutes interval
+  unknown_form interval minutes unit form = absurd (unknown_book (head_at book.stream book.day minutes unit, form, refl, refl))
+
+-- a book's form
+pub form_some : (book : BookValue) (form : Option (ℕ × MeasureUnit)) → IsFormOfRows form book.rows → unit_of form ≡ book.unit
+    → IfSome form (λ form. IsFormOf (book_world book) book.stream book.day form.0 form.1)
+form_some book None is unit = tt
+form_some book (Some form) is unit = form_in_book book form is (sym unit)
+
+pub form_none : (book : BookValue) (form : Option (ℕ × MeasureUnit)) → IsFormOfRows form book.rows
+    → IfNone form (IsKnownDay (book_world book) book.stream book.day → ⊥)
+form_none book None is = unknown_book book is
+form_none book (Some form) is = tt
+
+-- ---- the last version of an interval that has a length
+
+-- the versions from a place on have other lengths
+abbrev pub AreOther : ℕ → List (ℕ × Version) → ℕ → Type 0
+AreOther minutes found end = (k : ℕ) (row : ℕ × Version) → end ≤ k → slice_get found k ≡ Some row → row.1.length ≢ minutes
+
+module _ (w : World) (stream : Stream) (day minutes interval : ℕ) (found : List (ℕ × Version)) (are : AreVersionsOf w stream day interval found)
+    (end : ℕ) (other : AreOther minutes found end) where
+  pub none_current : end ≡ 0 → HasNoVersion w stream day minutes interval
+  none_current e update reading h =
+      let m = member_get found _ ((are.each update minutes reading).1 h) in
+      other m.0 _ (omega arith) m.2 refl
+
+  module _ (at : ℕ) (row : ℕ × Version) (last : at + 1 ≡ end) (within : at < length found) (is : slice_get found at ≡ Some row) where
+    pub last_current : row.1.length ≡ minutes → IsCurrent w stream day minutes interval row.1.update row.1.reading
+    last_current same = record {
+      held = subst (λ n. VersionIs (key_at stream day n interval row.1.update) row.1.reading ∈ w) same
+          (row_found w stream day interval found are at row within (sym (get_or_from_slice_get found at row row is)) row.1.update refl);
+      greatest = λ update reading h.
+          let m = member_get found _ ((are.each update minutes reading).1 h) in
+          elim (cases_lt m.0 at) [
+            | inl below ↦
+                let up = are.ascending m.0 at row below within in
+                let that : ℕ × Version = (interval, record { update = update; length = minutes; reading = reading }) in
+                let a : (get_or found m.0 row).1.update ≡ update =
+                ap (λ (r : ℕ × Version). r.1.update) (get_or_from_slice_get found m.0 that row m.2) in
+                let b = ap (λ (r : ℕ × Version). r.1.update) (get_or_from_slice_get found at row row is) in
+                omega arith
+            | inr above ↦ elim (cases_lt at m.0) [
+              | inl behind ↦ absurd (other m.0 _ (omega arith) m.2 refl)
+              | inr here ↦
+                  let e : m.0 ≡ at = omega arith in
+                  let one = same_some _ _ (sym m.2 ∙ ap (slice_get found) e ∙ is) in
+                  let u = ap (λ (r : ℕ × Version). r.1.update) one in
+                  omega arith
+            ]
+          ];
+    }
+
+-- nothing stands behind the end
+pub none_other : (minutes : ℕ) (found : List (ℕ × Version)) → AreOther minutes found (length found)
+none_other minutes found k row h is = absurd (omega (arith, h, slice_get_within found k row is))
+
+-- one more that has another length
+pub other_before : (minutes : ℕ) (found : List (ℕ × Version)) (end : ℕ) → AreOther minutes found end → (at : ℕ) (row : ℕ × Version)
+    → at + 1 ≡ end → slice_get found at ≡ Some row → row.1.length ≢ minutes → AreOther minutes found at
+other_before minutes found end other at row last is apart k r above got = elim (cases_lt at k) [
+  | inl behind ↦ other k r (omega arith) got
+  | inr here ↦
+      let e : k ≡ at = omega arith in
+      let one = same_some _ _ (sym got ∙ ap (slice_get found) e ∙ is) in
+      λ same. apart (sym (ap (λ (x : ℕ × Version). x.1.length) one) ∙ same)
+]

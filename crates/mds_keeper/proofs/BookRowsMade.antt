@@ -1,19 +1,19 @@
 -- Rows of a day's book put in order, and judged.
-use Rattle.std.specs.Prelude.{◌≡◌, ◌≢◌, ◌⊎◌, ◌+◌, ◌-◌, ◌<◌, ◌≤◌, ℕ, Bool, true, false, List, [], ◌∷◌, length}
+use Rattle.std.specs.Prelude.{◌≡◌, ◌≢◌, ◌⊎◌, ◌+◌, ◌<◌, ◌≤◌, ℕ, Bool, true, false, List, [], ◌∷◌, length}
 use Rattle.std.specs.Bool.{MatchBool}
 use Rattle.std.specs.List.{AllPairs, IsAllAdjacentAnswer}
 use Rattle.std.specs.Cmp.{IsStrictWeakOrder, IsTotalOrder, nat_cmp_total, on_total, then_total}
 use Rattle.std.specs.List.Retain.{DedupsFrom, IsDeduped}
 use Rattle.std.specs.List.Sorted.{IsPermutation, IsSortedBy}
 use Rattle.std.specs.Ordering.{is_lt, nat_cmp, ordering_then}
-use Rattle.std.proofs.Common.{sym, ap, ◌∙◌, subst, inl, inr, arith, zero, suc, get_or, leb, ltb}
+use Rattle.std.proofs.Common.{sym, ap, ◌∙◌, subst, inl, inr, arith, zero, suc, get_or, ltb}
 use Rattle.std.proofs.lemmas.List.Sorted.{Contains-permutation, IsPermutation-sym, ranks_by}
 use Rattle.std.proofs.lemmas.Bool.{cases_lt}
 use Rattle.std.proofs.lemmas.Bool.Decides.{eqb_tells, leb_tells}
 use Rattle.mds_world.specs.Lists.{Member}
 use Rattle.mds_keeper.specs.BookRows.{IsBefore, OneEach}
-use Rattle.mds_keeper.specs.BookOrder.{HasStep, IsInOrder, IsOutside, IsWithin, SameMembers, TwoReadings, comes_before, row_cmp}
-use Rattle.mds_keeper.proofs.BookPlaces.{by_interval, member_at, no_row, place_of}
+use Rattle.mds_keeper.specs.BookOrder.{HasStep, IsInOrder, SameMembers, TwoReadings, comes_before, row_cmp}
+use Rattle.mds_keeper.proofs.BookPlaces.{member_at, no_row, place_of}
 use Rattle.mds_keeper.specs.declared.day_book.Version.{Version}
 
 lt_tells : (a b : ℕ) → ((ltb a b ≡ true) × (a < b)) ⊎ ((ltb a b ≡ false) × (b ≤ a))
@@ -90,32 +90,6 @@ ascend_is rows true h =
     all_before rows (λ k d l. less_pair (get_or rows k d).0 (get_or rows (k + 1) d).0 (get_or rows k d).1.update
     (get_or rows (k + 1) d).1.update (sym (h k d l)))
 ascend_is rows false h = (h.0, h.1, λ d. sym (h.2 d))
-
--- rows that ascend are within a count by their first and their last
-pub within_is : (rows : List (ℕ × Version)) (count : ℕ) (c d : ℕ × Version) → AllPairs IsBefore rows → 0 < length rows
-    → 0 < (get_or rows 0 c).0
-    → MatchBool (leb (get_or rows (length rows - 1) d).0 count) (IsWithin rows count) (IsOutside rows count)
-within_is rows count c d up some low = elim (leb_tells (get_or rows (length rows - 1) d).0 count) [
-  | inl p ↦
-      subst (λ b. MatchBool b (IsWithin rows count) (IsOutside rows count)) (sym p.0) (
-        (get_or rows (length rows - 1) d, here),
-        (λ row m.
-            let q = place_of row rows m in
-            let place = q.1 in
-            let top = p.1 in
-            let e = ap (λ (r : ℕ × Version). r.0) (q.2 c) in
-            let f = ap (λ (r : ℕ × Version). r.0) (q.2 d) in
-            let below = by_interval rows up 0 q.0 c (omega arith) place in
-            let above = by_interval rows up q.0 (length rows - 1) d (omega arith) (omega arith) in
-            (omega arith, omega arith)),
-      )
-  | inr p ↦
-      subst (λ b. MatchBool b (IsWithin rows count) (IsOutside rows count)) (sym p.0)
-      (inr (get_or rows (length rows - 1) d, here, inr p.1))
-]
-  where
-    here : Member (get_or rows (length rows - 1) d) rows
-    here = member_at rows (length rows - 1) d (omega arith)
 
 -- each element stands so to the one behind it, the first to what stands before all
 abbrev Chain : (ℕ × Version → ℕ × Version → Type 0) → ℕ × Version → List (ℕ × Version) → Type 0

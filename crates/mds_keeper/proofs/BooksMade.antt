@@ -1,61 +1,137 @@
 -- When rows and a head make a day's book.
-use Rattle.std.specs.Prelude.{◌≡◌, ◌==◌, ℕ, Bool, List, [], ◌∷◌, length, Option, Some, None, refl}
+use Rattle.std.specs.Prelude.{◌≡◌, ◌⊎◌, ◌≤◌, ◌==◌, ℕ, Bool, true, false, List, [], ◌∷◌, length, Option, Some, None, is_some, not, refl}
 use Rattle.std.specs.Bool.{MatchBool}
 use Rattle.std.specs.List.{AllPairs}
-use Rattle.std.proofs.Common.{sym, subst, inl, inr, arith}
+use Rattle.std.proofs.Common.{sym, ap, ◌∙◌, subst, inl, inr, arith}
 use Rattle.std.proofs.lemmas.Bool.Decides.{eqb_tells}
-use Rattle.mds_calendar.specs.Length.{count_of}
 use Rattle.mds_quantity.specs.declared.unit.Unit.{Unit as MeasureUnit}
 use Rattle.mds_names.specs.declared.stream.Stream.{Stream}
+use Rattle.mds_world.specs.Lists.{Member}
 use Rattle.mds_world.specs.World.{IsLawful, World}
 use Rattle.mds_keeper.specs.Books.{BookValue, IsDay, book_world}
 use Rattle.mds_keeper.proofs.BookFacts.{lawful_book, lawful_day, no_misfit, one_reading, same_rows}
-use Rattle.mds_keeper.specs.BookRows.{Fits, IsBefore, IsBook, Misfits}
-use Rattle.mds_keeper.specs.BookOrder.{IsOutside, IsWithin, SameMembers, TwoReadings}
+use Rattle.std.specs.FinSet as set
+use Rattle.std.proofs.lemmas.Bool.{cases_lt}
+use Rattle.mds_keeper.specs.BookRows.{AreWithin, Fits, IsBefore, IsBook, IsFormOfRows, IsOneOutside, Misfits, OneLength, TwoLengths, unit_of}
+use Rattle.mds_keeper.specs.BookOrder.{SameMembers, TwoReadings}
 use Rattle.mds_keeper.specs.declared.day_book.Version.{Version}
 use Rattle.mds_keeper.proofs.BookRowsMade.{one_each}
 
--- rows and a head, by the length's count
-pub fit_some : (head : Option (ℕ × MeasureUnit)) (rows : List (ℕ × Version)) (form : ℕ × MeasureUnit) (r : Bool)
-    → head ≡ Some form → MatchBool r (IsWithin rows (count_of form.0)) (IsOutside rows (count_of form.0))
-    → MatchBool r (Fits head rows) (Misfits head rows)
-fit_some head rows form r e h =
-    subst (λ (o : Option (ℕ × MeasureUnit)). MatchBool r (Fits o rows) (Misfits o rows)) (sym e) h
+-- rows with a unit
+pub fit_some : (known : Option MeasureUnit) (rows : List (ℕ × Version)) (unit : MeasureUnit) (r : Bool) → known ≡ Some unit
+    → AreWithin rows → MatchBool r (OneLength rows) (TwoLengths rows) → MatchBool r (Fits known rows) (Misfits known rows)
+fit_some known rows unit true e within one =
+    subst (λ (o : Option MeasureUnit). Fits o rows) (sym e) (one, within)
+fit_some known rows unit false e within two =
+    subst (λ (o : Option MeasureUnit). Misfits o rows) (sym e) (inl two)
 
--- rows without a head
-pub fit_none : (head : Option (ℕ × MeasureUnit)) (rows : List (ℕ × Version)) → head ≡ None
-    → MatchBool (length rows == 0) (Fits head rows) (Misfits head rows)
-fit_none head [] e =
-    subst (λ (o : Option (ℕ × MeasureUnit)). MatchBool (length {A = ℕ × Version} [] == 0) (Fits o []) (Misfits o []))
+pub fit_out : (known : Option MeasureUnit) (rows : List (ℕ × Version)) (unit : MeasureUnit) → known ≡ Some unit → IsOneOutside rows
+    → Misfits known rows
+fit_out known rows unit e out = subst (λ (o : Option MeasureUnit). Misfits o rows) (sym e) (inr out)
+
+-- rows without one
+pub fit_none : (known : Option MeasureUnit) (rows : List (ℕ × Version)) → known ≡ None
+    → MatchBool (length rows == 0) (Fits known rows) (Misfits known rows)
+fit_none known [] e =
+    subst (λ (o : Option MeasureUnit). MatchBool (length {A = ℕ × Version} [] == 0) (Fits o []) (Misfits o []))
     (sym e) refl
-fit_none head (row ∷ rows) e = elim (eqb_tells (length (row ∷ rows)) 0) [
+fit_none known (row ∷ rows) e = elim (eqb_tells (length (row ∷ rows)) 0) [
   | inl p ↦ let none = p.1 in absurd (omega arith)
   | inr p ↦
-      subst (λ b. MatchBool b (Fits head (row ∷ rows)) (Misfits head (row ∷ rows))) (sym p.0)
-      (subst (λ (o : Option (ℕ × MeasureUnit)). Misfits o (row ∷ rows)) (sym e) (row, inl refl))
+      subst (λ b. MatchBool b (Fits known (row ∷ rows)) (Misfits known (row ∷ rows))) (sym p.0)
+      (subst (λ (o : Option MeasureUnit). Misfits o (row ∷ rows)) (sym e) (row, inl refl))
 ]
+
+-- whether there is a unit
+pub no_unit : (known : Option MeasureUnit) (none : Bool) → is_some known ≡ not none → none ≡ true → known ≡ None
+no_unit None none e t = refl
+no_unit (Some unit) true e t = cc
+no_unit (Some unit) false e t = cc
+
+pub some_unit : (known : Option MeasureUnit) (none : Bool) → is_some known ≡ not none → none ≡ false
+    → (unit : MeasureUnit) × (known ≡ Some unit)
+some_unit None true e t = cc
+some_unit None false e t = cc
+some_unit (Some unit) none e t = (unit, refl)
+
+-- a row of the greatest update, where there is one
+pub latest_row : (row : ℕ × Version) (rows : List (ℕ × Version)) → (top : ℕ × Version) × Member top (row ∷ rows)
+    × ((other : ℕ × Version) → Member other (row ∷ rows) → other.1.update ≤ top.1.update)
+latest_row row [] = (row, inl refl, λ other m. elim m [ inl e ↦ same other row e | inr none ↦ absurd none ])
+  where
+    same : (a b : ℕ × Version) → a ≡ b → a.1.update ≤ b.1.update
+    same a b e = let u = ap (λ (x : ℕ × Version). x.1.update) e in omega arith
+latest_row row (next ∷ rows) =
+    let t = latest_row next rows in
+    elim (cases_lt t.0.1.update row.1.update) [
+      | inl above ↦ (
+        row,
+        inl refl,
+        λ other m. elim m [
+          | inl e ↦ let u = ap (λ (x : ℕ × Version). x.1.update) e in omega arith
+          | inr n ↦ let h = t.2 other n in omega arith
+        ],
+      )
+      | inr below ↦ (
+        t.0,
+        inr t.1,
+        λ other m. elim m [
+          | inl e ↦ let u = ap (λ (x : ℕ × Version). x.1.update) e in omega arith
+          | inr n ↦ t.2 other n
+        ],
+      )
+    ]
+
+-- the length of rows of one length is that of a row of the greatest update
+pub form_of_rows : (rows : List (ℕ × Version)) (row : ℕ × Version) → Member row rows → (form : ℕ × MeasureUnit) → OneLength rows
+    → row.1.length ≡ form.0 → IsFormOfRows (Some form) rows
+form_of_rows [] row m form one e = absurd m
+form_of_rows (first ∷ rows) row m form one e =
+    let t = latest_row first rows in
+    (t.0, t.1, one t.0 row t.1 m ∙ e, t.2)
 
 -- no lawful World has a day with two readings of an interval and update
 pub two_refused : (book : BookValue) → TwoReadings book.rows → (w : World) → IsLawful w → IsDay w book → ⊥
 two_refused book (a, b, m, n, e, f, apart) w lawful day =
     apart (one_reading book (lawful_day w book lawful day) a b m n e f)
 
-module _ (stream : Stream) (day : ℕ) (head : Option (ℕ × MeasureUnit)) (rows sorted : List (ℕ × Version))
+module _ (stream : Stream) (day : ℕ) (unit : Option MeasureUnit) (rows sorted : List (ℕ × Version))
     (same : SameMembers rows sorted) where
   -- the rows in order say what they said
-  pub same_world : book_world (record { stream = stream; day = day; head = head; rows = sorted })
-      ≡ book_world (record { stream = stream; day = day; head = head; rows = rows })
-  same_world = same_rows (record { stream = stream; day = day; head = head; rows = sorted })
-      (record { stream = stream; day = day; head = head; rows = rows }) refl refl refl same.only same.kept
+  pub same_world : book_world (record { stream = stream; day = day; unit = unit; rows = sorted })
+      ≡ book_world (record { stream = stream; day = day; unit = unit; rows = rows })
+  same_world = same_rows (record { stream = stream; day = day; unit = unit; rows = sorted })
+      (record { stream = stream; day = day; unit = unit; rows = rows }) refl refl refl same.only same.kept
 
-  -- no lawful World has a day whose rows don't fit its head
-  pub misfit_refused : Misfits head sorted → (w : World) → IsLawful w
-      → IsDay w (record { stream = stream; day = day; head = head; rows = rows }) → ⊥
+  -- no lawful World has a day whose rows don't fit its unit
+  pub misfit_refused : Misfits unit sorted → (w : World) → IsLawful w
+      → IsDay w (record { stream = stream; day = day; unit = unit; rows = rows }) → ⊥
   misfit_refused bad w lawful is =
-      no_misfit (record { stream = stream; day = day; head = head; rows = sorted })
+      no_misfit (record { stream = stream; day = day; unit = unit; rows = sorted })
       (subst IsLawful (sym same_world)
-      (lawful_day w (record { stream = stream; day = day; head = head; rows = rows }) lawful is)) bad
+      (lawful_day w (record { stream = stream; day = day; unit = unit; rows = rows }) lawful is)) bad
 
--- rows that ascend and fit the head are a book
-pub is_book : (book : BookValue) → AllPairs IsBefore book.rows → Fits book.head book.rows → IsBook book
+-- rows that ascend and fit the unit are a book
+pub is_book : (book : BookValue) → AllPairs IsBefore book.rows → Fits book.unit book.rows → IsBook book
 is_book book up fits = record { lawful = lawful_book book (one_each book.rows up) fits; ascending = up }
+
+-- the unit of a form is that of its rows, and without rows it says nothing
+pub same_unit : (stream : Stream) (day : ℕ) (unit : Option MeasureUnit) (form : Option (ℕ × MeasureUnit)) (rows : List (ℕ × Version))
+    → IsFormOfRows form rows → (rows ≡ []) ⊎ (unit_of form ≡ unit)
+    → book_world (record { stream = stream; day = day; unit = unit_of form; rows = rows })
+    ≡ book_world (record { stream = stream; day = day; unit = unit; rows = rows })
+same_unit stream day unit form rows is (inr e) = ap (λ u. book_world (record { stream = stream; day = day; unit = u; rows = rows })) e
+same_unit stream day unit form rows is (inl none) =
+    subst (λ l. book_world (record { stream = stream; day = day; unit = unit_of form; rows = l })
+    ≡ book_world (record { stream = stream; day = day; unit = unit; rows = l })) (sym none) (empty (unit_of form) ∙ sym (empty unit))
+  where
+    empty : (u : Option MeasureUnit) → book_world (record { stream = stream; day = day; unit = u; rows = [] }) ≡ set.empty
+    empty None = refl
+    empty (Some x) = refl
+
+-- rows fit the unit of their form, too
+pub fits_form : (unit : Option MeasureUnit) (form : Option (ℕ × MeasureUnit)) (rows : List (ℕ × Version)) → Fits unit rows
+    → (rows ≡ []) ⊎ (unit_of form ≡ unit) → IsFormOfRows form rows → Fits (unit_of form) rows
+fits_form unit form rows fits (inr e) is = subst (λ u. Fits u rows) (sym e) fits
+fits_form unit None rows fits (inl none) is = none
+fits_form unit (Some form) rows fits (inl none) is = absurd (subst (Member is.0) none is.1)

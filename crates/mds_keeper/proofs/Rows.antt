@@ -40,28 +40,28 @@ get_below (y ∷ xs) (suc i) x e = let r = get_below xs i x e in omega arith
 -- a row of the right update says its version
 pub row_found : (w : World) (stream : Stream) (day interval : ℕ) (rows : List (ℕ × Version)) → AreVersionsOf w stream day interval rows
     → (i : ℕ) (row : ℕ × Version) → i < length rows → row ≡ get_or rows i row → (update : ℕ) → row.1.update ≡ update
-    → VersionIs (key_at stream day interval update) row.1.reading ∈ w
+    → VersionIs (key_at stream day row.1.length interval update) row.1.reading ∈ w
 row_found w stream day interval rows v i row h e update f =
     let number : row.0 ≡ interval = ap (λ r. r.0) e ∙ v.here i row h in
-    let is : row ≡ (interval, record { update = update; reading = row.1.reading }) =
-    λ j. (number j, record { update = f j; reading = row.1.reading }) in
-    (v.each update row.1.reading).0 (subst (λ r. Member r rows) is (get_member rows i row (slice_get_read rows (length rows) i row refl h e)))
+    let is : row ≡ (interval, record { update = update; length = row.1.length; reading = row.1.reading }) =
+    λ j. (number j, record { update = f j; length = row.1.length; reading = row.1.reading }) in
+    (v.each update row.1.length row.1.reading).0 (subst (λ r. Member r rows) is (get_member rows i row (slice_get_read rows (length rows) i row refl h e)))
 
 -- and where there is none, there is no such version
 pub no_row : (w : World) (stream : Stream) (day interval : ℕ) (rows : List (ℕ × Version)) → AreVersionsOf w stream day interval rows
     → (n : ℕ) → length rows ≤ n → (update : ℕ)
     → ((k : ℕ) (row : ℕ × Version) → k < n → slice_get rows k ≡ Some row → row.1.update ≢ update)
-    → (reading : ReadingValue) → VersionIs (key_at stream day interval update) reading ∈ w → ⊥
-no_row w stream day interval rows v n le update none reading h =
-    let m = member_get rows _ ((v.each update reading).1 h) in
-    none m.0 (interval, record { update = update; reading = reading }) (omega arith) m.2 refl
+    → (minutes : ℕ) (reading : ReadingValue) → VersionIs (key_at stream day minutes interval update) reading ∈ w → ⊥
+no_row w stream day interval rows v n le update none minutes reading h =
+    let m = member_get rows _ ((v.each update minutes reading).1 h) in
+    none m.0 (interval, record { update = update; length = minutes; reading = reading }) (omega arith) m.2 refl
 
 -- where there is a row, the interval has a version
 pub has_version : (w : World) (stream : Stream) (day interval : ℕ) (rows : List (ℕ × Version)) → AreVersionsOf w stream day interval rows
-    → 0 < length rows → HasNoVersion w stream day interval → ⊥
+    → 0 < length rows → ((minutes : ℕ) → HasNoVersion w stream day minutes interval) → ⊥
 has_version w stream day interval [] v some none = absurd (omega arith)
 has_version w stream day interval (row ∷ rows) v some none =
-    none row.1.update row.1.reading (row_found w stream day interval (row ∷ rows) v 0 row some refl row.1.update refl)
+    none row.1.length row.1.update row.1.reading (row_found w stream day interval (row ∷ rows) v 0 row some refl row.1.update refl)
 
 -- one row more
 pub none_more : (rows : List (ℕ × Version)) (n : ℕ) (update : ℕ) (row : ℕ × Version) → n < length rows → row ≡ get_or rows n row → row.1.update ≢ update
@@ -76,6 +76,29 @@ none_more rows n update row h e apart before k r lt is same =
           let two : r ≡ row = same_some r row (sym is ∙ ap (slice_get rows) at ∙ one) in
           apart (ap (λ x. x.1.update) (sym two) ∙ same)
     ]
+
+-- one row more that is so
+pub all_more : (P : ℕ × Version → Type 0) (rows : List (ℕ × Version)) (n : ℕ) (row : ℕ × Version) → n < length rows → row ≡ get_or rows n row
+    → P row → ((k : ℕ) (r : ℕ × Version) → k < n → slice_get rows k ≡ Some r → P r)
+    → (k : ℕ) (r : ℕ × Version) → k < n + 1 → slice_get rows k ≡ Some r → P r
+all_more P rows n row h e is_so before k r lt is =
+    elim (cases_lt k n) [
+      | inl below ↦ before k r below is
+      | inr here ↦
+          let at : k ≡ n = omega arith in
+          let one : slice_get rows n ≡ Some row = slice_get_read rows (length rows) n row refl h e in
+          let two : r ≡ row = same_some r row (sym is ∙ ap (slice_get rows) at ∙ one) in
+          subst P (sym two) is_so
+    ]
+
+-- so all are
+pub all_so : (P : ℕ × Version → Type 0) (rows : List (ℕ × Version)) (n : ℕ) → length rows ≤ n
+    → ((k : ℕ) (r : ℕ × Version) → k < n → slice_get rows k ≡ Some r → P r) → (row : ℕ × Version) → Member row rows → P row
+all_so P rows n all each row m = let at = member_get rows row m in each at.0 row (omega (arith, at.1, all)) at.2
+
+-- a row that is read is a member
+pub row_member : (rows : List (ℕ × Version)) (n : ℕ) (row : ℕ × Version) → n < length rows → row ≡ get_or rows n row → Member row rows
+row_member rows n row h e = get_member rows n row (slice_get_read rows (length rows) n row refl h e)
 
 -- the one reading that the World has is the other, or isn't
 pub judged : (w : World) (key : Key) (held reading : ReadingValue) (same : Bool) → Agrees w → VersionIs key held ∈ w

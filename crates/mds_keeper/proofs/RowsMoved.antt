@@ -21,22 +21,22 @@ pub all_moved : {X : Type 0} (now rest all : List X) → rest ≡ [] → now ++ 
 all_moved now rest all none before = sym (append-nil now) ∙ ap (λ l. now ++ l) (sym none) ∙ before
 
 -- a version of each reading up to an index stands behind those that were
-pub record AreCopied (update : ℕ) (readings : List ReadingValue) (old now : List (ℕ × Version)) (i : ℕ) : Type 0 where
-  pub rows : now ++ whole_rows update (i + 1) (drop i readings) ≡ old ++ whole_rows update 1 readings
+pub record AreCopied (minutes update : ℕ) (readings : List ReadingValue) (old now : List (ℕ × Version)) (i : ℕ) : Type 0 where
+  pub rows : now ++ whole_rows minutes update (i + 1) (drop i readings) ≡ old ++ whole_rows minutes update 1 readings
 
-pub start_copied : (update : ℕ) (readings : List ReadingValue) (old now : List (ℕ × Version)) → now ≡ old → AreCopied update readings old now 0
-start_copied update readings old now e = record { rows = ap (λ l. l ++ whole_rows update 1 readings) e }
+pub start_copied : (minutes update : ℕ) (readings : List ReadingValue) (old now : List (ℕ × Version)) → now ≡ old → AreCopied minutes update readings old now 0
+start_copied minutes update readings old now e = record { rows = ap (λ l. l ++ whole_rows minutes update 1 readings) e }
 
-module _ (update : ℕ) (readings : List ReadingValue) (old now : List (ℕ × Version)) (i : ℕ) (is : AreCopied update readings old now i) where
+module _ (minutes update : ℕ) (readings : List ReadingValue) (old now : List (ℕ × Version)) (i : ℕ) (is : AreCopied minutes update readings old now i) where
   pub one_copied : i < length readings → (r : ReadingValue) → ((d : ReadingValue) → r ≡ get_or readings i d) → (next : List (ℕ × Version))
-      → next ≡ now ++ (i + 1, record { update = update; reading = r }) ∷ [] → AreCopied update readings old next (i + 1)
+      → next ≡ now ++ (i + 1, record { update = update; length = minutes; reading = r }) ∷ [] → AreCopied minutes update readings old next (i + 1)
   one_copied within r at next push = record {
-    rows = moved_on now (whole_rows update (i + 1) (drop i readings)) (whole_rows update (i + 1 + 1) (drop (i + 1) readings)) next
-        (old ++ whole_rows update 1 readings) (i + 1, record { update = update; reading = r })
-        (ap (whole_rows update (i + 1)) (drop_here readings i r within at)) push is.rows;
+    rows = moved_on now (whole_rows minutes update (i + 1) (drop i readings)) (whole_rows minutes update (i + 1 + 1) (drop (i + 1) readings)) next
+        (old ++ whole_rows minutes update 1 readings) (i + 1, record { update = update; length = minutes; reading = r })
+        (ap (whole_rows minutes update (i + 1)) (drop_here readings i r within at)) push is.rows;
   }
 
-  pub all_copied : length readings ≤ i → now ≡ old ++ whole_rows update 1 readings
+  pub all_copied : length readings ≤ i → now ≡ old ++ whole_rows minutes update 1 readings
   all_copied h =
-      all_moved now (whole_rows update (i + 1) (drop i readings)) (old ++ whole_rows update 1 readings)
-      (ap (whole_rows update (i + 1)) (drop_all i readings h)) is.rows
+      all_moved now (whole_rows minutes update (i + 1) (drop i readings)) (old ++ whole_rows minutes update 1 readings)
+      (ap (whole_rows minutes update (i + 1)) (drop_all i readings h)) is.rows

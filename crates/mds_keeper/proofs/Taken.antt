@@ -22,16 +22,18 @@ use Rattle.mds_world.proofs.Sets.{union_assoc, union_absorbs, union_empty}
 use Rattle.mds_world.specs.Sets.{◌∈◌}
 use Rattle.mds_world.specs.Stated.{day_facts, versions_from}
 use Rattle.mds_world.specs.World.{Agrees, IsLawful, World, union}
-use Rattle.mds_keeper.specs.Books.{BookValue, book_facts, book_world, head_facts, row_fact}
+use Rattle.mds_keeper.specs.Books.{BookValue, book_world, row_fact}
 use Rattle.mds_keeper.specs.ClaimedUpdates.{ComesBeside}
 use Rattle.mds_keeper.specs.Claims.{BreaksForm, Contradicts, IsFirst, Suits, SuitsForm, key_of}
 use Rattle.mds_keeper.specs.DayMerges.{DayMergeValue}
-use Rattle.mds_keeper.specs.DayMergeSteps.{AreInBook, IsDayMerge, IsInBook, all_claimed, claimed_entries, claimed_entry, claimed_facts, claimed_readings, merge_value}
+use Rattle.mds_keeper.specs.DayMergeSteps.{AreCounts, AreInBook, AreOfLength, IsDayMerge, IsInBook, all_claimed, claimed_entries, claimed_entry, claimed_facts, claimed_readings, merge_value, minutes_in}
 use Rattle.mds_keeper.specs.Merge.{Breaks, HasTwoLengths, HasTwoUnits, claim_facts, claim_world}
 use Rattle.mds_keeper.specs.declared.claim.Claim.{Claim}
 use Rattle.mds_keeper.specs.declared.day_book.Version.{Version}
 use Rattle.mds_keeper.specs.declared.refusal.RefusalCode.{RefusalCode}
 use Rattle.mds_keeper.specs.declared.refusal.RefusalCode.TheVariants.{LengthConflict, UnitConflict, VersionConflict, JobReused, Protected, StaleUpdate, NoLikeDay, TooLong, NoAnchor, UnknownDay, BadJob, RangeTooWide}
+use Rattle.mds_keeper.specs.BookRows.{IsFormOfRows, unit_of}
+use Rattle.mds_keeper.proofs.BookFacts.{from_book, head_in_book, head_of_row, member_head, one_minutes}
 use Rattle.mds_keeper.proofs.Rows.{same_some}
 
 -- the head of a book's day
@@ -45,52 +47,52 @@ same_key : (x y : Key) (r q : ReadingValue) → VersionIs x r ≡ VersionIs y q 
 same_key x y r q e = (cc, cc)
 
 -- the versions of a day's readings, by their places
-pub from_versions : (stream : Stream) (day update i : ℕ) (rs : List ReadingValue) (f : Fact) → Member f (versions_from stream day update i rs)
+pub from_versions : (stream : Stream) (day minutes update i : ℕ) (rs : List ReadingValue) (f : Fact) → Member f (versions_from stream day minutes update i rs)
     → (k : ℕ) × (r : ReadingValue) × (slice_get rs k ≡ Some r)
-    × (f ≡ VersionIs (key_at stream day (i + k) update) r)
-from_versions stream day update i [] f m = absurd m
-from_versions stream day update i (r ∷ rs) f (inl e) =
+    × (f ≡ VersionIs (key_at stream day minutes (i + k) update) r)
+from_versions stream day minutes update i [] f m = absurd m
+from_versions stream day minutes update i (r ∷ rs) f (inl e) =
     let z : i ≡ i + 0 = omega arith in
-    (0, r, refl, e ∙ ap (λ n. VersionIs (key_at stream day n update) r) z)
-from_versions stream day update i (r ∷ rs) f (inr m) =
-    let n = from_versions stream day update (i + 1) rs f m in
+    (0, r, refl, e ∙ ap (λ n. VersionIs (key_at stream day minutes n update) r) z)
+from_versions stream day minutes update i (r ∷ rs) f (inr m) =
+    let n = from_versions stream day minutes update (i + 1) rs f m in
     let z : i + 1 + n.0 ≡ i + suc n.0 = omega arith in
-    (suc n.0, n.1, n.2, n.3 ∙ ap (λ x. VersionIs (key_at stream day x update) n.1) z)
+    (suc n.0, n.1, n.2, n.3 ∙ ap (λ x. VersionIs (key_at stream day minutes x update) n.1) z)
 
-pub to_versions : (stream : Stream) (day update i : ℕ) (rs : List ReadingValue) (k : ℕ) (r : ReadingValue) → slice_get rs k ≡ Some r
-    → Member (VersionIs (key_at stream day (i + k) update) r) (versions_from stream day update i rs)
-to_versions stream day update i [] k r e = cc
-to_versions stream day update i (x ∷ rs) zero r e =
+pub to_versions : (stream : Stream) (day minutes update i : ℕ) (rs : List ReadingValue) (k : ℕ) (r : ReadingValue) → slice_get rs k ≡ Some r
+    → Member (VersionIs (key_at stream day minutes (i + k) update) r) (versions_from stream day minutes update i rs)
+to_versions stream day minutes update i [] k r e = cc
+to_versions stream day minutes update i (x ∷ rs) zero r e =
     let z : i + 0 ≡ i = omega arith in
     let s : r ≡ x = cc in
-    inl (λ j. VersionIs (key_at stream day (z j) update) (s j))
-to_versions stream day update i (x ∷ rs) (suc k) r e =
+    inl (λ j. VersionIs (key_at stream day minutes (z j) update) (s j))
+to_versions stream day minutes update i (x ∷ rs) (suc k) r e =
     let z : i + 1 + k ≡ i + suc k = omega arith in
-    inr (subst (λ n. Member (VersionIs (key_at stream day n update) r) (versions_from stream day update (i + 1) rs)) z
-    (to_versions stream day update (i + 1) rs k r e))
+    inr (subst (λ n. Member (VersionIs (key_at stream day minutes n update) r) (versions_from stream day minutes update (i + 1) rs)) z
+    (to_versions stream day minutes update (i + 1) rs k r e))
 
 -- a fact that a claim of a form under an update states
 abbrev pub IsOfClaim : BookValue → ℕ × MeasureUnit → ℕ → List ReadingValue → Fact → Type 0
 IsOfClaim b form update readings f =
     (f ≡ HeadIs (head_of b form))
-    ⊎ ((k : ℕ) × (r : ReadingValue) × (slice_get readings k ≡ Some r) × (f ≡ VersionIs (key_of b (k + 1) update) r))
+    ⊎ ((k : ℕ) × (r : ReadingValue) × (slice_get readings k ≡ Some r) × (f ≡ VersionIs (key_of b form.0 (k + 1) update) r))
 
 pub of_claim : (b : BookValue) (form : ℕ × MeasureUnit) (update : ℕ) (readings : List ReadingValue) (f : Fact)
     → Member f (day_facts b.stream b.day form.0 form.1 update readings) → IsOfClaim b form update readings f
 of_claim b form update readings f (inl e) = inl e
 of_claim b form update readings f (inr m) =
-    let n = from_versions b.stream b.day update 1 readings f m in
+    let n = from_versions b.stream b.day form.0 update 1 readings f m in
     let z : 1 + n.0 ≡ n.0 + 1 = omega arith in
-    inr (n.0, n.1, n.2, n.3 ∙ ap (λ i. VersionIs (key_of b i update) n.1) z)
+    inr (n.0, n.1, n.2, n.3 ∙ ap (λ i. VersionIs (key_of b form.0 i update) n.1) z)
 
 pub claim_of : (b : BookValue) (form : ℕ × MeasureUnit) (update : ℕ) (readings : List ReadingValue) (f : Fact)
     → IsOfClaim b form update readings f → Member f (day_facts b.stream b.day form.0 form.1 update readings)
 claim_of b form update readings f (inl e) = inl e
 claim_of b form update readings f (inr n) =
     let z : 1 + n.0 ≡ n.0 + 1 = omega arith in
-    inr (subst (λ g. Member g (versions_from b.stream b.day update 1 readings))
-    (ap (λ i. VersionIs (key_of b i update) n.1) z ∙ sym n.3)
-    (to_versions b.stream b.day update 1 readings n.0 n.1 n.2))
+    inr (subst (λ g. Member g (versions_from b.stream b.day form.0 update 1 readings))
+    (ap (λ i. VersionIs (key_of b form.0 i update) n.1) z ∙ sym n.3)
+    (to_versions b.stream b.day form.0 update 1 readings n.0 n.1 n.2))
 
 -- a merge's World: of one day, with the head of the form where it has one
 pub record IsBase (b : BookValue) (form : Option (ℕ × MeasureUnit)) (w : World) : Type 0 where
@@ -183,7 +185,7 @@ module _ (b : BookValue) (form : Option (ℕ × MeasureUnit)) (w : World) (c : C
   -- two versions with one key have one reading where the claim suits
   one_reading_at : (key : Key) (x y : ReadingValue) → VersionIs key x ∈ union w (claim_world b.stream b.day c)
       → VersionIs key y ∈ union w (claim_world b.stream b.day c)
-      → ((k : ℕ) → key.interval ≡ k + 1 → Suits w b c.update c.readings k) → x ≡ y
+      → ((k : ℕ) → key.interval ≡ k + 1 → Suits w b c.length c.update c.readings k) → x ≡ y
   one_reading_at key x y i j suits = elim (in_union w _ _ i) [
     | inl a ↦ elim (in_union w _ _ j) [
       | inl d ↦ is.agrees.one_reading key x y a d
@@ -218,7 +220,7 @@ module _ (b : BookValue) (form : Option (ℕ × MeasureUnit)) (w : World) (c : C
     | inr a ↦ elim (in_claim b c _ a) [ inl e ↦ cc | inr n ↦ let k = n.3 in cc ]
   ]
 
-  pub accepted : SuitsForm form c.length c.unit → ((k : ℕ) → Suits w b c.update c.readings k)
+  pub accepted : SuitsForm form c.length c.unit → ((k : ℕ) → Suits w b c.length c.update c.readings k)
       → Agrees (union w (claim_world b.stream b.day c))
   accepted same suits = record {
     one_head = λ x y i j s t. one_head x y i j;
@@ -234,14 +236,14 @@ module _ (b : BookValue) (form : Option (ℕ × MeasureUnit)) (w : World) (c : C
       one_head x y i j = claimed x i ∙ sym (claimed y j)
 
   pub reading_refused : SuitsForm form c.length c.unit → (interval : ℕ)
-      → IsFirst (Contradicts w b c.update c.readings) (Suits w b c.update c.readings) interval
+      → IsFirst (Contradicts w b c.length c.update c.readings) (Suits w b c.length c.update c.readings) interval
       → Breaks (union w (claim_world b.stream b.day c)) VersionConflict interval
   reading_refused same interval q =
       let wrong = q.2 in (
         no_lengths (λ known e. ap (λ x. x.0) (same known e)),
         no_units (λ known e. ap (λ x. x.1) (same known e)),
         inl (
-          key_of b (q.0 + 1) c.update,
+          key_of b c.length (q.0 + 1) c.update,
           wrong.1,
           wrong.0,
           union_left w _ _ wrong.3,
@@ -273,28 +275,13 @@ said_in b known es entry m f is =
     (flat_in (claimed_facts b known) es f entry m (claim_of b known entry.0 entry.1 f is))
 
 -- a book's facts
-in_head_facts : (b : BookValue) (head : Option (ℕ × MeasureUnit)) (f : Fact) → Member f (head_facts b.stream b.day head)
-    → (known : ℕ × MeasureUnit) × (head ≡ Some known) × (f ≡ HeadIs (head_of b known))
-in_head_facts b None f m = absurd m
-in_head_facts b (Some known) f (inl e) = (known, refl, e)
-in_head_facts b (Some known) f (inr z) = absurd z
-
 pub in_book : (b : BookValue) (f : Fact) → f ∈ book_world b
-    → ((known : ℕ × MeasureUnit) × (b.head ≡ Some known) × (f ≡ HeadIs (head_of b known)))
+    → ((row : ℕ × Version) × (unit : MeasureUnit) × Member row b.rows × (b.unit ≡ Some unit) × (f ≡ HeadIs (head_of b (row.1.length, unit))))
     ⊎ ((row : ℕ × Version) × Member row b.rows × (f ≡ row_fact b.stream b.day row))
-in_book b f i = elim (member_append f (head_facts b.stream b.day b.head) (map (row_fact b.stream b.day) b.rows) (in_list (book_facts b) f i)) [
-  | inl m ↦ inl (in_head_facts b b.head f m)
-  | inr m ↦ inr (in_map (row_fact b.stream b.day) b.rows f m)
+in_book b f i = elim (from_book b f i) [
+  | inl m ↦ let n = member_head b.stream b.day b.unit b.rows f m in inl (n.2, n.0, n.3, n.1, n.4)
+  | inr n ↦ inr n
 ]
-
-head_fact : (b : BookValue) (head : Option (ℕ × MeasureUnit)) (known : ℕ × MeasureUnit) → head ≡ Some known
-    → Member (HeadIs (head_of b known)) (head_facts b.stream b.day head)
-head_fact b None known e = cc
-head_fact b (Some other) known e = inl (ap (λ k. HeadIs (head_of b k)) (sym (same_some other known e)))
-
-pub head_in_book : (b : BookValue) (known : ℕ × MeasureUnit) → b.head ≡ Some known → HeadIs (head_of b known) ∈ book_world b
-head_in_book b known e =
-    list_in (book_facts b) _ (append_left _ (head_facts b.stream b.day b.head) (map (row_fact b.stream b.day) b.rows) (head_fact b b.head known e))
 
 module _ (b : BookValue) (form : Option (ℕ × MeasureUnit)) (claimed : List (ℕ × List ReadingValue)) (d : IsDayMerge b form claimed) where
   -- what is said of the form that is known
@@ -308,7 +295,7 @@ module _ (b : BookValue) (form : Option (ℕ × MeasureUnit)) (claimed : List (�
     agrees = d.agrees;
     heads = heads;
     headed = λ known e. elim (d.told known e) [
-      | inl h ↦ union_left _ _ _ (head_in_book b known h)
+      | inl h ↦ union_left _ _ _ (subst (λ n. HeadIs (head_of b (n, known.1)) ∈ book_world b) h.2 (head_in_book b h.0 h.1 known.1 h.3))
       | inr n ↦ union_right _ _ _ (said_here known e n.0 n.1 _ (inl refl))
     ];
     periods = periods;
@@ -318,7 +305,7 @@ module _ (b : BookValue) (form : Option (ℕ × MeasureUnit)) (claimed : List (�
           → (known : ℕ × MeasureUnit) × (form ≡ Some known) × (h ≡ head_of b known)
       heads h i = elim (in_union _ _ _ i) [
         | inl a ↦ elim (in_book b _ a) [
-          | inl k ↦ (k.0, d.known k.0 k.1, same_head h _ k.2)
+          | inl k ↦ ((k.0.1.length, k.1), d.known k.0 k.2 k.1 k.3, same_head h _ k.4)
           | inr r ↦ let k = r.2 in cc
         ]
         | inr a ↦ let n = in_said b form claimed _ a in elim n.4 [
@@ -330,7 +317,7 @@ module _ (b : BookValue) (form : Option (ℕ × MeasureUnit)) (claimed : List (�
       periods : (key : PeriodKey) (content : PeriodContent)
           → PeriodIs key content ∈ union (book_world b) (all_claimed b form claimed) → ⊥
       periods key content i = elim (in_union _ _ _ i) [
-        | inl a ↦ elim (in_book b _ a) [ inl k ↦ let e = k.2 in cc | inr r ↦ let e = r.2 in cc ]
+        | inl a ↦ elim (in_book b _ a) [ inl k ↦ let e = k.4 in cc | inr r ↦ let e = r.2 in cc ]
         | inr a ↦ let n = in_said b form claimed _ a in elim n.4 [ inl e ↦ cc | inr v ↦ let k = v.3 in cc ]
       ]
 
@@ -350,18 +337,18 @@ module _ (b : BookValue) (form : Option (ℕ × MeasureUnit)) (claimed : List (�
       as_many = d.whole (c.length, c.unit) (known_form _ m c.length c.unit suits) _ m
 
       said_version : (k : ℕ) (r : ReadingValue) → slice_get readings k ≡ Some r
-          → VersionIs (key_of b (k + 1) c.update) r ∈ union (book_world b) (all_claimed b form claimed)
+          → VersionIs (key_of b c.length (k + 1) c.update) r ∈ union (book_world b) (all_claimed b form claimed)
       said_version k r e =
           union_right _ _ _ (said_here (c.length, c.unit) (known_form _ m c.length c.unit suits) _ m _ (inr (k, r, e, refl)))
 
       pub first_of_claims : (interval : ℕ) → length readings ≡ length c.readings
           → IsFirst (λ k. slice_get readings k ≢ slice_get c.readings k)
           (λ k. slice_get readings k ≡ slice_get c.readings k) interval
-          → IsFirst (Contradicts (union (book_world b) (all_claimed b form claimed)) b c.update c.readings)
-          (Suits (union (book_world b) (all_claimed b form claimed)) b c.update c.readings) interval
+          → IsFirst (Contradicts (union (book_world b) (all_claimed b form claimed)) b c.length c.update c.readings)
+          (Suits (union (book_world b) (all_claimed b form claimed)) b c.length c.update c.readings) interval
       first_of_claims interval many q = (q.0, q.1, wrong, right)
         where
-          wrong : Contradicts (union (book_world b) (all_claimed b form claimed)) b c.update c.readings q.0
+          wrong : Contradicts (union (book_world b) (all_claimed b form claimed)) b c.length c.update c.readings q.0
           wrong = elim (slice_get_cases c.readings q.0).1 [
             | inl x ↦ elim (slice_get_cases readings q.0).1 [
               | inl y ↦ (x.0, y.0, x.2, said_version q.0 y.0 y.2, λ e. q.2 (y.2 ∙ ap Some e ∙ sym x.2))
@@ -373,7 +360,7 @@ module _ (b : BookValue) (form : Option (ℕ × MeasureUnit)) (claimed : List (�
             ]
           ]
 
-          right : (j : ℕ) → j < q.0 → Suits (union (book_world b) (all_claimed b form claimed)) b c.update c.readings j
+          right : (j : ℕ) → j < q.0 → Suits (union (book_world b) (all_claimed b form claimed)) b c.length c.update c.readings j
           right j below mine other e i = d.agrees.one_reading _ other mine i (said_version j mine (q.3 j below ∙ e))
 
       pub known_claim : ((k : ℕ) → slice_get readings k ≡ slice_get c.readings k)
@@ -387,8 +374,8 @@ module _ (b : BookValue) (form : Option (ℕ × MeasureUnit)) (claimed : List (�
     -- the update wasn't claimed before
     module _ (absent : (entry : ℕ × List ReadingValue) → Member entry claimed → entry.0 ≢ c.update) where
       of_book : (interval : ℕ) (r : ReadingValue)
-          → VersionIs (key_of b interval c.update) r ∈ union (book_world b) (all_claimed b form claimed)
-          → VersionIs (key_of b interval c.update) r ∈ book_world b
+          → VersionIs (key_of b c.length interval c.update) r ∈ union (book_world b) (all_claimed b form claimed)
+          → VersionIs (key_of b c.length interval c.update) r ∈ book_world b
       of_book interval r i = elim (in_union _ _ _ i) [
         | inl a ↦ a
         | inr a ↦ let n = in_said b form claimed _ a in elim n.4 [
@@ -397,17 +384,55 @@ module _ (b : BookValue) (form : Option (ℕ × MeasureUnit)) (claimed : List (�
         ]
       ]
 
-      pub suits_all : (k : ℕ) → Suits (book_world b) b c.update c.readings k
-          → Suits (union (book_world b) (all_claimed b form claimed)) b c.update c.readings k
+      pub suits_all : (k : ℕ) → Suits (book_world b) b c.length c.update c.readings k
+          → Suits (union (book_world b) (all_claimed b form claimed)) b c.length c.update c.readings k
       suits_all k s mine other e i = s mine other e (of_book (k + 1) other i)
 
       pub first_of_book : (interval : ℕ)
-          → IsFirst (Contradicts (book_world b) b c.update c.readings) (Suits (book_world b) b c.update c.readings) interval
-          → IsFirst (Contradicts (union (book_world b) (all_claimed b form claimed)) b c.update c.readings)
-          (Suits (union (book_world b) (all_claimed b form claimed)) b c.update c.readings) interval
+          → IsFirst (Contradicts (book_world b) b c.length c.update c.readings) (Suits (book_world b) b c.length c.update c.readings) interval
+          → IsFirst (Contradicts (union (book_world b) (all_claimed b form claimed)) b c.length c.update c.readings)
+          (Suits (union (book_world b) (all_claimed b form claimed)) b c.length c.update c.readings) interval
       first_of_book interval q =
           let w = q.2 in
           (q.0, q.1, (w.0, w.1, w.2, union_left _ _ _ w.3, w.4), λ j below. suits_all j (q.3 j below))
+
+-- the rows of a lawful book are of the merge's length
+pub rows_of_form : (b : BookValue) (form : Option (ℕ × MeasureUnit)) (claimed : List (ℕ × List ReadingValue)) → IsDayMerge b form claimed
+    → IsLawful (book_world b) → (update : ℕ) → AreOfLength b (minutes_in form) update
+rows_of_form b form claimed d lawful update row m e =
+    let h = head_of_row b lawful row m in sym (ap minutes_in (d.known row m h.0 h.1))
+
+module _ (b : BookValue) (form : Option (ℕ × MeasureUnit)) (claimed : List (ℕ × List ReadingValue)) (d : IsDayMerge b form claimed)
+    (c : Claim) (suits : SuitsForm form c.length c.unit) where
+  -- and so of that of a claim that suits
+  pub rows_of_claim : IsLawful (book_world b) → (update : ℕ) → AreOfLength b c.length update
+  rows_of_claim lawful update row m e =
+      let h = head_of_row b lawful row m in ap (λ (f : ℕ × MeasureUnit). f.0) (suits (row.1.length, h.0) (d.known row m h.0 h.1))
+
+  -- what is counted by the merge's length is so by the claim's
+  pub counts_of_claim : (held fresh : ℕ) → AreCounts b (minutes_in form) claimed held fresh → AreCounts b c.length claimed held fresh
+  counts_of_claim held fresh = go form refl
+    where
+      none : (es : List (ℕ × List ReadingValue)) → es ≡ [] → AreCounts b 0 es held fresh → AreCounts b c.length es held fresh
+      none [] e counts = record { held_are = counts.held_are; fresh_are = counts.fresh_are }
+      none (x ∷ es) e counts = cc
+
+      go : (o : Option (ℕ × MeasureUnit)) → form ≡ o → AreCounts b (minutes_in o) claimed held fresh → AreCounts b c.length claimed held fresh
+      go None e counts = none claimed (d.none e) counts
+      go (Some known) e counts =
+          subst (λ n. AreCounts b n claimed held fresh) (ap (λ (f : ℕ × MeasureUnit). f.0) (suits known e)) counts
+
+-- what the book has by the merge's length it has by that of a claim that suits
+pub in_book_of_claim : (b : BookValue) (form : Option (ℕ × MeasureUnit)) (es : List (ℕ × Option (List ReadingValue)))
+    → IsDayMerge b form (claimed_entries b es) → (c : Claim) → SuitsForm form c.length c.unit
+    → AreInBook b (minutes_in form) es → AreInBook b c.length es
+in_book_of_claim b form es d c suits = go form refl
+  where
+    go : (o : Option (ℕ × MeasureUnit)) → form ≡ o → AreInBook b (minutes_in o) es → AreInBook b c.length es
+    go None e all = λ update m.
+        absurd (subst (λ l. Member (update, claimed_readings b update None) l) (d.none e) (map_in (claimed_entry b) es (update, None) m))
+    go (Some known) e all =
+        subst (λ n. AreInBook b n es) (ap (λ (f : ℕ × MeasureUnit). f.0) (suits known e)) all
 
 -- a claim that comes in
 pub record ComesIn (claimed later : List (ℕ × List ReadingValue)) (update : ℕ) (readings : List ReadingValue) : Type 0 where
@@ -421,10 +446,10 @@ pub claimed_entry_in : (b : BookValue) (es : List (ℕ × Option (List ReadingVa
     → Member (update, kept) es → Member (update, claimed_readings b update kept) (claimed_entries b es)
 claimed_entry_in b es update kept m = map_in (claimed_entry b) es (update, kept) m
 
-pub none_kept : (b : BookValue) (es : List (ℕ × Option (List ReadingValue))) (update : ℕ) (kept : Option (List ReadingValue))
-    → AreInBook b es → Member (update, kept) es → IsNone kept → IsInBook b update
-none_kept b es update None all m e = all update m
-none_kept b es update (Some readings) all m e = cc
+pub none_kept : (b : BookValue) (minutes : ℕ) (es : List (ℕ × Option (List ReadingValue))) (update : ℕ) (kept : Option (List ReadingValue))
+    → AreInBook b minutes es → Member (update, kept) es → IsNone kept → IsInBook b minutes update
+none_kept b minutes es update None all m e = all update m
+none_kept b minutes es update (Some readings) all m e = cc
 
 pub absent_claimed : (b : BookValue) (es : List (ℕ × Option (List ReadingValue))) (update : ℕ)
     → ((kept : Option (List ReadingValue)) → Member (update, kept) es → ⊥)
@@ -497,9 +522,9 @@ module _ (b : BookValue) (es later : List (ℕ × Option (List ReadingValue))) (
       )
 
   -- where nothing is kept of it the book has it all
-  pub still_in_book : (IsNone kept → IsInBook b update) → AreInBook b es → AreInBook b later
-  still_in_book one all u m = elim (beside_from es later (update, kept) put (u, None) m) [
-    | inl e ↦ subst (IsInBook b) (sym (ap (λ x. x.0) e)) (one (ap (λ x. is_some x.1) (sym e)))
+  pub still_in_book : (minutes : ℕ) → (IsNone kept → IsInBook b minutes update) → AreInBook b minutes es → AreInBook b minutes later
+  still_in_book minutes one all u m = elim (beside_from es later (update, kept) put (u, None) m) [
+    | inl e ↦ subst (IsInBook b minutes) (sym (ap (λ x. x.0) e)) (one (ap (λ x. is_some x.1) (sym e)))
     | inr k ↦ all u k
   ]
 
@@ -525,7 +550,7 @@ module _ (b : BookValue) (form : Option (ℕ × MeasureUnit)) (claimed later : L
         | inr a ↦ said_in b (c.length, c.unit) later (c.update, c.readings) comes.new f (in_claim b c f a)
       ])
 
-  module _ (free : (k : ℕ) → Suits (book_world b) b c.update c.readings k) where
+  module _ (free : (k : ℕ) → Suits (book_world b) b c.length c.update c.readings k) where
     pub agrees_more : Agrees (union (book_world b) (all_claimed b (Some (c.length, c.unit)) later))
     agrees_more =
         subst Agrees (union_assoc total exact (book_world b) _ _ ∙ ap (union (book_world b)) (sym said_more))
@@ -540,7 +565,7 @@ module _ (b : BookValue) (form : Option (ℕ × MeasureUnit)) (claimed later : L
       ];
       once = comes.once d.once;
       none = λ e. cc;
-      known = λ head e. ap Some (sym (suits head (d.known head e)));
+      known = λ row m unit e. ap Some (sym (suits (row.1.length, unit) (d.known row m unit e)));
       told = λ known e. inr ((c.update, c.readings), comes.new);
     }
 
@@ -589,29 +614,29 @@ module _ (b : BookValue) (form : Option (ℕ × MeasureUnit)) (claimed : List (�
 
     module _ (absent : (entry : ℕ × List ReadingValue) → Member entry claimed → entry.0 ≢ c.update) where
       pub book_end : (interval : ℕ)
-          → IsFirst (Contradicts (book_world b) b c.update c.readings) (Suits (book_world b) b c.update c.readings) interval
+          → IsFirst (Contradicts (book_world b) b c.length c.update c.readings) (Suits (book_world b) b c.length c.update c.readings) interval
           → Breaks (union (book_world v.book) (union v.said (claim_world v.book.stream v.book.day c))) VersionConflict interval
       book_end interval q =
           refuse VersionConflict interval
           (reading_refused b form _ c (base b form claimed d) suits interval (first_of_book b form claimed d c suits absent interval q))
 
-      pub lacking_end : ((k : ℕ) → Suits (book_world b) b c.update c.readings k)
+      pub lacking_end : ((k : ℕ) → Suits (book_world b) b c.length c.update c.readings k)
           → Agrees (union (book_world v.book) (union v.said (claim_world v.book.stream v.book.day c)))
       lacking_end free =
           subst (λ x. Agrees (union (book_world x.book) (union x.said (claim_world x.book.stream x.book.day c)))) is
           (subst Agrees (union_assoc total exact (book_world b) _ _)
           (accepted b form _ c (base b form claimed d) suits (λ k. suits_all b form claimed d c suits absent k (free k))))
 
-      pub unsaid_end : (interval : ℕ) (r : ReadingValue) → VersionIs (key_of v.book interval c.update) r ∈ v.said → ⊥
-      unsaid_end interval r =
-          subst (λ x. VersionIs (key_of x.book interval c.update) r ∈ x.said → ⊥) is (λ i.
+      pub unsaid_end : (minutes interval : ℕ) (r : ReadingValue) → VersionIs (key_of v.book minutes interval c.update) r ∈ v.said → ⊥
+      unsaid_end minutes interval r =
+          subst (λ x. VersionIs (key_of x.book minutes interval c.update) r ∈ x.said → ⊥) is (λ i.
           let n = in_said b form claimed _ i in elim n.4 [
             | inl e ↦ cc
             | inr q ↦ absent n.2 n.3 (sym (ap (λ k. k.update) (same_key _ _ r q.1 q.3).0))
           ])
 
       pub taken_end : (later : List (ℕ × List ReadingValue)) → ComesIn claimed later c.update c.readings
-          → ((k : ℕ) → Suits (book_world b) b c.update c.readings k)
+          → ((k : ℕ) → Suits (book_world b) b c.length c.update c.readings k)
           → (b ≡ v.book)
           × (all_claimed b (Some (c.length, c.unit)) later
           ≡ union v.said (claim_world v.book.stream v.book.day c))
@@ -632,16 +657,28 @@ pub new_said : (b : BookValue) (form : Option (ℕ × MeasureUnit)) (es : List (
     → all_claimed b form es ≡ set.empty
 new_said b form es e = ap (λ l. all_claimed b form l) e ∙ none_said b form
 
-pub none_in_book : (b : BookValue) (es : List (ℕ × Option (List ReadingValue))) → es ≡ [] → AreInBook b es
-none_in_book b es e update m = absurd (subst (λ l. Member (update, None) l) e m)
+pub none_in_book : (b : BookValue) (minutes : ℕ) (es : List (ℕ × Option (List ReadingValue))) → es ≡ [] → AreInBook b minutes es
+none_in_book b minutes es e update m = absurd (subst (λ l. Member (update, None) l) e m)
 
 pub new_merge : (b : BookValue) (form : Option (ℕ × MeasureUnit)) (claimed : List (ℕ × List ReadingValue))
-    → form ≡ b.head → claimed ≡ [] → IsLawful (book_world b) → IsDayMerge b form claimed
-new_merge b form claimed f e h = record {
+    → IsFormOfRows form b.rows → unit_of form ≡ b.unit → claimed ≡ [] → IsLawful (book_world b) → IsDayMerge b form claimed
+new_merge b form claimed f u e h = record {
   agrees = subst Agrees (sym (ap (union (book_world b)) (new_said b form claimed e) ∙ union_empty total exact (book_world b))) h.agrees;
   whole = λ known k entry m. absurd (subst (λ es. Member entry es) e m);
   once = subst (λ es. Apart (map (λ entry. entry.0) es)) (sym e) tt;
   none = λ k. e;
-  known = λ head k. f ∙ k;
-  told = λ known k. inl (sym f ∙ k);
+  known = λ row m unit k. known_of form f u row m unit k;
+  told = λ known k. inl (told_of known (subst (λ o. IsFormOfRows o b.rows) k f) (sym (sym (ap unit_of k) ∙ u)));
 }
+  where
+    known_of : (form : Option (ℕ × MeasureUnit)) → IsFormOfRows form b.rows → unit_of form ≡ b.unit → (row : ℕ × Version)
+        → Member row b.rows → (unit : MeasureUnit) → b.unit ≡ Some unit → form ≡ Some (row.1.length, unit)
+    known_of None none u row m unit k = absurd (subst (Member row) none m)
+    known_of (Some known) top u row m unit k =
+        let l = sym top.2 ∙ one_minutes b h top.0 row top.1 m in
+        let same = same_some known.1 unit (u ∙ k) in
+        λ i. Some (l i, same i)
+
+    told_of : (known : ℕ × MeasureUnit) → IsFormOfRows (Some known) b.rows → b.unit ≡ Some known.1
+        → (row : ℕ × Version) × Member row b.rows × (row.1.length ≡ known.0) × (b.unit ≡ Some known.1)
+    told_of known top k = (top.0, top.1, top.2, k)

@@ -1,5 +1,5 @@
 -- The order of the rows of a day's book.
-use Rattle.std.specs.Prelude.{◌≡◌, ◌≢◌, ◌⊎◌, ◌+◌, ◌<◌, ◌≤◌, ℕ, Bool, false, List, [], length, get_or}
+use Rattle.std.specs.Prelude.{◌≡◌, ◌≢◌, ◌+◌, ◌<◌, ℕ, Bool, false, List, length, get_or}
 use Rattle.std.specs.Ordering.{is_lt, nat_cmp, ordering_then}
 use Rattle.std.specs.declared.cmp.Ordering.{Ordering}
 use Rattle.mds_world.specs.Lists.{Member}
@@ -31,13 +31,3 @@ IsInOrder rows = (k : ℕ) (d : ℕ × Version) → k + 1 < length rows
 abbrev pub HasStep : List (ℕ × Version) → Type 0
 HasStep rows = (k : ℕ) × (k + 1 < length rows)
     × ((d : ℕ × Version) → comes_before (get_or rows k d) (get_or rows (k + 1) d) ≡ false)
-
--- every interval is from 1 to the count, and there is one
-abbrev pub IsWithin : List (ℕ × Version) → ℕ → Type 0
-IsWithin rows count =
-    ((row : ℕ × Version) × Member row rows)
-    × ((row : ℕ × Version) → Member row rows → (1 ≤ row.0) × (row.0 ≤ count))
-
--- there is no row, or one that is outside
-abbrev pub IsOutside : List (ℕ × Version) → ℕ → Type 0
-IsOutside rows count = (rows ≡ []) ⊎ ((row : ℕ × Version) × Member row rows × ((row.0 < 1) ⊎ (count < row.0)))

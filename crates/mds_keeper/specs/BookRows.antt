@@ -1,5 +1,5 @@
 -- What the rows of a day's book are.
-use Rattle.std.specs.Prelude.{◌≡◌, ◌↔◌, ◌⊎◌, ℕ, ◌<◌, ◌≤◌, List, [], Option, Some, None, IfNone, IfSome}
+use Rattle.std.specs.Prelude.{◌≡◌, ◌≢◌, ◌↔◌, ◌⊎◌, ℕ, ◌<◌, ◌≤◌, List, [], Option, Some, None, IfNone, IfSome}
 use Rattle.std.specs.List.{All, AllPairs}
 use Rattle.mds_calendar.specs.Length.{count_of}
 use Rattle.mds_quantity.specs.declared.unit.Unit.{Unit as MeasureUnit}
@@ -22,26 +22,51 @@ pub record IsBook (book : BookValue) : Type 0 where
   pub lawful : IsLawful (book_world book)
   pub ascending : AllPairs IsBefore book.rows
 
--- The versions of an interval, by ascending update, each once.
+-- The versions of an interval of any length, by ascending update, each once.
 pub record AreVersionsOf (w : World) (stream : Stream) (day interval : ℕ) (rows : List (ℕ × Version)) : Type 0 where
-  pub each : (update : ℕ) (reading : ReadingValue)
-      → Member (interval, record { update = update; reading = reading }) rows
-      ↔ (VersionIs (key_at stream day interval update) reading ∈ w)
+  pub each : (update minutes : ℕ) (reading : ReadingValue)
+      → Member (interval, record { update = update; length = minutes; reading = reading }) rows
+      ↔ (VersionIs (key_at stream day minutes interval update) reading ∈ w)
   pub here : All (λ row. row.0 ≡ interval) rows
   pub ascending : AllPairs (λ a b. a.1.update < b.1.update) rows
 
--- a row's interval is one of the head's length, and one is there
-abbrev pub Fits : Option (ℕ × MeasureUnit) → List (ℕ × Version) → Type 0
-Fits None rows = rows ≡ []
-Fits (Some form) rows =
-    ((row : ℕ × Version) × Member row rows)
-    × ((row : ℕ × Version) → Member row rows → (1 ≤ row.0) × (row.0 ≤ count_of form.0))
+-- all rows are of one length
+abbrev pub OneLength : List (ℕ × Version) → Type 0
+OneLength rows = (a b : ℕ × Version) → Member a rows → Member b rows → a.1.length ≡ b.1.length
 
--- what rows that don't fit a head show
-abbrev pub Misfits : Option (ℕ × MeasureUnit) → List (ℕ × Version) → Type 0
+-- two rows are of two lengths
+abbrev pub TwoLengths : List (ℕ × Version) → Type 0
+TwoLengths rows = (a b : ℕ × Version) × Member a rows × Member b rows × (a.1.length ≢ b.1.length)
+
+-- each row's interval is one of its length
+abbrev pub AreWithin : List (ℕ × Version) → Type 0
+AreWithin rows = (row : ℕ × Version) → Member row rows → (1 ≤ row.0) × (row.0 ≤ count_of row.1.length)
+
+-- that of one isn't
+abbrev pub IsOneOutside : List (ℕ × Version) → Type 0
+IsOneOutside rows = (row : ℕ × Version) × Member row rows × ((row.0 < 1) ⊎ (count_of row.1.length < row.0))
+
+-- rows of a day with this unit
+abbrev pub Fits : Option MeasureUnit → List (ℕ × Version) → Type 0
+Fits None rows = rows ≡ []
+Fits (Some unit) rows = OneLength rows × AreWithin rows
+
+-- what rows that aren't show
+abbrev pub Misfits : Option MeasureUnit → List (ℕ × Version) → Type 0
 Misfits None rows = (row : ℕ × Version) × Member row rows
-Misfits (Some form) rows =
-    (rows ≡ []) ⊎ ((row : ℕ × Version) × Member row rows × ((row.0 < 1) ⊎ (count_of form.0 < row.0)))
+Misfits (Some unit) rows = TwoLengths rows ⊎ IsOneOutside rows
+
+-- the length and the unit are those of a row of the greatest update, or there is no row
+abbrev pub IsFormOfRows : Option (ℕ × MeasureUnit) → List (ℕ × Version) → Type 0
+IsFormOfRows None rows = rows ≡ []
+IsFormOfRows (Some form) rows =
+    (row : ℕ × Version) × Member row rows × (row.1.length ≡ form.0)
+    × ((other : ℕ × Version) → Member other rows → other.1.update ≤ row.1.update)
+
+-- the unit of a form
+abbrev pub unit_of : Option (ℕ × MeasureUnit) → Option MeasureUnit
+unit_of None = None
+unit_of (Some form) = Some form.1
 
 -- no two rows are of one interval and update
 abbrev pub OneEach : List (ℕ × Version) → Type 0
@@ -49,6 +74,5 @@ OneEach rows = (a b : ℕ × Version) → Member a rows → Member b rows → a.
 
 -- It is a book that says the same, or there is none, and no lawful World has such a day.
 pub record IsMade (said : BookValue) (made : Option BookValue) : Type 0 where
-  pub some : IfSome made (λ book. (book.stream ≡ said.stream) × (book.day ≡ said.day) × (book.head ≡ said.head)
-      × (book_world book ≡ book_world said))
+  pub some : IfSome made (λ book. (book.stream ≡ said.stream) × (book.day ≡ said.day) × (book_world book ≡ book_world said))
   pub none : IfNone made ((w : World) → IsLawful w → IsDay w said → ⊥)

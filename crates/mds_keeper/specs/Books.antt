@@ -1,5 +1,5 @@
--- A day of a World: its head and all its versions.
-use Rattle.std.specs.Prelude.{ℕ, List, [], ◌∷◌, ◌++◌, map, Option, Some, None}
+-- A day of a World: its unit and all its versions. Its head is that of its versions.
+use Rattle.std.specs.Prelude.{ℕ, List, [], ◌++◌, map, Option, Some, None}
 use Rattle.std.specs.FinSet as set
 use Rattle.mds_quantity.specs.declared.unit.Unit.{Unit as MeasureUnit}
 use Rattle.mds_names.specs.declared.stream.Stream.{Stream}
@@ -9,24 +9,28 @@ use Rattle.mds_world.specs.Sets.{◌∈◌}
 use Rattle.mds_world.specs.World.{IsOn, World}
 use Rattle.mds_keeper.specs.declared.day_book.Version.{Version}
 
--- a day of a stream, its length and unit where it is known, and its versions with their intervals
+-- a day of a stream, its unit where it is known, and its versions with their intervals and lengths
 pub record BookValue : Type 0 where
   pub stream : Stream
   pub day : ℕ
-  pub head : Option (ℕ × MeasureUnit)
+  pub unit : Option MeasureUnit
   pub rows : List (ℕ × Version)
 
-abbrev pub head_facts : Stream → ℕ → Option (ℕ × MeasureUnit) → List Fact
-head_facts stream day None = []
-head_facts stream day (Some form) =
-    HeadIs (head_at stream day form.0 form.1) ∷ []
+-- the head that a row is under
+abbrev pub row_head : Stream → ℕ → MeasureUnit → ℕ × Version → Fact
+row_head stream day unit row = HeadIs (head_at stream day row.1.length unit)
+
+-- that of each row, where the day is known
+abbrev pub head_facts : Stream → ℕ → Option MeasureUnit → List (ℕ × Version) → List Fact
+head_facts stream day None rows = []
+head_facts stream day (Some unit) rows = map (row_head stream day unit) rows
 
 abbrev pub row_fact : Stream → ℕ → ℕ × Version → Fact
 row_fact stream day row =
-    VersionIs (key_at stream day row.0 row.1.update) row.1.reading
+    VersionIs (key_at stream day row.1.length row.0 row.1.update) row.1.reading
 
 abbrev pub book_facts : BookValue → List Fact
-book_facts book = head_facts book.stream book.day book.head ++ map (row_fact book.stream book.day) book.rows
+book_facts book = head_facts book.stream book.day book.unit book.rows ++ map (row_fact book.stream book.day) book.rows
 
 -- what a day's book says, as a World
 abbrev pub book_world : BookValue → World

@@ -1,9 +1,8 @@
 -- What a claim says beside a day's book: which rule it breaks first, and which of its versions the book doesn't have.
-use Rattle.std.specs.Prelude.{◌≡◌, ◌≢◌, ℕ, ◌+◌, ◌<◌, ◌≤◌, Bool, cond, List, [], ◌∷◌, ◌++◌, length, Option, Some, None}
+use Rattle.std.specs.Prelude.{◌≡◌, ◌≢◌, ℕ, ◌+◌, ◌<◌, ◌≤◌, Bool, cond, nat_eq, List, [], ◌∷◌, ◌++◌, length, Option, Some, None}
 use Rattle.std.specs.List.{slice_get}
 use Rattle.std.specs.FinSet as set
 use Rattle.mds_quantity.specs.declared.unit.Unit.{Unit as MeasureUnit}
-use Rattle.mds_names.specs.declared.stream.Stream.{Stream}
 use Rattle.mds_marks.specs.Reading.{ReadingValue}
 use Rattle.mds_world.specs.declared.facts.Head.{Head}
 use Rattle.mds_world.specs.declared.facts.Key.{Key}
@@ -13,24 +12,25 @@ use Rattle.mds_world.specs.Lists.{Member}
 use Rattle.mds_world.specs.Sets.{◌∈◌}
 use Rattle.mds_world.specs.World.{World}
 use Rattle.mds_keeper.specs.Books.{BookValue, book_world}
+use Rattle.mds_keeper.specs.declared.day_book.Version.{Version}
 use Rattle.mds_keeper.specs.declared.refusal.RefusalCode.{RefusalCode}
 use Rattle.mds_keeper.specs.declared.refusal.RefusalCode.TheVariants.{LengthConflict, UnitConflict}
 
 -- where a version of a book's day stands
-abbrev pub key_of : BookValue → ℕ → ℕ → Key
-key_of book interval update = key_at book.stream book.day interval update
+abbrev pub key_of : BookValue → ℕ → ℕ → ℕ → Key
+key_of book minutes interval update = key_at book.stream book.day minutes interval update
 
--- a claim's reading of the interval after so many is that of the World, if it has one under the update
-abbrev pub Suits : World → BookValue → ℕ → List ReadingValue → ℕ → Type 0
-Suits w book update readings k =
+-- a claim's reading of the interval after so many is that of the World, if it has one of that length under the update
+abbrev pub Suits : World → BookValue → ℕ → ℕ → List ReadingValue → ℕ → Type 0
+Suits w book minutes update readings k =
     (mine other : ReadingValue) → slice_get readings k ≡ Some mine
-    → VersionIs (key_of book (k + 1) update) other ∈ w → other ≡ mine
+    → VersionIs (key_of book minutes (k + 1) update) other ∈ w → other ≡ mine
 
 -- the World has another reading of that interval under the update
-abbrev pub Contradicts : World → BookValue → ℕ → List ReadingValue → ℕ → Type 0
-Contradicts w book update readings k =
+abbrev pub Contradicts : World → BookValue → ℕ → ℕ → List ReadingValue → ℕ → Type 0
+Contradicts w book minutes update readings k =
     (mine : ReadingValue) × (other : ReadingValue) × (slice_get readings k ≡ Some mine)
-    × (VersionIs (key_of book (k + 1) update) other ∈ w) × (other ≢ mine)
+    × (VersionIs (key_of book minutes (k + 1) update) other ∈ w) × (other ≢ mine)
 
 -- the first interval, from 1, that is wrong, after ones that are right
 abbrev pub IsFirst : (ℕ → Type 0) → (ℕ → Type 0) → ℕ → Type 0
@@ -47,40 +47,44 @@ BreaksForm form length unit code = ⊥
 abbrev pub SuitsForm : Option (ℕ × MeasureUnit) → ℕ → MeasureUnit → Type 0
 SuitsForm form length unit = (known : ℕ × MeasureUnit) → form ≡ Some known → known ≡ (length, unit)
 
+-- it is the length of the rows of an update, or there is no such row
+abbrev pub IsLengthUnder : BookValue → ℕ → Option ℕ → Type 0
+IsLengthUnder book update None = (row : ℕ × Version) → Member row book.rows → row.1.update ≢ update
+IsLengthUnder book update (Some minutes) =
+    (row : ℕ × Version) × Member row book.rows × (row.1.update ≡ update) × (row.1.length ≡ minutes)
+
 -- the book has this reading of the interval under the update
-abbrev pub is_held : BookValue → ℕ → ℕ → ReadingValue → Bool
-is_held book update interval reading =
-    set.contains (book_world book) (VersionIs (key_of book interval update) reading)
+abbrev pub is_held : BookValue → ℕ → ℕ → ℕ → ReadingValue → Bool
+is_held book minutes update interval reading =
+    set.contains (book_world book) (VersionIs (key_of book minutes interval update) reading)
 
--- the head that is claimed, where the book has none
-abbrev pub fresh_heads : Stream → ℕ → Option (ℕ × MeasureUnit) → Option (ℕ × MeasureUnit) → List Head
-fresh_heads stream day (Some known) form = []
-fresh_heads stream day None None = []
-fresh_heads stream day None (Some form) =
-    head_at stream day form.0 form.1 ∷ []
+-- the head that is claimed, where the book has no row
+abbrev pub fresh_heads : BookValue → Option (ℕ × MeasureUnit) → List Head
+fresh_heads book None = []
+fresh_heads book (Some form) = cond (nat_eq (length book.rows) 0) (head_at book.stream book.day form.0 form.1 ∷ []) []
 
--- of an update's readings, from an interval on, those that the book doesn't have, with where they stand
-abbrev pub fresh_versions : BookValue → ℕ → ℕ → List ReadingValue → List (Key × ReadingValue)
-fresh_versions book update interval [] = []
-fresh_versions book update interval (reading ∷ rest) =
-    cond (is_held book update interval reading)
-    (fresh_versions book update (interval + 1) rest)
-    ((key_of book interval update, reading) ∷ fresh_versions book update (interval + 1) rest)
+-- of an update's readings of a length, from an interval on, those that the book doesn't have, with where they stand
+abbrev pub fresh_versions : BookValue → ℕ → ℕ → ℕ → List ReadingValue → List (Key × ReadingValue)
+fresh_versions book minutes update interval [] = []
+fresh_versions book minutes update interval (reading ∷ rest) =
+    cond (is_held book minutes update interval reading)
+    (fresh_versions book minutes update (interval + 1) rest)
+    ((key_of book minutes interval update, reading) ∷ fresh_versions book minutes update (interval + 1) rest)
 
 -- how many the book has
-abbrev pub held_count : BookValue → ℕ → ℕ → List ReadingValue → ℕ
-held_count book update interval [] = 0
-held_count book update interval (reading ∷ rest) =
-    cond (is_held book update interval reading) 1 0 + held_count book update (interval + 1) rest
+abbrev pub held_count : BookValue → ℕ → ℕ → ℕ → List ReadingValue → ℕ
+held_count book minutes update interval [] = 0
+held_count book minutes update interval (reading ∷ rest) =
+    cond (is_held book minutes update interval reading) 1 0 + held_count book minutes update (interval + 1) rest
 
--- of all updates that were claimed
-abbrev pub fresh_all : BookValue → List (ℕ × List ReadingValue) → List (Key × ReadingValue)
-fresh_all book [] = []
-fresh_all book (entry ∷ rest) = fresh_versions book entry.0 1 entry.1 ++ fresh_all book rest
+-- of all updates that were claimed with a length
+abbrev pub fresh_all : BookValue → ℕ → List (ℕ × List ReadingValue) → List (Key × ReadingValue)
+fresh_all book minutes [] = []
+fresh_all book minutes (entry ∷ rest) = fresh_versions book minutes entry.0 1 entry.1 ++ fresh_all book minutes rest
 
-abbrev pub held_all : BookValue → List (ℕ × List ReadingValue) → ℕ
-held_all book [] = 0
-held_all book (entry ∷ rest) = held_count book entry.0 1 entry.1 + held_all book rest
+abbrev pub held_all : BookValue → ℕ → List (ℕ × List ReadingValue) → ℕ
+held_all book minutes [] = 0
+held_all book minutes (entry ∷ rest) = held_count book minutes entry.0 1 entry.1 + held_all book minutes rest
 
 -- none has more readings than a day has minutes
 abbrev pub AreShort : List (ℕ × List ReadingValue) → Type 0

@@ -24,18 +24,18 @@ use Rattle.mds_keeper.specs.declared.day_book.Version.{Version}
 -- where a version of a day of a stream stands, and its reading
 abbrev pub version_at : Stream → ℕ → ℕ × Version → Key × ReadingValue
 version_at stream day row =
-    (key_at stream day row.0 row.1.update, row.1.reading)
+    (key_at stream day row.1.length row.0 row.1.update, row.1.reading)
 
--- a version of each interval in turn, from one on, under an update
-abbrev pub whole_rows : ℕ → ℕ → List ReadingValue → List (ℕ × Version)
-whole_rows update interval [] = []
-whole_rows update interval (reading ∷ rest) =
-    (interval, record { update = update; reading = reading }) ∷ whole_rows update (interval + 1) rest
+-- a version of each interval of a length in turn, from one on, under an update
+abbrev pub whole_rows : ℕ → ℕ → ℕ → List ReadingValue → List (ℕ × Version)
+whole_rows minutes update interval [] = []
+whole_rows minutes update interval (reading ∷ rest) =
+    (interval, record { update = update; length = minutes; reading = reading }) ∷ whole_rows minutes update (interval + 1) rest
 
 -- the versions of a day, each with its interval
 abbrev pub rows_of : VersionRows → List (ℕ × Version)
 rows_of (Each rows) = rows.items
-rows_of (Whole update readings) = whole_rows update 1 readings
+rows_of (Whole minutes update readings) = whole_rows minutes update 1 readings
 
 abbrev pub day_versions : DayVersions → List (Key × ReadingValue)
 day_versions day = map (version_at day.stream day.day) (rows_of day.rows)

@@ -26,11 +26,25 @@ readings_under update [] = []
 readings_under update (row ∷ rest) =
     cond (nat_eq row.1.update update) (row.1.reading ∷ readings_under update rest) (readings_under update rest)
 
--- the book has each of them, in its place among the intervals
-abbrev pub IsInBook : BookValue → ℕ → Type 0
-IsInBook book update =
+-- the book has each of them, in its place among the intervals of a length
+abbrev pub IsInBook : BookValue → ℕ → ℕ → Type 0
+IsInBook book minutes update =
     (k : ℕ) (reading : ReadingValue) → slice_get (readings_under update book.rows) k ≡ Some reading
-    → VersionIs (key_of book (k + 1) update) reading ∈ book_world book
+    → VersionIs (key_of book minutes (k + 1) update) reading ∈ book_world book
+
+-- so many readings are one of each interval that the rows of an update are of
+abbrev pub AreAsMany : BookValue → ℕ → ℕ → Type 0
+AreAsMany book update count =
+    (row : ℕ × Version) → Member row book.rows → row.1.update ≡ update → count ≡ count_of row.1.length
+
+-- the rows of an update are of a length
+abbrev pub AreOfLength : BookValue → ℕ → ℕ → Type 0
+AreOfLength book minutes update = (row : ℕ × Version) → Member row book.rows → row.1.update ≡ update → row.1.length ≡ minutes
+
+-- the length that a day has, where it is known or claimed
+abbrev pub minutes_in : Option (ℕ × MeasureUnit) → ℕ
+minutes_in None = 0
+minutes_in (Some form) = form.0
 
 -- the readings claimed under an update: where none are kept, those that the book has
 abbrev pub claimed_readings : BookValue → ℕ → Option (List ReadingValue) → List ReadingValue
@@ -45,8 +59,8 @@ abbrev pub claimed_entries : BookValue → List (ℕ × Option (List ReadingValu
 claimed_entries book claimed = map (claimed_entry book) claimed
 
 -- where none are kept, the book has them
-abbrev pub AreInBook : BookValue → List (ℕ × Option (List ReadingValue)) → Type 0
-AreInBook book claimed = (update : ℕ) → Member (update, None) claimed → IsInBook book update
+abbrev pub AreInBook : BookValue → ℕ → List (ℕ × Option (List ReadingValue)) → Type 0
+AreInBook book minutes claimed = (update : ℕ) → Member (update, None) claimed → IsInBook book minutes update
 
 -- what was claimed under an update; on which lines isn't kept
 abbrev pub claimed_facts : BookValue → ℕ × MeasureUnit → ℕ × List ReadingValue → List Fact
@@ -64,33 +78,34 @@ merge_value book form claimed = record {
 }
 
 -- All agrees, each claim has a reading for each interval, no update comes twice, and the length and unit are those that
--- the book's head or a claim says.
+-- the book or a claim says.
 pub record IsDayMerge (book : BookValue) (form : Option (ℕ × MeasureUnit)) (claimed : List (ℕ × List ReadingValue)) : Type 0 where
   pub agrees : Agrees (union (book_world book) (merge_value book form claimed).said)
   pub whole : (known : ℕ × MeasureUnit) → form ≡ Some known → (entry : ℕ × List ReadingValue)
       → Member entry claimed → length entry.1 ≡ count_of known.0
   pub once : Apart (map (λ entry. entry.0) claimed)
   pub none : form ≡ None → claimed ≡ []
-  pub known : (head : ℕ × MeasureUnit) → book.head ≡ Some head → form ≡ Some head
+  pub known : (row : ℕ × Version) → Member row book.rows → (unit : MeasureUnit) → book.unit ≡ Some unit → form ≡ Some (row.1.length, unit)
   pub told : (known : ℕ × MeasureUnit) → form ≡ Some known
-      → (book.head ≡ Some known) ⊎ ((entry : ℕ × List ReadingValue) × Member entry claimed)
+      → ((row : ℕ × Version) × Member row book.rows × (row.1.length ≡ known.0) × (book.unit ≡ Some known.1))
+      ⊎ ((entry : ℕ × List ReadingValue) × Member entry claimed)
 
 -- how many of the readings claimed the book has, and how many it doesn't
-pub record AreCounts (book : BookValue) (claimed : List (ℕ × List ReadingValue)) (held fresh : ℕ) : Type 0 where
-  pub held_are : held ≡ held_all book claimed
-  pub fresh_are : fresh ≡ length (fresh_all book claimed)
+pub record AreCounts (book : BookValue) (minutes : ℕ) (claimed : List (ℕ × List ReadingValue)) (held fresh : ℕ) : Type 0 where
+  pub held_are : held ≡ held_all book minutes claimed
+  pub fresh_are : fresh ≡ length (fresh_all book minutes claimed)
 
--- how many of an update's readings the book has, or the first interval of which it has another
-pub record AreHeld (book : BookValue) (update : ℕ) (readings : List ReadingValue) (result : Result ℕ ℕ) : Type 0 where
-  pub held : IfOk result (λ held. held ≡ held_count book update 1 readings)
+-- how many of an update's readings of a length the book has, or the first interval of which it has another
+pub record AreHeld (book : BookValue) (minutes update : ℕ) (readings : List ReadingValue) (result : Result ℕ ℕ) : Type 0 where
+  pub held : IfOk result (λ held. held ≡ held_count book minutes update 1 readings)
   pub few : IfOk result (λ held. held ≤ length readings)
-  pub suits : OnOk result ((k : ℕ) → Suits (book_world book) book update readings k)
-  pub conflict : IfErr result (IsFirst (Contradicts (book_world book) book update readings)
-      (Suits (book_world book) book update readings))
+  pub suits : OnOk result ((k : ℕ) → Suits (book_world book) book minutes update readings k)
+  pub conflict : IfErr result (IsFirst (Contradicts (book_world book) book minutes update readings)
+      (Suits (book_world book) book minutes update readings))
 
--- the row of a reading
-abbrev pub row_of : ℕ → ℕ → ReadingValue → ℕ × Version
-row_of interval update reading = (interval, record { update = update; reading = reading })
+-- the row of a reading of an interval of a length
+abbrev pub row_of : ℕ → ℕ → ℕ → ReadingValue → ℕ × Version
+row_of minutes interval update reading = (interval, record { update = update; length = minutes; reading = reading })
 
 -- ascending rows that are those of the rows from an interval on
 pub record IsFrom (rows : List (ℕ × Version)) (interval : ℕ) (left : List (ℕ × Version)) : Type 0 where
@@ -101,18 +116,18 @@ pub record IsFrom (rows : List (ℕ × Version)) (interval : ℕ) (left : List (
 
 coded_version : Coded Version
 coded_version =
-    code_by _ (coded× coded_ℕ coded_reading)
-    (λ v. (v.update, v.reading))
-    (λ p. record { update = p.0; reading = p.1 })
+    code_by _ (coded× coded_ℕ (coded× coded_ℕ coded_reading))
+    (λ v. (v.update, (v.length, v.reading)))
+    (λ p. record { update = p.0; length = p.1.0; reading = p.1.1 })
     (λ _. refl)
 
 coded_book : Coded BookValue
 coded_book =
     code_by _
     (coded× coded_stream
-    (coded× coded_ℕ (coded× (coded_option (coded× coded_ℕ coded_measure)) (coded_list (coded× coded_ℕ coded_version)))))
-    (λ b. (b.stream, (b.day, (b.head, b.rows))))
-    (λ p. record { stream = p.0; day = p.1.0; head = p.1.1.0; rows = p.1.1.1 })
+    (coded× coded_ℕ (coded× (coded_option coded_measure) (coded_list (coded× coded_ℕ coded_version)))))
+    (λ b. (b.stream, (b.day, (b.unit, b.rows))))
+    (λ p. record { stream = p.0; day = p.1.0; unit = p.1.1.0; rows = p.1.1.1 })
     (λ _. refl)
 
 pub coded_merge : Coded DayMergeValue

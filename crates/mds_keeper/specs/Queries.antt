@@ -6,6 +6,7 @@ use Rattle.std.specs.Ordering.{nat_cmp, ordering_then}
 use Rattle.std.specs.declared.cmp.Ordering.{Ordering}
 use Rattle.std.specs.declared.cmp.Ordering.TheVariants.{Less}
 use Rattle.mds_names.specs.declared.stream.Stream.{Stream}
+use Rattle.mds_terms.specs.Details.{DetailsValue}
 use Rattle.mds_terms.specs.Event.{EventValue}
 use Rattle.mds_jobs.specs.Jobs.{content_of}
 use Rattle.mds_jobs.specs.declared.job.Job.{Job}
@@ -13,7 +14,8 @@ use Rattle.mds_statements.specs.declared.periods.Period.{Period}
 use Rattle.mds_world.specs.Facts.{JobContent, PeriodContent}
 use Rattle.mds_statements.specs.declared.periods.PeriodKey.{PeriodKey}
 use Rattle.mds_world.specs.Facts.Fact.{DetailIs, EventIs, HolidayIs, JobIs, PeriodIs}
-use Rattle.mds_world.specs.Current.{IsLastDay}
+use Rattle.mds_world.specs.declared.facts.Detail.{Detail}
+use Rattle.mds_world.specs.Current.{IsCurrentDetails, IsLastDay}
 use Rattle.mds_world.specs.Lists.{Apart, Member}
 use Rattle.mds_world.specs.Sets.{◌∈◌}
 use Rattle.mds_world.specs.World.{IsEventOf, IsKnownDay, IsKnownStream, World}
@@ -40,6 +42,14 @@ pub record AreDaysWithout (w : World) (details : DetailDays) (days : List ℕ) :
   pub each : (day : ℕ) → Member day days
       ↔ (Member day details.days.items × (DetailIs (detail_on details day) ∈ w → ⊥))
   pub ascending : AllPairs (λ a b. a < b) days
+
+-- Current details of days of a range, ascending, each day once. Each of its days that has details of its own is among them.
+pub record AreDetailsBetween (w : World) (stream : Stream) (first last : ℕ) (rows : List (ℕ × DetailsValue)) : Type 0 where
+  pub each : (row : ℕ × DetailsValue) → Member row rows
+      → (first ≤ row.0) × (row.0 ≤ last) × IsCurrentDetails w stream row.0 row.1
+  pub all : (detail : Detail) → DetailIs detail ∈ w → detail.stream ≡ stream → first ≤ detail.day → detail.day ≤ last
+      → Member detail.day (map (λ row. row.0) rows)
+  pub ascending : AllPairs (λ a b. a.0 < b.0) rows
 
 -- The events of a day, each once.
 pub record AreEventsOf (w : World) (stream : Stream) (day : ℕ) (events : List EventValue) : Type 0 where

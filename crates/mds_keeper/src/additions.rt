@@ -25,8 +25,9 @@ pub struct DayVersions {
 pub enum VersionRows {
     /// These, in any order.
     Each(Vec<(u16, Version)>),
-    /// One of each interval, from 1 on, all under one update. So a file states a day, and its readings are moved here as they lie.
-    Whole(Moment, DayReadings),
+    /// One of each interval of a length, from 1 on, all under one update. So a file states a day, and its readings are moved here as
+    /// they lie.
+    Whole(Length, Moment, DayReadings),
 }
 
 // Written out, so that it is one call for whoever drops a day's versions.
@@ -34,7 +35,7 @@ impl Drop for VersionRows {
     fn drop(self) {
         match self {
             VersionRows::Each(rows) => drop(rows),
-            VersionRows::Whole(_, readings) => drop(readings),
+            VersionRows::Whole(_, _, readings) => drop(readings),
         }
     }
 }
@@ -47,24 +48,26 @@ impl VersionRows {
     {
         match self {
             VersionRows::Each(more) => append_each(rows, more),
-            VersionRows::Whole(update, readings) => append_whole(rows, update, &readings),
+            VersionRows::Whole(length, update, readings) => {
+                append_whole(rows, length, update, &readings)
+            }
         }
     }
 
-    /// The book of a day with these versions and this head, where it is known.
+    /// The book of a day with these versions and this unit, where it is known.
     pub(crate) fn into_book(
         self,
         alloc: Global,
         stream: Stream,
         day: Day,
-        head: Option<(Length, Unit)>,
+        unit: Option<Unit>,
     ) -> Result<Option<DayBook>, AllocError>
-        ensures { IfOk result (IsMade (record { stream = stream; day = day; head = head; rows = rows_of self })) }
+        ensures { IfOk result (IsMade (record { stream = stream; day = day; unit = unit; rows = rows_of self })) }
     {
         match self {
-            VersionRows::Each(versions) => Ok(DayBook::new(stream, day, head, versions)),
-            VersionRows::Whole(update, readings) => {
-                DayBook::of_readings(alloc, stream, day, head, update, readings)
+            VersionRows::Each(versions) => Ok(DayBook::new(stream, day, unit, versions)),
+            VersionRows::Whole(length, update, readings) => {
+                DayBook::of_readings(alloc, stream, day, unit, length, update, readings)
             }
         }
     }
@@ -84,31 +87,38 @@ fn append_each(rows: &mut Vec<(u16, Version)>, more: Vec<(u16, Version)>) -> Res
     Ok(())
 }
 
-/// A copy of each reading as a version, from interval 1 on and under one update.
+/// A copy of each reading as a version, from interval 1 of a length on and under one update.
 pub(crate) fn spread(
     alloc: Global,
+    length: Length,
     update: Moment,
     readings: &DayReadings,
 ) -> Result<Vec<(u16, Version)>, AllocError>
-    ensures { IfOk result (λ rows. rows.items ≡ whole_rows update 1 readings.now) }
+    ensures { IfOk result (λ rows. rows.items ≡ whole_rows length update 1 readings.now) }
 {
     let mut rows = Vec::new(alloc);
-    append_whole(&mut rows, update, readings)?;
+    append_whole(&mut rows, length, update, readings)?;
     Ok(rows)
 }
 
-/// Puts a copy of each reading behind versions, from interval 1 on and under one update.
+/// Puts a copy of each reading behind versions, from interval 1 of a length on and under one update.
 fn append_whole(
     rows: &mut Vec<(u16, Version)>,
+    length: Length,
     update: Moment,
     readings: &DayReadings,
 ) -> Result<(), AllocError>
-    ensures { OnOk result (rows.new.items ≡ rows.old.items ++ whole_rows update 1 readings.now) }
+    ensures { OnOk result (rows.new.items ≡ rows.old.items ++ whole_rows length update 1 readings.now) }
 {
     rows.reserve(readings.len())?;
     for i in 0..readings.len() {
         let reading = readings.reading(i)?;
-        rows.push(((i + 1) as u16, Version { update, reading }))?;
+        let version = Version {
+            update,
+            length,
+            reading,
+        };
+        rows.push(((i + 1) as u16, version))?;
     }
     Ok(())
 }

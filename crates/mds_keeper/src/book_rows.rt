@@ -1,12 +1,12 @@
 //! The rows of a book, which its copies may share.
 
-ghost use Rattle.std.specs.Prelude.{◌≡◌, ◌≢◌, ◌<◌, length, IfOk, OnErr, Some};
+ghost use Rattle.std.specs.Prelude.{◌≡◌, ◌≢◌, ◌<◌, ℕ, length, length as size, IfOk, OnErr, Some};
 ghost use Rattle.mds_keeper.specs.Content.{whole_rows};
 ghost use Rattle.mds_keeper.specs.KeptRows.{kept_rows, kept_whole, lent_rows, lent_whole};
 
 use crate::day_book::Version;
 use mds_runs::DayReadings;
-use mds_terms::Moment;
+use mds_terms::{Length, Moment};
 use std::alloc::{AllocError, Global};
 use std::rc::Rc;
 
@@ -17,8 +17,9 @@ pub(crate) enum BookRows {
     Own(Vec<(u16, Version)>),
     /// Copies have the same ones.
     Shared(Rc<Vec<(u16, Version)>>),
-    /// One of each interval, from 1 on, all under one update. Its readings lie as a file stated them, and copies share them.
-    Whole(Moment, Rc<DayReadings>),
+    /// One of each interval of a length, from 1 on, all under one update. Its readings lie as a file stated them, and copies share
+    /// them.
+    Whole(Length, Moment, Rc<DayReadings>),
 }
 
 // Written out, so that it is one call for whoever drops a book.
@@ -27,7 +28,7 @@ impl Drop for BookRows {
         match self {
             BookRows::Own(rows) => drop(rows),
             BookRows::Shared(rows) => drop(rows),
-            BookRows::Whole(_, readings) => drop(readings),
+            BookRows::Whole(_, _, readings) => drop(readings),
         }
     }
 }
@@ -37,22 +38,23 @@ impl Drop for BookRows {
 pub(crate) enum LentRows<'a> {
     /// These.
     Each(&'a [(u16, Version)]),
-    /// One of each interval, from 1 on, all under one update.
-    Whole(Moment, &'a DayReadings),
+    /// One of each interval of a length, from 1 on, all under one update.
+    Whole(Length, Moment, &'a DayReadings),
 }
 
 impl BookRows {
-    /// One of each interval under an update, kept as they lie.
+    /// One of each interval of a length under an update, kept as they lie.
     pub(crate) fn whole(
         alloc: Global,
+        length: Length,
         update: Moment,
         readings: DayReadings,
     ) -> Result<BookRows, AllocError>
-        ensures { IfOk result (λ rows. (kept_rows rows ≡ whole_rows update 1 readings)
-            × (kept_whole rows ≡ Some (length readings))) }
+        ensures { IfOk result (λ rows. (kept_rows rows ≡ whole_rows length update 1 readings)
+            × (kept_whole rows ≡ Some (length, size readings))) }
     {
         match Rc::new(alloc, readings) {
-            Ok(readings) => Ok(BookRows::Whole(update, readings)),
+            Ok(readings) => Ok(BookRows::Whole(length, update, readings)),
             Err(_) => Err(AllocError),
         }
     }
@@ -65,7 +67,9 @@ impl BookRows {
         match self {
             BookRows::Own(rows) => LentRows::Each(rows.as_slice()),
             BookRows::Shared(rows) => LentRows::Each(rows.as_ref().as_slice()),
-            BookRows::Whole(update, readings) => LentRows::Whole(*update, readings.as_ref()),
+            BookRows::Whole(length, update, readings) => {
+                LentRows::Whole(*length, *update, readings.as_ref())
+            }
         }
     }
 
@@ -79,13 +83,15 @@ impl BookRows {
                 Err(_) => Err(AllocError),
             },
             BookRows::Shared(rows) => Ok(BookRows::Shared(rows)),
-            BookRows::Whole(update, readings) => Ok(BookRows::Whole(update, readings)),
+            BookRows::Whole(length, update, readings) => {
+                Ok(BookRows::Whole(length, update, readings))
+            }
         }
     }
 
     /// A copy. It takes memory only where there is a row, and none where the rows are shared.
     pub(crate) fn try_clone(&self, alloc: Global) -> Result<BookRows, AllocError>
-        requires { kept_whole self.now ≢ Some 0 }
+        requires { (minutes : ℕ) → kept_whole self.now ≢ Some (minutes, 0) }
         ensures value { IfOk result (λ rows. (kept_rows rows ≡ kept_rows self.now)
             × (kept_whole rows ≡ kept_whole self.now)) }
         ensures memory { OnErr result (0 < length (kept_rows self.now)) }
@@ -98,7 +104,9 @@ impl BookRows {
                 }
                 Ok(BookRows::Shared(rows.clone()?))
             }
-            BookRows::Whole(update, readings) => Ok(BookRows::Whole(*update, readings.clone()?)),
+            BookRows::Whole(length, update, readings) => {
+                Ok(BookRows::Whole(*length, *update, readings.clone()?))
+            }
         }
     }
 }
@@ -118,6 +126,7 @@ pub(crate) fn copied(
             *interval,
             Version {
                 update: version.update,
+                length: version.length,
                 reading,
             },
         ))?;

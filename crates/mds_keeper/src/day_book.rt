@@ -1,17 +1,20 @@
 //! A day of a stream, with all its versions.
 
-ghost use Rattle.std.specs.Prelude.{◌≡◌, ◌≢◌, ◌<◌, ℕ, length, max, map, IfSome, IfNone, IfOk, IsTrue, OnErr, Some};
+ghost use Rattle.std.specs.Prelude.{◌≡◌, ◌≢◌, ◌<◌, ◌⊎◌, ℕ, [], length, max, map, IfSome, IfNone, IfOk, IsTrue, OnErr, Some};
 ghost use Rattle.std.specs.Bool.{MatchBool};
 ghost use Rattle.std.specs.List.{AllPairs, reduce};
-ghost use Rattle.mds_world.specs.Current.{HasNoVersion, IsLatest};
-ghost use Rattle.mds_world.specs.World.{World, IsCurrent, IsLawful};
+ghost use Rattle.mds_quantity.specs.declared.unit.Unit.{Unit as MeasureUnit};
+ghost use Rattle.mds_world.specs.Current.{HasNoVersion, IsDayReading, IsFormOf, IsLatest};
+ghost use Rattle.mds_world.specs.Lists.{Member};
+ghost use Rattle.mds_world.specs.World.{World, IsCurrent, IsKnownDay, IsLawful};
 ghost use Rattle.mds_keeper.specs.Books.{BookValue, IsDay, book_world};
-ghost use Rattle.mds_keeper.specs.BookRows.{AreVersionsOf, Fits, IsBefore, IsMade, Misfits};
-ghost use Rattle.mds_keeper.specs.BookOrder.{HasStep, IsInOrder, IsOutside, IsWithin, SameMembers, TwoReadings, row_cmp};
+ghost use Rattle.mds_keeper.specs.BookRows.{AreVersionsOf, AreWithin, Fits, IsBefore, IsFormOfRows, IsMade, IsOneOutside, Misfits, OneLength, TwoLengths, unit_of};
+ghost use Rattle.mds_keeper.specs.BookOrder.{HasStep, IsInOrder, SameMembers, TwoReadings, row_cmp};
+ghost use Rattle.mds_keeper.specs.Claims.{IsLengthUnder};
 ghost use Rattle.mds_keeper.specs.BookPlaces.{EndsAt, StartsAt};
 ghost use Rattle.mds_keeper.specs.Content.{rows_of, whole_rows};
 ghost use Rattle.mds_keeper.specs.KeptRows.{AreWhole, lent_rows, lent_whole};
-ghost use Rattle.mds_keeper.specs.LentVersions.{IsUnder, lent_reading};
+ghost use Rattle.mds_keeper.specs.LentVersions.{IsUnder, lent_reading, reading_of};
 ghost use Rattle.mds_marks.specs.Reading.{ReadingValue};
 ghost use Rattle.mds_world.specs.Facts.{key_at};
 ghost use Rattle.mds_world.specs.Facts.Fact.{VersionIs};
@@ -28,108 +31,106 @@ use std::alloc::{AllocError, Global};
 use std::cmp::Ordering;
 use std::marker::Model;
 
-/// A reading of an interval under an update.
+/// A reading of an interval of a length under an update.
 #[derive(Drop)]
 pub struct Version {
     pub update: Moment,
+    pub length: Length,
     pub reading: Reading,
 }
 
-/// A day of a stream: its head, where it is known, and all versions of its intervals, as a lawful
-/// World holds them.
+/// A day of a stream: its unit, where it is known, and all versions of its intervals, as a lawful
+/// World holds them. Its head is that of its versions.
 #[derive(Drop)]
 pub struct DayBook {
     stream: Stream,
     day: Day,
-    head: Option<(Length, Unit)>,
+    /// The length under the greatest update, and the unit, where the day is known.
+    form: Option<(Length, Unit)>,
     /// By interval, from 1, and then by update; no two are of one interval and update.
     rows: BookRows,
 }
 
 impl Model for DayBook {
     ghost use Rattle.mds_keeper.specs.Books.{BookValue};
-    ghost use Rattle.mds_keeper.specs.BookRows.{IsBook};
+    ghost use Rattle.mds_keeper.specs.BookRows.{IsBook, IsFormOfRows, unit_of};
     ghost use Rattle.mds_keeper.specs.KeptRows.{AreWhole, kept_rows, kept_whole};
 
     ghost Value = { BookValue };
 
-    ghost view = { λ b. record { stream = b.stream; day = b.day; head = b.head; rows = kept_rows b.rows } };
+    ghost view = { λ b. record { stream = b.stream; day = b.day; unit = unit_of b.form; rows = kept_rows b.rows } };
 
-    ghost invariant = { λ b. IsBook (record { stream = b.stream; day = b.day; head = b.head; rows = kept_rows b.rows })
-        × AreWhole b.head (kept_whole b.rows) };
+    ghost invariant = { λ b. IsBook (record { stream = b.stream; day = b.day; unit = unit_of b.form; rows = kept_rows b.rows })
+        × IsFormOfRows b.form (kept_rows b.rows) × AreWhole (kept_whole b.rows) };
 }
 
 impl DayBook {
-    /// The day of a stream that has this head, where it is known, and these versions, each with the
+    /// The day of a stream that has this unit, where it is known, and these versions, each with the
     /// number of its interval. `None` where no lawful World holds that as this day. Then there is a
-    /// version without a head or a head without a version, or an interval has two readings under
-    /// one update. Or an interval is 0 or above the count of the length.
+    /// version and no unit, or versions are of two lengths. Or an interval has two readings under one
+    /// update, or is 0 or above the count of its length.
     pub fn new(
         stream: Stream,
         day: Day,
-        head: Option<(Length, Unit)>,
+        unit: Option<Unit>,
         versions: Vec<(u16, Version)>,
     ) -> Option<DayBook>
-        ensures some { IfSome result (λ book. (book.stream ≡ stream) × (book.day ≡ day) × (book.head ≡ head)
-            × (book_world book
-            ≡ book_world (record { stream = stream; day = day; head = head; rows = versions.items }))) }
-        ensures none { IfNone result ((w : World) → IsLawful w
-            → IsDay w (record { stream = stream; day = day; head = head; rows = versions.items }) → ⊥) }
+        ensures { IsMade (record { stream = stream; day = day; unit = unit; rows = versions.items }) result }
     {
         let Some(rows) = in_order(versions) else {
             return None;
         };
-        if !fit(&head, &rows) {
+        if !fit(unit, &rows) {
             return None;
         }
+        let form = form_of(unit, &rows);
         Some(DayBook {
             stream,
             day,
-            head,
+            form,
             rows: BookRows::Own(rows),
         })
     }
 
-    /// The same day of versions that come in either form. Those that are one of each of the head's intervals are kept as they
+    /// The same day of versions that come in either form. Those that are one of each interval of their length are kept as they
     /// lie. It fails only for want of memory.
     pub fn of_rows(
         alloc: Global,
         stream: Stream,
         day: Day,
-        head: Option<(Length, Unit)>,
+        unit: Option<Unit>,
         rows: VersionRows,
     ) -> Result<Option<DayBook>, AllocError>
-        ensures some { IfOk result (λ made. IfSome made (λ book. (book.stream ≡ stream) × (book.day ≡ day) × (book.head ≡ head)
-            × (book_world book
-            ≡ book_world (record { stream = stream; day = day; head = head; rows = rows_of rows })))) }
-        ensures none { IfOk result (λ made. IfNone made ((w : World) → IsLawful w
-            → IsDay w (record { stream = stream; day = day; head = head; rows = rows_of rows }) → ⊥)) }
+        ensures { IfOk result (IsMade (record { stream = stream; day = day; unit = unit; rows = rows_of rows })) }
     {
-        rows.into_book(alloc, stream, day, head)
+        rows.into_book(alloc, stream, day, unit)
     }
 
-    /// The same day of a version of each interval, from 1 on, all under one update.
+    /// The same day of a version of each interval of a length, from 1 on, all under one update.
     pub(crate) fn of_readings(
         alloc: Global,
         stream: Stream,
         day: Day,
-        head: Option<(Length, Unit)>,
+        unit: Option<Unit>,
+        length: Length,
         update: Moment,
         readings: DayReadings,
     ) -> Result<Option<DayBook>, AllocError>
-        ensures { IfOk result (IsMade (record { stream = stream; day = day; head = head; rows = whole_rows update 1 readings })) }
+        ensures { IfOk result (IsMade (record { stream = stream; day = day; unit = unit; rows = whole_rows length update 1 readings })) }
     {
-        if !are_whole(&head, readings.len()) {
-            let versions = spread(alloc, update, &readings)?;
-            return Ok(DayBook::new(stream, day, head, versions));
+        if let Some(unit) = unit {
+            if are_whole(length, readings.len()) {
+                let rows = BookRows::whole(alloc, length, update, readings)?;
+                return Ok(Some(DayBook {
+                    stream,
+                    day,
+                    form: Some((length, unit)),
+                    rows,
+                }));
+            }
         }
-        let rows = BookRows::whole(alloc, update, readings)?;
-        Ok(Some(DayBook {
-            stream,
-            day,
-            head,
-            rows,
-        }))
+        let versions = spread(alloc, length, update, &readings)?;
+        Ok(DayBook::new(stream, day, unit, versions))
     }
 
     /// A law: what a book says is a lawful World.
@@ -154,67 +155,101 @@ impl DayBook {
         self.day
     }
 
-    /// The length of its intervals and its unit, where the day is known.
-    pub fn head(&self) -> Option<(Length, Unit)>
-        ensures { result ≡ self.now.head }
+    /// The current length of its intervals, that of the greatest update, and its unit. `None` where
+    /// the day isn't known.
+    pub fn form(&self) -> Option<(Length, Unit)>
+        ensures some { IfSome result (λ form. IsFormOf (book_world self.now) self.now.stream self.now.day form.0 form.1) }
+        ensures none { IfNone result (IsKnownDay (book_world self.now) self.now.stream self.now.day → ⊥) }
+        ensures unit { unit_of result ≡ self.now.unit }
+        ensures rows { IsFormOfRows result self.now.rows }
     {
-        self.head
+        // For the proof: what a book says is a lawful World.
+        self.is_lawful();
+        self.form
     }
 
-    /// The current version of an interval: that of the greatest update. `None` where it has none,
-    /// and its reading is bare N.
-    pub fn current(&self, interval: u16) -> Option<LentVersion<'_>>
-        ensures some { IfSome result (λ version. IsCurrent (book_world self.now) self.now.stream self.now.day interval
-            version.update (lent_reading version)) }
-        ensures none { IfNone result (HasNoVersion (book_world self.now) self.now.stream self.now.day interval) }
+    /// The length under an update. `None` where it has no version under it.
+    pub fn length_under(&self, update: Moment) -> Option<Length>
+        ensures { IsLengthUnder self.now update result }
     {
         match self.lent_rows() {
-            LentRows::Each(rows) => last_of(rows, interval),
-            LentRows::Whole(update, readings) => lent_at(update, readings, interval),
+            LentRows::Each(rows) => length_in(rows, update),
+            LentRows::Whole(length, of_all, _) => {
+                if of_all == update { Some(length) } else { None }
+            }
+        }
+    }
+
+    /// The current version of an interval: of the day's length, that of the greatest update. `None`
+    /// where it has none, and its reading is bare N.
+    pub fn current(&self, interval: u16) -> Option<LentVersion<'_>>
+        ensures some { IfSome result (λ version. (unit : MeasureUnit)
+            × IsFormOf (book_world self.now) self.now.stream self.now.day version.length unit
+            × IsCurrent (book_world self.now) self.now.stream self.now.day version.length interval
+            version.update (lent_reading version)) }
+        ensures none { IfNone result ((minutes : ℕ) (unit : MeasureUnit)
+            → IsFormOf (book_world self.now) self.now.stream self.now.day minutes unit
+            → HasNoVersion (book_world self.now) self.now.stream self.now.day minutes interval) }
+        ensures reading { IsDayReading (book_world self.now) self.now.stream self.now.day interval (reading_of result) }
+    {
+        // For the proof: what a book says is a lawful World.
+        self.is_lawful();
+        let (length, _) = self.form()?;
+        match self.lent_rows() {
+            LentRows::Each(rows) => last_of(rows, length, interval),
+            LentRows::Whole(length, update, readings) => {
+                lent_at(length, update, readings, interval)
+            }
         }
     }
 
     /// The version of an interval under an update. `None` where it has none.
     pub fn under(&self, interval: u16, update: Moment) -> Option<LentVersion<'_>>
         ensures some { IfSome result (λ version. (version.update ≡ update)
-            × (VersionIs (key_at self.now.stream self.now.day interval update) (lent_reading version) ∈ book_world self.now)) }
-        ensures none { IfNone result ((reading : ReadingValue)
-            → VersionIs (key_at self.now.stream self.now.day interval update) reading ∈ book_world self.now → ⊥) }
+            × (VersionIs (key_at self.now.stream self.now.day version.length interval update) (lent_reading version)
+            ∈ book_world self.now)) }
+        ensures none { IfNone result ((minutes : ℕ) (reading : ReadingValue)
+            → VersionIs (key_at self.now.stream self.now.day minutes interval update) reading ∈ book_world self.now → ⊥) }
     {
         match self.lent_rows() {
             LentRows::Each(rows) => row_under(rows, interval, update),
-            LentRows::Whole(of_all, readings) => {
+            LentRows::Whole(length, of_all, readings) => {
                 if of_all != update {
                     return None;
                 }
-                lent_at(update, readings, interval)
+                lent_at(length, update, readings, interval)
             }
         }
     }
 
-    /// The greatest update among its current readings. `None` where it has no version.
+    /// The greatest update among its current readings. `None` where the day isn't known.
     pub fn latest_update(&self) -> Option<Moment>
-        ensures some { IfSome result
-            (λ update. IsLatest (book_world self.now) self.now.stream self.now.day update) }
-        ensures none { IfNone result ((interval : ℕ)
-            → HasNoVersion (book_world self.now) self.now.stream self.now.day interval) }
+        ensures some { IfSome result (λ update. (minutes : ℕ) (unit : MeasureUnit)
+            → IsFormOf (book_world self.now) self.now.stream self.now.day minutes unit
+            → IsLatest (book_world self.now) self.now.stream self.now.day minutes update) }
+        ensures none { IfNone result (IsKnownDay (book_world self.now) self.now.stream self.now.day → ⊥) }
     {
+        // For the proof: what a book says is a lawful World.
+        self.is_lawful();
         match self.lent_rows() {
             LentRows::Each(rows) => greatest_update(rows),
-            LentRows::Whole(update, _) => Some(update),
+            LentRows::Whole(_, update, _) => Some(update),
         }
     }
 
-    /// Copies of the versions of an interval, by ascending update, each with the interval's number. They take memory only where
-    /// there is one.
+    /// Copies of the versions of an interval, of whatever length and by ascending update, each with the interval's number. They take
+    /// memory only where there is one.
     pub fn versions(&self, alloc: Global, interval: u16) -> Result<Vec<(u16, Version)>, AllocError>
         ensures value { IfOk result
             (λ rows. AreVersionsOf (book_world self.now) self.now.stream self.now.day interval rows.items) }
-        ensures memory { OnErr result (HasNoVersion (book_world self.now) self.now.stream self.now.day interval → ⊥) }
+        ensures memory { OnErr result (((minutes : ℕ)
+            → HasNoVersion (book_world self.now) self.now.stream self.now.day minutes interval) → ⊥) }
     {
         match self.lent_rows() {
             LentRows::Each(rows) => copied(alloc, rows_at(rows, interval)),
-            LentRows::Whole(update, readings) => copied_at(alloc, update, readings, interval),
+            LentRows::Whole(length, update, readings) => {
+                copied_at(alloc, length, update, readings, interval)
+            }
         }
     }
 
@@ -222,7 +257,7 @@ impl DayBook {
     pub(crate) fn lent_rows(&self) -> LentRows<'_>
         ensures value { lent_rows result ≡ self.now.rows }
         ensures ascending { AllPairs IsBefore (lent_rows result) }
-        ensures whole { AreWhole self.now.head (lent_whole result) }
+        ensures whole { AreWhole (lent_whole result) }
     {
         self.rows.lent()
     }
@@ -233,7 +268,7 @@ impl DayBook {
     {
         match self.lent_rows() {
             LentRows::Each(rows) => copied(alloc, rows),
-            LentRows::Whole(update, readings) => spread(alloc, update, readings),
+            LentRows::Whole(length, update, readings) => spread(alloc, length, update, readings),
         }
     }
 
@@ -244,13 +279,13 @@ impl DayBook {
         let DayBook {
             stream,
             day,
-            head,
+            form,
             rows,
         } = self;
         Ok(DayBook {
             stream,
             day,
-            head,
+            form,
             rows: rows.into_shared(alloc)?,
         })
     }
@@ -263,7 +298,7 @@ impl DayBook {
         Ok(DayBook {
             stream: self.stream,
             day: self.day,
-            head: self.head,
+            form: self.form,
             rows: self.rows.try_clone(alloc)?,
         })
     }
@@ -271,32 +306,47 @@ impl DayBook {
 
 /// A version, lent.
 fn lent(version: &Version) -> LentVersion<'_>
-    ensures { (result.update ≡ version.now.update) × (lent_reading result ≡ version.now.reading) }
+    ensures { (result.update ≡ version.now.update) × (result.length ≡ version.now.length)
+        × (lent_reading result ≡ version.now.reading) }
 {
     LentVersion {
         update: version.update,
+        length: version.length,
         mark: version.reading.mark(),
         value: version.reading.value(),
     }
 }
 
-/// The version of an interval that stands last, among rows that ascend.
-fn last_of(rows: &[(u16, Version)], interval: u16) -> Option<LentVersion<'_>>
+/// The version of an interval of a length that stands last, among rows that ascend.
+fn last_of(rows: &[(u16, Version)], length: Length, interval: u16) -> Option<LentVersion<'_>>
     requires { AllPairs IsBefore rows.now }
-    ensures some { (book : BookValue) → book.rows ≡ rows.now → IfSome result (λ version.
-        IsCurrent (book_world book) book.stream book.day interval version.update (lent_reading version)) }
+    ensures some { (book : BookValue) → book.rows ≡ rows.now → IfSome result (λ version. (version.length ≡ length)
+        × IsCurrent (book_world book) book.stream book.day length interval version.update (lent_reading version)) }
     ensures none { (book : BookValue) → book.rows ≡ rows.now
-        → IfNone result (HasNoVersion (book_world book) book.stream book.day interval) }
+        → IfNone result (HasNoVersion (book_world book) book.stream book.day length interval) }
 {
-    let end = end_of(rows, interval);
-    let Some((number, version)) = rows[..end].last() else {
-        return None;
-    };
-    if *number == interval {
-        Some(lent(version))
-    } else {
-        None
+    let found = rows_at(rows, interval);
+    let mut end = found.len();
+    while end > 0 {
+        let version = &found[end - 1].1;
+        if version.length == length {
+            return Some(lent(version));
+        }
+        end -= 1;
     }
+    None
+}
+
+/// The length of the first row of an update.
+fn length_in(rows: &[(u16, Version)], update: Moment) -> Option<Length>
+    ensures { (book : BookValue) → book.rows ≡ rows.now → IsLengthUnder book update result }
+{
+    for row in rows {
+        if row.1.update == update {
+            return Some(row.1.length);
+        }
+    }
+    None
 }
 
 /// The version of an interval under an update, among rows that ascend.
@@ -312,9 +362,14 @@ fn row_under(rows: &[(u16, Version)], interval: u16, update: Moment) -> Option<L
     None
 }
 
-/// The version of an interval where each has one, all under one update.
-fn lent_at(update: Moment, readings: &DayReadings, interval: u16) -> Option<LentVersion<'_>>
-    ensures { (book : BookValue) → book.rows ≡ whole_rows update 1 readings.now → IsUnder book interval update result }
+/// The version of an interval where each of a length has one, all under one update.
+fn lent_at(
+    length: Length,
+    update: Moment,
+    readings: &DayReadings,
+    interval: u16,
+) -> Option<LentVersion<'_>>
+    ensures { (book : BookValue) → book.rows ≡ whole_rows length update 1 readings.now → IsUnder book interval update result }
 {
     let at = usize::from(interval).checked_sub(1)?;
     if at >= readings.len() {
@@ -324,40 +379,44 @@ fn lent_at(update: Moment, readings: &DayReadings, interval: u16) -> Option<Lent
     readings.are_lawful();
     Some(LentVersion {
         update,
+        length,
         mark: readings.mark(at),
         value: readings.value(at),
     })
 }
 
-/// A copy of the version of an interval, with its number, where each has one, all under one update.
+/// A copy of the version of an interval, with its number, where each of a length has one, all under one update.
 fn copied_at(
     alloc: Global,
+    length: Length,
     update: Moment,
     readings: &DayReadings,
     interval: u16,
 ) -> Result<Vec<(u16, Version)>, AllocError>
-    ensures value { (book : BookValue) → book.rows ≡ whole_rows update 1 readings.now → IfOk result (λ rows.
+    ensures value { (book : BookValue) → book.rows ≡ whole_rows length update 1 readings.now → IfOk result (λ rows.
         AreVersionsOf (book_world book) book.stream book.day interval rows.items) }
-    ensures memory { (book : BookValue) → book.rows ≡ whole_rows update 1 readings.now
-        → OnErr result (HasNoVersion (book_world book) book.stream book.day interval → ⊥) }
+    ensures memory { (book : BookValue) → book.rows ≡ whole_rows length update 1 readings.now
+        → OnErr result (((minutes : ℕ) → HasNoVersion (book_world book) book.stream book.day minutes interval) → ⊥) }
 {
     let mut rows = Vec::new(alloc);
-    let Some(version) = lent_at(update, readings, interval) else {
+    let Some(version) = lent_at(length, update, readings, interval) else {
         return Ok(rows);
     };
     let reading = version.reading()?;
-    rows.push((interval, Version { update, reading }))?;
+    let copy = Version {
+        update,
+        length,
+        reading,
+    };
+    rows.push((interval, copy))?;
     Ok(rows)
 }
 
-/// Whether there is a head, and as many readings as it has intervals.
-fn are_whole(head: &Option<(Length, Unit)>, count: usize) -> bool
-    ensures { IsTrue result → AreWhole head.now (Some count) }
+/// Whether there are readings, and as many as a day has intervals of this length.
+fn are_whole(length: Length, count: usize) -> bool
+    ensures { IsTrue result → AreWhole (Some (length, count)) }
 {
-    match head {
-        Some((length, _)) => length.count() == count,
-        None => false,
-    }
+    count > 0 && length.count() == count
 }
 
 /// The rows of an interval, among rows that ascend.
@@ -432,29 +491,65 @@ fn order_of(a: &(u16, Version), b: &(u16, Version)) -> Ordering
 fn is_same(a: &(u16, Version), b: &(u16, Version)) -> bool
     ensures { MatchBool result (a.now ≡ b.now) (a.now ≢ b.now) }
 {
-    a.0 == b.0 && a.1.update == b.1.update && a.1.reading.is_same(&b.1.reading)
+    a.0 == b.0
+        && a.1.update == b.1.update
+        && a.1.length == b.1.length
+        && a.1.reading.is_same(&b.1.reading)
 }
 
-/// Whether rows that ascend are those of a day with this head.
-fn fit(head: &Option<(Length, Unit)>, rows: &[(u16, Version)]) -> bool
+/// Whether rows that ascend are those of a day with this unit.
+fn fit(unit: Option<Unit>, rows: &[(u16, Version)]) -> bool
     requires { AllPairs IsBefore rows.now }
-    ensures { MatchBool result (Fits head.now rows.now) (Misfits head.now rows.now) }
+    ensures { MatchBool result (Fits unit rows.now) (Misfits unit rows.now) }
 {
-    match head {
-        Some((length, _)) => lie_within(rows, length.count()),
-        None => rows.is_empty(),
+    if unit.is_none() {
+        return rows.is_empty();
     }
-}
-
-/// Whether there are rows, and the intervals of all are from 1 to a count, where they ascend.
-fn lie_within(rows: &[(u16, Version)], count: usize) -> bool
-    requires { AllPairs IsBefore rows.now }
-    ensures { MatchBool result (IsWithin rows.now count) (IsOutside rows.now count) }
-{
-    if rows.is_empty() {
+    if !are_within(rows) {
         return false;
     }
-    let lowest = rows[0].0;
-    let highest = rows[rows.len() - 1].0;
-    lowest > 0 && usize::from(highest) <= count
+    are_of_one_length(rows)
+}
+
+/// Whether the interval of each row is from 1 to the count of its length.
+fn are_within(rows: &[(u16, Version)]) -> bool
+    ensures { MatchBool result (AreWithin rows.now) (IsOneOutside rows.now) }
+{
+    for row in rows {
+        if row.0 == 0 {
+            return false;
+        }
+        if usize::from(row.0) > row.1.length.count() {
+            return false;
+        }
+    }
+    true
+}
+
+/// Whether all rows are of one length.
+fn are_of_one_length(rows: &[(u16, Version)]) -> bool
+    ensures { MatchBool result (OneLength rows.now) (TwoLengths rows.now) }
+{
+    let [first, ..] = rows else {
+        return true;
+    };
+    for row in rows {
+        if row.1.length != first.1.length {
+            return false;
+        }
+    }
+    true
+}
+
+/// The length of rows of one length, and the unit. `None` where there is no row.
+fn form_of(unit: Option<Unit>, rows: &[(u16, Version)]) -> Option<(Length, Unit)>
+    requires { Fits unit rows.now }
+    ensures form { IsFormOfRows result rows.now }
+    ensures unit { (rows.now ≡ []) ⊎ (unit_of result ≡ unit) }
+{
+    let [first, ..] = rows else {
+        return None;
+    };
+    let unit = unit?;
+    Some((first.1.length, unit))
 }

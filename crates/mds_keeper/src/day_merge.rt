@@ -1,6 +1,6 @@
 //! A day of the store with what the lines so far claim of it.
 
-ghost use Rattle.std.specs.Prelude.{◌≡◌, ◌≢◌, ◌+◌, ◌<◌, ◌≤◌, ℕ, ◌++◌, cond, false, length, Err, IsTrue, IfOk, IfErr, IfSome, IfNone, IsNone, OnOk, Some};
+ghost use Rattle.std.specs.Prelude.{◌≡◌, ◌≢◌, ◌+◌, ◌<◌, ◌≤◌, ℕ, ◌++◌, cond, false, length, Err, IsTrue, IfOk, IfErr, IfSome, IfNone, IsNone, None, OnOk, Some, []};
 ghost use Rattle.std.specs.List.{AllPairs, slice_get};
 ghost use Rattle.std.specs.FinSet as set;
 ghost use Rattle.mds_calendar.specs.Length.{count_of};
@@ -17,7 +17,7 @@ ghost use Rattle.mds_keeper.specs.declared.day_merge.Stop.TheVariants.{Memory, R
 ghost use Rattle.mds_keeper.specs.declared.refusal.RefusalCode.TheVariants.{VersionConflict};
 ghost use Rattle.mds_keeper.specs.DayMerges.{DayMergeValue, AreAscending, IfRefused, IsPlan, Settles};
 ghost use Rattle.mds_keeper.specs.Claims.{IsFirst, BreaksForm, SuitsForm, AreShort, fresh_all, fresh_heads, fresh_versions, held_all, held_count, is_held, key_of};
-ghost use Rattle.mds_keeper.specs.DayMergeSteps.{AreCounts, AreHeld, AreInBook, IsFrom, IsInBook, claimed_entries, claimed_readings, readings_under, row_of};
+ghost use Rattle.mds_keeper.specs.DayMergeSteps.{AreAsMany, AreCounts, AreHeld, AreInBook, AreOfLength, IsFrom, IsInBook, claimed_entries, claimed_readings, minutes_in, readings_under, row_of};
 ghost use Rattle.mds_keeper.specs.Merge.{Breaks, IsRefusal, claim_world, claims_upto, claims_world};
 
 use crate::additions::{Additions, DayVersions, VersionRows};
@@ -83,7 +83,7 @@ pub struct DayMerge {
 
 impl Model for DayMerge {
     ghost use Rattle.mds_keeper.specs.DayMerges.{DayMergeValue};
-    ghost use Rattle.mds_keeper.specs.DayMergeSteps.{AreCounts, AreInBook, IsDayMerge, claimed_entries, coded_merge, merge_value};
+    ghost use Rattle.mds_keeper.specs.DayMergeSteps.{AreCounts, AreInBook, IsDayMerge, claimed_entries, coded_merge, merge_value, minutes_in};
 
     ghost Value = { DayMergeValue };
 
@@ -92,8 +92,8 @@ impl Model for DayMerge {
     ghost view = { λ d. merge_value d.book d.form (claimed_entries d.book d.claimed) };
 
     ghost invariant = { λ d. IsDayMerge d.book d.form (claimed_entries d.book d.claimed)
-        × AreInBook d.book d.claimed
-        × AreCounts d.book (claimed_entries d.book d.claimed) d.held d.fresh };
+        × AreInBook d.book (minutes_in d.form) d.claimed
+        × AreCounts d.book (minutes_in d.form) (claimed_entries d.book d.claimed) d.held d.fresh };
 }
 
 /// The rule that a length and a unit break where a day has others (M1, M2): on the length before the
@@ -123,14 +123,25 @@ fn conflict(line: u64, interval: u16) -> Stop
     Stop::Refused(Refusal::at_place(RefusalCode::VersionConflict, line, interval))
 }
 
-/// Whether a book has this reading of an interval under an update.
-fn has_reading(book: &DayBook, interval: u16, update: Moment, reading: &Reading) -> bool
-    ensures { result ≡ is_held book.now update interval reading.now }
+/// Whether a book has this reading of an interval of a length under an update.
+fn has_reading(
+    book: &DayBook,
+    length: Length,
+    interval: u16,
+    update: Moment,
+    reading: &Reading,
+) -> bool
+    ensures { result ≡ is_held book.now length update interval reading.now }
 {
     // For the proof: what a book says is a lawful World.
     book.is_lawful();
     match book.under(interval, update) {
-        Some(held) => held.is_of(reading),
+        Some(held) => {
+            if held.length != length {
+                return false;
+            }
+            held.is_of(reading)
+        }
         None => false,
     }
 }
@@ -153,8 +164,9 @@ fn rows_from(rows: &[(u16, Version)], interval: u16) -> &[(u16, Version)]
 /// The reading under an update that rows from an interval on have of this interval.
 fn reading_at(rows: &[(u16, Version)], interval: u16, update: Moment) -> Option<&Reading>
     requires { IsFrom rows.now interval rows.now }
-    ensures some { IfSome result (λ reading. Member (row_of interval update reading.now) rows.now) }
-    ensures none { IfNone result ((reading : ReadingValue) → Member (row_of interval update reading) rows.now → ⊥) }
+    ensures some { IfSome result (λ reading. (minutes : ℕ) × Member (row_of minutes interval update reading.now) rows.now) }
+    ensures none { IfNone result ((minutes : ℕ) (reading : ReadingValue)
+        → Member (row_of minutes interval update reading) rows.now → ⊥) }
 {
     let mut left = rows;
     while let [row, rest @ ..] = left {
@@ -181,13 +193,16 @@ fn count_at(
     requires within { at < length readings.now }
     requires few { length readings.now ≤ 1440 }
     requires from { IsFrom book.now.rows (at + 1) rows.now }
-    ensures some { IfSome result (λ count. (reading : ReadingValue) → slice_get readings.now at ≡ Some reading
-        → (count ≡ cond (is_held book.now update (at + 1) reading) 1 0)
-        × ((other : ReadingValue) → VersionIs (key_of book.now (at + 1) update) other ∈ book_world book.now
+    ensures some { IfSome result (λ count. (minutes : ℕ) (reading : ReadingValue) → AreOfLength book.now minutes update
+        → slice_get readings.now at ≡ Some reading
+        → (count ≡ cond (is_held book.now minutes update (at + 1) reading) 1 0)
+        × ((other : ReadingValue) → VersionIs (key_of book.now minutes (at + 1) update) other ∈ book_world book.now
         → other ≡ reading)) }
     ensures small { IfSome result (λ count. count ≤ 1) }
-    ensures none { IfNone result ((reading : ReadingValue) → slice_get readings.now at ≡ Some reading
-        → (other : ReadingValue) × (VersionIs (key_of book.now (at + 1) update) other ∈ book_world book.now) × (other ≢ reading)) }
+    ensures none { IfNone result ((minutes : ℕ) (reading : ReadingValue) → AreOfLength book.now minutes update
+        → slice_get readings.now at ≡ Some reading
+        → (other : ReadingValue) × (VersionIs (key_of book.now minutes (at + 1) update) other ∈ book_world book.now)
+        × (other ≢ reading)) }
 {
     // For the proof: what a book says is a lawful World.
     book.is_lawful();
@@ -201,35 +216,37 @@ fn count_at(
     }
 }
 
-/// How many of the readings a book has under the update, or the first interval of which it has another.
+/// How many of the readings a book has under the update, or the first interval of which it has another. What the book has under the
+/// update is of the readings' length.
 fn count_held(book: &DayBook, update: Moment, readings: &DayReadings) -> Result<u64, u16>
     requires few { length readings.now ≤ 1440 }
-    requires whole { (known : ℕ × MeasureUnit) → book.now.head ≡ Some known
-        → length readings.now ≡ count_of known.0 }
-    ensures { AreHeld book.now update readings.now result }
+    requires whole { AreAsMany book.now update (length readings.now) }
+    ensures { (minutes : ℕ) → AreOfLength book.now minutes update → AreHeld book.now minutes update readings.now result }
 {
     match book.lent_rows() {
         LentRows::Each(rows) => count_in_rows(book, rows, update, readings),
-        LentRows::Whole(of_all, known) => {
+        LentRows::Whole(length, of_all, known) => {
             if of_all != update {
                 return Ok(0);
             }
-            count_in_whole(book, update, known, readings)
+            count_in_whole(book, length, update, known, readings)
         }
     }
 }
 
-/// The same of a book that has these readings, one of each interval under the update, and no others.
+/// The same of a book that has these readings, one of each interval of a length under the update, and no others.
 fn count_in_whole(
     book: &DayBook,
+    of_known: Length,
     update: Moment,
     known: &DayReadings,
     readings: &DayReadings,
 ) -> Result<u64, u16>
-    requires known { book.now.rows ≡ whole_rows update 1 known.now }
+    requires known { book.now.rows ≡ whole_rows of_known update 1 known.now }
+    requires some { 0 < length known.now }
     requires as_many { length known.now ≡ length readings.now }
     requires few { length readings.now ≤ 1440 }
-    ensures { AreHeld book.now update readings.now result }
+    ensures { (minutes : ℕ) → AreOfLength book.now minutes update → AreHeld book.now minutes update readings.now result }
 {
     match difference_between(known, readings) {
         Some(interval) => Err(interval),
@@ -247,7 +264,7 @@ fn count_in_rows(
     requires rows { rows.now ≡ book.now.rows }
     requires ascending { AllPairs IsBefore rows.now }
     requires few { length readings.now ≤ 1440 }
-    ensures { AreHeld book.now update readings.now result }
+    ensures { (minutes : ℕ) → AreOfLength book.now minutes update → AreHeld book.now minutes update readings.now result }
 {
     if rows.is_empty() {
         return Ok(0);
@@ -270,9 +287,8 @@ fn count_in_rows(
 fn difference_in(book: &DayBook, update: Moment, readings: &DayReadings) -> Option<u16>
     requires as_many { length (readings_under update book.now.rows) ≡ length readings.now }
     requires few { length readings.now ≤ 1440 }
-    requires whole { (known : ℕ × MeasureUnit) → book.now.head ≡ Some known
-        → length readings.now ≡ count_of known.0 }
-    requires kept { IsInBook book.now update }
+    requires whole { AreAsMany book.now update (length readings.now) }
+    requires kept { (minutes : ℕ) × AreOfLength book.now minutes update × IsInBook book.now minutes update }
     ensures some { IfSome result (IsFirst (λ k. slice_get (readings_under update book.now.rows) k ≢ slice_get readings.now k)
         (λ k. slice_get (readings_under update book.now.rows) k ≡ slice_get readings.now k)) }
     ensures none { IfNone result ((k : ℕ)
@@ -310,9 +326,8 @@ fn difference(
 ) -> Option<u16>
     requires as_many { length (claimed_readings book.now update claimed.now) ≡ length readings.now }
     requires few { length readings.now ≤ 1440 }
-    requires whole { (known : ℕ × MeasureUnit) → book.now.head ≡ Some known
-        → length readings.now ≡ count_of known.0 }
-    requires kept { IsNone claimed.now → IsInBook book.now update }
+    requires whole { AreAsMany book.now update (length readings.now) }
+    requires kept { IsNone claimed.now → (minutes : ℕ) × AreOfLength book.now minutes update × IsInBook book.now minutes update }
     ensures some { IfSome result
         (IsFirst (λ k. slice_get (claimed_readings book.now update claimed.now) k ≢ slice_get readings.now k)
         (λ k. slice_get (claimed_readings book.now update claimed.now) k ≡ slice_get readings.now k)) }
@@ -327,11 +342,10 @@ fn difference(
 
 /// What is kept of a claim's readings, of which a book has so many: none where it has all.
 fn kept_of(book: &DayBook, update: Moment, held: u64, readings: DayReadings) -> Option<DayReadings>
-    requires held { held ≡ held_count book.now update 1 readings }
-    requires whole { (known : ℕ × MeasureUnit) → book.now.head ≡ Some known
-        → length readings ≡ count_of known.0 }
-    ensures same { claimed_readings book.now update result ≡ readings }
-    ensures kept { IsNone result → IsInBook book.now update }
+    requires held { (minutes : ℕ) → AreOfLength book.now minutes update → held ≡ held_count book.now minutes update 1 readings }
+    requires whole { AreAsMany book.now update (length readings) }
+    ensures same { (minutes : ℕ) → AreOfLength book.now minutes update → claimed_readings book.now update result ≡ readings }
+    ensures kept { (minutes : ℕ) → AreOfLength book.now minutes update → IsNone result → IsInBook book.now minutes update }
 {
     // For the proof: what a book says is a lawful World, and its rows ascend.
     book.is_lawful();
@@ -350,9 +364,9 @@ fn settle_head(
     heads: &mut Vec<Head>,
 ) -> Result<(), AllocError>
     ensures { OnOk result (heads.new.items
-        ≡ heads.old.items ++ fresh_heads book.now.stream book.now.day book.now.head form) }
+        ≡ heads.old.items ++ fresh_heads book.now form) }
 {
-    if let (None, Some((length, unit))) = (book.head(), form) {
+    if let (None, Some((length, unit))) = (book.form(), form) {
         heads.push(Head {
             stream: book.stream(),
             day: book.day(),
@@ -366,18 +380,19 @@ fn settle_head(
 /// Puts the readings of an update behind the days to be added, as they lie. A book has none of them.
 fn settle_whole(
     book: &DayBook,
+    minutes: Length,
     update: Moment,
     readings: DayReadings,
     days: &mut Vec<DayVersions>,
 ) -> Result<(), AllocError>
-    requires new { held_count book.now update 1 readings ≡ 0 }
+    requires new { held_count book.now minutes update 1 readings ≡ 0 }
     ensures { OnOk result (versions_of days.new.items
-        ≡ versions_of days.old.items ++ fresh_versions book.now update 1 readings) }
+        ≡ versions_of days.old.items ++ fresh_versions book.now minutes update 1 readings) }
 {
     days.push(DayVersions {
         stream: book.stream(),
         day: book.day(),
-        rows: VersionRows::Whole(update, readings),
+        rows: VersionRows::Whole(minutes, update, readings),
     })?;
     Ok(())
 }
@@ -386,22 +401,28 @@ fn settle_whole(
 fn settle_some(
     alloc: Global,
     book: &DayBook,
+    minutes: Length,
     update: Moment,
     readings: &DayReadings,
     days: &mut Vec<DayVersions>,
 ) -> Result<(), AllocError>
     requires few { length readings.now ≤ 1440 }
     ensures { OnOk result (versions_of days.new.items
-        ≡ versions_of days.old.items ++ fresh_versions book.now update 1 readings.now) }
+        ≡ versions_of days.old.items ++ fresh_versions book.now minutes update 1 readings.now) }
 {
     let mut rows = Vec::new(alloc);
     for i in 0..readings.len() {
         let interval = (i + 1) as u16;
         let reading = readings.reading(i)?;
-        if has_reading(book, interval, update, &reading) {
+        if has_reading(book, minutes, interval, update, &reading) {
             continue;
         }
-        rows.push((interval, Version { update, reading }))?;
+        let version = Version {
+            update,
+            length: minutes,
+            reading,
+        };
+        rows.push((interval, version))?;
     }
     days.push(DayVersions {
         stream: book.stream(),
@@ -416,24 +437,25 @@ fn settle_some(
 fn settle_update(
     alloc: Global,
     book: &DayBook,
+    minutes: Length,
     are_new: bool,
     update: Moment,
     kept: Option<DayReadings>,
     days: &mut Vec<DayVersions>,
 ) -> Result<(), AllocError>
     requires few { length (claimed_readings book.now update kept) ≤ 1440 }
-    requires kept { IsNone kept → IsInBook book.now update }
-    requires new { IsTrue are_new → held_count book.now update 1 (claimed_readings book.now update kept) ≡ 0 }
+    requires kept { IsNone kept → IsInBook book.now minutes update }
+    requires new { IsTrue are_new → held_count book.now minutes update 1 (claimed_readings book.now update kept) ≡ 0 }
     ensures { OnOk result (versions_of days.new.items
-        ≡ versions_of days.old.items ++ fresh_versions book.now update 1 (claimed_readings book.now update kept)) }
+        ≡ versions_of days.old.items ++ fresh_versions book.now minutes update 1 (claimed_readings book.now update kept)) }
 {
     let Some(readings) = kept else {
         return Ok(());
     };
     if are_new {
-        settle_whole(book, update, readings, days)
+        settle_whole(book, minutes, update, readings, days)
     } else {
-        settle_some(alloc, book, update, &readings, days)
+        settle_some(alloc, book, minutes, update, &readings, days)
     }
 }
 
@@ -441,48 +463,54 @@ fn settle_update(
 fn settle_others(
     alloc: Global,
     book: &DayBook,
+    minutes: Length,
     are_new: bool,
     claimed: BTreeMap<Moment, Option<DayReadings>>,
     days: &mut Vec<DayVersions>,
 ) -> Result<(), AllocError>
     requires short { AreShort (claimed_entries book.now claimed.entries) }
-    requires kept { AreInBook book.now claimed.entries }
-    requires new { IsTrue are_new → held_all book.now (claimed_entries book.now claimed.entries) ≡ 0 }
+    requires kept { AreInBook book.now minutes claimed.entries }
+    requires new { IsTrue are_new → held_all book.now minutes (claimed_entries book.now claimed.entries) ≡ 0 }
     ensures { OnOk result (versions_of days.new.items
-        ≡ versions_of days.old.items ++ fresh_all book.now (claimed_entries book.now claimed.entries)) }
+        ≡ versions_of days.old.items ++ fresh_all book.now minutes (claimed_entries book.now claimed.entries)) }
 {
     for (update, kept) in claimed {
-        settle_update(alloc, book, are_new, update, kept, days)?;
+        settle_update(alloc, book, minutes, are_new, update, kept, days)?;
     }
     Ok(())
 }
 
 /// Puts the readings claimed that a book doesn't have behind the days to be added. So many are in the
-/// book and so many aren't: nothing is looked at where all are.
+/// book and so many aren't: nothing is looked at where all are. Where something is claimed there is a form.
 fn settle_fresh(
     alloc: Global,
     book: &DayBook,
+    form: &Option<(Length, Unit)>,
     claimed: ClaimedUpdates,
     held: u64,
     fresh: u64,
     days: &mut Vec<DayVersions>,
 ) -> Result<(), AllocError>
     requires short { AreShort (claimed_entries book.now claimed) }
-    requires kept { AreInBook book.now claimed }
-    requires counts { AreCounts book.now (claimed_entries book.now claimed) held fresh }
+    requires kept { AreInBook book.now (minutes_in form.now) claimed }
+    requires counts { AreCounts book.now (minutes_in form.now) (claimed_entries book.now claimed) held fresh }
+    requires none { form.now ≡ None → claimed_entries book.now claimed ≡ [] }
     ensures { OnOk result (versions_of days.new.items
-        ≡ versions_of days.old.items ++ fresh_all book.now (claimed_entries book.now claimed)) }
+        ≡ versions_of days.old.items ++ fresh_all book.now (minutes_in form.now) (claimed_entries book.now claimed)) }
 {
     if fresh == 0 {
         return Ok(());
     }
+    let Some((minutes, _)) = form else {
+        return Ok(());
+    };
     let are_new = held == 0;
     let (first, others) = claimed.into_parts();
     if let Some(first) = first {
         let ClaimedUpdate { update, readings } = first;
-        settle_update(alloc, book, are_new, update, readings, days)?;
+        settle_update(alloc, book, *minutes, are_new, update, readings, days)?;
     }
-    settle_others(alloc, book, are_new, others, days)
+    settle_others(alloc, book, *minutes, are_new, others, days)
 }
 
 impl DayMerge {
@@ -492,7 +520,7 @@ impl DayMerge {
     {
         // For the proof: what a book says is a lawful World.
         book.is_lawful();
-        let form = book.head();
+        let form = book.form();
         DayMerge {
             book,
             form,
@@ -517,8 +545,8 @@ impl DayMerge {
         // Memory is wanting only for a claim that breaks no rule, and of whose update nothing was said.
         ensures agrees { result ≡ Err Stop.Memory → Agrees (union (book_world self.old.book) (union self.old.said
             (claim_world self.old.book.stream self.old.book.day claim))) }
-        ensures unsaid { result ≡ Err Stop.Memory → (interval : ℕ) (reading : ReadingValue)
-            → VersionIs (key_of self.old.book interval claim.update) reading ∈ self.old.said → ⊥ }
+        ensures unsaid { result ≡ Err Stop.Memory → (minutes interval : ℕ) (reading : ReadingValue)
+            → VersionIs (key_of self.old.book minutes interval claim.update) reading ∈ self.old.said → ⊥ }
     {
         let Claim {
             line,
@@ -527,6 +555,8 @@ impl DayMerge {
             update,
             readings,
         } = claim;
+        // For the proof: what a book says is a lawful World.
+        self.book.is_lawful();
         if let Some(code) = head_conflict(self.form, length, unit) {
             return Err(Stop::Refused(Refusal::at_line(code, line)));
         }
@@ -567,8 +597,18 @@ impl DayMerge {
             held,
             fresh,
         } = self;
+        // For the proof: what a book says is a lawful World.
+        book.is_lawful();
         settle_head(&book, form, &mut additions.heads)?;
-        settle_fresh(alloc, &book, claimed, held, fresh, &mut additions.days)?;
+        settle_fresh(
+            alloc,
+            &book,
+            &form,
+            claimed,
+            held,
+            fresh,
+            &mut additions.days,
+        )?;
         Ok(MergeCounts {
             added: fresh,
             known: held,

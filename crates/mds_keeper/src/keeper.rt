@@ -8,7 +8,7 @@ ghost use Rattle.mds_world.specs.World.{World, IsLawful, union};
 ghost use Rattle.mds_keeper.specs.Books.{IsDay};
 ghost use Rattle.mds_keeper.specs.Content.{AreNew, content};
 ghost use Rattle.mds_keeper.specs.Kept.{Adds, Asks, Kept};
-ghost use Rattle.mds_keeper.specs.Queries.{AreEventsOf, AreDaysOf, AreDaysWithout, AreHolidays, AreKnownStreams, ArePeriodsOf, IsContentOf, IsJobOf, IsLastDayOf};
+ghost use Rattle.mds_keeper.specs.Queries.{AreEventsOf, AreDaysOf, AreDaysWithout, AreDetailsBetween, AreHolidays, AreKnownStreams, ArePeriodsOf, IsContentOf, IsJobOf, IsLastDayOf};
 
 use crate::additions::{Additions, DetailDays};
 use crate::day_book::DayBook;
@@ -59,9 +59,19 @@ pub trait Keeper {
     fn last_day(&mut self, stream: Stream) -> Result<Option<Day>, Unavailable>
         ensures { Asks (kept self.old) (kept self.new) result (λ w. IsLastDayOf w stream) };
 
-    /// The current details of a day of a stream, which need not be known: its own, or those of the nearest earlier day that has some.
+    /// The current details of a day of a stream. They are its own, or those of the nearest earlier day that has some. The day need not
+    /// be known.
     fn details(&mut self, stream: Stream, day: Day) -> Result<Details, Unavailable>
         ensures { Asks (kept self.old) (kept self.new) result (λ w. IsCurrentDetails w stream day) };
+
+    /// The current details of days of a range, ascending, each day once. Each day that has details of its own is there.
+    fn details_between(
+        &mut self,
+        stream: Stream,
+        first: Day,
+        last: Day,
+    ) -> Result<Vec<(Day, Details)>, Unavailable>
+        ensures { Asks (kept self.old) (kept self.new) result (λ w rows. AreDetailsBetween w stream first last rows.items) };
 
     /// Those of the days that don't have these details yet, current or not. They are ascending, each once.
     fn days_without(&mut self, details: &DetailDays) -> Result<Vec<Day>, Unavailable>

@@ -5,13 +5,15 @@ ghost use Rattle.mds_marks.specs.Reading.{is_reading};
 
 use mds_marks::{Mark, Reading};
 use mds_quantity::Quantity;
-use mds_terms::Moment;
+use mds_terms::{Length, Moment};
 use std::alloc::AllocError;
 
 /// A version of an interval, whose mark is lent. It takes no memory, however the book keeps its versions.
 #[derive(Clone, Copy)]
 pub struct LentVersion<'a> {
     pub update: Moment,
+    /// The length of the interval.
+    pub length: Length,
     pub mark: &'a Mark,
     /// The value under that mark, and none under N.
     pub value: Option<Quantity>,

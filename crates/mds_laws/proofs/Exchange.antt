@@ -46,7 +46,7 @@ day_of_version (DetailsOf details) key reading (inl e) = cc
 day_of_version (DetailsOf details) key reading (inr m) = absurd m
 day_of_version (DayOf day) key reading (inl e) = cc
 day_of_version (DayOf day) key reading (inr m) =
-    let v = from_versions day.stream day.date day.update 1 day.readings _ m in
+    let v = from_versions day.stream day.date day.length day.update 1 day.readings _ m in
     let same = (same_key _ _ _ _ v.3).0 in
     (_, inl refl, sym (ap (λ (k : Key). k.stream) same), sym (ap (λ (k : Key). k.day) same))
 day_of_version (EventOf event) key reading (inl e) = cc
@@ -61,7 +61,7 @@ no_holiday (DetailsOf details) day (inl e) = cc
 no_holiday (DetailsOf details) day (inr m) = m
 no_holiday (DayOf of_day) day (inl e) = cc
 no_holiday (DayOf of_day) day (inr m) =
-    let v = from_versions of_day.stream of_day.date of_day.update 1 of_day.readings _ m in let e = v.3 in cc
+    let v = from_versions of_day.stream of_day.date of_day.length of_day.update 1 of_day.readings _ m in let e = v.3 in cc
 no_holiday (EventOf event) day (inl e) = cc
 no_holiday (EventOf event) day (inr m) = m
 no_holiday (PeriodOf period) day (inl e) = cc

@@ -33,9 +33,9 @@ use Rattle.mds_messages.specs.declared.answer.Answer.TheVariants as told
 use Rattle.mds_service.specs.Holidays.{HolidaysStep, holidays_world}
 use Rattle.mds_service.specs.Machine.{ImportStep, Run, Step, TellsDay, TellsPeriods, TellsStreams, TellsVersions, stated_in}
 use Rattle.mds_service.specs.RangeAnswers.{TellsExport, TellsFinals, TellsGaps}
-use Rattle.mds_service.specs.Substitution.{SubstituteStep, head_of, job_world}
+use Rattle.mds_service.specs.Substitution.{SubstituteStep, SuitsDay, head_of, job_world}
 use Rattle.mds_service.proofs.ListedWorld.{lawful_with_holidays}
-use Rattle.mds_service.proofs.Substituted.{lawful_with_job}
+use Rattle.mds_service.proofs.Substituted.{lawful_with_job, suits_length}
 use Rattle.mds_laws.specs.Kept.{AreUnaltered, CameBy, ComesBy, IsOfJob, came_in}
 use Rattle.mds_laws.proofs.Lawful.{lawful_with_file}
 use Rattle.mds_laws.proofs.Members.{none_in, versions_apart, versions_count, within}
@@ -105,10 +105,10 @@ grows_holidays old days added known new step = record {
 
 -- of what a job puts only its versions count
 pub version_of_job : (job : Job) (readings : List ReadingValue) (f : Fact) → is_counted f ≡ true → f ∈ job_world job readings
-    → Member f (versions_from job.stream job.day job.update job.first readings)
+    → Member f (versions_from job.stream job.day job.length job.update job.first readings)
 version_of_job job readings f c h =
     elim (in_list (HeadIs (head_of job) ∷ JobIs job.id (content_of job) (length readings)
-    ∷ versions_from job.stream job.day job.update job.first readings) f h) [
+    ∷ versions_from job.stream job.day job.length job.update job.first readings) f h) [
       | inl e ↦ let n : is_counted (HeadIs (head_of job)) ≡ true = ap is_counted (sym e) ∙ c in cc
       | inr m ↦ elim m [
         | inl e ↦
@@ -121,12 +121,12 @@ counts_version : (key : Key) (reading : ReadingValue) (f : Fact) → f ≡ Versi
 counts_version key reading f e = ap is_counted e
 
 version_there : (job : Job) (readings : List ReadingValue) (f : Fact)
-    → Member f (versions_from job.stream job.day job.update job.first readings)
+    → Member f (versions_from job.stream job.day job.length job.update job.first readings)
     → (f ∈ job_world job readings) × (is_counted f ≡ true)
 version_there job readings f m =
-    let v = from_versions job.stream job.day job.update job.first readings f m in (
+    let v = from_versions job.stream job.day job.length job.update job.first readings f m in (
       list_in (HeadIs (head_of job) ∷ JobIs job.id (content_of job) (length readings)
-          ∷ versions_from job.stream job.day job.update job.first readings) f (inr (inr m)),
+          ∷ versions_from job.stream job.day job.length job.update job.first readings) f (inr (inr m)),
       counts_version _ v.1 f v.3,
     )
 
@@ -138,17 +138,25 @@ module _ (old : World) (job : Job) (readings : List ReadingValue) (are : AreSubs
       (omega arith, omega (arith, below))
 
   -- M6: no version of a target is of the job's update
-  fresh : (f : Fact) → Member f (versions_from job.stream job.day job.update job.first readings) → f ∈ old → ⊥
-  fresh f m h =
-      let v = from_versions job.stream job.day job.update job.first readings f m in
+  fresh : SuitsDay old job → (f : Fact)
+      → Member f (versions_from job.stream job.day job.length job.update job.first readings) → f ∈ old → ⊥
+  fresh suits f m h =
+      let v = from_versions job.stream job.day job.length job.update job.first readings f m in
       are.free.fresh (job.first + v.0) (
         target v.0 v.1 v.2,
-        record { update = job.update; reading = v.1; held = subst (λ g. g ∈ old) v.3 h; late = omega arith },
+        record {
+          minutes = job.length;
+          of_day = suits_length old job suits;
+          update = job.update;
+          reading = v.1;
+          held = subst (λ g. g ∈ old) v.3 h;
+          late = omega arith;
+        },
       )
 
-  job_count : added_by old (job_world job readings) ≡ length readings
-  job_count =
-      let versions = versions_from job.stream job.day job.update job.first readings in
+  job_count : SuitsDay old job → added_by old (job_world job readings) ≡ length readings
+  job_count suits =
+      let versions = versions_from job.stream job.day job.length job.update job.first readings in
       let same : set.difference (countable (job_world job readings)) (countable old) ≡ set.from_list versions = same_by _ _
       (λ f h.
       let d = in_difference total exact (countable (job_world job readings)) (countable old) f h in
@@ -159,21 +167,21 @@ module _ (old : World) (job : Job) (readings : List ReadingValue) (are : AreSubs
       let t = version_there job readings f m in
       difference_in total exact (countable (job_world job readings)) (countable old) f
       (retain_in total exact (job_world job readings) is_counted f t.0 t.1)
-      (λ k. fresh f m (in_retain total exact old is_counted f k).0)) in
-      ap set.len same ∙ len_list versions (versions_apart job.stream job.day job.update job.first readings)
-      ∙ versions_count job.stream job.day job.update job.first readings
+      (λ k. fresh suits f m (in_retain total exact old is_counted f k).0)) in
+      ap set.len same ∙ len_list versions (versions_apart job.stream job.day job.length job.update job.first readings)
+      ∙ versions_count job.stream job.day job.length job.update job.first readings
 
   job_by : (f : Fact) → is_counted f ≡ true → f ∈ job_world job readings → IsOfJob old job f
   job_by f c h =
-      let v = from_versions job.stream job.day job.update job.first readings f (version_of_job job readings f c h) in
-      subst (IsOfJob old job) (sym v.3) (refl, refl, refl, target v.0 v.1 v.2, are.each v.0 v.1 v.2)
+      let v = from_versions job.stream job.day job.length job.update job.first readings f (version_of_job job readings f c h) in
+      subst (IsOfJob old job) (sym v.3) (refl, refl, refl, refl, target v.0 v.1 v.2, are.each v.0 v.1 v.2)
 
 grows_job : (old : World) (job : Job) (count : ℕ) (new : World) → SubstituteStep old job (told.Substituted count) new
     → Grows old (asked.Substitute job) (told.Substituted count) new
 grows_job old job count new step = record {
   more = job_world job step.3.0;
   is = step.3.3;
-  count = job_count old job step.3.0 step.3.1 ∙ sym step.3.2;
+  count = job_count old job step.3.0 step.3.1 step.2 ∙ sym step.3.2;
   by = job_by old job step.3.0 step.3.1;
   stays = lawful_with_job old job step.0 step.1 step.2 step.3.0 step.3.1;
 }

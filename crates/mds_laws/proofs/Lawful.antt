@@ -10,7 +10,7 @@ use Rattle.mds_records.specs.declared.file.FileKind.TheVariants.{Nem12, Nem13}
 use Rattle.mds_world.specs.declared.facts.Detail.{Detail}
 use Rattle.mds_world.specs.declared.facts.Head.{Head}
 use Rattle.mds_world.specs.declared.facts.Key.{Key}
-use Rattle.mds_world.specs.Facts.{Fact, JobContent, detail_at, head_at}
+use Rattle.mds_world.specs.Facts.{Fact, JobContent, detail_at, head_at, key_at}
 use Rattle.mds_world.specs.Facts.Fact.{HeadIs, VersionIs, DetailIs, JobIs}
 use Rattle.mds_world.proofs.Lawful.{wider_day, wider_head, wider_version}
 use Rattle.mds_world.proofs.Lists.{flat_in}
@@ -18,7 +18,7 @@ use Rattle.mds_world.specs.Lists.{Member}
 use Rattle.mds_world.proofs.Members.{in_union, union_left, union_right}
 use Rattle.mds_world.specs.Sets.{◌∈◌}
 use Rattle.mds_world.specs.Stated.{facts_of, stated, versions_from}
-use Rattle.mds_world.specs.World.{Agrees, HasHead, HasVersion, IsKnownDay, IsLawful, World, union}
+use Rattle.mds_world.specs.World.{Agrees, HasHead, HasVersion, IsKnownDay, IsLawful, World, head_over, union}
 use Rattle.mds_statements.specs.Statements.{DayStatement, DetailsStatement, Statement, days_in, days_of}
 use Rattle.mds_statements.specs.Statements.Statement.{HeaderOf, StreamOf, DetailsOf, DayOf, EventOf, PeriodOf}
 use Rattle.mds_nem12.proofs.Orderly.{days_have_lengths, days_whole}
@@ -49,16 +49,16 @@ same_detail : (x y : Detail) → DetailIs x ≡ DetailIs y → x ≡ y
 same_detail x y e = cc
 
 first_version : (day : DayStatement) → 0 < length day.readings
-    → (key : Key) × (reading : ReadingValue) × Member (VersionIs key reading) (facts_of (DayOf day))
-    × (key.stream ≡ day.stream) × (key.day ≡ day.date)
+    → (reading : ReadingValue)
+    × Member (VersionIs (key_at day.stream day.date day.length 1 day.update) reading) (facts_of (DayOf day))
 first_version day some = by_readings day.readings some
   where
     by_readings : (readings : List ReadingValue) → 0 < length readings
-        → (key : Key) × (reading : ReadingValue)
-        × Member (VersionIs key reading) (HeadIs (head_of day) ∷ versions_from day.stream day.date day.update 1 readings)
-        × (key.stream ≡ day.stream) × (key.day ≡ day.date)
+        → (reading : ReadingValue)
+        × Member (VersionIs (key_at day.stream day.date day.length 1 day.update) reading)
+        (HeadIs (head_of day) ∷ versions_from day.stream day.date day.length day.update 1 readings)
     by_readings [] l = absurd (omega arith)
-    by_readings (reading ∷ rest) l = (_, reading, inr (inl refl), refl, refl)
+    by_readings (reading ∷ rest) l = (reading, inr (inl refl))
 
 has_intervals : (minutes : ℕ) → IsTrue (is_length minutes) → 0 < count_of minutes
 has_intervals minutes h = grind (arith, nat_tests)
@@ -70,7 +70,7 @@ no_job (DetailsOf details) id content n (inl e) = cc
 no_job (DetailsOf details) id content n (inr m) = m
 no_job (DayOf day) id content n (inl e) = cc
 no_job (DayOf day) id content n (inr m) =
-    let v = from_versions day.stream day.date day.update 1 day.readings _ m in let e = v.3 in cc
+    let v = from_versions day.stream day.date day.length day.update 1 day.readings _ m in let e = v.3 in cc
 no_job (EventOf event) id content n (inl e) = cc
 no_job (EventOf event) id content n (inr m) = m
 no_job (PeriodOf period) id content n (inl e) = cc
@@ -104,17 +104,15 @@ module _ (w : World) (xs : List Statement) (sound : All IsWholeDay (days_of xs))
   headed (DetailsOf details) key reading m (inr n) = absurd n
   headed (DayOf day) key reading m (inl e) = cc
   headed (DayOf day) key reading m (inr n) =
-      let v = from_versions day.stream day.date day.update 1 day.readings _ n in
+      let v = from_versions day.stream day.date day.length day.update 1 day.readings _ n in
       let same = (same_key _ _ _ _ v.3).0 in
       let at : key.interval ≡ 1 + v.0 = ap (λ (k : Key). k.interval) same in
       let below : v.0 < length day.readings = within day.readings v.0 v.1 v.2 in
       let last : key.interval ≤ length day.readings = omega (arith, at, below) in (
-        head_of day,
-        more (HeadIs (head_of day)) (DayOf day) m (inl refl),
-        sym (ap (λ (k : Key). k.stream) same),
-        sym (ap (λ (k : Key). k.day) same),
+        day.unit,
+        more _ (DayOf day) m (inl (ap (λ k. HeadIs (head_over k day.unit)) same)),
         omega (arith, at),
-        subst (λ n. key.interval ≤ n) (is_whole day m).whole last,
+        subst (λ n. key.interval ≤ n) ((is_whole day m).whole ∙ sym (ap (λ (k : Key). count_of k.length) same)) last,
       )
   headed (EventOf event) key reading m (inl e) = cc
   headed (EventOf event) key reading m (inr n) = absurd n
@@ -130,15 +128,10 @@ module _ (w : World) (xs : List Statement) (sound : All IsWholeDay (days_of xs))
       let same : head ≡ head_of day = same_head _ _ e in
       let is = is_whole day m in
       let some : 0 < length day.readings = subst (λ n. 0 < n) (sym is.whole) (has_intervals day.length is.sized) in
-      let v = first_version day some in (
-        v.0,
-        v.1,
-        more (VersionIs v.0 v.1) (DayOf day) m v.2,
-        v.3 ∙ sym (ap (λ (k : Head). k.stream) same),
-        v.4 ∙ sym (ap (λ (k : Head). k.day) same),
-      )
+      let v = first_version day some in
+      subst (HasVersion whole) (sym same) (1, day.update, v.0, more _ (DayOf day) m v.1)
   versioned (DayOf day) head m (inr n) =
-      let v = from_versions day.stream day.date day.update 1 day.readings _ n in let e = v.3 in cc
+      let v = from_versions day.stream day.date day.length day.update 1 day.readings _ n in let e = v.3 in cc
   versioned (EventOf event) head m (inl e) = cc
   versioned (EventOf event) head m (inr n) = absurd n
   versioned (PeriodOf period) head m (inl e) = cc
@@ -159,7 +152,7 @@ module _ (w : World) (xs : List Statement) (sound : All IsWholeDay (days_of xs))
   detailed (DetailsOf details) detail m (inr n) = absurd n
   detailed (DayOf day) detail m (inl e) = cc
   detailed (DayOf day) detail m (inr n) =
-      let v = from_versions day.stream day.date day.update 1 day.readings _ n in let e = v.3 in cc
+      let v = from_versions day.stream day.date day.length day.update 1 day.readings _ n in let e = v.3 in cc
   detailed (EventOf event) detail m (inl e) = cc
   detailed (EventOf event) detail m (inr n) = absurd n
   detailed (PeriodOf period) detail m (inl e) = cc

@@ -46,19 +46,19 @@ pub same_key : (x y : Key) (r q : ReadingValue) → VersionIs x r ≡ VersionIs 
 same_key x y r q e = (cc, cc)
 
 -- the versions of a list of readings: one for each, and no two are one
-pub versions_count : (stream : Stream) (day update i : ℕ) (rs : List ReadingValue)
-    → length (versions_from stream day update i rs) ≡ length rs
-versions_count stream day update i [] = refl
-versions_count stream day update i (r ∷ rs) = ap suc (versions_count stream day update (i + 1) rs)
+pub versions_count : (stream : Stream) (day minutes update i : ℕ) (rs : List ReadingValue)
+    → length (versions_from stream day minutes update i rs) ≡ length rs
+versions_count stream day minutes update i [] = refl
+versions_count stream day minutes update i (r ∷ rs) = ap suc (versions_count stream day minutes update (i + 1) rs)
 
-pub versions_apart : (stream : Stream) (day update i : ℕ) (rs : List ReadingValue)
-    → Apart (versions_from stream day update i rs)
-versions_apart stream day update i [] = tt
-versions_apart stream day update i (r ∷ rs) = (
+pub versions_apart : (stream : Stream) (day minutes update i : ℕ) (rs : List ReadingValue)
+    → Apart (versions_from stream day minutes update i rs)
+versions_apart stream day minutes update i [] = tt
+versions_apart stream day minutes update i (r ∷ rs) = (
   (λ m.
-      let n = from_versions stream day update (i + 1) rs _ m in
+      let n = from_versions stream day minutes update (i + 1) rs _ m in
       let same = same_key _ _ _ _ n.3 in
       let e : i ≡ i + 1 + n.0 = ap (λ (k : Key). k.interval) same.0 in
       absurd (omega (arith, e))),
-  versions_apart stream day update (i + 1) rs,
+  versions_apart stream day minutes update (i + 1) rs,
 )

@@ -16,9 +16,8 @@ use Rattle.mds_terms.specs.Event.{event_cmp}
 use Rattle.mds_terms.specs.TermOrder.{event_total}
 use Rattle.mds_statements.specs.declared.periods.Period.{Period}
 use Rattle.mds_statements.specs.declared.periods.PeriodKey.{PeriodKey}
-use Rattle.mds_world.specs.declared.facts.Head.{Head}
 use Rattle.mds_world.proofs.Details.{one_details}
-use Rattle.mds_world.specs.Current.{IsCurrentDetails, IsLastDay, IsStreamDetails}
+use Rattle.mds_world.specs.Current.{IsCurrentDetails, IsLastDay, IsLatest, IsStreamDetails}
 use Rattle.mds_world.specs.World.{Agrees, IsKnownDay, World}
 use Rattle.mds_keeper.specs.Queries.{period_cmp, stream_cmp}
 use Rattle.mds_keeper.specs.declared.day_book.Version.{Version}
@@ -35,7 +34,7 @@ use Rattle.mds_laws.specs.Determined.{AreSame, AreSamePeriods, AreSameVersions, 
 use Rattle.mds_laws.proofs.OneList.{not_both_less, one_ascending, one_by_places, same_first}
 use Rattle.mds_laws.proofs.OneRefusal.{one_refusal}
 use Rattle.mds_laws.proofs.OneSelection.{stream_total}
-use Rattle.mds_laws.proofs.ReturnedReadings.{one_latest, one_value}
+use Rattle.mds_laws.proofs.ReturnedReadings.{one_form, one_latest, one_shown}
 
 -- answers that are such tell the same
 pub told_same : (a b x y : Answer) → a ≡ x → b ≡ y → AreSame x y → AreSame a b
@@ -51,8 +50,7 @@ module _ (w : World) (agrees : Agrees w) (s : Stream) (d : ℕ) where
   -- a day has one length and unit, one list of events, and one answer with them
   one_head : (a b : DayAnswer) → IsDayAnswer w s d a → IsDayAnswer w s d b → (a.length ≡ b.length) × (a.unit ≡ b.unit)
   one_head a b x y =
-      let same = agrees.one_head _ _ x.form y.form refl refl in
-      (ap (λ (h : Head). h.length) same, ap (λ (h : Head). h.unit) same)
+      one_form w s d a.length b.length a.unit b.unit agrees x.form y.form
 
   one_events : (a b : DayAnswer) → IsDayAnswer w s d a → IsDayAnswer w s d b → a.events.items ≡ b.events.items
   one_events a b x y =
@@ -68,9 +66,9 @@ module _ (w : World) (agrees : Agrees w) (s : Stream) (d : ℕ) where
         day = x.day ∙ sym y.day;
         length = head.0;
         unit = head.1;
-        update = one_latest w s d a.update b.update x.update y.update;
+        update = one_latest w s d b.length a.update b.update (subst (λ m. IsLatest w s d m a.update) head.0 x.update) y.update;
         readings = one_by_places a.readings.items b.readings.items (x.count ∙ ap count_of head.0 ∙ sym y.count)
-            (λ k p q e f. one_value w s d (k + 1) p q agrees (x.readings k p e) (y.readings k q f));
+            (λ k p q e f. one_shown w s d (k + 1) p q agrees (x.readings k p e) (y.readings k q f));
         events = one_events a b x y;
       }
 

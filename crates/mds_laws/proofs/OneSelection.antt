@@ -11,9 +11,8 @@ use Rattle.mds_calendar.specs.Length.{count_of}
 use Rattle.mds_quantity.specs.Unit.{unit_text}
 use Rattle.mds_names.specs.declared.stream.Stream.{Stream}
 use Rattle.mds_terms.specs.Details.{details_cmp}
-use Rattle.mds_world.specs.declared.facts.Head.{Head}
 use Rattle.mds_world.proofs.Details.{one_details}
-use Rattle.mds_world.specs.Current.{IsCurrentDetails, IsLatest, IsReading}
+use Rattle.mds_world.specs.Current.{IsCurrentDetails, IsDayReading, IsFormOf, IsLatest}
 use Rattle.mds_world.specs.World.{Agrees, World}
 use Rattle.mds_statements.specs.Statements.{HeaderValue}
 use Rattle.mds_statements.specs.Selected.{stream_cmp}
@@ -27,7 +26,7 @@ use Rattle.mds_ranges.proofs.Pairs.{map_pairs}
 use Rattle.mds_ranges.specs.Selections.{AreSelectedDays, IsSelectedDay, IsSelectedStream, IsSelection}
 use Rattle.mds_laws.specs.Determined.{OneByOne}
 use Rattle.mds_laws.proofs.OneList.{both_fit, not_both_less, one_ascending, one_by_places, same_first}
-use Rattle.mds_laws.proofs.ReturnedReadings.{one_latest, one_value}
+use Rattle.mds_laws.proofs.ReturnedReadings.{one_form, one_latest, one_shown}
 
 -- Two days, and two streams, that are the same but for where their readings and days lie.
 record IsSameDay (a b : SelectedDay) : Type 0 where
@@ -56,21 +55,25 @@ module _ (w : World) (agrees : Agrees w) where
   day_at : (s t : Stream) (a b : SelectedDay) → s ≡ t → a.date ≡ b.date → IsSelectedDay w s a → IsSelectedDay w t b
       → IsSameDay a b
   day_at s t a b same date x y =
-      let head = agrees.one_head _ _ x.form y.form same date in
-      let length : a.length ≡ b.length = ap (λ (h : Head). h.length) head in record {
+      let known : IsFormOf w t b.date a.length a.unit =
+      subst (λ d. IsFormOf w t d a.length a.unit) date (subst (λ z. IsFormOf w z a.date a.length a.unit) same x.form) in
+      let form = one_form w t b.date a.length b.length a.unit b.unit agrees known y.form in record {
         date = date;
-        length = length;
-        unit = ap (λ (h : Head). h.unit) head;
+        length = form.0;
+        unit = form.1;
         details = one_details w t b.date a.details b.details
             (subst (λ d. IsCurrentDetails w t d a.details) date (subst (λ z. IsCurrentDetails w z a.date a.details) same x.details))
             y.details;
-        update = one_latest w t b.date a.update b.update
-            (subst (λ d. IsLatest w t d a.update) date (subst (λ z. IsLatest w z a.date a.update) same x.update)) y.update;
+        update = one_latest w t b.date b.length a.update b.update
+            (subst (λ m. IsLatest w t b.date m a.update) form.0
+            (subst (λ d. IsLatest w t d a.length a.update) date
+            (subst (λ z. IsLatest w z a.date a.length a.update) same x.update)))
+            y.update;
         readings = one_by_places a.readings.items b.readings.items
-            (x.readings.count_is ∙ ap count_of length ∙ sym y.readings.count_is)
-            (λ k p q e f. one_value w t b.date (k + 1) p q agrees
-            (subst (λ d. IsReading w t d (k + 1) p) date
-            (subst (λ z. IsReading w z a.date (k + 1) p) same (x.readings.each k p e)))
+            (x.readings.count_is ∙ ap count_of form.0 ∙ sym y.readings.count_is)
+            (λ k p q e f. one_shown w t b.date (k + 1) p q agrees
+            (subst (λ d. IsDayReading w t d (k + 1) p) date
+            (subst (λ z. IsDayReading w z a.date (k + 1) p) same (x.readings.each k p e)))
             (y.readings.each k q f));
       }
 

@@ -31,7 +31,7 @@ of_period (DetailsOf details) key content (inl e) = cc
 of_period (DetailsOf details) key content (inr m) = absurd m
 of_period (DayOf day) key content (inl e) = cc
 of_period (DayOf day) key content (inr m) =
-    let v = from_versions day.stream day.date day.update 1 day.readings _ m in let e = v.3 in cc
+    let v = from_versions day.stream day.date day.length day.update 1 day.readings _ m in let e = v.3 in cc
 of_period (EventOf event) key content (inl e) = cc
 of_period (EventOf event) key content (inr m) = absurd m
 of_period (PeriodOf period) key content m = (period, refl)

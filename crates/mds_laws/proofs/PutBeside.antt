@@ -25,6 +25,7 @@ use Rattle.mds_keeper.specs.declared.refusal.RefusalCode.TheVariants as code
 use Rattle.mds_keeper.proofs.Taken.{from_versions}
 use Rattle.mds_fill.specs.Fills.{AreSubstitutes}
 use Rattle.mds_service.specs.Substitution.{SuitsDay, head_of, job_world}
+use Rattle.mds_service.proofs.Substituted.{suits_length}
 use Rattle.mds_laws.proofs.Kept.{target, version_of_job}
 use Rattle.mds_laws.proofs.Members.{same_key}
 
@@ -32,12 +33,12 @@ head_in_job : (job : Job) (readings : List ReadingValue) (head : Head) → HeadI
     → head ≡ head_of job
 head_in_job job readings head h =
     elim (in_list (HeadIs (head_of job) ∷ JobIs job.id (content_of job) (length readings)
-    ∷ versions_from job.stream job.day job.update job.first readings) (HeadIs head) h) [
+    ∷ versions_from job.stream job.day job.length job.update job.first readings) (HeadIs head) h) [
       | inl e ↦ same_head head (head_of job) e
       | inr m ↦ elim m [
         | inl e ↦ cc
         | inr v ↦
-            let n = from_versions job.stream job.day job.update job.first readings (HeadIs head) v in
+            let n = from_versions job.stream job.day job.length job.update job.first readings (HeadIs head) v in
             let e = n.3 in cc
       ]
     ]
@@ -61,7 +62,7 @@ module _ (w : World) (job : Job) (readings : List ReadingValue) (are : AreSubsti
   put = job_world job readings
 
   abbrev versions : List Fact
-  versions = versions_from job.stream job.day job.update job.first readings
+  versions = versions_from job.stream job.day job.length job.update job.first readings
 
   module _ (facts : World) (elsewhere : AreElsewhere job facts) where
     abbrev less : World
@@ -110,12 +111,19 @@ module _ (w : World) (job : Job) (readings : List ReadingValue) (are : AreSubsti
     -- no target has a version of the job's update
     version_alone : (key : Key) (r q : ReadingValue) → VersionIs key r ∈ less → Member (VersionIs key q) versions → ⊥
     version_alone key r q h m =
-        let v = from_versions job.stream job.day job.update job.first readings (VersionIs key q) m in
+        let v = from_versions job.stream job.day job.length job.update job.first readings (VersionIs key q) m in
         let same = (same_key _ _ _ _ v.3).0 in
         elim (in_union w facts (VersionIs key r) h) [
           | inl x ↦ are.free.fresh (job.first + v.0) (
             target w job readings are v.0 v.1 v.2,
-            record { update = job.update; reading = r; held = subst (λ k. VersionIs k r ∈ w) same x; late = omega arith },
+            record {
+              minutes = job.length;
+              of_day = suits_length w job suits;
+              update = job.update;
+              reading = r;
+              held = subst (λ k. VersionIs k r ∈ w) same x;
+              late = omega arith;
+            },
           )
           | inr y ↦
               elsewhere.versions key r y (ap (λ (k : Key). k.stream) same) (ap (λ (k : Key). k.day) same)
@@ -123,8 +131,8 @@ module _ (w : World) (job : Job) (readings : List ReadingValue) (are : AreSubsti
 
     both_put : (key : Key) (a b : ReadingValue) → Member (VersionIs key a) versions → Member (VersionIs key b) versions → a ≡ b
     both_put key a b m n =
-        let u = from_versions job.stream job.day job.update job.first readings (VersionIs key a) m in
-        let v = from_versions job.stream job.day job.update job.first readings (VersionIs key b) n in
+        let u = from_versions job.stream job.day job.length job.update job.first readings (VersionIs key a) m in
+        let v = from_versions job.stream job.day job.length job.update job.first readings (VersionIs key b) n in
         let x = same_key _ _ _ _ u.3 in
         let y = same_key _ _ _ _ v.3 in
         let at : job.first + u.0 ≡ job.first + v.0 = ap (λ (k : Key). k.interval) (sym x.0 ∙ y.0) in
@@ -149,7 +157,7 @@ module _ (w : World) (job : Job) (readings : List ReadingValue) (are : AreSubsti
     period_where key a h = elim (whence (PeriodIs key a) h) [
       | inl x ↦ x
       | inr y ↦
-          let v = from_versions job.stream job.day job.update job.first readings (PeriodIs key a)
+          let v = from_versions job.stream job.day job.length job.update job.first readings (PeriodIs key a)
           (version_of_job job readings (PeriodIs key a) refl y) in
           let e = v.3 in cc
     ]
@@ -246,7 +254,7 @@ module _ (w : World) (job : Job) (readings : List ReadingValue) (are : AreSubsti
         elim (in_union w put f y.0) [
           | inl h ↦ retain_in total exact w is_counted f h x.1
           | inr h ↦
-              let v = from_versions job.stream job.day job.update job.first readings f (version_of_job job readings f x.1 h) in
+              let v = from_versions job.stream job.day job.length job.update job.first readings f (version_of_job job readings f x.1 h) in
               absurd (elsewhere.versions _ v.1 (subst (λ g. g ∈ facts) v.3 x.0) refl refl)
         ]
 

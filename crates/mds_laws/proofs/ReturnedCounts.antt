@@ -40,7 +40,7 @@ use Rattle.mds_laws.proofs.ReturnedFacts.{from_placed, no_period}
 
 -- a version of each reading of a day
 abbrev versions_of : DayStatement → List Fact
-versions_of day = versions_from day.stream day.date day.update 1 day.readings
+versions_of day = versions_from day.stream day.date day.length day.update 1 day.readings
 
 -- the stream and the date of a day
 abbrev place_of : DayStatement → Stream × ℕ
@@ -49,8 +49,8 @@ place_of day = (day.stream, day.date)
 -- a version that two days have is of one place
 same_place : (a b : DayStatement) (f : Fact) → Member f (versions_of a) → Member f (versions_of b) → place_of a ≡ place_of b
 same_place a b f m n =
-    let x = from_versions a.stream a.date a.update 1 a.readings f m in
-    let y = from_versions b.stream b.date b.update 1 b.readings f n in
+    let x = from_versions a.stream a.date a.length a.update 1 a.readings f m in
+    let y = from_versions b.stream b.date b.length b.update 1 b.readings f n in
     let same = (same_key _ _ _ _ (sym x.3 ∙ y.3)).0 in
     λ i. ((same i).stream, (same i).day)
 
@@ -65,7 +65,7 @@ days_apart : (days : List DayStatement) → Apart (map place_of days) → Apart 
 days_apart [] apart = tt
 days_apart (day ∷ days) apart =
     apart_append (versions_of day) (flat_map versions_of days)
-    (versions_apart day.stream day.date day.update 1 day.readings)
+    (versions_apart day.stream day.date day.length day.update 1 day.readings)
     (days_apart days apart.1)
     (λ f m n.
     let r = in_flat versions_of days f n in
@@ -94,7 +94,7 @@ counts_in : (xs : List Statement) (f : Fact) → Member f (flat_map versions_of 
 counts_in xs f m =
     let d = in_flat versions_of (days_of xs) f m in
     let s = in_flat days_in xs d.0 d.1 in
-    let v = from_versions d.0.stream d.0.date d.0.update 1 d.0.readings f d.2 in
+    let v = from_versions d.0.stream d.0.date d.0.length d.0.update 1 d.0.readings f d.2 in
     retain_in total exact (stated xs) is_counted f (stated_in xs f s.0 s.1 (of_day s.0 d.0 f s.2 d.2)) (ap is_counted v.3)
   where
     of_day : (s : Statement) (day : DayStatement) (f : Fact) → Member day (days_in s) → Member f (versions_of day)
@@ -119,7 +119,7 @@ counted_days xs none apart =
     list_in versions f (version_of xs s.0 s.1 none f s.2 r.1))
     (λ f h. counts_in xs f (in_list versions f h)) in
     ap set.len same ∙ len_list versions (days_apart (days_of xs) apart) ∙ length-flat_map versions_of (days_of xs)
-    ∙ (λ i. sum_by (λ (day : DayStatement). versions_count day.stream day.date day.update 1 day.readings i) (days_of xs))
+    ∙ (λ i. sum_by (λ (day : DayStatement). versions_count day.stream day.date day.length day.update 1 day.readings i) (days_of xs))
 
 -- ---- the days of a selection
 

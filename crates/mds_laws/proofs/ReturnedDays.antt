@@ -1,16 +1,17 @@
 -- What an export of a lawful World states comes back to it.
-use Rattle.std.specs.Prelude.{◌≡◌, ◌≤◌, ℕ, ◌+◌, List, length, get_or, refl}
+use Rattle.std.specs.Prelude.{◌≡◌, ◌↔◌, ◌≤◌, ℕ, ◌+◌, List, length, get_or, slice_get, Some, refl}
 use Rattle.std.proofs.Common.{sym, ap, ◌∙◌, subst, inl, inr, arith, zero, suc}
 use Rattle.std.proofs.lemmas.Bool.{cases_lt}
 use Rattle.std.proofs.lemmas.Option.{slice_get-get_or, slice_get_within}
 use Rattle.mds_calendar.specs.Length.{count_of}
+use Rattle.mds_quantity.specs.declared.unit.Unit.{Unit as MeasureUnit}
 use Rattle.mds_names.specs.declared.stream.Stream.{Stream}
 use Rattle.mds_marks.specs.Reading.{ReadingValue}
 use Rattle.mds_statements.specs.Statements.{HeaderValue}
 use Rattle.mds_world.specs.declared.facts.Detail.{Detail}
 use Rattle.mds_world.specs.declared.facts.Head.{Head}
 use Rattle.mds_world.specs.declared.facts.Key.{Key}
-use Rattle.mds_world.specs.Current.{HasNoVersion, HasSameDetails, IsCurrentDetails, IsLatest, IsReading, no_reading}
+use Rattle.mds_world.specs.Current.{HasNoVersion, HasSameDetails, IsCurrentDetails, IsFormOf, IsLatest, IsReading, no_reading}
 use Rattle.mds_world.specs.Facts.{head_at, key_at}
 use Rattle.mds_world.specs.Facts.Fact.{HeadIs, VersionIs}
 use Rattle.mds_world.proofs.Lists.{in_map, map_in}
@@ -18,7 +19,7 @@ use Rattle.mds_world.specs.Lists.{Member}
 use Rattle.mds_world.proofs.Returned.{details_alone, details_beside}
 use Rattle.mds_world.specs.Sets.{◌∈◌}
 use Rattle.mds_world.specs.Stated.{stated}
-use Rattle.mds_world.specs.World.{HasHead, IsKnownDay, IsLawful, World}
+use Rattle.mds_world.specs.World.{HasHead, IsKnownDay, IsLawful, World, head_over}
 use Rattle.mds_export.specs.Shows.{selection_stated}
 use Rattle.mds_statements.specs.declared.selected.SelectedDay.{SelectedDay}
 use Rattle.mds_statements.specs.declared.selected.SelectedStream.{SelectedStream}
@@ -26,7 +27,7 @@ use Rattle.mds_ranges.proofs.Pairs.{all_member}
 use Rattle.mds_ranges.specs.Selections.{IsSelectedDay, IsSelectedStream, IsSelection}
 use Rattle.mds_laws.proofs.ReturnedCounts.{intervals_counted}
 use Rattle.mds_laws.proofs.ReturnedFacts.{IsChosen, detail_of, detail_stated, detail_whence, head_of, head_stated, head_whence, key_of, no_period, version_stated, version_whence}
-use Rattle.mds_laws.proofs.ReturnedReadings.{ComesFrom, agrees_alone, agrees_home, current_alone, same_day_home, same_readings}
+use Rattle.mds_laws.proofs.ReturnedReadings.{ComesFrom, agrees_alone, agrees_home, current_alone, one_form, same_day_by, same_day_home, same_readings, shown_by_form}
 use Rattle.mds_laws.specs.Returns.{IsAskedFor, IsSameDay}
 use Rattle.mds_laws.proofs.ReturnedWorlds.{ComesBackAlone, ComesBackHome}
 
@@ -54,14 +55,23 @@ module _ (w : World) (nmi : List ℕ) (suffixes : List (List ℕ)) (first last :
       let same : key ≡ key_of selected day (k + 1) = v.5 in
       let at : key.interval ≡ k + 1 = ap (λ (x : Key). x.interval) same in
       let within = slice_get_within day.readings.items k reading v.4 in
-      let size = (day_is selected day chosen).readings.count_is in (
-        head_of selected day,
-        head_stated header streams selected day chosen,
-        sym (ap (λ (x : Key). x.stream) same),
-        sym (ap (λ (x : Key). x.day) same),
+      let size = (day_is selected day chosen).readings.count_is in
+      let high : key.interval ≤ count_of day.length = omega (arith, at, within, size) in (
+        day.unit,
+        subst (λ (x : Key). HeadIs (head_over x day.unit) ∈ stated (selection_stated header streams)) (sym same)
+            (head_stated header streams selected day chosen),
         omega (arith, at),
-        omega (arith, at, within, size),
+        subst (λ (x : Key). key.interval ≤ count_of x.length) (sym same) high,
       )
+
+  -- a reading of a day that is selected is that of the day's length
+  reading_there : (selected : SelectedStream) (day : SelectedDay) → IsChosen streams selected day → (k : ℕ)
+      (reading : ReadingValue) → slice_get day.readings.items k ≡ Some reading
+      → IsReading w selected.stream day.date day.length (k + 1) reading
+  reading_there selected day chosen k reading at =
+      let d = day_is selected day chosen in
+      shown_by_form w selected.stream day.date day.length (k + 1) day.unit reading lawful.agrees d.form
+      (d.readings.each k reading at)
 
   -- what is stated comes from the World
   comes_from : ComesFrom w (stated (selection_stated header streams))
@@ -71,11 +81,11 @@ module _ (w : World) (nmi : List ℕ) (suffixes : List (List ℕ)) (first last :
         subst (λ x. HeadIs x ∈ w) (sym v.3) (day_is v.0 v.1 v.2).form;
     latest = λ key reading h.
         let v = version_whence header streams key reading h in
-        subst (λ (x : Key). IsLatest w x.stream x.day x.update) (sym v.5) (day_is v.0 v.1 v.3).update;
+        subst (λ (x : Key). IsLatest w x.stream x.day x.length x.update) (sym v.5) (day_is v.0 v.1 v.3).update;
     readings = λ key reading h.
         let v = version_whence header streams key reading h in
-        subst (λ (x : Key). IsReading w x.stream x.day x.interval reading) (sym v.5)
-        ((day_is v.0 v.1 v.3).readings.each v.2 reading v.4);
+        subst (λ (x : Key). IsReading w x.stream x.day x.length x.interval reading) (sym v.5)
+        (reading_there v.0 v.1 v.3 v.2 reading v.4);
     headed = headed;
     details = λ detail h.
         let v = detail_whence header streams detail h in
@@ -125,47 +135,37 @@ module _ (w : World) (nmi : List ℕ) (suffixes : List (List ℕ)) (first last :
 
   -- an interval of a selected day is within its readings, where it has a version
   within : (selected : SelectedStream) (day : SelectedDay) → IsChosen streams selected day → (interval update : ℕ)
-      (reading : ReadingValue) → VersionIs (key_at selected.stream day.date interval update) reading ∈ w
+      (reading : ReadingValue) → VersionIs (key_at selected.stream day.date day.length interval update) reading ∈ w
       → (1 ≤ interval) × (interval ≤ length day.readings.items)
   within selected day chosen interval update reading h =
-      let key : Key = key_at selected.stream day.date interval update in
-      let headed = lawful.closed.headed key reading h in
-      let d = day_is selected day chosen in
-      let same : headed.0 ≡ head_of selected day =
-      lawful.agrees.one_head headed.0 (head_of selected day) headed.1 d.form headed.2 headed.3 in
-      let size = d.readings.count_is in
-      let most : count_of headed.0.length ≡ count_of day.length = ap (λ (x : Head). count_of x.length) same in
-      let low = headed.4 in
-      let high = headed.5 in
-      (low, omega (arith, high, most, size))
+      let headed = lawful.closed.headed (key_at selected.stream day.date day.length interval update) reading h in
+      let size = (day_is selected day chosen).readings.count_is in
+      let low = headed.2 in
+      let high = headed.3 in
+      (low, omega (arith, high, size))
 
   -- so none outside of them has one, in the World
   none_there : (selected : SelectedStream) (day : SelectedDay) → IsChosen streams selected day → (interval : ℕ)
       → ((1 ≤ interval) → (interval ≤ length day.readings.items) → ⊥)
-      → HasNoVersion w selected.stream day.date interval
+      → HasNoVersion w selected.stream day.date day.length interval
   none_there selected day chosen interval out = λ u r h.
       let n = within selected day chosen interval u r h in out n.0 n.1
 
   -- and in what is stated
   none_back : (selected : SelectedStream) (day : SelectedDay) → IsChosen streams selected day → (interval : ℕ)
       → ((1 ≤ interval) → (interval ≤ length day.readings.items) → ⊥)
-      → HasNoVersion (stated (selection_stated header streams)) selected.stream day.date interval
+      → HasNoVersion (stated (selection_stated header streams)) selected.stream day.date day.length interval
   none_back selected day chosen interval out = λ u r h.
-      let key : Key = key_at selected.stream day.date interval u in
-      let headed = headed key r h in
-      let d = day_is selected day chosen in
-      let same : headed.0 ≡ head_of selected day =
-      lawful.agrees.one_head headed.0 (head_of selected day) (comes_from.heads headed.0 headed.1) d.form headed.2 headed.3 in
-      let size = d.readings.count_is in
-      let most : count_of headed.0.length ≡ count_of day.length = ap (λ (x : Head). count_of x.length) same in
-      let low = headed.4 in
-      let high = headed.5 in
-      out low (omega (arith, high, most, size))
+      let headed = headed (key_at selected.stream day.date day.length interval u) r h in
+      let size = (day_is selected day chosen).readings.count_is in
+      let low = headed.2 in
+      let high = headed.3 in
+      out low (omega (arith, high, size))
 
   -- each interval of a selected day has one reading there and in what is stated
   reading_both : (selected : SelectedStream) (day : SelectedDay) → IsChosen streams selected day → (interval : ℕ)
-      → (q : ReadingValue) × IsReading w selected.stream day.date interval q
-      × IsReading (stated (selection_stated header streams)) selected.stream day.date interval q
+      → (q : ReadingValue) × IsReading w selected.stream day.date day.length interval q
+      × IsReading (stated (selection_stated header streams)) selected.stream day.date day.length interval q
   reading_both selected day chosen zero = (
     no_reading,
     inr (none_there selected day chosen zero (λ low high. absurd (omega (arith, low))), refl),
@@ -177,8 +177,8 @@ module _ (w : World) (nmi : List ℕ) (suffixes : List (List ℕ)) (first last :
         let at = slice_get-get_or day.readings.items k no_reading less in
         let z : k + 1 ≡ suc k = omega arith in (
           q,
-          subst (λ n. IsReading w selected.stream day.date n q) z ((day_is selected day chosen).readings.each k q at),
-          subst (λ n. IsReading (stated (selection_stated header streams)) selected.stream day.date n q) z
+          subst (λ n. IsReading w selected.stream day.date day.length n q) z (reading_there selected day chosen k q at),
+          subst (λ n. IsReading (stated (selection_stated header streams)) selected.stream day.date day.length n q) z
               (current_alone w (stated (selection_stated header streams)) lawful comes_from
               (key_of selected day (k + 1)) q (version_stated header streams selected day chosen k q at)),
         )
@@ -192,19 +192,26 @@ module _ (w : World) (nmi : List ℕ) (suffixes : List (List ℕ)) (first last :
   -- a selected day is the same in what is stated
   day_alone : (selected : SelectedStream) (day : SelectedDay) → IsChosen streams selected day
       → IsSameDay w (stated (selection_stated header streams)) selected.stream day.date
-  day_alone selected day chosen = record {
-    form = λ size unit.
-        let head : Head = head_at selected.stream day.date size unit in (
-          (λ h. subst (λ x. HeadIs x ∈ stated (selection_stated header streams))
-              (sym (lawful.agrees.one_head head (head_of selected day) h (day_is selected day chosen).form refl refl))
-              (head_stated header streams selected day chosen)),
-          comes_from.heads head,
-        );
-    readings = λ interval r.
-        let q = reading_both selected day chosen interval in
-        same_readings w (stated (selection_stated header streams)) selected.stream day.date interval q.0 lawful.agrees
-        (agrees_alone w (stated (selection_stated header streams)) lawful comes_from) q.1 q.2 r;
-  }
+  day_alone selected day chosen =
+      let back = stated (selection_stated header streams) in
+      let one = λ (minutes : ℕ) (unit : MeasureUnit) (known : IsFormOf w selected.stream day.date minutes unit).
+      one_form w selected.stream day.date day.length minutes day.unit unit lawful.agrees
+      (day_is selected day chosen).form known in
+      same_day_by w back selected.stream day.date
+      (λ minutes unit. (
+        (λ known.
+            let same = one minutes unit known in
+            subst (λ n. IsFormOf back selected.stream day.date n unit) same.0
+            (subst (IsFormOf back selected.stream day.date day.length) same.1
+            (head_stated header streams selected day chosen))),
+        comes_from.heads (head_at selected.stream day.date minutes unit),
+      ))
+      (λ minutes unit known interval r.
+      let q = reading_both selected day chosen interval in
+      subst (λ n. IsReading w selected.stream day.date n interval r ↔ IsReading back selected.stream day.date n interval r)
+      (one minutes unit known).0
+      (same_readings w back selected.stream day.date day.length interval q.0 lawful.agrees
+      (agrees_alone w back lawful comes_from) q.1 q.2 r))
 
   -- and has the same details
   details_same : (selected : SelectedStream) (day : SelectedDay) → IsChosen streams selected day

@@ -107,7 +107,7 @@ head_of selected day =
 -- where a reading of a selected day stands
 abbrev pub key_of : SelectedStream → SelectedDay → ℕ → Key
 key_of selected day interval =
-    key_at selected.stream day.date interval day.update
+    key_at selected.stream day.date day.length interval day.update
 
 -- the facts of a selected day
 abbrev pub facts_of_day : SelectedStream → SelectedDay → List Fact
@@ -205,7 +205,7 @@ module _ (header : HeaderValue) (streams : List SelectedStream) where
         | inr m ↦ elim m [
           | inl e ↦ (o.selected, o.day, o.chosen, same_head _ _ e)
           | inr n ↦
-              let v = from_versions o.selected.stream o.day.date o.day.update 1 o.day.readings.items (HeadIs head) n in
+              let v = from_versions o.selected.stream o.day.date o.day.length o.day.update 1 o.day.readings.items (HeadIs head) n in
               let e = v.3 in
               cc
         ]
@@ -223,7 +223,7 @@ module _ (header : HeaderValue) (streams : List SelectedStream) where
         | inr m ↦ elim m [
           | inl e ↦ cc
           | inr n ↦
-              let v = from_versions o.selected.stream o.day.date o.day.update 1 o.day.readings.items _ n in
+              let v = from_versions o.selected.stream o.day.date o.day.length o.day.update 1 o.day.readings.items _ n in
               let same = same_key _ _ _ _ v.3 in
               let z : 1 + v.0 ≡ v.0 + 1 = omega arith in (
                 o.selected,
@@ -246,7 +246,7 @@ module _ (header : HeaderValue) (streams : List SelectedStream) where
         | inr m ↦ elim m [
           | inl e ↦ cc
           | inr n ↦
-              let v = from_versions o.selected.stream o.day.date o.day.update 1 o.day.readings.items _ n in
+              let v = from_versions o.selected.stream o.day.date o.day.length o.day.update 1 o.day.readings.items _ n in
               let e = v.3 in
               cc
         ]
@@ -262,7 +262,7 @@ module _ (header : HeaderValue) (streams : List SelectedStream) where
         | inr m ↦ elim m [
           | inl e ↦ cc
           | inr n ↦
-              let v = from_versions o.selected.stream o.day.date o.day.update 1 o.day.readings.items _ n in
+              let v = from_versions o.selected.stream o.day.date o.day.length o.day.update 1 o.day.readings.items _ n in
               let e = v.3 in
               cc
         ]
@@ -294,7 +294,7 @@ module _ (header : HeaderValue) (streams : List SelectedStream) where
       let z : 1 + k ≡ k + 1 = omega arith in
       subst (λ n. VersionIs (key_of selected day n) reading ∈ stated (selection_stated header streams)) z
       (day_in selected day chosen (VersionIs (key_of selected day (1 + k)) reading)
-      (inr (to_versions selected.stream day.date day.update 1 day.readings.items k reading at)))
+      (inr (to_versions selected.stream day.date day.length day.update 1 day.readings.items k reading at)))
 
   -- and so are its details
   pub detail_stated : (selected : SelectedStream) (day : SelectedDay) → IsChosen streams selected day

@@ -1,13 +1,14 @@
 -- What a job does turns on what it may look at.
 use Rattle.std.specs.Prelude.{◌≡◌, ◌↔◌, ◌+◌, ℕ, ℤ, List, Option, Some, None}
-use Rattle.std.proofs.Common.{inl, inr, refl}
+use Rattle.std.proofs.Common.{inl, inr, refl, subst, sym}
 use Rattle.mds_marks.specs.Reading.{ReadingValue}
 use Rattle.mds_world.specs.declared.facts.Head.{Head}
 use Rattle.mds_world.specs.declared.facts.Key.{Key}
+use Rattle.mds_world.specs.Current.{IsDayReading}
 use Rattle.mds_world.specs.Facts.{JobContent}
 use Rattle.mds_world.specs.Facts.Fact.{HeadIs, VersionIs, HolidayIs, JobIs}
 use Rattle.mds_world.specs.Sets.{◌∈◌}
-use Rattle.mds_world.specs.World.{IsCurrent, World}
+use Rattle.mds_world.specs.World.{World}
 use Rattle.mds_jobs.specs.Jobs.{content_of}
 use Rattle.mds_jobs.specs.declared.job.Job.{Job}
 use Rattle.mds_keeper.specs.declared.refusal.Refusal.{Refusal}
@@ -47,20 +48,33 @@ back w m job s =
       jobs = λ id content n. ((s.jobs id content n).1, (s.jobs id content n).0);
     }
 
-current : (w m : World) (job : JobContent) → AreAlike w m job → (day i update : ℕ) (reading : ReadingValue)
-    → MayLookAt w job day → IsCurrent w job.stream day i update reading → IsCurrent m job.stream day i update reading
-current w m job s day i update reading l c = record {
-  held = (s.versions _ reading refl l).0 c.held;
-  greatest = λ other of h. c.greatest other of ((s.versions _ of refl l).1 h);
-}
+shown : (w m : World) (job : JobContent) → AreAlike w m job → (day i : ℕ) (reading : ReadingValue) → MayLookAt w job day
+    → IsDayReading w job.stream day i reading → IsDayReading m job.stream day i reading
+shown w m job s day i reading l (inl (minutes, unit, form, inl (update, c))) = inl (
+  minutes,
+  unit,
+  (s.heads _ refl l).0 form,
+  inl (
+    update,
+    record {
+      held = (s.versions _ reading refl l).0 c.held;
+      greatest = λ other of h. c.greatest other of ((s.versions _ of refl l).1 h);
+    },
+  ),
+)
+shown w m job s day i reading l (inl (minutes, unit, form, inr (none, bare))) =
+    inl (minutes, unit, (s.heads _ refl l).0 form, inr ((λ u q h. none u q ((s.versions _ q refl l).1 h)), bare))
+shown w m job s day i reading l (inr (unknown, bare)) = inr (
+  (λ k. unknown (k.0, (s.heads k.0 k.2 (subst (MayLookAt w job) (sym k.3) l)).1 k.1, k.2, k.3)),
+  bare,
+)
 
 usable : (w m : World) (job : JobContent) → AreAlike w m job → (day i : ℕ) (value : ℤ) → MayLookAt w job day
     → IsUsable w job day i value → IsUsable m job day i value
 usable w m job s day i value l u = record {
   known = (s.heads _ refl l).0 u.known;
-  update = u.update;
   reading = u.reading;
-  current = current w m job s day i u.update u.reading l u.current;
+  shown = shown w m job s day i u.reading l u.shown;
   flag = u.flag;
   same = u.same;
 }
@@ -68,15 +82,16 @@ usable w m job s day i value l u = record {
 protected : (w m : World) (job : JobContent) → AreAlike w m job → (i : ℕ) → IsProtected w job.stream job.day i
     → IsProtected m job.stream job.day i
 protected w m job s i p = record {
-  update = p.update;
   reading = p.reading;
-  current = current w m job s job.day i p.update p.reading (inl refl) p.current;
+  shown = shown w m job s job.day i p.reading (inl refl) p.shown;
   flag = p.flag;
 }
 
 stale : (w m : World) (job : JobContent) → AreAlike w m job → (i : ℕ) → IsStale w job.stream job.day i job.update
     → IsStale m job.stream job.day i job.update
 stale w m job s i p = record {
+  minutes = p.minutes;
+  of_day = λ length unit form. p.of_day length unit ((s.heads _ refl (inl refl)).1 form);
   update = p.update;
   reading = p.reading;
   held = (s.versions _ p.reading refl (inl refl)).0 p.held;

@@ -74,10 +74,10 @@ pub record IsStepOf (old new : World) (requests : List Request) (answers : List 
   pub step : Step before request answer after
   pub run_after : Run after later told_later new
 
--- a target of a job, with the job's update, flag, method and reason, and the value by its method in this World
+-- a target of a job, with the job's length, update, flag, method and reason, and the value by its method in this World
 abbrev pub IsOfJob : World → Job → Fact → Type 0
 IsOfJob w job (VersionIs key reading) =
-    (key.stream ≡ job.stream) × (key.day ≡ job.day) × (key.update ≡ job.update)
+    (key.stream ≡ job.stream) × (key.day ≡ job.day) × (key.length ≡ job.length) × (key.update ≡ job.update)
     × IsTarget (content_of job) key.interval × IsSubstitute w (content_of job) key.interval reading
 IsOfJob w job fact = ⊥
 

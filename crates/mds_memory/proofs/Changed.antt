@@ -14,16 +14,19 @@ use Rattle.std.proofs.lemmas.Option.{get_or_from_slice_get, slice_get_within}
 use Rattle.std.proofs.lemmas.Simd.{map-map}
 use Rattle.mds_quantity.specs.declared.unit.Unit.{Unit as MeasureUnit}
 use Rattle.mds_names.specs.declared.stream.Stream.{Stream}
+use Rattle.mds_marks.specs.Reading.{ReadingValue}
 use Rattle.mds_world.specs.declared.facts.Head.{Head}
+use Rattle.mds_world.specs.declared.facts.Key.{Key}
 use Rattle.mds_world.specs.declared.facts.StreamDay.{StreamDay}
-use Rattle.mds_world.specs.Facts.{Fact}
+use Rattle.mds_world.specs.Facts.{Fact, head_at, key_at}
 use Rattle.mds_world.specs.Facts.Fact.{HeadIs, VersionIs, DetailIs, EventIs, PeriodIs, HolidayIs, JobIs}
 use Rattle.mds_world.proofs.Lists.{append_left, append_right, in_map, map_in, member_append}
 use Rattle.mds_world.specs.Lists.{Member}
 use Rattle.mds_world.proofs.Members.{in_list, in_union, list_in, union_left, union_right}
 use Rattle.mds_world.specs.Sets.{◌∈◌}
 use Rattle.mds_world.specs.World.{IsLawful, IsOn, World, union}
-use Rattle.mds_keeper.specs.Books.{BookValue, IsDay, book_facts, book_world, head_facts, row_fact}
+use Rattle.mds_keeper.specs.Books.{BookValue, IsDay, book_facts, book_world, head_facts, row_fact, row_head}
+use Rattle.mds_keeper.proofs.BookFacts.{from_book, head_in_book, head_of_book, member_head}
 use Rattle.mds_keeper.specs.Content.{day_versions, rows_of, version_at, version_fact, versions_of}
 use Rattle.mds_memory.specs.Stored.{AreOfTheirDays, IsChange, days_world, last_number, place_cmp}
 use Rattle.mds_memory.specs.StoredSteps.{AreBooks, AreChanged, AreLawfulDays, GetsHead, Holds, rows_book}
@@ -130,21 +133,27 @@ pub changed_again : (w : World) (more : List Fact) (old new : Pending) (place : 
 changed_again w more old new place rows u ordered e a =
     changed_taken w more old new place rows u ordered (a.each place rows e tt) a
 
+-- the same of a day, where other facts are of other days
+holds_same : (w : World) (old new : List Fact) (place : StreamDay) (rows : Rows) → ((f : Fact) → Member f old → Member f new)
+    → ((f : Fact) → IsOn place.stream place.day f → Member f new → Member f old) → Holds w old place rows → Holds w new place rows
+holds_same w old new place rows to from h = record {
+  heads = λ head on k. h.heads head on (elim k [ inl a ↦ inl a | inr m ↦ inr (from (HeadIs head) on m) ]);
+  versions = λ key reading on k.
+      h.versions key reading on (elim k [ inl a ↦ inl a | inr m ↦ inr (from (VersionIs key reading) on m) ]);
+  only = λ f m. elim (h.only f m) [ inl k ↦ inl k | inr n ↦ inr (to f n) ];
+}
+
 pub changed_first : (w : World) (more : List Fact) (old new : Pending) (place : StreamDay) (rows : Rows)
     → ((q : StreamDay) → get place_cmp new q ≡ cond (is_eq (place_cmp place q)) None (get place_cmp old q))
     → IsOrdered place_cmp new → get place_cmp old place ≡ None → Holds w [] place rows → AreChanged w more old None
     → AreChanged w more new (Some (record { place = place; rows = rows }))
-changed_first w more old new place rows u ordered e h a = changed_taken w more old new place rows u ordered (record {
-  whole = λ f on known. elim known [
-    | inl k ↦ h.whole f on (inl k)
-    | inr m ↦ let r = a.all f m in elim r.2 [
+changed_first w more old new place rows u ordered e h a =
+    changed_taken w more old new place rows u ordered (holds_same w [] more place rows (λ f z. absurd z)
+    (λ f on m. let r = a.all f m in elim r.2 [
       | inl s ↦ let same : r.0 ≡ place = one_day r.0 place f r.1 on in
           let t : IsSome {T = Rows} None = subst IsSome e (subst (λ k. IsSome (get place_cmp old k)) same s) in absurd (none_there t)
       | inr z ↦ absurd z
-    ]
-  ];
-  only = λ f m. elim (h.only f m) [ inl k ↦ inl k | inr z ↦ absurd z ];
-}) a
+    ]) h) a
 
 -- more facts, of the day in hand
 pub changed_push : (w : World) (more facts : List Fact) (closed : Pending) (hand new : InHand)
@@ -152,16 +161,12 @@ pub changed_push : (w : World) (more facts : List Fact) (closed : Pending) (hand
     → ((f : Fact) → Member f facts → IsOn hand.place.stream hand.place.day f)
     → Holds w (more ++ facts) hand.place new.rows → AreChanged w (more ++ facts) closed (Some new)
 changed_push w more facts closed hand new a e on h = record {
-  each = λ q r g other. let was = a.each q r g (λ s. other (e ∙ s)) in record {
-    whole = λ x at known. elim known [
-      | inl k ↦ was.whole x at (inl k)
-      | inr m ↦ elim (member_append x more facts m) [
-        | inl n ↦ was.whole x at (inr n)
+  each = λ q r g other. holds_same w more (more ++ facts) q r (λ x n. append_left x more facts n)
+      (λ x at m. elim (member_append x more facts m) [
+        | inl n ↦ n
         | inr n ↦ absurd (other (e ∙ one_day hand.place q x (on x n) at))
-      ]
-    ];
-    only = λ x m. elim (was.only x m) [ inl k ↦ inl k | inr n ↦ inr (append_left x more facts n) ];
-  };
+      ])
+      (a.each q r g (λ s. other (e ∙ s)));
   hand = subst (λ k. Holds w (more ++ facts) k new.rows) (sym e) h;
   all = λ x m. elim (member_append x more facts m) [
     | inl n ↦ let r = a.all x n in (r.0, r.1, elim r.2 [ inl s ↦ inl s | inr s ↦ inr (e ∙ s) ])
@@ -171,18 +176,11 @@ changed_push w more facts closed hand new a e on h = record {
 }
 
 -- the same facts in another order
-holds_same : (w : World) (old new : List Fact) → ((f : Fact) → Member f old → Member f new)
-    → ((f : Fact) → Member f new → Member f old) → (place : StreamDay) (rows : Rows) → Holds w old place rows → Holds w new place rows
-holds_same w old new to from place rows h = record {
-  whole = λ f on k. h.whole f on (elim k [ inl a ↦ inl a | inr m ↦ inr (from f m) ]);
-  only = λ f m. elim (h.only f m) [ inl k ↦ inl k | inr n ↦ inr (to f n) ];
-}
-
 changed_same : (w : World) (old new : List Fact) (closed : Pending) (hand : InHand) → ((f : Fact) → Member f old → Member f new)
     → ((f : Fact) → Member f new → Member f old) → AreChanged w old closed (Some hand) → AreChanged w new closed (Some hand)
 changed_same w old new closed hand to from a = record {
-  each = λ place rows g o. holds_same w old new to from place rows (a.each place rows g o);
-  hand = holds_same w old new to from hand.place hand.rows a.hand;
+  each = λ place rows g o. holds_same w old new place rows to (λ f on. from f) (a.each place rows g o);
+  hand = holds_same w old new hand.place hand.rows to (λ f on. from f) a.hand;
   all = λ f m. a.all f (from f m);
   ordered = a.ordered;
 }
@@ -196,106 +194,80 @@ swapped a b c f m = elim (member_append f (a ++ b) c m) [
   | inr n ↦ append_left f (a ++ c) b (append_right f a c n)
 ]
 
-not_in_head : (stream : Stream) (day : ℕ) (head : Option (ℕ × MeasureUnit)) (f : Fact) → ((h : Head) → f ≡ HeadIs h → ⊥)
-    → Member f (head_facts stream day head) → ⊥
-not_in_head stream day None f n m = m
-not_in_head stream day (Some form) f n (inl e) = n _ e
-not_in_head stream day (Some form) f n (inr z) = z
+-- what is known of a day with one more head
+known_before : (w : World) (more : List Fact) (head : Head) (f : Fact) → (f ∈ w) ⊎ Member f (more ++ HeadIs head ∷ [])
+    → ((f ∈ w) ⊎ Member f more) ⊎ (f ≡ HeadIs head)
+known_before w more head f k = elim k [
+  | inl a ↦ inl (inl a)
+  | inr m ↦ elim (member_append f more (HeadIs head ∷ []) m) [
+    | inl n ↦ inl (inr n)
+    | inr n ↦ elim n [ inl s ↦ inr s | inr z ↦ absurd z ]
+  ]
+]
 
-holds_old : (w : World) (more : List Fact) (head : Head) (old new : Rows) (f : Fact)
-    → ((h : Head) → (HeadIs h ∈ w) ⊎ Member (HeadIs h) more → h.stream ≡ head.stream → h.day ≡ head.day → h ≡ head)
-    → Member (HeadIs head) (book_facts (rows_book (record { stream = head.stream; day = head.day }) new))
-    → (((x : Head) → f ≡ HeadIs x → ⊥) → Member f (book_facts (rows_book (record { stream = head.stream; day = head.day }) old))
-    → Member f (book_facts (rows_book (record { stream = head.stream; day = head.day }) new)))
-    → IsOn head.stream head.day f → (f ∈ w) ⊎ Member f more
-    → Member f (book_facts (rows_book (record { stream = head.stream; day = head.day }) old))
-    → Member f (book_facts (rows_book (record { stream = head.stream; day = head.day }) new))
-holds_old w more head old new (HeadIs x) one here stays on k m =
-    subst (λ h. Member (HeadIs h) (book_facts (rows_book (record { stream = head.stream; day = head.day }) new)))
-    (sym (one x k on.0 on.1)) here
-holds_old w more head old new (VersionIs key reading) one here stays on k m = stays (λ x e. cc) m
-holds_old w more head old new (DetailIs detail) one here stays on k m = absurd on
-holds_old w more head old new (EventIs event) one here stays on k m = absurd on
-holds_old w more head old new (PeriodIs key content) one here stays on k m = absurd on
-holds_old w more head old new (HolidayIs date) one here stays on k m = absurd on
-holds_old w more head old new (JobIs id content count) one here stays on k m = absurd on
+unit_of_head : (a b : Head) → HeadIs a ≡ HeadIs b → a.unit ≡ b.unit
+unit_of_head a b e = let same : a ≡ b = cc in ap (λ (h : Head). h.unit) same
+
+not_head : (key : Key) (reading : ReadingValue) (head : Head) → VersionIs key reading ≡ HeadIs head → ⊥
+not_head key reading head e = cc
+
+not_row : (stream : Stream) (day : ℕ) (head : Head) (row : ℕ × Version) → HeadIs head ≡ row_fact stream day row → ⊥
+not_row stream day head row e = cc
 
 -- What a day holds with one more head, that of the day, which agrees with what is known.
 pub holds_head : (w : World) (more : List Fact) (head : Head) (old new : Rows)
     → ((h : Head) → (HeadIs h ∈ w) ⊎ Member (HeadIs h) more → h.stream ≡ head.stream → h.day ≡ head.day → h ≡ head)
-    → new.head ≡ Some (head.length, head.unit) → new.rows ≡ old.rows
+    → new.unit ≡ Some head.unit → new.rows ≡ old.rows
     → Holds w more (record { stream = head.stream; day = head.day }) old
     → Holds w (more ++ HeadIs head ∷ []) (record { stream = head.stream; day = head.day }) new
 holds_head w more head old new one e v h =
-    let place : StreamDay = record { stream = head.stream; day = head.day } in
-    let goal : Option (ℕ × MeasureUnit) → Type 0 = λ o. Member (HeadIs head) (head_facts head.stream head.day o) in
-    let here : Member (HeadIs head) (book_facts (rows_book place new)) =
-    append_left (HeadIs head) (head_facts head.stream head.day new.head) _ (subst goal (sym e) (inl refl)) in
-    let stays : (f : Fact) → ((x : Head) → f ≡ HeadIs x → ⊥) → Member f (book_facts (rows_book place old)) → Member f (book_facts (rows_book place new)) =
-    λ f n m. elim (member_append f (head_facts head.stream head.day old.head) _ m) [
-      | inl a ↦ absurd (not_in_head head.stream head.day old.head f n a)
-      | inr b ↦ append_right f (head_facts head.stream head.day new.head) _ (subst (λ x. Member f (map (row_fact head.stream head.day) (rows_of x))) (sym v) b)
-    ] in
-    let known : (f : Fact) → (f ∈ w) ⊎ Member f (more ++ HeadIs head ∷ []) → ((f ∈ w) ⊎ Member f more) ⊎ (f ≡ HeadIs head) =
-    λ f k. elim k [
-      | inl a ↦ inl (inl a)
-      | inr m ↦ elim (member_append f more (HeadIs head ∷ []) m) [
-        | inl n ↦ inl (inr n)
-        | inr n ↦ elim n [ inl s ↦ inr s | inr z ↦ absurd z ]
-      ]
-    ] in
+    let same : rows_of new.rows ≡ rows_of old.rows = ap rows_of v in
     record {
-      whole = λ f on k. elim (known f k) [
-        | inl old_one ↦ holds_old w more head old new f one here (stays f) on old_one (h.whole f on old_one)
-        | inr s ↦ subst (λ x. Member x (book_facts (rows_book place new))) (sym s) here
+      heads = λ x on k. elim (known_before w more head (HeadIs x) k) [
+        | inl known ↦ e ∙ ap (λ (y : Head). Some y.unit) (sym (one x known on.0 on.1))
+        | inr s ↦ e ∙ ap Some (sym (unit_of_head x head s))
       ];
-      only = λ f m. elim (member_append f (head_facts head.stream head.day new.head) _ m) [
-        | inl a ↦ elim (subst (λ o. Member f (head_facts head.stream head.day o)) e a) [
-          | inl s ↦ inr (append_right f more (HeadIs head ∷ []) (inl s))
-          | inr z ↦ absurd z
-        ]
-        | inr b ↦ elim (h.only f (append_right f (head_facts head.stream head.day old.head) _ (subst (λ x. Member f (map (row_fact head.stream head.day) (rows_of x))) v b))) [
-          | inl k ↦ inl k
-          | inr n ↦ inr (append_left f more (HeadIs head ∷ []) n)
-        ]
+      versions = λ key reading on k. elim (known_before w more head (VersionIs key reading) k) [
+        | inl known ↦ subst (λ l. Member (VersionIs key reading) (map (row_fact head.stream head.day) l)) (sym same) (h.versions key reading on known)
+        | inr s ↦ absurd (not_head key reading head s)
+      ];
+      only = λ f m. elim (h.only f (subst (λ l. Member f (map (row_fact head.stream head.day) l)) same m)) [
+        | inl k ↦ inl k
+        | inr n ↦ inr (append_left f more (HeadIs head ∷ []) n)
       ];
     }
 
 -- the same with more versions of the day
 pub holds_versions : (w : World) (more : List Fact) (place : StreamDay) (rows : List (ℕ × Version)) (old new : Rows)
-    → new.head ≡ old.head → rows_of new.rows ≡ rows_of old.rows ++ rows
+    → new.unit ≡ old.unit → rows_of new.rows ≡ rows_of old.rows ++ rows
     → Holds w more place old → Holds w (more ++ map (row_fact place.stream place.day) rows) place new
 holds_versions w more place rows old new e v h =
     let g : ℕ × Version → Fact = row_fact place.stream place.day in
-    let put : (row : ℕ × Version) → Member row (rows_of old.rows ++ rows) → Member (g row) (book_facts (rows_book place new)) =
-    λ row m. append_right (g row) (head_facts place.stream place.day new.head) _
-    (map_in g (rows_of new.rows) row (subst (λ l. Member row l) (sym v) m)) in
-    let grown : (f : Fact) → Member f (book_facts (rows_book place old)) → Member f (book_facts (rows_book place new)) =
-    λ f m. elim (member_append f (head_facts place.stream place.day old.head) _ m) [
-      | inl a ↦ append_left f (head_facts place.stream place.day new.head) _ (subst (λ o. Member f (head_facts place.stream place.day o)) (sym e) a)
-      | inr b ↦ let r = in_map g (rows_of old.rows) f b in
-          subst (λ x. Member x (book_facts (rows_book place new))) (sym r.2) (put r.0 (append_left r.0 (rows_of old.rows) rows r.1))
-    ] in
+    let parts : map g (rows_of new.rows) ≡ map g (rows_of old.rows) ++ map g rows =
+    ap (map g) v ∙ map-append g (rows_of old.rows) rows in
     record {
-      whole = λ f on k. elim k [
-        | inl a ↦ grown f (h.whole f on (inl a))
-        | inr m ↦ elim (member_append f more (map g rows) m) [
-          | inl n ↦ grown f (h.whole f on (inr n))
-          | inr n ↦ let r = in_map g rows f n in
-              subst (λ x. Member x (book_facts (rows_book place new))) (sym r.2) (put r.0 (append_right r.0 (rows_of old.rows) rows r.1))
+      heads = λ x on k. e ∙ h.heads x on (elim k [
+        | inl a ↦ inl a
+        | inr m ↦ elim (member_append (HeadIs x) more (map g rows) m) [
+          | inl n ↦ inr n
+          | inr n ↦ let r = in_map g rows (HeadIs x) n in absurd (not_row place.stream place.day x r.0 r.2)
         ]
+      ]);
+      versions = λ key reading on k.
+          let f : Fact = VersionIs key reading in
+          let old_one : (f ∈ w) ⊎ Member f more → Member f (map g (rows_of old.rows) ++ map g rows) =
+          λ known. append_left f (map g (rows_of old.rows)) (map g rows) (h.versions key reading on known) in
+          subst (Member f) (sym parts) (elim k [
+            | inl a ↦ old_one (inl a)
+            | inr m ↦ elim (member_append f more (map g rows) m) [
+              | inl n ↦ old_one (inr n)
+              | inr n ↦ append_right f (map g (rows_of old.rows)) (map g rows) n
+            ]
+          ]);
+      only = λ f m. elim (member_append f (map g (rows_of old.rows)) (map g rows) (subst (Member f) parts m)) [
+        | inl n ↦ elim (h.only f n) [ inl k ↦ inl k | inr x ↦ inr (append_left f more (map g rows) x) ]
+        | inr n ↦ inr (append_right f more (map g rows) n)
       ];
-      only = λ f m.
-          let from : Member f (book_facts (rows_book place old)) → (f ∈ w) ⊎ Member f (more ++ map g rows) = λ n.
-          elim (h.only f n) [ inl k ↦ inl k | inr x ↦ inr (append_left f more (map g rows) x) ] in
-          elim (member_append f (head_facts place.stream place.day new.head) _ m) [
-            | inl a ↦ from (append_left f (head_facts place.stream place.day old.head) _ (subst (λ o. Member f (head_facts place.stream place.day o)) e a))
-            | inr b ↦ let r = in_map g (rows_of new.rows) f b in
-                elim (member_append r.0 (rows_of old.rows) rows (subst (λ l. Member r.0 l) v r.1)) [
-                  | inl n ↦ from (append_right f (head_facts place.stream place.day old.head) _ (subst (λ x. Member x (map g (rows_of old.rows))) (sym r.2) (map_in g (rows_of old.rows) r.0 n)))
-                  | inr n ↦ inr (append_right f more (map g rows) (subst (λ x. Member x (map g rows)) (sym r.2) (map_in g rows r.0 n)))
-                ]
-          ];
     }
 
 get_at : (closed : Pending) (place : StreamDay) (rows : Rows) → IsOrdered place_cmp closed → Member (place, rows) closed.entries
@@ -309,33 +281,87 @@ closed_holds : (w : World) (more : List Fact) (closed : Pending) → AreChanged 
     → Member (place, rows) closed.entries → Holds w more place rows
 closed_holds w more closed a place rows m = a.each place rows (get_at closed place rows a.ordered m _ refl) tt
 
-changed_day : (w : World) (more : List Fact) (closed : Pending) → AreChanged w more closed None
+length_of : (stream : Stream) (day : ℕ) (key : Key) (reading : ReadingValue) (row : ℕ × Version)
+    → VersionIs key reading ≡ row_fact stream day row → row.1.length ≡ key.length
+length_of stream day key reading row e =
+    let own : Key = key_at stream day row.1.length row.0 row.1.update in
+    let same : own ≡ key = cc in
+    ap (λ (k : Key). k.length) same
+
+-- in a lawful World each head has a version, which is a row, and each row has a head
+module _ (w : World) (more : List Fact) (place : StreamDay) (rows : Rows) (lawful : IsLawful (union w (set.from_list more)))
+    (h : Holds w more place rows) where
+  known_in : (f : Fact) → f ∈ union w (set.from_list more) → (f ∈ w) ⊎ Member f more
+  known_in f k = elim (in_union w (set.from_list more) f k) [ inl x ↦ inl x | inr x ↦ inr (in_list more f x) ]
+
+  in_known : (f : Fact) → (f ∈ w) ⊎ Member f more → f ∈ union w (set.from_list more)
+  in_known f k = elim k [
+    | inl x ↦ union_left w (set.from_list more) f x
+    | inr x ↦ union_right w (set.from_list more) f (list_in more f x)
+  ]
+
+  day_whole : (f : Fact) → IsOn place.stream place.day f → f ∈ union w (set.from_list more) → f ∈ book_world (rows_book place rows)
+  day_whole (HeadIs x) on k =
+      let unit = h.heads x on (known_in (HeadIs x) k) in
+      let v = lawful.closed.versioned x k in
+      let key : Key = key_at x.stream x.day x.length v.0 v.1 in
+      let r = in_map (row_fact place.stream place.day) (rows_of rows.rows) (VersionIs key v.2)
+      (h.versions key v.2 on (known_in (VersionIs key v.2) v.3)) in
+      let size = length_of place.stream place.day key v.2 r.0 r.2 in
+      subst (λ y. HeadIs y ∈ book_world (rows_book place rows)) (λ i. head_at (sym on.0 i) (sym on.1 i) (size i) x.unit)
+      (head_in_book (rows_book place rows) r.0 r.1 x.unit unit)
+  day_whole (VersionIs key reading) on k =
+      list_in (book_facts (rows_book place rows)) (VersionIs key reading)
+      (append_right (VersionIs key reading) (head_facts place.stream place.day rows.unit (rows_of rows.rows)) _
+      (h.versions key reading on (known_in (VersionIs key reading) k)))
+  day_whole (DetailIs detail) on k = absurd on
+  day_whole (EventIs event) on k = absurd on
+  day_whole (PeriodIs key content) on k = absurd on
+  day_whole (HolidayIs date) on k = absurd on
+  day_whole (JobIs id content count) on k = absurd on
+
+  -- the head of a row
+  row_headed : (unit : MeasureUnit) → rows.unit ≡ Some unit → (row : ℕ × Version) → Member row (rows_of rows.rows)
+      → row_head place.stream place.day unit row ∈ union w (set.from_list more)
+  row_headed unit e row m =
+      let version = in_known _ (h.only _ (map_in (row_fact place.stream place.day) (rows_of rows.rows) row m)) in
+      let g = lawful.closed.headed _ _ version in
+      let other = h.heads _ (refl, refl) (known_in _ g.1) in
+      let same : g.0 ≡ unit = one_unit g.0 unit rows.unit other e in
+      subst (λ u. row_head place.stream place.day u row ∈ union w (set.from_list more)) same g.1
+    where
+      one_unit : (a b : MeasureUnit) (o : Option MeasureUnit) → o ≡ Some a → o ≡ Some b → a ≡ b
+      one_unit a b o d e = let s : Some a ≡ Some b = sym d ∙ e in cc
+
+  day_only : (f : Fact) → f ∈ book_world (rows_book place rows) → f ∈ union w (set.from_list more)
+  day_only f k = elim (from_book (rows_book place rows) f k) [
+    | inl a ↦
+        let r = member_head place.stream place.day rows.unit (rows_of rows.rows) f a in
+        subst (λ x. x ∈ union w (set.from_list more)) (sym r.4) (row_headed r.0 r.1 r.2 r.3)
+    | inr b ↦
+        in_known f (h.only f (subst (λ x. Member x (map (row_fact place.stream place.day) (rows_of rows.rows))) (sym b.2)
+        (map_in (row_fact place.stream place.day) (rows_of rows.rows) b.0 b.1)))
+  ]
+
+changed_day : (w : World) (more : List Fact) (closed : Pending) → IsLawful (union w (set.from_list more)) → AreChanged w more closed None
     → (place : StreamDay) (rows : Rows) → Member (place, rows) closed.entries
     → IsDay (union w (set.from_list more)) (rows_book place rows)
-changed_day w more closed a place rows m =
+changed_day w more closed lawful a place rows m =
     let h = closed_holds w more closed a place rows m in
-    record {
-      whole = λ f on k. elim (in_union w (set.from_list more) f k) [
-        | inl x ↦ list_in _ f (h.whole f on (inl x))
-        | inr x ↦ list_in _ f (h.whole f on (inr (in_list more f x)))
-      ];
-      only = λ f k. elim (h.only f (in_list _ f k)) [
-        | inl x ↦ union_left w (set.from_list more) f x
-        | inr x ↦ union_right w (set.from_list more) f (list_in more f x)
-      ];
-    }
+    record { whole = day_whole w more place rows lawful h; only = day_only w more place rows lawful h }
 
 pub changed_lawful : (w : World) (more : List Fact) (closed : Pending) → IsLawful (union w (set.from_list more))
     → AreChanged w more closed None → AreLawfulDays closed
 changed_lawful w more closed lawful a =
-    λ place rows m. (union w (set.from_list more), lawful, changed_day w more closed a place rows m)
+    λ place rows m. (union w (set.from_list more), lawful, changed_day w more closed lawful a place rows m)
 
 pub changed_end : (w : World) (more : List Fact) (closed : Pending) (books : BTreeMap StreamDay BookValue)
-    → AreChanged w more closed None → AreBooks closed books → IsChange w (set.from_list more) books
-changed_end w more closed books a b = record {
+    → IsLawful (union w (set.from_list more)) → AreChanged w more closed None → AreBooks closed books
+    → IsChange w (set.from_list more) books
+changed_end w more closed books lawful a b = record {
   each = λ place book m f on.
       let r = b.each place book m in
-      let d = changed_day w more closed a place r.0 r.1 in (
+      let d = changed_day w more closed lawful a place r.0 r.1 in (
         (λ k. d.only f (subst (λ x. f ∈ x) r.2 k)),
         (λ k. subst (λ x. f ∈ x) (sym r.2) (d.whole f on k)),
       );
@@ -349,26 +375,41 @@ changed_end w more closed books a b = record {
 
 day_holds : (w : World) (place : StreamDay) (rows : Rows) → IsDay w (rows_book place rows) → Holds w [] place rows
 day_holds w place rows d = record {
-  whole = λ f on k. elim k [ inl a ↦ in_list _ f (d.whole f on a) | inr z ↦ absurd z ];
-  only = λ f m. inl (d.only f (list_in _ f m));
+  heads = λ head on k. elim k [
+    | inl a ↦ (head_of_book (rows_book place rows) head (d.whole (HeadIs head) on a)).2
+    | inr z ↦ absurd z
+  ];
+  versions = λ key reading on k. elim k [
+    | inl a ↦ elim (from_book (rows_book place rows) (VersionIs key reading) (d.whole (VersionIs key reading) on a)) [
+      | inl m ↦
+          let r = member_head place.stream place.day rows.unit (rows_of rows.rows) (VersionIs key reading) m in
+          absurd (not_head key reading (head_at place.stream place.day r.2.1.length r.0) r.4)
+      | inr m ↦
+          subst (λ f. Member f (map (row_fact place.stream place.day) (rows_of rows.rows))) (sym m.2)
+          (map_in (row_fact place.stream place.day) (rows_of rows.rows) m.0 m.1)
+    ]
+    | inr z ↦ absurd z
+  ];
+  only = λ f m. inl (d.only f (list_in (book_facts (rows_book place rows)) f
+      (append_right f (head_facts place.stream place.day rows.unit (rows_of rows.rows)) _ m)));
 }
 
 -- what is kept of a day, copied
 pub holds_kept : (days : BTreeMap StreamDay BookValue) (place : StreamDay) (book : BookValue) (rows : Rows)
-    → AreOfTheirDays days → lookup (is_at (place_cmp place)) days.entries ≡ Some book → rows.head ≡ book.head
+    → AreOfTheirDays days → lookup (is_at (place_cmp place)) days.entries ≡ Some book → rows.unit ≡ book.unit
     → rows_of rows.rows ≡ book.rows → Holds (days_world days) [] place rows
 holds_kept days place book rows t e h v =
     let at = day_there days place book t e in
     let same : book ≡ rows_book place rows =
-    λ i. record { stream = at.0 i; day = at.1 i; head = sym h i; rows = sym v i } in
+    λ i. record { stream = at.0 i; day = at.1 i; unit = sym h i; rows = sym v i } in
     day_holds (days_world days) place rows (subst (IsDay (days_world days)) same (day_found days place book t e))
 
 pub holds_none : (days : BTreeMap StreamDay BookValue) (place : StreamDay) (rows : Rows) → AreOfTheirDays days
-    → lookup (is_at (place_cmp place)) days.entries ≡ None → rows.head ≡ None → rows_of rows.rows ≡ []
+    → lookup (is_at (place_cmp place)) days.entries ≡ None → rows.unit ≡ None → rows_of rows.rows ≡ []
     → Holds (days_world days) [] place rows
 holds_none days place rows t e h v =
     let empty : book_world (rows_book place rows) ≡ set.empty =
-    λ i. book_world (record { stream = place.stream; day = place.day; head = h i; rows = v i }) in
+    λ i. book_world (record { stream = place.stream; day = place.day; unit = h i; rows = v i }) in
     day_holds (days_world days) place rows (day_unknown days place (rows_book place rows) t e (refl, refl) empty)
 
 -- Some of the days have become books: which are left, and the books.
@@ -494,7 +535,7 @@ pub head_put : (w : World) (heads : List Head) (days yielded rest : List DayVers
     (hand new : InHand) → IsLawful (union w (set.from_list (map HeadIs heads ++ map version_fact (versions_of days))))
     → yielded ++ rest ≡ days → slice_get heads n ≡ Some head → hand.place ≡ record { stream = head.stream; day = head.day }
     → AreChanged w (map HeadIs (take n heads) ++ map version_fact (versions_of yielded)) closed (Some hand) → new.place ≡ hand.place
-    → new.rows.head ≡ Some (head.length, head.unit) → new.rows.rows ≡ hand.rows.rows
+    → new.rows.unit ≡ Some head.unit → new.rows.rows ≡ hand.rows.rows
     → AreChanged w (map HeadIs (take (n + 1) heads) ++ map version_fact (versions_of yielded)) closed (Some new)
 head_put w heads days yielded rest n head closed hand new lawful split is at a p h v =
     let place : StreamDay = record { stream = head.stream; day = head.day } in
@@ -539,7 +580,7 @@ day_push yielded day =
 versions_pushed : (w : World) (front : List Fact) (yielded : List DayVersions) (day : DayVersions) (closed : Pending) (hand new : InHand)
     → hand.place ≡ record { stream = day.stream; day = day.day }
     → AreChanged w (front ++ map version_fact (versions_of yielded)) closed (Some hand) → new.place ≡ hand.place
-    → new.rows.head ≡ hand.rows.head → rows_of new.rows.rows ≡ rows_of hand.rows.rows ++ rows_of day.rows
+    → new.rows.unit ≡ hand.rows.unit → rows_of new.rows.rows ≡ rows_of hand.rows.rows ++ rows_of day.rows
     → AreChanged w (front ++ map version_fact (versions_of (yielded ++ day ∷ []))) closed (Some new)
 versions_pushed w front yielded day closed hand new at a p h v =
     let more : List Fact = front ++ map version_fact (versions_of yielded) in
@@ -563,7 +604,7 @@ pub day_put : (w : World) (heads : List Head) (days yielded rest : List DayVersi
     → yielded ++ day ∷ rest ≡ days → hand.place ≡ record { stream = day.stream; day = day.day }
     → AreChanged w (map HeadIs (take n heads) ++ map version_fact (versions_of yielded)) closed (Some hand)
     → GetsHead heads n (record { stream = day.stream; day = day.day }) hand.rows headed m → new.place ≡ hand.place
-    → new.rows.head ≡ headed.head → rows_of new.rows.rows ≡ rows_of headed.rows ++ rows_of day.rows
+    → new.rows.unit ≡ headed.unit → rows_of new.rows.rows ≡ rows_of headed.rows ++ rows_of day.rows
     → AreChanged w (map HeadIs (take m heads) ++ map version_fact (versions_of (yielded ++ day ∷ []))) closed (Some new)
 day_put w heads days yielded rest n m day closed hand headed new lawful split at a g p h v =
     let mid : InHand = record { place = hand.place; rows = headed } in

@@ -1,6 +1,6 @@
 -- The known days of a stream from a first to a last one.
 use Rattle.std.proofs.Common.{◌≡◌, ◌<◌, ◌≤◌, ℕ, true, false, List, [], ◌∷◌, map, refl, sym, ap, ◌∙◌, subst, inl, inr, arith}
-use Rattle.std.specs.Prelude.{Bool, cond, is_some, not}
+use Rattle.std.specs.Prelude.{Bool, cond, not}
 use Rattle.std.specs.BTreeMap.{IsOrdered}
 use Rattle.std.specs.BTreeMap.Range.{IsLeBy, entries_between, range_contains}
 use Rattle.std.specs.Cmp.{ranks, tied_itself}
@@ -19,7 +19,7 @@ use Rattle.mds_world.proofs.Sets.{both_and, split_and}
 use Rattle.mds_world.specs.World.{IsKnownDay}
 use Rattle.mds_keeper.specs.Books.{BookValue, IsDay}
 use Rattle.mds_keeper.specs.Queries.{AreDaysOf, stream_cmp}
-use Rattle.mds_memory.specs.Stored.{AreOfTheirDays, days_world, place_cmp}
+use Rattle.mds_memory.specs.Stored.{AreOfTheirDays, days_world, is_headed, place_cmp}
 use Rattle.mds_memory.proofs.Ascending as up
 use Rattle.mds_memory.proofs.Ascending.{Ascends}
 use Rattle.mds_memory.proofs.Places.{stream_exact, stream_total}
@@ -41,7 +41,7 @@ between days stream first last =
 
 -- what an entry gives to a list of known days
 abbrev pub known_at : Entry → List BookValue
-known_at e = cond (is_some e.1.head) (e.1 ∷ []) []
+known_at e = cond (is_headed e.1) (e.1 ∷ []) []
 
 -- any entry is of the kind
 abbrev pub IsAny : Entry → Type 0
@@ -129,22 +129,22 @@ between_in days stream first last e m s f l =
     up.filter_in (λ x. range_contains place_cmp (Included (place stream first)) (Included (place stream last)) x.0)
     days.entries e m (is_between stream first last e.0 s f l)
 
-at_entry : (e : Entry) (b : BookValue) → Member b (known_at e) → (b ≡ e.1) × (is_some e.1.head ≡ true)
-at_entry e b m = by (is_some e.1.head) refl m
+at_entry : (e : Entry) (b : BookValue) → Member b (known_at e) → (b ≡ e.1) × (is_headed e.1 ≡ true)
+at_entry e b m = by (is_headed e.1) refl m
   where
-    by : (known : Bool) → is_some e.1.head ≡ known → Member b (cond known (e.1 ∷ []) []) → (b ≡ e.1) × (is_some e.1.head ≡ true)
+    by : (known : Bool) → is_headed e.1 ≡ known → Member b (cond known (e.1 ∷ []) []) → (b ≡ e.1) × (is_headed e.1 ≡ true)
     by true is (inl q) = (q, is)
     by true is (inr z) = absurd z
     by false is z = absurd z
 
-of_known : (e : Entry) → is_some e.1.head ≡ true → Member e.1 (known_at e)
+of_known : (e : Entry) → is_headed e.1 ≡ true → Member e.1 (known_at e)
 of_known e is = subst (λ known. Member e.1 (cond known (e.1 ∷ []) [])) (sym is) (inl refl)
 
 abbrev by_day : BookValue → BookValue → Ordering
 by_day a b = nat_cmp a.day b.day
 
 one_ascends : (e : Entry) → Ascends by_day (known_at e)
-one_ascends e = by (is_some e.1.head)
+one_ascends e = by (is_headed e.1)
   where
     by : (known : Bool) → Ascends by_day (cond known (e.1 ∷ []) [])
     by true = ((λ q m. absurd m), tt)
@@ -168,9 +168,9 @@ in_stream stream a b p q =
 
 -- an entry that has a head is of a known day
 pub is_known : (days : Kept) (stream : Stream) (day : ℕ) (e : Entry) → AreOfTheirDays days → Member e days.entries
-    → e.0.stream ≡ stream → e.0.day ≡ day → is_some e.1.head ≡ true → IsKnownDay (days_world days) stream day
+    → e.0.stream ≡ stream → e.0.day ≡ day → is_headed e.1 ≡ true → IsKnownDay (days_world days) stream day
 is_known days stream day e t m s d some =
-    let h = head_there e.1.stream e.1.day e.1.head some in
+    let h = head_there e.1.stream e.1.day e.1.unit e.1.rows some in
     let there = append_left (HeadIs h.0) _ _ h.1 in
     let on = fact_on e.1 (HeadIs h.0) there in
     let at = t.theirs e.0 e.1 m in
@@ -178,7 +178,7 @@ is_known days stream day e t m s d some =
 
 -- and each known day has one
 pub known_entry : (days : Kept) (stream : Stream) (day : ℕ) → AreOfTheirDays days → IsKnownDay (days_world days) stream day
-    → (e : Entry) × Member e days.entries × (e.0.stream ≡ stream) × (e.0.day ≡ day) × (is_some e.1.head ≡ true)
+    → (e : Entry) × Member e days.entries × (e.0.stream ≡ stream) × (e.0.day ≡ day) × (is_headed e.1 ≡ true)
 known_entry days stream day t k =
     let r = in_days days (HeadIs k.0) k.1 in
     let at = t.theirs r.0.0 r.0.1 r.1 in
@@ -193,7 +193,7 @@ days_done days stream first last books left t so e =
     let taken : books ≡ flat_map known_at all =
     so.taken ∙ ap (flat_map known_at) (sym (nothing_left so.seen left e) ∙ so.run) in
     let from_entry : (b : BookValue) → Member b books
-    → (f : Entry) × Member f all × (b ≡ f.1) × (is_some f.1.head ≡ true) = λ b m.
+    → (f : Entry) × Member f all × (b ≡ f.1) × (is_headed f.1 ≡ true) = λ b m.
     let r = in_flat known_at all b (subst (Member b) taken m) in
     let p = at_entry r.0 b r.2 in
     (r.0, r.1, p.0, p.1) in

@@ -13,7 +13,7 @@ use Rattle.mds_terms.specs.Event.{EventValue}
 use Rattle.mds_world.specs.declared.facts.Detail.{Detail}
 use Rattle.mds_world.specs.Current.{IsCurrentDetails, IsUpto}
 use Rattle.mds_world.specs.FactOrder.{exact, total}
-use Rattle.mds_world.specs.Facts.{Fact, JobContent, PeriodContent}
+use Rattle.mds_world.specs.Facts.{Fact, JobContent, PeriodContent, key_at}
 use Rattle.mds_world.specs.Facts.Fact.{HeadIs, VersionIs, DetailIs, EventIs, PeriodIs, HolidayIs, JobIs}
 use Rattle.mds_world.proofs.Lawful.{agrees_within}
 use Rattle.mds_world.proofs.Lists.{append_left, append_right, in_map, map_in, member_append}
@@ -21,10 +21,10 @@ use Rattle.mds_world.specs.Lists.{Apart, Member}
 use Rattle.mds_world.proofs.Members.{in_list, in_union, list_in, same_by, union_left, union_right}
 use Rattle.mds_world.proofs.Sets.{not_in_empty}
 use Rattle.mds_world.specs.Sets.{◌∈◌}
-use Rattle.mds_world.specs.World.{Agrees, IsKnownDay, IsLawful, IsOn, World, union}
+use Rattle.mds_world.specs.World.{Agrees, IsKnownDay, IsLawful, IsOn, World, head_over, union}
 use Rattle.mds_keeper.specs.Books.{BookValue, IsDay}
 use Rattle.mds_keeper.specs.Content.{AreNew, content, content_facts, detail_on, details_of, job_fact, period_fact, version_fact, versions_of}
-use Rattle.mds_keeper.specs.Queries.{AreDaysOf, AreDaysWithout, AreEventsOf, AreHolidays, ArePeriodsOf, IsContentOf, IsJobOf, IsLastDayOf}
+use Rattle.mds_keeper.specs.Queries.{AreDaysOf, AreDaysWithout, AreDetailsBetween, AreEventsOf, AreHolidays, ArePeriodsOf, IsContentOf, IsJobOf, IsLastDayOf}
 use Rattle.mds_memory.specs.Stored.{IsStored, days_world, id_cmp, jobs_world, key_cmp, note_fact, notes_world, periods_world, place_cmp, stored_world}
 use Rattle.mds_keeper.specs.declared.additions.Additions.{Additions}
 use Rattle.mds_keeper.specs.declared.additions.DetailDays.{DetailDays}
@@ -285,6 +285,16 @@ details_of_all days meters notes jobs periods stream day details (inl g) = inl (
 details_of_all days meters notes jobs periods stream day details (inr n) =
     inr ((λ other is. n.0 other ((upto_same days meters notes jobs periods stream day other).1 is)), n.1)
 
+pub between_of_all : (days : Kept) (meters : Meters) (notes : BTreeSet Note) (jobs : Jobs) (periods : Periods) (stream : Stream)
+    (first last : ℕ) (rows : List (ℕ × DetailsValue)) → AreDetailsBetween (details_world meters) stream first last rows
+    → AreDetailsBetween (stored_world days meters notes jobs periods) stream first last rows
+between_of_all days meters notes jobs periods stream first last rows are = record {
+  each = λ row m.
+      let r = are.each row m in (r.0, r.1, details_of_all days meters notes jobs periods stream row.0 row.1 r.2);
+  all = λ detail h. are.all detail ((detail_same days meters notes jobs periods detail).1 h);
+  ascending = are.ascending;
+}
+
 pub without_of_all : (days : Kept) (meters : Meters) (notes : BTreeSet Note) (jobs : Jobs) (periods : Periods)
     (group : DetailDays) (left : List ℕ) → AreDaysWithout (details_world meters) group left
     → AreDaysWithout (stored_world days meters notes jobs periods) group left
@@ -471,9 +481,13 @@ lawful_part w part sub back law = record {
   one_job = λ id a b m n x y. law.one_job id a b m n (sub _ x) (sub _ y);
   closed = record {
     headed = λ key reading x. let h = law.closed.headed key reading (sub _ x) in
-        (h.0, back h.0.stream h.0.day (HeadIs h.0) (refl, refl) h.1, h.2, h.3, h.4, h.5);
-    versioned = λ head x. let v = law.closed.versioned head (sub _ x) in
-        (v.0, v.1, back v.0.stream v.0.day (VersionIs v.0 v.1) (refl, refl) v.2, v.3, v.4);
+        (h.0, back key.stream key.day (HeadIs (head_over key h.0)) (refl, refl) h.1, h.2, h.3);
+    versioned = λ head x. let v = law.closed.versioned head (sub _ x) in (
+      v.0,
+      v.1,
+      v.2,
+      back head.stream head.day (VersionIs (key_at head.stream head.day head.length v.0 v.1) v.2) (refl, refl) v.3,
+    );
     detailed = λ detail x. let k = law.closed.detailed detail (sub _ x) in
         (k.0, back k.0.stream k.0.day (HeadIs k.0) (refl, refl) k.1, k.2, k.3);
   };

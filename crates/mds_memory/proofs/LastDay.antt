@@ -1,13 +1,12 @@
 -- The last known day of a stream: that of the last of its entries that has a head.
 use Rattle.std.proofs.Common.{◌≡◌, ℕ, true, false, List, [], ◌∷◌, ◌++◌, None, Some, sym, ◌∙◌, subst, inl, inr, refl, arith}
 use Rattle.std.proofs.lemmas.List.{append-nil}
-use Rattle.std.specs.Prelude.{is_some}
 use Rattle.mds_names.specs.declared.stream.Stream.{Stream}
 use Rattle.mds_world.proofs.Lists.{append_right, member_append}
 use Rattle.mds_world.specs.Lists.{Member}
 use Rattle.mds_world.specs.World.{IsKnownDay}
 use Rattle.mds_keeper.specs.Queries.{IsLastDayOf}
-use Rattle.mds_memory.specs.Stored.{AreOfTheirDays, days_world, last_number, place_cmp}
+use Rattle.mds_memory.specs.Stored.{AreOfTheirDays, days_world, is_headed, last_number, place_cmp}
 use Rattle.mds_memory.proofs.Ascending as up
 use Rattle.mds_memory.proofs.Ascending.{Ascends}
 use Rattle.mds_memory.proofs.DaysBetween.{Entry, between, between_ascends, between_in, in_between, in_stream, is_known, known_entry, less_means}
@@ -23,7 +22,7 @@ module _ (days : Kept) (stream : Stream) where
   pub record IsWalked (left : List Entry) : Type 0 where
     pub behind : List Entry
     pub whole : left ++ behind ≡ all
-    pub none : (e : Entry) → Member e behind → is_some e.1.head ≡ true → ⊥
+    pub none : (e : Entry) → Member e behind → is_headed e.1 ≡ true → ⊥
 
   pub begin : (left : List Entry) → left ≡ all → IsWalked left
   begin left e = record {
@@ -32,13 +31,13 @@ module _ (days : Kept) (stream : Stream) where
     none = λ x m. absurd m;
   }
 
-  pub step : (left rest : List Entry) (e : Entry) → IsWalked left → left ≡ rest ++ e ∷ [] → false ≡ is_some e.1.head
+  pub step : (left rest : List Entry) (e : Entry) → IsWalked left → left ≡ rest ++ e ∷ [] → false ≡ is_headed e.1
       → IsWalked rest
   step left rest e so next bare = record {
     behind = e ∷ so.behind;
     whole = sym (across_push rest e so.behind) ∙ subst (λ l. l ++ so.behind ≡ all) next so.whole;
     none = λ x m. elim m [
-      | inl i ↦ λ some. let h : is_some x.1.head ≡ is_some e.1.head = λ k. is_some (i k).1.head in cc
+      | inl i ↦ λ some. let h : is_headed x.1 ≡ is_headed e.1 = λ k. is_headed (i k).1 in cc
       | inr n ↦ so.none x n
     ];
   }
@@ -46,12 +45,12 @@ module _ (days : Kept) (stream : Stream) where
   module _ (theirs : AreOfTheirDays days) where
     -- a known day is that of an entry with a head
     known_in : (day : ℕ) → IsKnownDay (days_world days) stream day
-        → (e : Entry) × Member e all × (e.0.stream ≡ stream) × (e.0.day ≡ day) × (is_some e.1.head ≡ true)
+        → (e : Entry) × Member e all × (e.0.stream ≡ stream) × (e.0.day ≡ day) × (is_headed e.1 ≡ true)
     known_in day k =
         let r = known_entry days stream day theirs k in
         (r.0, between_in days stream 0 last_number r.0 r.1 r.2 (omega arith) (theirs.early r.0.0 r.0.1 r.1), r.2, r.3, r.4)
 
-    pub found : (left rest : List Entry) (e : Entry) → IsWalked left → left ≡ rest ++ e ∷ [] → true ≡ is_some e.1.head
+    pub found : (left rest : List Entry) (e : Entry) → IsWalked left → left ≡ rest ++ e ∷ [] → true ≡ is_headed e.1
         → IsLastDayOf (days_world days) stream (Some e.0.day)
     found left rest e so next some =
         let parts : rest ++ e ∷ so.behind ≡ all =

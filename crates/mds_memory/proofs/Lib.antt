@@ -3,6 +3,7 @@ pub mod Changed
 pub mod CurrentDetails
 pub mod DaysBetween
 pub mod DaysWithout
+pub mod DetailsBetween
 pub mod Entries
 pub mod FirstNotes
 pub mod Keys

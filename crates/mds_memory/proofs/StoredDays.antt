@@ -19,6 +19,7 @@ use Rattle.mds_world.proofs.Sets.{not_in_empty}
 use Rattle.mds_world.specs.Sets.{◌∈◌}
 use Rattle.mds_world.specs.World.{IsLawful, IsOn, World, union}
 use Rattle.mds_keeper.specs.Books.{BookValue, IsDay, book_facts, book_world, head_facts, row_fact}
+use Rattle.mds_keeper.proofs.BookFacts.{member_head}
 use Rattle.mds_memory.specs.Stored.{AreOfTheirDays, HasRoom, IsChange, days_world, last_number, place_cmp}
 use Rattle.mds_keeper.specs.declared.day_book.Version.{Version}
 use Rattle.mds_memory.proofs.Places.{found_in, insert_here, insert_only, insert_other, not_absent, one_entry}
@@ -26,16 +27,14 @@ use Rattle.mds_memory.proofs.Places.{found_in, insert_here, insert_only, insert_
 abbrev pub Kept : Type 0
 Kept = BTreeMap StreamDay BookValue
 
-head_on : (stream : Stream) (day : ℕ) (head : Option (ℕ × MeasureUnit)) (f : Fact)
-    → Member f (head_facts stream day head) → IsOn stream day f
-head_on stream day None f m = absurd m
-head_on stream day (Some form) f (inl e) = subst (IsOn stream day) (sym e) (refl, refl)
-head_on stream day (Some form) f (inr z) = absurd z
+head_on : (stream : Stream) (day : ℕ) (unit : Option MeasureUnit) (rows : List (ℕ × Version)) (f : Fact)
+    → Member f (head_facts stream day unit rows) → IsOn stream day f
+head_on stream day unit rows f m = let r = member_head stream day unit rows f m in subst (IsOn stream day) (sym r.4) (refl, refl)
 
 -- all that a book says is on its day
 pub fact_on : (book : BookValue) (f : Fact) → Member f (book_facts book) → IsOn book.stream book.day f
-fact_on book f m = elim (member_append f (head_facts book.stream book.day book.head) _ m) [
-  | inl a ↦ head_on book.stream book.day book.head f a
+fact_on book f m = elim (member_append f (head_facts book.stream book.day book.unit book.rows) _ m) [
+  | inl a ↦ head_on book.stream book.day book.unit book.rows f a
   | inr b ↦ let r = in_map (row_fact book.stream book.day) book.rows f b in
       subst (IsOn book.stream book.day) (sym r.2) (refl, refl)
 ]
@@ -179,7 +178,7 @@ nothing_lawful = record {
 }
 
 abbrev pub bare : Stream → ℕ → List (ℕ × Version) → BookValue
-bare stream day rows = record { stream = stream; day = day; head = None; rows = rows }
+bare stream day rows = record { stream = stream; day = day; unit = None; rows = rows }
 
 pub bare_is : (stream : Stream) (day : ℕ) (rows : List (ℕ × Version)) → rows ≡ []
     → ((w : World) → IsLawful w → IsDay w (bare stream day rows) → ⊥) → ⊥

@@ -18,9 +18,10 @@ use Rattle.mds_statements.specs.declared.periods.PeriodKey.{PeriodKey}
 use Rattle.mds_world.specs.Facts.Fact.{HeadIs}
 use Rattle.mds_world.proofs.Lists.{append_left, append_right, in_map, member_append}
 use Rattle.mds_world.specs.Lists.{Member}
+use Rattle.mds_keeper.specs.BookRows.{IsFormOfRows, unit_of}
 use Rattle.mds_keeper.specs.Books.{BookValue, book_facts, head_facts, row_fact}
 use Rattle.mds_keeper.specs.Queries.{AreKnownStreams, stream_cmp}
-use Rattle.mds_memory.specs.Stored.{AreHeadStreams, AreOfTheirDays, ArePeriodStreams, days_world, key_cmp, periods_world, place_cmp, stored_world}
+use Rattle.mds_memory.specs.Stored.{AreHeadStreams, AreOfTheirDays, ArePeriodStreams, days_world, says_head, is_headed, key_cmp, periods_world, place_cmp, stored_world}
 use Rattle.mds_memory.specs.StoredNotes.{IsAtEnd, PutsLast}
 use Rattle.mds_keeper.specs.declared.day_book.Version.{Version}
 use Rattle.mds_memory.specs.declared.stored_notes.Note.{Note}
@@ -162,7 +163,7 @@ abbrev stream_at : StreamDay × BookValue → Stream
 stream_at e = e.0.stream
 
 abbrev is_known : StreamDay × BookValue → Bool
-is_known e = is_some e.1.head
+is_known e = is_headed e.1
 
 abbrev pub IsHeadRun : Kept → List Stream → List (StreamDay × BookValue) → Type 0
 IsHeadRun days streams left = IsStreamRun stream_at is_known days.entries streams left
@@ -172,37 +173,51 @@ pub heads_begin : (days : Kept) (streams : List Stream) (left : List (StreamDay 
 heads_begin days streams left none all = begin stream_at is_known days.entries left streams none all
 
 pub without_head : (days : Kept) (streams : List Stream) (left rest : List (StreamDay × BookValue)) (place : StreamDay)
-    (book : BookValue) → IsHeadRun days streams left → left ≡ (place, book) ∷ rest → false ≡ is_some book.head
+    (book : BookValue) → IsHeadRun days streams left → left ≡ (place, book) ∷ rest → false ≡ is_headed book
     → IsHeadRun days streams rest
 without_head days streams left rest place book so next none =
     pass stream_at is_known days.entries left rest streams (place, book) so next none
 
 pub with_head : (days : Kept) (old new : List Stream) (left rest : List (StreamDay × BookValue)) (place : StreamDay)
     (book : BookValue) → IsOrdered place_cmp days → IsHeadRun days old left → left ≡ (place, book) ∷ rest
-    → true ≡ is_some book.head → PutsLast place.stream old new → IsHeadRun days new rest
+    → true ≡ is_headed book → PutsLast place.stream old new → IsHeadRun days new rest
 with_head days old new left rest place book o so next some puts =
     put stream_at is_known (λ e f. place_cmp e.0 f.0)
     (λ e f below. first_not_gt (stream_cmp e.0.stream f.0.stream) _ (less_not_gt _ below))
     days.entries left rest old new (place, book)
     (entries_ascend place_cmp days.entries (up.from_sorted place_cmp (keys_of days.entries) o)) so next some puts
 
-pub head_there : (stream : Stream) (day : ℕ) (head : Option (ℕ × MeasureUnit)) → is_some head ≡ true
-    → (h : Head) × Member (HeadIs h) (head_facts stream day head) × (h.stream ≡ stream)
-head_there stream day None e = cc
-head_there stream day (Some form) e =
-    (head_at stream day form.0 form.1, inl refl, refl)
+-- a day's form tells whether the book says a head
+pub head_told : (book : BookValue) (form : Option (ℕ × MeasureUnit)) → unit_of form ≡ book.unit → IsFormOfRows form book.rows
+    → is_some form ≡ is_headed book
+head_told book form e is = by book.unit book.rows form e is
+  where
+    by : (unit : Option MeasureUnit) (rows : List (ℕ × Version)) (form : Option (ℕ × MeasureUnit)) → unit_of form ≡ unit
+        → IsFormOfRows form rows → is_some form ≡ says_head unit rows
+    by None rows None e is = refl
+    by (Some unit) rows None e is = cc
+    by unit [] (Some form) e is = absurd is.1
+    by None (row ∷ rows) (Some form) e is = cc
+    by (Some unit) (row ∷ rows) (Some form) e is = refl
 
-some_head : (stream : Stream) (day : ℕ) (head : Option (ℕ × MeasureUnit)) (f : Fact)
-    → Member f (head_facts stream day head) → is_some head ≡ true
-some_head stream day None f m = absurd m
-some_head stream day (Some form) f m = refl
+pub head_there : (stream : Stream) (day : ℕ) (unit : Option MeasureUnit) (rows : List (ℕ × Version)) → says_head unit rows ≡ true
+    → (h : Head) × Member (HeadIs h) (head_facts stream day unit rows) × (h.stream ≡ stream)
+head_there stream day None rows e = cc
+head_there stream day (Some unit) [] e = cc
+head_there stream day (Some unit) (row ∷ rows) e = (head_at stream day row.1.length unit, inl refl, refl)
+
+some_head : (stream : Stream) (day : ℕ) (unit : Option MeasureUnit) (rows : List (ℕ × Version)) (f : Fact)
+    → Member f (head_facts stream day unit rows) → says_head unit rows ≡ true
+some_head stream day None rows f m = absurd m
+some_head stream day (Some unit) [] f m = absurd m
+some_head stream day (Some unit) (row ∷ rows) f m = refl
 
 no_row : (stream : Stream) (day : ℕ) (h : Head) (row : ℕ × Version) → HeadIs h ≡ row_fact stream day row → ⊥
 no_row stream day h row e = cc
 
-pub has_head : (book : BookValue) (h : Head) → Member (HeadIs h) (book_facts book) → is_some book.head ≡ true
-has_head book h m = elim (member_append (HeadIs h) (head_facts book.stream book.day book.head) _ m) [
-  | inl a ↦ some_head book.stream book.day book.head (HeadIs h) a
+pub has_head : (book : BookValue) (h : Head) → Member (HeadIs h) (book_facts book) → is_headed book ≡ true
+has_head book h m = elim (member_append (HeadIs h) (head_facts book.stream book.day book.unit book.rows) _ m) [
+  | inl a ↦ some_head book.stream book.day book.unit book.rows (HeadIs h) a
   | inr b ↦
       let r = in_map (row_fact book.stream book.day) book.rows (HeadIs h) b in
       absurd (no_row book.stream book.day h r.0 r.2)
@@ -216,7 +231,7 @@ heads_done days streams left t so e =
       each = λ s. (
         (λ m.
             let h = (all s).0 m in
-            let r = head_there h.0.1.stream h.0.1.day h.0.1.head h.3 in (
+            let r = head_there h.0.1.stream h.0.1.day h.0.1.unit h.0.1.rows h.3 in (
               r.0,
               days_in days (HeadIs r.0) h.0 h.1 (append_left (HeadIs r.0) _ _ r.1),
               r.2 ∙ (t.theirs h.0.0 h.0.1 h.1).0 ∙ h.2,

@@ -1,5 +1,5 @@
 -- What a keeper in memory keeps, as a World.
-use Rattle.std.specs.Prelude.{◌≡◌, ◌↔◌, ◌≤◌, ℕ, List, [], ◌∷◌, Option, Some, None, map}
+use Rattle.std.specs.Prelude.{◌≡◌, ◌↔◌, ◌≤◌, ℕ, Bool, false, true, List, [], ◌∷◌, Option, Some, None, map}
 use Rattle.std.specs.List.{flat_map, AllPairs}
 use Rattle.std.specs.BTreeMap.{BTreeMap, IsOrdered}
 use Rattle.std.specs.BTreeSet.{BTreeSet}
@@ -9,6 +9,7 @@ use Rattle.std.specs.declared.cmp.Ordering.{Ordering}
 use Rattle.std.specs.declared.cmp.Ordering.TheVariants.{Less}
 use Rattle.mds_jobs.specs.contracts.job_id.JobIdOrd.TheImpl as id_ord
 use Rattle.mds_jobs.specs.declared.job.Job.{Job}
+use Rattle.mds_quantity.specs.declared.unit.Unit.{Unit as MeasureUnit}
 use Rattle.mds_names.specs.declared.stream.Stream.{Stream}
 use Rattle.mds_statements.specs.declared.periods.Period.{Period}
 use Rattle.mds_statements.specs.declared.periods.PeriodKey.{PeriodKey}
@@ -21,6 +22,7 @@ use Rattle.mds_world.specs.Sets.{◌∈◌}
 use Rattle.mds_world.specs.World.{IsLawful, IsOn, World, union}
 use Rattle.mds_keeper.specs.Books.{BookValue, book_facts, book_world}
 use Rattle.mds_keeper.specs.Content.{job_fact}
+use Rattle.mds_keeper.specs.declared.day_book.Version.{Version}
 use Rattle.mds_keeper.specs.Queries.{period_cmp, stream_cmp}
 use Rattle.mds_memory.specs.StoredDetails.{details_world}
 use Rattle.mds_memory.specs.declared.stored_details.MeterDetails.{MeterDetails}
@@ -36,6 +38,16 @@ notes_world notes = set.from_list (map note_fact notes.keys)
 
 abbrev pub days_world : BTreeMap StreamDay BookValue → World
 days_world days = set.from_list (flat_map (λ entry. book_facts entry.1) days.entries)
+
+-- whether a day with this unit and these rows says a head
+abbrev pub says_head : Option MeasureUnit → List (ℕ × Version) → Bool
+says_head None rows = false
+says_head (Some unit) [] = false
+says_head (Some unit) (row ∷ rows) = true
+
+-- whether a book says one
+abbrev pub is_headed : BookValue → Bool
+is_headed book = says_head book.unit book.rows
 
 -- a place without a job stands for nothing
 abbrev pub kept_facts : Option (Job × ℕ) → List Fact

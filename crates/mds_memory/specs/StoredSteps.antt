@@ -1,14 +1,17 @@
 -- What days will hold while heads and versions are added to them.
-use Rattle.std.specs.Prelude.{◌≡◌, ◌+◌, ◌⊎◌, ℕ, List, Option, Some, None, IfSome, IsSome}
+use Rattle.std.specs.Prelude.{◌≡◌, ◌+◌, ◌⊎◌, ℕ, List, Option, Some, None, IfSome, IsSome, map}
 use Rattle.std.specs.List.{slice_get}
 use Rattle.std.specs.BTreeMap.{BTreeMap, IsOrdered, get}
+use Rattle.mds_marks.specs.Reading.{ReadingValue}
 use Rattle.mds_world.specs.declared.facts.Head.{Head}
+use Rattle.mds_world.specs.declared.facts.Key.{Key}
 use Rattle.mds_world.specs.declared.facts.StreamDay.{StreamDay}
 use Rattle.mds_world.specs.Facts.{Fact}
+use Rattle.mds_world.specs.Facts.Fact.{HeadIs, VersionIs}
 use Rattle.mds_world.specs.Lists.{Member}
 use Rattle.mds_world.specs.Sets.{◌∈◌}
 use Rattle.mds_world.specs.World.{IsLawful, IsOn, World}
-use Rattle.mds_keeper.specs.Books.{BookValue, IsDay, book_facts, book_world}
+use Rattle.mds_keeper.specs.Books.{BookValue, IsDay, book_world, row_fact}
 use Rattle.mds_keeper.specs.Content.{rows_of}
 use Rattle.mds_memory.specs.Stored.{place_cmp}
 use Rattle.mds_memory.specs.declared.stored_days.InHand.{InHand}
@@ -18,22 +21,25 @@ abbrev pub rows_book : StreamDay → Rows → BookValue
 rows_book place rows = record {
   stream = place.stream;
   day = place.day;
-  head = rows.head;
+  unit = rows.unit;
   rows = rows_of rows.rows;
 }
 
--- just what a World and more facts say of the day
+-- What a World and more facts say of the day: its versions are just those of the rows, and each head has their unit.
 pub record Holds (w : World) (more : List Fact) (place : StreamDay) (rows : Rows) : Type 0 where
-  pub whole : (f : Fact) → IsOn place.stream place.day f → (f ∈ w) ⊎ Member f more
-      → Member f (book_facts (rows_book place rows))
-  pub only : (f : Fact) → Member f (book_facts (rows_book place rows)) → (f ∈ w) ⊎ Member f more
+  pub heads : (head : Head) → IsOn place.stream place.day (HeadIs head) → (HeadIs head ∈ w) ⊎ Member (HeadIs head) more
+      → rows.unit ≡ Some head.unit
+  pub versions : (key : Key) (reading : ReadingValue) → IsOn place.stream place.day (VersionIs key reading)
+      → (VersionIs key reading ∈ w) ⊎ Member (VersionIs key reading) more
+      → Member (VersionIs key reading) (map (row_fact place.stream place.day) (rows_of rows.rows))
+  pub only : (f : Fact) → Member f (map (row_fact place.stream place.day) (rows_of rows.rows)) → (f ∈ w) ⊎ Member f more
 
 -- The head at a place among heads joins what a day will hold, or it isn't of that day. The last is the place of the next head.
 abbrev pub GetsHead : List Head → ℕ → StreamDay → Rows → Rows → ℕ → Type 0
 GetsHead heads at place old new next =
     ((new ≡ old) × (next ≡ at))
     ⊎ ((head : Head) × (slice_get heads at ≡ Some head) × (place ≡ record { stream = head.stream; day = head.day })
-    × (new.head ≡ Some (head.length, head.unit)) × (new.rows ≡ old.rows) × (next ≡ at + 1))
+    × (new.unit ≡ Some head.unit) × (new.rows ≡ old.rows) × (next ≡ at + 1))
 
 -- another day than that in hand
 abbrev pub IsOther : Option InHand → StreamDay → Type 0

@@ -17,7 +17,8 @@ ghost use Rattle.mds_memory.specs.declared.stored_notes.Note.{Note as ANote};
 
 use crate::stored_days::{changed_days, day_of, days_of, has_head, last_day, make_room, put_days};
 use crate::stored_details::{
-    MeterDays, MeterDetails, current_details, days_without, insert_details, meters_of,
+    MeterDays, MeterDetails, current_details, days_without, details_between, insert_details,
+    meters_of,
 };
 use crate::stored_jobs::{job_of, make_places, put_jobs};
 use crate::stored_notes::{
@@ -38,7 +39,7 @@ use std::marker::Model;
 #[derive(Drop)]
 pub struct MemoryKeeper {
     alloc: Global,
-    /// The days by stream and date. One that has neither head nor version stands for nothing.
+    /// The days by stream and date. One without a version stands for nothing.
     days: BTreeMap<StreamDay, DayBook>,
     /// The details of meters, each with the days that have them. Details without a day stand for nothing.
     details: BTreeMap<MeterDetails, BTreeSet<Day>>,
@@ -111,6 +112,15 @@ impl Keeper for MemoryKeeper {
 
     fn details(&mut self, stream: Stream, day: Day) -> Result<Details, Unavailable> {
         Ok(current_details(self.alloc, &self.details, stream, day)?)
+    }
+
+    fn details_between(
+        &mut self,
+        stream: Stream,
+        first: Day,
+        last: Day,
+    ) -> Result<Vec<(Day, Details)>, Unavailable> {
+        Ok(details_between(self.alloc, &self.details, &stream, first, last)?)
     }
 
     fn days_without(&mut self, details: &DetailDays) -> Result<Vec<Day>, Unavailable> {

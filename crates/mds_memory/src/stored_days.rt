@@ -1,6 +1,6 @@
 //! The days that are kept in memory.
 
-ghost use Rattle.std.specs.Prelude.{◌≡◌, ◌<◌, ◌≤ℤ◌, ◌++◌, [], length, pos, unsigned_abs, IfOk, OnOk, OnErr, List, Some, None, is_some, map};
+ghost use Rattle.std.specs.Prelude.{◌≡◌, ◌<◌, ◌≤ℤ◌, ◌++◌, [], pos, unsigned_abs, IfOk, OnOk, OnErr, List, Some, None, map};
 ghost use Rattle.std.specs.BTreeMap.{IsOrdered, get, insert_entry};
 ghost use Rattle.std.specs.FinSet as set;
 ghost use Rattle.std.specs.Option.{unwrap_or};
@@ -8,9 +8,10 @@ ghost use Rattle.mds_world.specs.Facts.{Fact};
 ghost use Rattle.mds_world.specs.Facts.Fact.{HeadIs};
 ghost use Rattle.mds_world.specs.World.{IsLawful, World, union};
 ghost use Rattle.mds_keeper.specs.Books.{IsDay, book_world};
+ghost use Rattle.mds_keeper.specs.BookRows.{unit_of};
 ghost use Rattle.mds_keeper.specs.Content.{rows_of, version_fact, versions_of};
 ghost use Rattle.mds_keeper.specs.Queries.{AreDaysOf, IsLastDayOf};
-ghost use Rattle.mds_memory.specs.Stored.{AreOfTheirDays, HasRoom, IsChange, days_world, last_number, place_cmp};
+ghost use Rattle.mds_memory.specs.Stored.{AreOfTheirDays, HasRoom, IsChange, days_world, is_headed, last_number, place_cmp};
 ghost use Rattle.mds_memory.specs.StoredSteps.{AreBooks, AreChanged, AreLawfulDays, GetsHead, Holds};
 
 use mds_keeper::{DayBook, DayVersions, VersionRows};
@@ -97,9 +98,9 @@ fn place_at(stream: &Stream, number: i64) -> StreamDay
 
 /// Whether the day is known.
 pub(crate) fn has_head(book: &DayBook) -> bool
-    ensures { result ≡ is_some book.now.head }
+    ensures { result ≡ is_headed book.now }
 {
-    book.head().is_some()
+    book.form().is_some()
 }
 
 /// The book of a day of which nothing is known.
@@ -113,10 +114,10 @@ fn unknown_day(alloc: Global, place: &StreamDay) -> DayBook
     book
 }
 
-/// What a day will hold: its head, and its versions in any order.
+/// What a day will hold: its unit, and its versions in any order.
 #[derive(Drop)]
 struct Rows {
-    head: Option<(Length, Unit)>,
+    unit: Option<Unit>,
     rows: VersionRows,
 }
 
@@ -182,10 +183,10 @@ fn place_of(head: &Head) -> StreamDay
 
 /// What a day will hold with this head.
 fn of_head(head: &Head, rows: Rows) -> Rows
-    ensures { (result.head ≡ Some (head.now.length, head.now.unit)) × (result.rows ≡ rows.rows) }
+    ensures { (result.unit ≡ Some head.now.unit) × (result.rows ≡ rows.rows) }
 {
     Rows {
-        head: Some((head.length, head.unit)),
+        unit: Some(head.unit),
         rows: rows.rows,
     }
 }
@@ -206,17 +207,17 @@ fn with_head(heads: &Vec<Head>, at: usize, place: &StreamDay, rows: Rows) -> (Ro
 
 /// What a day will hold with more versions. Where it had none, these stay as they lie.
 fn with_more(alloc: Global, old: Rows, more: VersionRows) -> Result<Rows, AllocError>
-    ensures { IfOk result (λ new. (new.head ≡ old.head) × (rows_of new.rows ≡ rows_of old.rows ++ rows_of more)) }
+    ensures { IfOk result (λ new. (new.unit ≡ old.unit) × (rows_of new.rows ≡ rows_of old.rows ++ rows_of more)) }
 {
-    let Rows { head, rows } = old;
+    let Rows { unit, rows } = old;
     let mut versions = Vec::new(alloc);
     rows.append_to(&mut versions)?;
     if versions.is_empty() {
-        return Ok(Rows { head, rows: more });
+        return Ok(Rows { unit, rows: more });
     }
     more.append_to(&mut versions)?;
     Ok(Rows {
-        head,
+        unit,
         rows: VersionRows::Each(versions),
     })
 }
@@ -292,14 +293,22 @@ fn kept_rows(
 {
     let Some(book) = days.get(place) else {
         return Ok(Rows {
-            head: None,
+            unit: None,
             rows: VersionRows::Each(Vec::new(alloc)),
         });
     };
     Ok(Rows {
-        head: book.head(),
+        unit: unit_in(book.form()),
         rows: VersionRows::Each(book.copied_rows(alloc)?),
     })
+}
+
+/// The unit of a form.
+fn unit_in(form: Option<(Length, Unit)>) -> Option<Unit>
+    ensures { result ≡ unit_of form }
+{
+    let form = form?;
+    Some(form.1)
 }
 
 /// The books of days that were changed.
@@ -314,7 +323,7 @@ fn books_of(
     for (place, rows) in closed {
         // For the proof: a day's number is at most that of the last day.
         let _ = place.day.number();
-        let Some(book) = DayBook::of_rows(alloc, place.stream, place.day, rows.head, rows.rows)?
+        let Some(book) = DayBook::of_rows(alloc, place.stream, place.day, rows.unit, rows.rows)?
         else {
             unreachable!();
         };

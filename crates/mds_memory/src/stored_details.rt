@@ -1,6 +1,6 @@
 //! The details of meters that are kept in memory, by day.
 
-ghost use Rattle.std.specs.Prelude.{◌≡◌, ◌↔◌, ◌⊎◌, ◌≤◌, [], IfNone, IfOk, IfSome, OnErr, OnOk, ℕ, map};
+ghost use Rattle.std.specs.Prelude.{◌≡◌, ◌↔◌, ◌⊎◌, ◌≤◌, [], IfNone, IfOk, IfSome, OnErr, OnOk, SomeIff, ℕ, map};
 ghost use Rattle.std.specs.FinSet as set;
 ghost use Rattle.std.specs.BTreeSet.{IsFromIterResult, difference};
 ghost use Rattle.mds_world.specs.Current.{IsCurrentDetails, IsGreatestDetail, IsUpto};
@@ -10,7 +10,8 @@ ghost use Rattle.mds_world.specs.Sets.{◌∈◌};
 ghost use Rattle.mds_world.specs.World.{union};
 ghost use Rattle.mds_world.specs.declared.facts.Detail.{Detail};
 ghost use Rattle.mds_keeper.specs.Content.{detail_on, details_of, details_on};
-ghost use Rattle.mds_keeper.specs.Queries.{AreDaysWithout};
+ghost use Rattle.mds_keeper.specs.Queries.{AreDaysWithout, AreDetailsBetween};
+ghost use Rattle.mds_memory.specs.Stored.{last_number};
 ghost use Rattle.mds_memory.specs.StoredDetails.{Gains, IsLastFrom, Loses, NoneFrom, all_details, details_world, first_meter_of, meter_details, meter_on};
 
 use mds_keeper::DetailDays;
@@ -188,6 +189,42 @@ pub(crate) fn current_details(
         Some(meter) => meter.details.try_clone(),
         None => Ok(empty_details(alloc)),
     }
+}
+
+/// The current details of each day of a range, ascending. Where the last day is before the first there are none.
+pub(crate) fn details_between(
+    alloc: Global,
+    kept: &BTreeMap<MeterDetails, BTreeSet<Day>>,
+    stream: &Stream,
+    first: Day,
+    last: Day,
+) -> Result<Vec<(Day, Details)>, AllocError>
+    ensures { IfOk result (λ rows. AreDetailsBetween (details_world kept.now) stream.now first last rows.items) }
+{
+    let mut rows = Vec::new(alloc);
+    for number in number_of(first)..number_of(last) + 1 {
+        let Some(day) = day_of(number) else {
+            unreachable!();
+        };
+        let details = current_details(alloc, kept, *stream, day)?;
+        rows.push((day, details))?;
+    }
+    Ok(rows)
+}
+
+/// The day of a number, where there is one.
+fn day_of(number: u32) -> Option<Day>
+    ensures { SomeIff result (number ≤ last_number) number }
+{
+    Day::from_number(i64::from(number))
+}
+
+/// The number of a day.
+fn number_of(day: Day) -> u32
+    ensures value { result ≡ day }
+    ensures last { day ≤ last_number }
+{
+    day.number() as u32
 }
 
 /// The greatest details of the nearest day up to this one that has some.

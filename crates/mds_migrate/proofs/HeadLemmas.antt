@@ -1,5 +1,5 @@
 -- Each row of mds_version is of a day that has a row of mds_head, as its reference asks.
-use Rattle.std.proofs.Common.{◌≡◌, ◌||◌, inl, inr, List, ◌∷◌, [], Bool, true, false, map, Some, refl, sym, ap, subst}
+use Rattle.std.proofs.Common.{◌≡◌, ◌||◌, inl, inr, List, ◌∷◌, [], Bool, true, false, Some, refl, sym, ap, subst}
 use Rattle.std.specs.List.{list_any}
 use Rattle.sqlite.specs.declared.types.Value.TheVariants.{Int, Text}
 use Rattle.sqlite_catalog.specs.Listing.{IsSound}
@@ -13,13 +13,12 @@ use Rattle.sqlite_value.specs.Keys.{first_key, joined, plain}
 use Rattle.sqlite_value.specs.Order.{Row, bytes, column}
 use Rattle.sqlite_value.specs.declared.keys.Collation.TheVariants.{Binary}
 use Rattle.mds_world.specs.Lists.{Member}
-use Rattle.mds_tables.specs.RowFacts.{int_at, natural, natural_at, text_at, version_fact}
-use Rattle.mds_tables.specs.Tables.{More, day_key, head_columns, head_tree, schema_with, tables_with, to_head, version_table, version_tree}
+use Rattle.mds_tables.specs.RowFacts.{int_at, natural, natural_at, stream_in, text_at}
+use Rattle.mds_tables.specs.Tables.{More, day_key, head_tree, schema_with, tables_with, to_head, version_table, version_tree}
 use Rattle.mds_selects.proofs.KeyLemmas.{equal_cells}
 use Rattle.mds_selects.proofs.MemberLemmas.{all_has}
 use Rattle.mds_selects.proofs.TypedLemmas.{both}
 use Rattle.mds_selects.proofs.TypedRows.{head_row, version_row}
-use Rattle.mds_migrate.specs.Packing.{IsOfDay}
 
 -- a test that one of a list passes
 passed : {X : Type 0} (p : X → Bool) (xs : List X) → list_any p xs ≡ true → (x : X) × Member x xs × (p x ≡ true)
@@ -61,8 +60,8 @@ module _ (more : More) (db : Trees) (sound : IsSound (schema_with more) db) (row
   held = subst (λ key. is_held db day_key row key ≡ true) (points_to_head more)
       (subst (λ b. (b || is_held db day_key row (parent_key (tables_with more) to_head)) ≡ true) not_null refers)
 
-  -- a head that a query shows is of the day of the version
-  pub has_head : (head : Row) × Member head (db head_tree) × IsOfDay (map (column head) head_columns) (version_fact row)
+  -- a head is of the day of the version
+  pub has_head : (head : Row) × Member head (db head_tree) × (stream_in row ≡ stream_in head) × (natural_at row 3 ≡ natural_at head 3)
   has_head =
       let found = passed (λ parent. agree plain day_key parent day_key row) (db head_tree) held in
       let head = found.0 in
@@ -78,4 +77,4 @@ module _ (more : More) (db : Trees) (sound : IsSound (schema_with more) db) (row
       let one : text_at row 1 ≡ text_at head 1 = sym (ap bytes nmi) in
       let two : text_at row 2 ≡ text_at head 2 = sym (ap bytes suffix) in
       let day : natural_at row 3 ≡ natural_at head 3 = sym (ap (λ v. natural (id_in v)) on) in
-      (head, found.1, ((λ i. record { nmi = one i; suffix = two i }), day))
+      (head, found.1, (λ i. record { nmi = one i; suffix = two i }), day)

@@ -1,4 +1,4 @@
--- The versions of the days of all heads are all that mds_version says.
+-- The versions of the days of all heads are all that mds_version says, each with the length of its day's head.
 use Rattle.std.proofs.Common.{◌≡◌, ◌≤◌, ◌<◌, ◌^◌, ◌+◌, ◌↔◌, inl, inr, ℕ, List, [], ◌∷◌, ◌++◌, length, map, slice_index_or, take, refl, sym, ap, subst, ◌∙◌, arith}
 use Rattle.std.specs.List.{flat_map}
 use Rattle.std.proofs.lemmas.List.{take_more}
@@ -11,78 +11,113 @@ use Rattle.sqlite_trees.specs.View.{doubt}
 use Rattle.sqlite_value.specs.Order.{Row, column}
 use Rattle.mds_names.specs.declared.stream.Stream.{Stream}
 use Rattle.mds_world.specs.FactOrder.{exact, total}
-use Rattle.mds_world.specs.Facts.{Fact}
-use Rattle.mds_world.specs.Facts.Fact.{HeadIs}
+use Rattle.mds_quantity.specs.declared.unit.Unit.{Unit as MeasureUnit}
+use Rattle.mds_marks.specs.Reading.{ReadingValue}
+use Rattle.mds_world.specs.Facts.{Fact, head_at}
+use Rattle.mds_world.specs.Facts.Fact.{DetailIs, EventIs, HeadIs, HolidayIs, JobIs, PeriodIs, VersionIs}
 use Rattle.mds_world.specs.Lists.{Member}
-use Rattle.mds_world.specs.World.{IsOn, union}
+use Rattle.mds_world.specs.Sets.{◌∈◌}
+use Rattle.mds_world.specs.World.{IsOn, head_over, union}
 use Rattle.mds_world.specs.declared.facts.Head.{Head}
+use Rattle.mds_world.specs.declared.facts.Key.{Key}
 use Rattle.mds_world.proofs.Lists.{append_left, append_right, in_map, map_in, member_append}
-use Rattle.mds_world.proofs.Members.{in_list, list_in, same_by}
+use Rattle.mds_world.proofs.Members.{in_list, list_in}
 use Rattle.mds_world.proofs.Sets.{union_comm, union_empty}
 use Rattle.mds_keeper.specs.Books.{row_fact}
 use Rattle.mds_keeper.specs.Content as content
 use Rattle.mds_keeper.specs.declared.day_book.Version.{Version}
 use Rattle.mds_tables.specs.Cells.{day_cells}
-use Rattle.mds_tables.specs.RowFacts.{head_fact, natural_at, stream_in, version_fact, versions_in}
-use Rattle.mds_tables.specs.Stores.{Selects}
+use Rattle.mds_tables.specs.RowFacts.{head_fact, lengthless, version_fact, versions_in}
+use Rattle.mds_tables.specs.Stores.{Begins, Selects}
 use Rattle.mds_tables.specs.Tables.{More, head_columns, head_tree, schema_with, version_columns, version_tree}
 use Rattle.mds_inserts.specs.Writing.{KeepsOthers}
 use Rattle.mds_inserts.proofs.RowLemmas.{of}
 use Rattle.mds_selects.specs.Shown.{AreVersionsIn}
-use Rattle.mds_selects.proofs.Listed.{listed, tells, told, version_on}
+use Rattle.mds_selects.proofs.Listed.{Tells, listed, tells, told, version_on}
+use Rattle.mds_selects.proofs.Named.{Names}
 use Rattle.mds_pack_rows.specs.PackFacts.{pack_facts, pack_versions}
 use Rattle.mds_pack_rows.specs.PackTables.{Behind, pack_tree, packs_then}
 use Rattle.mds_pack_rows.specs.PacksLayout.{packs_over}
 use Rattle.mds_pack_rows.specs.Putting.{ChangesPacks, FindsThere, GoesOn, IsThere, PutsFacts}
 use Rattle.mds_pack_rows.proofs.PutLemmas.{as_rows, is_database, others_of, puts_none, puts_since, puts_then, there_after, there_before}
-use Rattle.mds_migrate.specs.Migrating.{Packs}
-use Rattle.mds_migrate.specs.Packing.{AreOfDays, IsOfDay, PacksDays}
-use Rattle.mds_migrate.proofs.HeadLemmas.{has_head}
+use Rattle.mds_migrate.specs.Migrating.{IsLengthened, Packs}
+use Rattle.mds_migrate.specs.OldLengths.{erased}
+use Rattle.mds_migrate.specs.Packing.{AreOfDays, IsUnder, PacksDays}
 
 -- ---- the versions of one day
 
--- the stream and the day of a head's fact
-abbrev stream_of : Stream → Fact → Stream
-stream_of other (HeadIs head) = head.stream
-stream_of other _ = other
+-- the head that a fact is
+abbrev head_of : Head → Fact → Head
+head_of other (HeadIs head) = head
+head_of other _ = other
 
-abbrev day_of : ℕ → Fact → ℕ
-day_of other (HeadIs head) = head.day
-day_of other _ = other
+-- the fact is a version
+abbrev IsVersion : Fact → Type 0
+IsVersion (VersionIs key reading) = Unit {0}
+IsVersion _ = ⊥
+
+-- books have versions alone
+are_versions : (s : Stream) (day : ℕ) (vs : List (ℕ × Version)) (f : Fact) → Member f (map (row_fact s day) vs) → IsVersion f
+are_versions s day vs f m = let v = in_map (row_fact s day) vs f m in subst IsVersion (sym v.2) tt
 
 module _ (shown : Row) (head : Head) (is : head_fact (Null ∷ shown) ≡ HeadIs head) where
-  shown_stream : stream_in (Null ∷ shown) ≡ head.stream
-  shown_stream = ap (stream_of head.stream) is
+  -- a version under a head that is shown is of its day and its length
+  same_head : (key : Key) (unit : MeasureUnit) → head_fact (Null ∷ shown) ≡ HeadIs (head_over key unit) → head_over key unit ≡ head
+  same_head key unit over = ap (head_of head) (sym over ∙ is)
 
-  shown_day : natural_at (Null ∷ shown) 3 ≡ head.day
-  shown_day = ap (day_of head.day) is
-
-  shown_on : (f : Fact) → IsOfDay shown f ↔ IsOn head.stream head.day f
-  shown_on f =
-      let same : IsOfDay shown f ≡ IsOn head.stream head.day f = λ i. IsOn (shown_stream i) (shown_day i) f in
-      ((λ p. subst (λ T. T) same p), (λ p. subst (λ T. T) (sym same) p))
+  -- and the other way round
+  over_head : (key : Key) → key.stream ≡ head.stream → key.day ≡ head.day → key.length ≡ head.length
+      → head_fact (Null ∷ shown) ≡ HeadIs (head_over key head.unit)
+  over_head key stream day length = is ∙ sym (λ i. HeadIs (head_at (stream i) (day i) (length i) head.unit))
 
   module _ (rest : Behind) (low : head.day < 2 ^ 63) (trees : Trees) (sound : IsSound (schema_with (packs_then rest.more)) trees)
       (rows : List Row) (sel : Selects version_tree (day_cells head.stream head.day) version_columns trees rows) (vs : List (ℕ × Version))
-      (are : AreVersionsIn rows vs) where
-    of_one_day : AreOfDays trees (shown ∷ []) (map (row_fact head.stream head.day) vs)
-    of_one_day f =
-        let s = head.stream in
-        let day = head.day in
-        let layout = packs_over 2 rest in
-        let on = version_on layout s day low trees sound in
-        let to = told version_fact version_tree (day_cells s day) version_columns trees rows sel (λ r. refl) (IsOn s day) on in
-        let list = listed layout s day low trees sound rows vs are (λ g t. (to g t).1) f in (
+      (are : AreVersionsIn head.length rows vs) where
+    abbrev s : Stream
+    s = head.stream
+
+    abbrev day : ℕ
+    day = head.day
+
+    on : (r : Row) → Member r (trees version_tree) → Begins (day_cells s day) r ↔ IsOn s day (version_fact r)
+    on = version_on (packs_over 2 rest) s day low trees sound
+
+    to : (f : Fact) → Tells version_fact rows f → Names version_fact (trees version_tree) f × IsOn s day f
+    to = told version_fact version_tree (day_cells s day) version_columns trees rows sel (λ r. refl) (IsOn s day) on
+
+    list : (key : Key) (reading : ReadingValue)
+        → (Tells version_fact rows (VersionIs (lengthless key) reading) × (key.length ≡ head.length))
+        ↔ Member (VersionIs key reading) (map (row_fact s day) vs)
+    list = listed (packs_over 2 rest) s day low trees sound head.length rows vs are (λ g t. (to g t).1)
+
+    of_one_day : AreOfDays trees (shown ∷ []) (map (row_fact s day) vs)
+    of_one_day (VersionIs key reading) =
+        let f : Fact = VersionIs key reading in (
           (λ m.
-              let t = to f (list.1 m) in
+              let it = (list key reading).1 m in
+              let t = to (erased f) it.0 in
               let n = t.0 in
-              (subst (λ g. Member g (versions_in trees)) n.2 (map_in version_fact (trees version_tree) n.0 n.1), (shown, inl refl, (shown_on f).1 t.1))),
+              let o : (key.stream ≡ s) × (key.day ≡ day) = t.1 in (
+                subst (λ g. Member g (versions_in trees)) n.2 (map_in version_fact (trees version_tree) n.0 n.1),
+                (shown, inl refl, (head.unit, over_head key o.0 o.1 it.1)),
+              )),
           (λ p.
-              let n = in_map version_fact (trees version_tree) f p.0 in
-              let o : IsOfDay shown f = elim p.1.1 [ inl e ↦ subst (λ h. IsOfDay h f) e p.1.2 | inr z ↦ absurd z ] in
-              list.0 (tells version_fact version_tree (day_cells s day) version_columns trees rows sel (λ r. refl) (IsOn s day) on f
-              (n.0, n.1, sym n.2) ((shown_on f).0 o))),
+              let n = in_map version_fact (trees version_tree) (erased f) p.0 in
+              let under : IsUnder shown f = elim p.1.1 [ inl e ↦ subst (λ h. IsUnder h f) e p.1.2 | inr z ↦ absurd z ] in
+              let same : head_over key under.0 ≡ head = same_head key under.0 under.1 in
+              let o : IsOn s day (erased f) = (ap (λ (h : Head). h.stream) same, ap (λ (h : Head). h.day) same) in
+              (list key reading).0 (
+                tells version_fact version_tree (day_cells s day) version_columns trees rows sel (λ r. refl) (IsOn s day) on (erased f)
+                    (n.0, n.1, sym n.2) o,
+                ap (λ (h : Head). h.length) same,
+              )),
         )
+    of_one_day (HeadIs head) = (λ m. absurd (are_versions s day vs _ m), λ p. absurd p.1.2)
+    of_one_day (DetailIs detail) = (λ m. absurd (are_versions s day vs _ m), λ p. absurd p.1.2)
+    of_one_day (EventIs event) = (λ m. absurd (are_versions s day vs _ m), λ p. absurd p.1.2)
+    of_one_day (PeriodIs key content) = (λ m. absurd (are_versions s day vs _ m), λ p. absurd p.1.2)
+    of_one_day (HolidayIs date) = (λ m. absurd (are_versions s day vs _ m), λ p. absurd p.1.2)
+    of_one_day (JobIs id content count) = (λ m. absurd (are_versions s day vs _ m), λ p. absurd p.1.2)
 
 -- ---- one day after another
 
@@ -123,7 +158,7 @@ module _ (a b c : State) (later : doubt b.is_clean ≤ doubt c.is_clean) where
         let first = (p.puts.1 before).0 in
         let same : b.now.trees version_tree ≡ a.now.trees version_tree = (kept_others a b before first).1.1.0 (λ e. omega arith) in
         let more : AreOfDays a.now.trees ys q.facts =
-        subst (λ rows. (f : Fact) → Member f q.facts ↔ (Member f (map version_fact rows) × ((head : Row) × Member head ys × IsOfDay head f)))
+        subst (λ rows. (f : Fact) → Member f q.facts ↔ (Member (erased f) (map version_fact rows) × ((head : Row) × Member head ys × IsUnder head f)))
         same (q.are (there_after a b c later there first)) in
         of_both a.now.trees xs ys p.facts q.facts (p.are before) more;
   }
@@ -167,7 +202,7 @@ module _ (a b c : State) (later : doubt b.is_clean ≤ doubt c.is_clean)
 
   -- The versions of a day were asked for, and then put.
   pub packs_day : GoesOn a b → (shown : Row) (head : Head) → head_fact (Null ∷ shown) ≡ HeadIs head → head.day < 2 ^ 63
-      → (rows : List Row) (vs : List (ℕ × Version)) → AreVersionsIn rows vs
+      → (rows : List Row) (vs : List (ℕ × Version)) → AreVersionsIn head.length rows vs
       → (HasCleanDisk b → FindsThere a b (λ trees. Selects version_tree (day_cells head.stream head.day) version_columns trees rows))
       → PutsFacts b c (map content.version_fact (map (content.version_at head.stream head.day) vs)) → PacksDays a c (shown ∷ [])
   packs_day first shown head is low rows vs are finds puts =
@@ -181,19 +216,30 @@ module _ (a b c : State) (later : doubt b.is_clean ≤ doubt c.is_clean)
 
 -- ---- all heads
 
--- the versions of the days of all heads are those of mds_version
-of_all : (more : More) (trees : Trees) → IsSound (schema_with more) trees → (heads : List Row) → Selects head_tree [] head_columns trees heads → (facts : List Fact)
-    → AreOfDays trees heads facts → of facts ≡ of (versions_in trees)
-of_all more trees sound heads sel facts are =
-    same_by (of facts) (of (versions_in trees))
-    (λ f m. list_in (versions_in trees) f ((are f).0 (in_list facts f m)).0)
-    (λ f m.
-    let it = in_list (versions_in trees) f m in
-    let n = in_map version_fact (trees version_tree) f it in
-    let found = has_head more trees sound n.0 n.1 in
-    let shown = map (column found.0) head_columns in
-    let on : IsOfDay shown f = subst (IsOfDay shown) (sym n.2) found.2 in
-    list_in facts f ((are f).1 (it, (shown, (sel shown).1 (found.0, found.1, refl, refl), on))))
+-- the versions of the days of all heads are those of mds_version, each with the length of its day's head
+module _ (trees : Trees) (heads : List Row) (sel : Selects head_tree [] head_columns trees heads) (facts : List Fact)
+    (are : AreOfDays trees heads facts) where
+  of_all : (f : Fact) → Member f facts ↔ IsLengthened trees f
+  of_all (VersionIs key reading) =
+      let f : Fact = VersionIs key reading in (
+        (λ m.
+            let it = (are f).0 m in
+            let shown = it.1.0 in
+            let under : IsUnder shown f = it.1.2 in
+            let row = (sel shown).0 it.1.1 in
+            let is : head_fact row.0 ≡ HeadIs (head_over key under.0) = sym (ap (λ r. head_fact (Null ∷ r)) row.3) ∙ under.1 in
+            (it.0, (under.0, subst (λ g. Member g (map head_fact (trees head_tree))) is (map_in head_fact (trees head_tree) row.0 row.1)))),
+        (λ p.
+            let n = in_map head_fact (trees head_tree) (HeadIs (head_over key p.1.0)) p.1.1 in
+            let shown = map (column n.0) head_columns in
+            (are f).1 (p.0, (shown, (sel shown).1 (n.0, n.1, refl, refl), (p.1.0, sym n.2)))),
+      )
+  of_all (HeadIs head) = (λ m. absurd ((are (HeadIs head)).0 m).1.2, λ none. absurd none)
+  of_all (DetailIs detail) = (λ m. absurd ((are (DetailIs detail)).0 m).1.2, λ none. absurd none)
+  of_all (EventIs event) = (λ m. absurd ((are (EventIs event)).0 m).1.2, λ none. absurd none)
+  of_all (PeriodIs key content) = (λ m. absurd ((are (PeriodIs key content)).0 m).1.2, λ none. absurd none)
+  of_all (HolidayIs date) = (λ m. absurd ((are (HolidayIs date)).0 m).1.2, λ none. absurd none)
+  of_all (JobIs id content count) = (λ m. absurd ((are (JobIs id content count)).0 m).1.2, λ none. absurd none)
 
 -- so mds_pack says them, where it had no row
 packs_all : (a c : State) (heads : List Row) → PacksDays a c heads → IsThere a c → a.now.trees pack_tree ≡ []
@@ -202,10 +248,15 @@ packs_all a c heads p there none sel =
     let it = p.puts.1 there in
     let facts = of p.facts in
     let was : of (pack_versions a.now.trees) ≡ of [] = ap (λ rows. of (flat_map pack_facts rows)) none in
+    let same : of (pack_versions c.now.trees) ≡ facts =
+    it.1 ∙ ap (λ w. union w facts) was ∙ union_comm total exact (of []) facts ∙ union_empty total exact facts in
+    let all = of_all a.now.trees heads sel p.facts (p.are there) in
     record {
       changes = it.0;
-      same = it.1 ∙ ap (λ w. union w facts) was ∙ union_comm total exact (of []) facts ∙ union_empty total exact facts
-          ∙ of_all (packs_then there.rest.more) a.now.trees there.sound heads sel p.facts (p.are there);
+      lengthened = λ f. (
+        (λ m. (all f).0 (in_list p.facts f (subst (λ w. f ∈ w) same (list_in (pack_versions c.now.trees) f m)))),
+        (λ l. in_list (pack_versions c.now.trees) f (subst (λ w. f ∈ w) (sym same) (list_in p.facts f ((all f).1 l)))),
+      );
     }
 
 -- the same behind the query that showed them

@@ -1,45 +1,150 @@
 -- The parts of the step to schema 2, one after another.
-use Rattle.std.proofs.Common.{◌≡◌, ◌≤◌, ◌++◌, [], ◌∷◌, List, ℤ, map, pos, Ok, Err, IsTrue, OnOk, Result, sym, ap, subst, ◌∙◌, arith}
+use Rattle.std.proofs.Common.{◌≡◌, ◌≤◌, ◌↔◌, [], ◌∷◌, List, ℕ, ℤ, map, pos, Ok, Err, IsTrue, OnOk, Result, sym, ap, subst, ◌∙◌, arith}
+use Rattle.std.specs.List.{flat_map}
 use Rattle.sqlite.specs.State.{HasCleanDisk, KeepsCommit, State}
 use Rattle.sqlite.proofs.InsideLemmas.{keeps_then}
 use Rattle.sqlite_catalog.specs.Listing.{IsSound}
+use Rattle.sqlite_trees.specs.Tree.{Trees}
 use Rattle.sqlite_trees.specs.View.{doubt}
-use Rattle.mds_world.specs.FactOrder.{exact, total}
-use Rattle.mds_world.specs.Facts.{Fact}
-use Rattle.mds_world.specs.World.{union}
-use Rattle.mds_world.proofs.Sets.{list_append}
+use Rattle.sqlite_value.specs.Order.{Row}
+use Rattle.mds_quantity.specs.declared.unit.Unit.{Unit as MeasureUnit}
+use Rattle.mds_names.specs.declared.stream.Stream.{Stream}
+use Rattle.mds_marks.specs.Reading.{ReadingValue}
+use Rattle.mds_world.specs.Facts.{Fact, head_at, key_at}
+use Rattle.mds_world.specs.Facts.Fact.{DetailIs, EventIs, HeadIs, HolidayIs, JobIs, PeriodIs, VersionIs}
+use Rattle.mds_world.specs.Lists.{Member}
+use Rattle.mds_world.specs.Sets.{◌∈◌}
+use Rattle.mds_world.specs.World.{head_over}
+use Rattle.mds_world.specs.declared.facts.Detail.{Detail}
+use Rattle.mds_world.specs.declared.facts.Key.{Key}
+use Rattle.mds_world.proofs.Lists.{in_map, map_in}
 use Rattle.mds_tables.specs.Layouts.{rows_layout, world_with}
 use Rattle.mds_tables.specs.Making.{MakesThere}
-use Rattle.mds_tables.specs.RowFacts.{event_fact, head_fact, holiday_fact, int_at, job_fact, period_fact, versions_in}
+use Rattle.mds_tables.specs.RowFacts.{event_fact, head_fact, holiday_fact, int_at, job_fact, lengthless, natural_at, period_fact, stream_in, text_at, unit_named, version_fact}
 use Rattle.mds_tables.specs.Stores.{versions_said}
-use Rattle.mds_tables.specs.Tables.{detail_tree, event_tree, head_tree, holiday_tree, job_tree, period_tree, schema_1, schema_tree, version_tree}
+use Rattle.mds_tables.specs.Tables.{detail_tree, event_tree, head_tree, holiday_tree, job_tree, no_more, period_tree, schema_1, schema_tree, version_tree}
 use Rattle.mds_inserts.specs.Writing.{KeepsOthers}
-use Rattle.mds_inserts.proofs.RowLemmas.{of}
-use Rattle.mds_pack_rows.specs.PackFacts.{pack_versions}
+use Rattle.mds_selects.proofs.Named.{Names, of_detail, of_event, of_head, of_holiday, of_job, of_period, of_version}
+use Rattle.mds_pack_rows.specs.PackFacts.{pack_facts, pack_versions}
 use Rattle.mds_pack_rows.specs.PackTables.{pack_tree, schema_2, tables_2}
-use Rattle.mds_pack_rows.specs.PacksLayout.{nothing_behind, packs_layout}
+use Rattle.mds_pack_rows.specs.PacksLayout.{nothing_behind, packs_layout, world_2}
 use Rattle.mds_pack_rows.specs.Putting.{GoesOn, IsThere, MakesPack}
 use Rattle.mds_pack_rows.proofs.PutLemmas.{others_of}
 use Rattle.mds_migrate.specs.Migrated.{HasPacked, IsFor, TakesOn, packing}
-use Rattle.mds_migrate.specs.Migrating.{Clears, Packs, Raises}
+use Rattle.mds_migrate.specs.Migrating.{Clears, IsLengthened, Packs, Raises}
+use Rattle.mds_migrate.specs.OldLengths.{CameOf}
+use Rattle.mds_migrate.proofs.HeadLemmas.{has_head}
 
--- ---- the same facts but for the versions, which are the same set
+-- ---- what the tables become
 
-behind : (xs ys more : List Fact) → of xs ≡ of ys → of (xs ++ more) ≡ of (ys ++ more)
-behind xs ys more same =
-    list_append total exact xs more ∙ ap (λ w. union w (of more)) same ∙ sym (list_append total exact ys more)
+-- mds_pack says the versions with the lengths of heads, and every other table that says facts is as it was
+record IsTakenOver (old new : Trees) : Type 0 where
+  heads : new head_tree ≡ old head_tree
+  versions : (fact : Fact) → Member fact (pack_versions new) ↔ IsLengthened old fact
+  events : new event_tree ≡ old event_tree
+  periods : new period_tree ≡ old period_tree
+  holidays : new holiday_tree ≡ old holiday_tree
+  jobs : new job_tree ≡ old job_tree
 
-before : (front xs ys : List Fact) → of xs ≡ of ys → of (front ++ xs) ≡ of (front ++ ys)
-before front xs ys same =
-    list_append total exact front xs ∙ ap (union (of front)) same ∙ sym (list_append total exact front ys)
+-- what the same rows say
+across : {A C : Type 0} (P : List Row → Type 0) (xs ys : List Row) → A ↔ P xs → C ↔ P ys → xs ≡ ys → A ↔ C
+across P xs ys one two same = ((λ a. two.1 (subst P same (one.0 a))), (λ c. one.1 (subst P (sym same) (two.0 c))))
 
-replaced : (heads xs ys events periods holidays jobs : List Fact) → of xs ≡ of ys
-    → of (heads ++ xs ++ events ++ periods ++ holidays ++ jobs) ≡ of (heads ++ ys ++ events ++ periods ++ holidays ++ jobs)
-replaced heads xs ys events periods holidays jobs same =
-    behind (heads ++ xs ++ events ++ periods ++ holidays) (heads ++ ys ++ events ++ periods ++ holidays) jobs
-    (behind (heads ++ xs ++ events ++ periods) (heads ++ ys ++ events ++ periods) holidays
-    (behind (heads ++ xs ++ events) (heads ++ ys ++ events) periods
-    (behind (heads ++ xs) (heads ++ ys) events (before heads xs ys same))))
+-- rows of mds_version say no details
+no_details : (x : Detail) (rows : List Row) → Member (DetailIs x) (map version_fact rows) → ⊥
+no_details x rows m = let n = in_map version_fact rows (DetailIs x) m in cc
+
+-- the length of a version
+abbrev length_of : Fact → ℕ
+length_of (VersionIs key reading) = key.length
+length_of _ = 0
+
+-- the stream and the day of a version
+abbrev stream_of : Stream → Fact → Stream
+stream_of other (VersionIs key reading) = key.stream
+stream_of other _ = other
+
+abbrev day_of : ℕ → Fact → ℕ
+day_of other (VersionIs key reading) = key.day
+day_of other _ = other
+
+module _ (old new : Trees) (t : IsTakenOver old new) where
+  lengthened : (fact : Fact) → (fact ∈ world_2 new) ↔ CameOf (world_with rows_layout old) fact
+  lengthened (HeadIs h) = across (λ rows. Names head_fact rows (HeadIs h)) _ _ (of_head packs_layout new h) (of_head rows_layout old h) t.heads
+  lengthened (VersionIs k v) =
+      let all = of_version packs_layout new k v in
+      let one = of_version rows_layout old (lengthless k) v in (
+        (λ m.
+            let it = (t.versions (VersionIs k v)).0 (all.0 m) in
+            let head = in_map head_fact (old head_tree) (HeadIs (head_over k it.1.0)) it.1.1 in
+            (one.1 it.0, (it.1.0, (of_head rows_layout old (head_over k it.1.0)).1 (head.0, head.1, sym head.2)))),
+        (λ c.
+            let head = (of_head rows_layout old (head_over k c.1.0)).0 c.1.1 in
+            let there : Member (HeadIs (head_over k c.1.0)) (map head_fact (old head_tree)) =
+            subst (λ f. Member f (map head_fact (old head_tree))) head.2 (map_in head_fact (old head_tree) head.0 head.1) in
+            all.1 ((t.versions (VersionIs k v)).1 (one.0 c.0, (c.1.0, there)))),
+      )
+  lengthened (DetailIs x) = (
+    (λ m. absurd ((t.versions (DetailIs x)).0 ((of_detail packs_layout new x).0 m))),
+    (λ m. absurd (no_details x (old version_tree) ((of_detail rows_layout old x).0 m))),
+  )
+  lengthened (EventIs v) = across (λ rows. Names event_fact rows (EventIs v)) _ _ (of_event packs_layout new v) (of_event rows_layout old v) t.events
+  lengthened (PeriodIs k v) = across (λ rows. Names period_fact rows (PeriodIs k v)) _ _ (of_period packs_layout new k v) (of_period rows_layout old k v) t.periods
+  lengthened (HolidayIs d) = across (λ rows. Names holiday_fact rows (HolidayIs d)) _ _ (of_holiday packs_layout new d) (of_holiday rows_layout old d) t.holidays
+  lengthened (JobIs id v n) = across (λ rows. Names job_fact rows (JobIs id v n)) _ _ (of_job packs_layout new id v n) (of_job rows_layout old id v n) t.jobs
+
+  module _ (sound : IsSound schema_1 old) (key : Key) (reading : ReadingValue) (was : VersionIs key reading ∈ world_with rows_layout old) where
+    said : (row : Row) × Member row (old version_tree) × (VersionIs key reading ≡ version_fact row)
+    said = in_map version_fact (old version_tree) (VersionIs key reading) ((of_version rows_layout old key reading).0 was)
+
+    -- the row of the head of its day
+    head : (row : Row) × Member row (old head_tree) × (stream_in said.0 ≡ stream_in row) × (natural_at said.0 3 ≡ natural_at row 3)
+    head = has_head no_more old sound said.0 said.1
+
+    -- it takes the length of that head
+    abbrev minutes : ℕ
+    minutes = natural_at head.0 4
+
+    abbrev taken : Key
+    taken = key_at key.stream key.day minutes key.interval key.update
+
+    bare : VersionIs key reading ≡ VersionIs (lengthless taken) reading
+    bare =
+        let none : key.length ≡ 0 = ap length_of said.2 in
+        λ i. VersionIs (key_at key.stream key.day (none i) key.interval key.update) reading
+
+    over : head_fact head.0 ≡ HeadIs (head_over taken (unit_named (text_at head.0 5)))
+    over =
+        let stream : stream_in head.0 ≡ key.stream = sym (ap (stream_of key.stream) said.2 ∙ head.2) in
+        let day : natural_at head.0 3 ≡ key.day = sym (ap (day_of key.day) said.2 ∙ head.3) in
+        λ i. HeadIs (head_at (stream i) (day i) minutes (unit_named (text_at head.0 5)))
+
+    kept : (length : ℕ) × (VersionIs (key_at key.stream key.day length key.interval key.update) reading ∈ world_2 new)
+    kept = (
+      minutes,
+      (lengthened (VersionIs taken reading)).1 (
+        subst (λ f. f ∈ world_with rows_layout old) bare was,
+        (
+          unit_named (text_at head.0 5),
+          (of_head rows_layout old (head_over taken (unit_named (text_at head.0 5)))).1 (head.0, head.1, over),
+        ),
+      ),
+    )
+
+-- other tables with the same rows of mds_version and mds_head say the same of them
+as_before : (old new : Trees) → new version_tree ≡ old version_tree → new head_tree ≡ old head_tree → (fact : Fact)
+    → IsLengthened old fact ↔ IsLengthened new fact
+as_before old new versions heads (VersionIs k v) =
+    let same : IsLengthened old (VersionIs k v) ≡ IsLengthened new (VersionIs k v) =
+    λ i. Member (VersionIs (lengthless k) v) (map version_fact (sym versions i))
+    × ((unit : MeasureUnit) × Member (HeadIs (head_over k unit)) (map head_fact (sym heads i))) in
+    ((λ l. subst (λ T. T) same l), (λ l. subst (λ T. T) (sym same) l))
+as_before old new versions heads (HeadIs h) = (λ l. l, λ l. l)
+as_before old new versions heads (DetailIs x) = (λ l. l, λ l. l)
+as_before old new versions heads (EventIs v) = (λ l. l, λ l. l)
+as_before old new versions heads (PeriodIs k v) = (λ l. l, λ l. l)
+as_before old new versions heads (HolidayIs d) = (λ l. l, λ l. l)
+as_before old new versions heads (JobIs id v n) = (λ l. l, λ l. l)
 
 -- ---- where the parts begin
 
@@ -131,21 +236,29 @@ module _ (a b c d e : State) (bc : doubt b.is_clean ≤ doubt c.is_clean) (cd : 
     same_packs : e.now.trees pack_tree ≡ c.now.trees pack_tree
     same_packs = raises_others.1.1.1.1.1.1.1.1.0 (λ e. omega arith) ∙ clears_others.1.1.1.1.1.1.1.1.0 (λ e. omega arith)
 
-    same_versions : of (pack_versions e.now.trees) ≡ of (versions_in a.now.trees)
-    same_versions =
-        ap (λ rows. of (pack_versions (λ tree. rows))) same_packs ∙ packed.same
-        ∙ ap (λ rows. of (versions_in (λ tree. rows))) made.others.1.1.0
+    -- what mds_version and mds_head said before mds_pack was made
+    lengthened_as : (fact : Fact) → IsLengthened b.now.trees fact ↔ IsLengthened a.now.trees fact
+    lengthened_as = as_before b.now.trees a.now.trees (sym made.others.1.1.0) (sym made.others.1.0)
 
-    same_world : world_with packs_layout e.now.trees ≡ world_with rows_layout a.now.trees
-    same_world =
-        (λ i. of (map head_fact (same_heads i) ++ pack_versions e.now.trees ++ map event_fact (same_events i) ++ map period_fact (same_periods i)
-        ++ map holiday_fact (same_holidays i) ++ map job_fact (same_jobs i)))
-        ∙ replaced (map head_fact (a.now.trees head_tree)) (pack_versions e.now.trees) (versions_in a.now.trees)
-        (map event_fact (a.now.trees event_tree)) (map period_fact (a.now.trees period_tree)) (map holiday_fact (a.now.trees holiday_tree)) (map job_fact (a.now.trees job_tree)) same_versions
+    taken_over : IsTakenOver a.now.trees e.now.trees
+    taken_over = record {
+      heads = same_heads;
+      versions = λ f.
+          let it = packed.lengthened f in
+          let was = lengthened_as f in (
+            (λ m. was.0 (it.0 (subst (λ rows. Member f (flat_map pack_facts rows)) same_packs m))),
+            (λ l. subst (λ rows. Member f (flat_map pack_facts rows)) (sym same_packs) (it.1 (was.1 l))),
+          );
+      events = same_events;
+      periods = same_periods;
+      holidays = same_holidays;
+      jobs = same_jobs;
+    }
 
     has_packed : HasPacked a.now.trees e.now.trees
     has_packed = record {
-      world = same_world;
+      lengthened = lengthened a.now.trees e.now.trees taken_over;
+      kept = kept a.now.trees e.now.trees taken_over first.sound;
       details = same_details;
       version = raised.version;
       unversioned = raises_others.1.1.0 (λ e. omega arith) ∙ cleared.none;

@@ -1,10 +1,15 @@
 -- What a step of a migration leaves (profile): from schema 1 to schema 2, or from schema 2 to schema 3.
-use Rattle.std.specs.Prelude.{◌≡◌, ◌⊎◌, [], ◌∷◌, pos, IsTrue}
+use Rattle.std.specs.Prelude.{◌≡◌, ◌⊎◌, ◌↔◌, ℕ, [], ◌∷◌, pos, IsTrue}
 use Rattle.sqlite.specs.Effect.{Database}
 use Rattle.sqlite.specs.Schema.{Schema}
 use Rattle.sqlite.specs.State.{HasCleanDisk, KeepsCommit, State}
 use Rattle.sqlite_catalog.specs.Listing.{IsSound}
 use Rattle.sqlite_trees.specs.Tree.{Trees}
+use Rattle.mds_marks.specs.Reading.{ReadingValue}
+use Rattle.mds_world.specs.Facts.{Fact, key_at}
+use Rattle.mds_world.specs.Facts.Fact.{VersionIs}
+use Rattle.mds_world.specs.Sets.{◌∈◌}
+use Rattle.mds_world.specs.declared.facts.Key.{Key}
 use Rattle.mds_tables.specs.Layouts.{rows_layout, world_with}
 use Rattle.mds_tables.specs.Stores.{AreOpen, IsStore, versions_said}
 use Rattle.mds_tables.specs.Tables.{detail_tree, schema_1, version_tree}
@@ -15,15 +20,19 @@ use Rattle.mds_pack_rows.specs.PacksLayout.{world_2}
 use Rattle.mds_pack_store.specs.Daily.{IsDailyStore}
 use Rattle.mds_pack_store.specs.Packed.{IsPackStore}
 use Rattle.mds_migrate.specs.OldDetails.{Becomes}
+use Rattle.mds_migrate.specs.OldLengths.{CameOf}
 use Rattle.mds_migrate.specs.declared.outcome.Migrated.{Migrated}
 use Rattle.mds_migrate.specs.declared.outcome.Migrated.TheVariants.{AlreadyCurrent, Done}
 use Rattle.mds_migrate.specs.declared.outcome.MigrateFault.{MigrateFault}
 use Rattle.mds_migrate.specs.declared.outcome.MigrateFault.TheVariants.{OtherSchema, Unavailable}
 
--- The tables of schema 2 name the World that those of schema 1 named, and the details of streams are as they were. mds_schema says 2,
--- and no version has a row of its own.
+-- The tables of schema 2 name the World that comes of the one that those of schema 1 named, and the details of streams are as they were.
+-- mds_schema says 2, and no version has a row of its own.
 pub record HasPacked (old new : Trees) : Type 0 where
-  pub world : world_2 new ≡ world_with rows_layout old
+  pub lengthened : (fact : Fact) → (fact ∈ world_2 new) ↔ CameOf (world_with rows_layout old) fact
+  -- no version is lost: its day has a head, whose length it takes
+  pub kept : (key : Key) (reading : ReadingValue) → VersionIs key reading ∈ world_with rows_layout old
+      → (length : ℕ) × (VersionIs (key_at key.stream key.day length key.interval key.update) reading ∈ world_2 new)
   pub details : new detail_tree ≡ old detail_tree
   pub version : versions_said new ≡ pos 2 ∷ []
   pub unversioned : new version_tree ≡ []

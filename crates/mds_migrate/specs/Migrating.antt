@@ -1,21 +1,34 @@
 -- What the steps of a migration do in a transaction, and all of it (profile).
-use Rattle.std.specs.Prelude.{◌≡◌, ℕ, ℤ, [], ◌∷◌, IsTrue}
-use Rattle.std.specs.FinSet as set
+use Rattle.std.specs.Prelude.{◌≡◌, ◌↔◌, ℕ, ℤ, [], ◌∷◌, map, IsTrue}
 use Rattle.sqlite.specs.State.{State}
 use Rattle.sqlite_catalog.specs.Listing.{IsSound}
+use Rattle.sqlite_trees.specs.Tree.{Trees}
 use Rattle.sqlite_value.specs.Order.{Row, column}
-use Rattle.mds_world.specs.FactOrder.{fact_cmp}
-use Rattle.mds_tables.specs.RowFacts.{versions_in}
+use Rattle.mds_quantity.specs.declared.unit.Unit.{Unit as MeasureUnit}
+use Rattle.mds_world.specs.Facts.{Fact}
+use Rattle.mds_world.specs.Facts.Fact.{HeadIs, VersionIs}
+use Rattle.mds_world.specs.Lists.{Member}
+use Rattle.mds_world.specs.World.{head_over}
+use Rattle.mds_tables.specs.RowFacts.{head_fact, versions_in}
 use Rattle.mds_tables.specs.Stores.{versions_said}
-use Rattle.mds_tables.specs.Tables.{schema_tree}
+use Rattle.mds_tables.specs.Tables.{head_tree, schema_tree}
 use Rattle.mds_inserts.specs.Writing.{KeepsOthers}
 use Rattle.mds_pack_rows.specs.PackFacts.{pack_versions}
 use Rattle.mds_pack_rows.specs.Putting.{ChangesPacks}
+use Rattle.mds_migrate.specs.OldLengths.{erased}
 
--- mds_pack says the versions that mds_version says, and every other table is as it was.
+-- the fact is a version that mds_version says, with the length of a head that mds_head says of its day
+abbrev pub IsLengthened : Trees → Fact → Type 0
+IsLengthened trees (VersionIs key reading) =
+    Member (erased (VersionIs key reading)) (versions_in trees)
+    × ((unit : MeasureUnit) × Member (HeadIs (head_over key unit)) (map head_fact (trees head_tree)))
+IsLengthened trees fact = ⊥
+
+-- mds_pack says the versions that mds_version says, each with the length of its day's head, and nothing else. Every other table is as it
+-- was.
 pub record Packs (old new : State) : Type 0 where
   pub changes : ChangesPacks old new
-  pub same : set.from_list {R = fact_cmp} (pack_versions new.now.trees) ≡ set.from_list (versions_in old.now.trees)
+  pub lengthened : (fact : Fact) → Member fact (pack_versions new.now.trees) ↔ IsLengthened old.now.trees fact
 
 -- A table has no row, and every other one is as it was.
 pub record Clears (tree : ℕ) (old new : State) : Type 0 where

@@ -38,8 +38,8 @@ impl Stage for Packing {
     }
 }
 
-/// Packs the versions of all days, where no day is packed yet. It is unavailable where a day has a version of an interval that its
-/// length doesn't have, or a row that the store didn't write.
+/// Packs the versions of all days, where no day is packed yet. Each takes the length of its day's head. It is unavailable where a day
+/// has a version of an interval that its length doesn't have, or a row that the store didn't write.
 pub(crate) fn pack_days<S: Alter>(
     alloc: Global,
     tx: &mut Transaction<'_, S>,
@@ -103,7 +103,7 @@ fn version_rows<S: Alter>(
     }
 }
 
-/// Packs the versions of the day of which a head is shown.
+/// Packs the versions of the day of which a head is shown. They have its length.
 fn pack_day_of<S: Alter>(
     alloc: Global,
     tx: &mut Transaction<'_, S>,
@@ -122,7 +122,7 @@ fn pack_day_of<S: Alter>(
     let added = DayVersions {
         stream: head.stream,
         day: head.day,
-        rows: VersionRows::Each(all_versions(alloc, rows.as_slice())?),
+        rows: VersionRows::Each(all_versions(alloc, head.length, rows.as_slice())?),
     };
     // For the proof: a day's number is at most that of the last day.
     let _ = head.day.number();

@@ -1,13 +1,17 @@
 -- A body says how many intervals its day has.
-use Rattle.std.proofs.Common.{◌≡◌, ℕ, Bool, true, false, cond, not, ◌&&◌, nat_eq, nat_lt, List, [], ◌∷◌, drop, length, map, Option, Some, None, Ok, Err, Result, IfOk, IfSome, option_map, refl, sym, ap, ◌∙◌}
+use Rattle.std.proofs.Common.{◌≡◌, ◌*◌, ℕ, zero, suc, Bool, true, false, cond, not, ◌&&◌, nat_eq, nat_lt, List, [], ◌∷◌, drop, length, map, Option, Some, None, Ok, Err, Result, IfOk, IfSome, option_map, refl, sym, ap, ◌∙◌, arith}
+use Rattle.std.proofs.Math.Nat.{div-eq_of_eq-mul_right}
 use Rattle.std.specs.Int.{w16}
 use Rattle.std.proofs.lemmas.Bool.{eqb-true}
+use Rattle.std.proofs.lemmas.List.{length-map}
 use Rattle.mds_marks.specs.Reading.{ReadingValue}
 use Rattle.mds_runs.specs.declared.cover.Run.{Run}
 use Rattle.mds_runs.specs.GapSteps.{are_parted, marks_after}
+use Rattle.mds_packs.specs.Body.{IsDay}
 use Rattle.mds_packs.specs.Unpacked.{◌>>=◌, head_at, number_at, readings_at, runs_at, unpacked}
-use Rattle.mds_packs.proofs.Fields.{bind_some}
-use Rattle.mds_pack_rows.specs.PackFacts.{readings_in}
+use Rattle.mds_packs.proofs.Fields.{IsBytes, bind_some}
+use Rattle.mds_packs.proofs.Whole.{readings_takes}
+use Rattle.mds_pack_rows.specs.PackFacts.{minutes_of, readings_in}
 
 -- ---- the steps of a head behind its version, and those behind the head
 
@@ -82,3 +86,29 @@ pub all_whole : {E : Type 0} (count : ℕ) (body : List ℕ) (r : Result (Option
 all_whole count body (Ok (Some readings)) is = says count body (map (λ reading. Some reading) readings) is
 all_whole count body (Ok None) is = tt
 all_whole count body (Err e) is = tt
+
+-- ---- as many as they are, so long are their intervals
+
+-- so many intervals of a length are a day
+pub length_back : (count minutes : ℕ) → count * minutes ≡ 1440 → minutes_of count ≡ minutes
+length_back zero minutes day = absurd (omega (arith, day))
+length_back (suc count) minutes day = div-eq_of_eq-mul_right (omega arith) (sym day)
+
+module _ (count minutes : ℕ) (day : count * minutes ≡ 1440) where
+  -- what a call gives that reads for that count
+  pub all_of_length : {V E : Type 0} (view : V → List (Option ReadingValue)) (Told : V → Type 0) (r : Result (Option V) E)
+      → IfOk r (λ o. IfSome o (λ v. IsDay count (view v) × Told v)) → IfOk r (λ o. IfSome o (λ v. minutes_of (length (view v)) ≡ minutes))
+  all_of_length view Told (Ok (Some v)) is = ap minutes_of is.0.places ∙ length_back count minutes day
+  all_of_length view Told (Ok None) is = tt
+  all_of_length view Told (Err e) is = tt
+
+  -- and what one gives that reads a whole day
+  pub whole_of_length : {E : Type 0} (body : List ℕ) → IsBytes body → (r : Result (Option (List ReadingValue)) E)
+      → IfOk r (λ o. IfSome o (λ readings. unpacked count body ≡ Some (map (λ reading. Some reading) readings)))
+      → IfOk r (λ o. IfSome o (λ readings. minutes_of (length readings) ≡ minutes))
+  whole_of_length body fits (Ok (Some readings)) is =
+      let places : length (map (λ reading. Some reading) readings) ≡ count =
+      (readings_takes count body (map (λ reading. Some reading) readings) fits is).0.places in
+      ap minutes_of (sym (length-map readings (λ (reading : ReadingValue). Some reading)) ∙ places) ∙ length_back count minutes day
+  whole_of_length body fits (Ok None) is = tt
+  whole_of_length body fits (Err e) is = tt

@@ -30,7 +30,7 @@ use Rattle.mds_selects.proofs.Listed.{day_on, on_day}
 use Rattle.mds_selects.proofs.Named.{of_version}
 use Rattle.mds_selects.proofs.TypedRows.{HasKeyCells}
 use Rattle.mds_pack_rows.specs.DayRows.{AreHeldIn, shown_facts}
-use Rattle.mds_pack_rows.specs.PackFacts.{body_facts, facts_from, pack_facts, pack_versions, readings_in}
+use Rattle.mds_pack_rows.specs.PackFacts.{body_facts, facts_from, minutes_of, pack_facts, pack_versions, readings_in}
 use Rattle.mds_pack_rows.specs.PackTables.{pack_tree, update_columns}
 use Rattle.mds_pack_rows.specs.PacksLayout.{HasPacks}
 use Rattle.mds_pack_rows.proofs.AskLemmas.{pack_row}
@@ -38,24 +38,24 @@ use Rattle.mds_pack_rows.proofs.PutLemmas.{says_day, whole_said}
 
 -- ---- the loop over a day's readings
 
-split : (s : Stream) (day update interval : ℕ) (r : Option ReadingValue) (rs : List (Option ReadingValue))
-    → facts_from s day update interval (r ∷ rs) ≡ facts_from s day update interval (r ∷ []) ++ facts_from s day update (interval + 1) rs
-split s day update interval None rs = refl
-split s day update interval (Some r) rs = refl
+split : (s : Stream) (day minutes update interval : ℕ) (r : Option ReadingValue) (rs : List (Option ReadingValue))
+    → facts_from s day minutes update interval (r ∷ rs) ≡ facts_from s day minutes update interval (r ∷ []) ++ facts_from s day minutes update (interval + 1) rs
+split s day minutes update interval None rs = refl
+split s day minutes update interval (Some r) rs = refl
 
-pub held_on : (s : Stream) (day update interval : ℕ) (r : Option ReadingValue) (left later : List (Option ReadingValue)) (old new total : List Fact)
-    → left ≡ r ∷ later → new ≡ old ++ facts_from s day update interval (r ∷ []) → old ++ facts_from s day update interval left ≡ total
-    → new ++ facts_from s day update (interval + 1) later ≡ total
-held_on s day update interval r left later old new total is more before =
-    ap (λ xs. xs ++ facts_from s day update (interval + 1) later) more
-    ∙ append_assoc old (facts_from s day update interval (r ∷ [])) (facts_from s day update (interval + 1) later)
-    ∙ ap (λ xs. old ++ xs) (sym (ap (facts_from s day update interval) is ∙ split s day update interval r later))
+pub held_on : (s : Stream) (day minutes update interval : ℕ) (r : Option ReadingValue) (left later : List (Option ReadingValue)) (old new total : List Fact)
+    → left ≡ r ∷ later → new ≡ old ++ facts_from s day minutes update interval (r ∷ []) → old ++ facts_from s day minutes update interval left ≡ total
+    → new ++ facts_from s day minutes update (interval + 1) later ≡ total
+held_on s day minutes update interval r left later old new total is more before =
+    ap (λ xs. xs ++ facts_from s day minutes update (interval + 1) later) more
+    ∙ append_assoc old (facts_from s day minutes update interval (r ∷ [])) (facts_from s day minutes update (interval + 1) later)
+    ∙ ap (λ xs. old ++ xs) (sym (ap (facts_from s day minutes update interval) is ∙ split s day minutes update interval r later))
     ∙ before
 
-pub held_end : (s : Stream) (day update interval : ℕ) (left : List (Option ReadingValue)) (old total : List Fact)
-    → 0 ≡ length left → old ++ facts_from s day update interval left ≡ total → old ≡ total
-held_end s day update interval [] old total none before = sym (append-nil old) ∙ before
-held_end s day update interval (r ∷ rs) old total none before = absurd (omega (arith, none))
+pub held_end : (s : Stream) (day minutes update interval : ℕ) (left : List (Option ReadingValue)) (old total : List Fact)
+    → 0 ≡ length left → old ++ facts_from s day minutes update interval left ≡ total → old ≡ total
+held_end s day minutes update interval [] old total none before = sym (append-nil old) ∙ before
+held_end s day minutes update interval (r ∷ rs) old total none before = absurd (omega (arith, none))
 
 -- ---- the loop over rows
 
@@ -72,24 +72,24 @@ next_row rows k row old new low is more before s day =
 -- ---- the row of a whole day
 
 -- a row whose body says a reading of each interval
-pub whole_alone : (rows : List Row) (row : Row) (update : ℕ) (body : List ℕ) (readings : List ReadingValue) → rows ≡ row ∷ []
+pub whole_alone : (rows : List Row) (row : Row) (minutes update : ℕ) (body : List ℕ) (readings : List ReadingValue) → rows ≡ row ∷ []
     → column row 0 ≡ Int (pos update) → column row 1 ≡ Blob body → readings_in body ≡ Some (map (λ reading. Some reading) readings)
-    → AreHeldIn rows (whole_rows update 1 readings)
-whole_alone rows row update body readings alone at has is s day =
+    → minutes_of (length readings) ≡ minutes → AreHeldIn rows (whole_rows minutes update 1 readings)
+whole_alone rows row minutes update body readings alone at has is many s day =
     let said : body_facts s day (natural_at row 0) (text_at row 1) ≡ body_facts s day update body =
     (λ i. body_facts s day (natural (id_in (at i))) (bytes (has i))) in
-    sym (whole_said s day update 1 readings) ∙ sym (says_day s day update body (map (λ reading. Some reading) readings) is) ∙ sym said
+    sym (whole_said s day minutes update readings many) ∙ sym (says_day s day update body (map (λ reading. Some reading) readings) is) ∙ sym said
     ∙ sym (append-nil (shown_facts s day row)) ∙ sym (ap (flat_map (shown_facts s day)) alone)
 
 -- ---- what rows say
 
 -- a version of readings is of their day
-pub on_from : (s : Stream) (day update interval : ℕ) (rs : List (Option ReadingValue)) (f : Fact)
-    → Member f (facts_from s day update interval rs) → IsOn s day f
-on_from s day update interval [] f m = absurd m
-on_from s day update interval (None ∷ rs) f m = on_from s day update (interval + 1) rs f m
-on_from s day update interval (Some r ∷ rs) f (inl e) = subst (IsOn s day) (sym e) (refl, refl)
-on_from s day update interval (Some r ∷ rs) f (inr m) = on_from s day update (interval + 1) rs f m
+pub on_from : (s : Stream) (day minutes update interval : ℕ) (rs : List (Option ReadingValue)) (f : Fact)
+    → Member f (facts_from s day minutes update interval rs) → IsOn s day f
+on_from s day minutes update interval [] f m = absurd m
+on_from s day minutes update interval (None ∷ rs) f m = on_from s day minutes update (interval + 1) rs f m
+on_from s day minutes update interval (Some r ∷ rs) f (inl e) = subst (IsOn s day) (sym e) (refl, refl)
+on_from s day minutes update interval (Some r ∷ rs) f (inr m) = on_from s day minutes update (interval + 1) rs f m
 
 module _ (layout : Layout) (has : HasPacks layout) (s : Stream) (day : ℕ) (low : day < 2 ^ 63) (trees : Trees)
     (sound : IsSound (schema_with layout.more) trees) (rows : List Row) (sel : Selects pack_tree (day_cells s day) update_columns trees rows) where
@@ -118,7 +118,7 @@ module _ (layout : Layout) (has : HasPacks layout) (s : Stream) (day : ℕ) (low
         (λ p.
             let here = in_flat pack_facts (trees pack_tree) f ((said key reading).0 p.0) in
             let r = here.0 in
-            let at = on_from (stream_in r) (natural_at r 3) (natural_at r 4) 1 (held r) f here.2 in
+            let at = on_from (stream_in r) (natural_at r 3) (minutes_of (length (held r))) (natural_at r 4) 1 (held r) f here.2 in
             let stream : stream_in r ≡ s = sym at.0 ∙ p.1 in
             let on : natural_at r 3 ≡ day = sym at.1 ∙ p.2 in
             let shown = map (column r) update_columns in
@@ -132,6 +132,6 @@ module _ (layout : Layout) (has : HasPacks layout) (s : Stream) (day : ℕ) (low
             let at = on_day s day r row.2 in
             let says : Member f (shown_facts s day (map (column r) update_columns)) = subst (λ x. Member f (shown_facts s day x)) row.3 here.2 in
             let named = flat_in pack_facts (trees pack_tree) f r row.1 (subst (Member f) (sym (same_day r at.0 at.1)) says) in
-            let of = on_from s day (natural_at r 4) 1 (held r) f says in
+            let of = on_from s day (minutes_of (length (held r))) (natural_at r 4) 1 (held r) f says in
             ((said key reading).1 named, of.0, of.1)),
       )

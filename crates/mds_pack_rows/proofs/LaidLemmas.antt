@@ -10,7 +10,7 @@ use Rattle.mds_world.proofs.Members.{in_list, in_union, list_in, same_by, union_
 use Rattle.mds_inserts.proofs.RowLemmas.{IsMore, of}
 use Rattle.mds_packs.proofs.Whole.{any_held}
 use Rattle.mds_pack_rows.specs.Laying.{held_of, laid}
-use Rattle.mds_pack_rows.specs.PackFacts.{facts_from}
+use Rattle.mds_pack_rows.specs.PackFacts.{facts_from, minutes_of, readings_facts}
 
 -- both parts of what is laid
 pub record Parts (one other : Option ReadingValue) (ones others all : List (Option ReadingValue)) : Type 0 where
@@ -34,24 +34,24 @@ parts one other ones others all e =
           ] refl e
     ] refl e
 
-module _ (s : Stream) (day update : ℕ) (f : Fact) where
+module _ (s : Stream) (day minutes update : ℕ) (f : Fact) where
   -- it is the version of an interval
   abbrev At : ℕ → Option ReadingValue → Type 0
-  At interval reading = Member f (facts_from s day update interval (reading ∷ []))
+  At interval reading = Member f (facts_from s day minutes update interval (reading ∷ []))
 
-  here : (interval : ℕ) (reading : Option ReadingValue) (more : List (Option ReadingValue)) → Member f (facts_from s day update interval (reading ∷ more))
-      → At interval reading ⊎ Member f (facts_from s day update (interval + 1) more)
+  here : (interval : ℕ) (reading : Option ReadingValue) (more : List (Option ReadingValue)) → Member f (facts_from s day minutes update interval (reading ∷ more))
+      → At interval reading ⊎ Member f (facts_from s day minutes update (interval + 1) more)
   here interval None more m = inr m
   here interval (Some r) more (inl e) = inl (inl e)
   here interval (Some r) more (inr m) = inr m
 
-  first : (interval : ℕ) (reading : Option ReadingValue) (more : List (Option ReadingValue)) → At interval reading → Member f (facts_from s day update interval (reading ∷ more))
+  first : (interval : ℕ) (reading : Option ReadingValue) (more : List (Option ReadingValue)) → At interval reading → Member f (facts_from s day minutes update interval (reading ∷ more))
   first interval None more m = absurd m
   first interval (Some r) more (inl e) = inl e
   first interval (Some r) more (inr m) = absurd m
 
-  later : (interval : ℕ) (reading : Option ReadingValue) (more : List (Option ReadingValue)) → Member f (facts_from s day update (interval + 1) more)
-      → Member f (facts_from s day update interval (reading ∷ more))
+  later : (interval : ℕ) (reading : Option ReadingValue) (more : List (Option ReadingValue)) → Member f (facts_from s day minutes update (interval + 1) more)
+      → Member f (facts_from s day minutes update interval (reading ∷ more))
   later interval None more m = m
   later interval (Some r) more m = inr m
 
@@ -67,14 +67,14 @@ module _ (s : Stream) (day update : ℕ) (f : Fact) where
   in_held interval (Some r) None held e (inr m) = absurd m
   in_held interval (Some r) (Some t) held e m = absurd cc
 
-  laid_in : (interval : ℕ) (ones others all : List (Option ReadingValue)) → laid ones others ≡ Some all → Member f (facts_from s day update interval all)
-      → Member f (facts_from s day update interval ones) ⊎ Member f (facts_from s day update interval others)
-  laid_in interval [] [] all e m = absurd (subst (λ l. Member f (facts_from s day update interval l)) (sym (let it : [] ≡ all = cc in it)) m)
+  laid_in : (interval : ℕ) (ones others all : List (Option ReadingValue)) → laid ones others ≡ Some all → Member f (facts_from s day minutes update interval all)
+      → Member f (facts_from s day minutes update interval ones) ⊎ Member f (facts_from s day minutes update interval others)
+  laid_in interval [] [] all e m = absurd (subst (λ l. Member f (facts_from s day minutes update interval l)) (sym (let it : [] ≡ all = cc in it)) m)
   laid_in interval [] (o ∷ others) all e m = absurd cc
   laid_in interval (o ∷ ones) [] all e m = absurd cc
   laid_in interval (one ∷ ones) (other ∷ others) all e m =
       let p = parts one other ones others all e in
-      elim (here interval p.held p.more (subst (λ l. Member f (facts_from s day update interval l)) p.all_is m)) [
+      elim (here interval p.held p.more (subst (λ l. Member f (facts_from s day minutes update interval l)) p.all_is m)) [
         | inl at ↦ elim (held_in interval one other p.held p.held_is at) [
           | inl a ↦ inl (first interval one ones a)
           | inr b ↦ inr (first interval other others b)
@@ -86,14 +86,14 @@ module _ (s : Stream) (day update : ℕ) (f : Fact) where
       ]
 
   in_laid : (interval : ℕ) (ones others all : List (Option ReadingValue)) → laid ones others ≡ Some all
-      → Member f (facts_from s day update interval ones) ⊎ Member f (facts_from s day update interval others) → Member f (facts_from s day update interval all)
+      → Member f (facts_from s day minutes update interval ones) ⊎ Member f (facts_from s day minutes update interval others) → Member f (facts_from s day minutes update interval all)
   in_laid interval [] [] all e (inl m) = absurd m
   in_laid interval [] [] all e (inr m) = absurd m
   in_laid interval [] (o ∷ others) all e m = absurd cc
   in_laid interval (o ∷ ones) [] all e m = absurd cc
   in_laid interval (one ∷ ones) (other ∷ others) all e m =
       let p = parts one other ones others all e in
-      subst (λ l. Member f (facts_from s day update interval l)) (sym p.all_is)
+      subst (λ l. Member f (facts_from s day minutes update interval l)) (sym p.all_is)
       (elim m [
         | inl a ↦ elim (here interval one ones a) [
           | inl at ↦ first interval p.held p.more (in_held interval one other p.held p.held_is (inl at))
@@ -106,16 +106,16 @@ module _ (s : Stream) (day update : ℕ) (f : Fact) where
       ])
 
 -- What is laid says what both say.
-pub laid_more : (s : Stream) (day update interval : ℕ) (ones others all : List (Option ReadingValue)) → laid ones others ≡ Some all
-    → IsMore (facts_from s day update interval all) (facts_from s day update interval ones) (facts_from s day update interval others)
-laid_more s day update interval ones others all e =
-    let facts = facts_from s day update interval in
+laid_more : (s : Stream) (day minutes update interval : ℕ) (ones others all : List (Option ReadingValue)) → laid ones others ≡ Some all
+    → IsMore (facts_from s day minutes update interval all) (facts_from s day minutes update interval ones) (facts_from s day minutes update interval others)
+laid_more s day minutes update interval ones others all e =
+    let facts = facts_from s day minutes update interval in
     same_by (of (facts all)) (union (of (facts ones)) (of (facts others)))
-    (λ f m. elim (laid_in s day update f interval ones others all e (in_list (facts all) f m)) [
+    (λ f m. elim (laid_in s day minutes update f interval ones others all e (in_list (facts all) f m)) [
       | inl a ↦ union_left (of (facts ones)) (of (facts others)) f (list_in (facts ones) f a)
       | inr b ↦ union_right (of (facts ones)) (of (facts others)) f (list_in (facts others) f b)
     ])
-    (λ f m. list_in (facts all) f (in_laid s day update f interval ones others all e
+    (λ f m. list_in (facts all) f (in_laid s day minutes update f interval ones others all e
     (elim (in_union (of (facts ones)) (of (facts others)) f m) [
       | inl a ↦ inl (in_list (facts ones) f a)
       | inr b ↦ inr (in_list (facts others) f b)
@@ -128,7 +128,14 @@ Held = Option ReadingValue
 abbrev pub with_front : List Held → Option (List Held) → Option (List Held)
 with_front front o = option_map (λ more. front ++ more) o
 
--- ---- what is laid holds a reading, and has the length of the others
+-- ---- what is laid holds a reading, and has the length of both
+
+laid_front : (ones others all : List Held) → laid ones others ≡ Some all → length all ≡ length ones
+laid_front [] [] all e = ap length (sym (let it : [] ≡ all = cc in it))
+laid_front [] (o ∷ others) all e = absurd cc
+laid_front (o ∷ ones) [] all e = absurd cc
+laid_front (one ∷ ones) (other ∷ others) all e =
+    let p = parts one other ones others all e in ap length p.all_is ∙ ap suc (laid_front ones others p.more p.more_is)
 
 pub laid_length : (ones others all : List Held) → laid ones others ≡ Some all → length all ≡ length others
 laid_length [] [] all e = ap length (sym (let it : [] ≡ all = cc in it))
@@ -136,6 +143,15 @@ laid_length [] (o ∷ others) all e = absurd cc
 laid_length (o ∷ ones) [] all e = absurd cc
 laid_length (one ∷ ones) (other ∷ others) all e =
     let p = parts one other ones others all e in ap length p.all_is ∙ ap suc (laid_length ones others p.more p.more_is)
+
+-- so it is of the length of both, and says what both say
+pub laid_said : (s : Stream) (day update : ℕ) (ones others all : List Held) → laid ones others ≡ Some all
+    → IsMore (readings_facts s day update all) (readings_facts s day update ones) (readings_facts s day update others)
+laid_said s day update ones others all e =
+    let one = laid_front ones others all e in
+    let other = laid_length ones others all e in
+    laid_more s day (minutes_of (length all)) update 1 ones others all e
+    ∙ (λ i. union (of (facts_from s day (minutes_of (one i)) update 1 ones)) (of (facts_from s day (minutes_of (other i)) update 1 others)))
 
 held_some : (one other held : Held) → held_of one other ≡ Some held → is_some other ≡ true → is_some held ≡ true
 held_some None other held e some = ap is_some (sym (let it : other ≡ held = cc in it)) ∙ some

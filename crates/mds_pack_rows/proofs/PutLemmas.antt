@@ -31,7 +31,7 @@ use Rattle.mds_world.specs.FactOrder.{exact, total}
 use Rattle.mds_world.specs.World.{union}
 use Rattle.mds_world.proofs.Sets.{list_append, union_assoc, union_empty}
 use Rattle.std.proofs.lemmas.Grind.{flat_map-append}
-use Rattle.std.proofs.lemmas.List.{append-nil, map-append, take_more}
+use Rattle.std.proofs.lemmas.List.{append-nil, length-map, map-append, take_more}
 use Rattle.mds_keeper.specs.Books.{row_fact}
 use Rattle.mds_keeper.specs.Content.{day_versions, rows_of, version_at, version_fact, versions_of, whole_rows}
 use Rattle.mds_keeper.specs.declared.additions.DayVersions.{DayVersions}
@@ -48,13 +48,13 @@ use Rattle.mds_selects.proofs.SelectTexts.{equals}
 use Rattle.mds_selects.proofs.TypedRows.{begins_at}
 use Rattle.mds_pack_rows.specs.Laying.{laid}
 use Rattle.mds_pack_rows.specs.PackCells.{key_cells, pack_cells}
-use Rattle.mds_pack_rows.specs.PackFacts.{body_facts, facts_from, pack_facts, pack_versions, readings_facts, readings_in}
+use Rattle.mds_pack_rows.specs.PackFacts.{body_facts, facts_from, minutes_of, pack_facts, pack_versions, readings_facts, readings_in}
 use Rattle.mds_pack_rows.specs.PackTables.{Behind, body_columns, pack_table, pack_tree, packs_then}
 use Rattle.mds_pack_rows.specs.Putting.{ChangesPacks, GoesOn, IsThere, NamesMore, PutsBeside, PutsBody, PutsFacts}
 use Rattle.mds_pack_rows.specs.Swaps.{Swaps}
 use Rattle.mds_pack_rows.proofs.PackTexts.{changed_terms, insert_pack, insert_pack_is, insert_pack_plain, pack_place, pack_terms, update_body, update_body_is, update_body_plain, update_query}
 use Rattle.mds_pack_rows.proofs.SwapLemmas.{gained, pack_bare, swapped as swapped_rows}
-use Rattle.mds_pack_rows.proofs.LaidLemmas.{laid_more}
+use Rattle.mds_pack_rows.proofs.LaidLemmas.{laid_said}
 use Rattle.mds_pack_rows.proofs.UpdateLemmas.{Changes, swaps, updates}
 
 -- the cells are of their types
@@ -219,7 +219,7 @@ lays_there old new id shown old_body new_body olds news all has_id has_body was 
         let at_id : column row 0 ≡ Int id = sym (ap (λ r. column r 0) shown_is) ∙ has_id in
         let at_body : column row 5 ≡ Blob old_body = sym (ap (λ r. column r 1) shown_is) ∙ has_body in
         let says : IsMore (pack_facts (Null ∷ pack_cells s day update new_body)) (pack_facts (Null ∷ drop 1 row)) (readings_facts s day update news) =
-        ap of (says_day s day update new_body all is) ∙ laid_more s day update 1 olds news all made
+        ap of (says_day s day update new_body all is) ∙ laid_said s day update olds news all made
         ∙ ap (λ facts. union (of facts) (of (readings_facts s day update news)))
         (sym (row_says s day update row old_body begins at_body ∙ says_day s day update old_body olds was) ∙ pack_bare row) in
         swapped_rows pack_facts pack_bare pack_tree (drop 1 row) (pack_cells s day update new_body) (readings_facts s day update news) old.now.trees new.now.trees
@@ -387,11 +387,19 @@ puts_as a b xs ys same puts =
     (puts.0, λ there. let it = puts.1 there in (it.0, it.1 ∙ ap (union (of (pack_versions a.now.trees))) same))
 
 -- the readings of all intervals say a version of each
-pub whole_said : (s : Stream) (day update interval : ℕ) (readings : List ReadingValue)
-    → facts_from s day update interval (map (λ reading. Some reading) readings) ≡ map (row_fact s day) (whole_rows update interval readings)
-whole_said s day update interval [] = refl
-whole_said s day update interval (r ∷ rs) =
-    ap (λ facts. VersionIs (key_at s day interval update) r ∷ facts) (whole_said s day update (interval + 1) rs)
+each_said : (s : Stream) (day minutes update interval : ℕ) (readings : List ReadingValue)
+    → facts_from s day minutes update interval (map (λ reading. Some reading) readings) ≡ map (row_fact s day) (whole_rows minutes update interval readings)
+each_said s day minutes update interval [] = refl
+each_said s day minutes update interval (r ∷ rs) =
+    ap (λ facts. VersionIs (key_at s day minutes interval update) r ∷ facts) (each_said s day minutes update (interval + 1) rs)
+
+-- where they are as many as a day of that length has
+pub whole_said : (s : Stream) (day minutes update : ℕ) (readings : List ReadingValue) → minutes_of (length readings) ≡ minutes
+    → readings_facts s day update (map (λ reading. Some reading) readings) ≡ map (row_fact s day) (whole_rows minutes update 1 readings)
+whole_said s day minutes update readings many =
+    ap (λ m. facts_from s day m update 1 (map (λ reading. Some reading) readings))
+    (ap minutes_of (length-map readings (λ (reading : ReadingValue). Some reading)) ∙ many)
+    ∙ each_said s day minutes update 1 readings
 
 -- versions of a day, as rows of its book
 pub as_rows : (s : Stream) (day : ℕ) (rows : List (ℕ × Version)) → map (row_fact s day) rows ≡ map version_fact (map (version_at s day) rows)

@@ -1,6 +1,6 @@
 -- What the rows of mds_pack say, as facts (profile). Each row names the versions of its body, whoever wrote it. A body that
 -- can't be read says none, so any tables name a World.
-use Rattle.std.specs.Prelude.{ℕ, ◌+◌, List, [], ◌∷◌, drop, Option, Some, None, unwrap_or}
+use Rattle.std.specs.Prelude.{ℕ, ◌+◌, ◌/◌, List, [], ◌∷◌, drop, length, Option, Some, None, unwrap_or}
 use Rattle.std.specs.Int.{w16}
 use Rattle.std.specs.List.{flat_map}
 use Rattle.sqlite_trees.specs.Tree.{Trees}
@@ -13,17 +13,21 @@ use Rattle.mds_world.specs.Facts.Fact.{VersionIs}
 use Rattle.mds_tables.specs.RowFacts.{natural_at, stream_in, text_at}
 use Rattle.mds_pack_rows.specs.PackTables.{pack_tree}
 
--- the versions of one update that readings from an interval on are, none where an interval has no reading
-abbrev pub facts_from : Stream → ℕ → ℕ → ℕ → List (Option ReadingValue) → List Fact
-facts_from s day update interval [] = []
-facts_from s day update interval (None ∷ readings) = facts_from s day update (interval + 1) readings
-facts_from s day update interval (Some r ∷ readings) =
-    VersionIs (key_at s day interval update) r
-    ∷ facts_from s day update (interval + 1) readings
+-- the length of each of so many intervals of a day, in minutes
+abbrev pub minutes_of : ℕ → ℕ
+minutes_of count = 1440 / count
 
--- those of a whole day
+-- The versions of one length and one update that readings from an interval on are, none where an interval has no reading.
+abbrev pub facts_from : Stream → ℕ → ℕ → ℕ → ℕ → List (Option ReadingValue) → List Fact
+facts_from s day minutes update interval [] = []
+facts_from s day minutes update interval (None ∷ readings) = facts_from s day minutes update (interval + 1) readings
+facts_from s day minutes update interval (Some r ∷ readings) =
+    VersionIs (key_at s day minutes interval update) r
+    ∷ facts_from s day minutes update (interval + 1) readings
+
+-- those of a whole day, whose length is that of so many intervals
 abbrev pub readings_facts : Stream → ℕ → ℕ → List (Option ReadingValue) → List Fact
-readings_facts s day update readings = facts_from s day update 1 readings
+readings_facts s day update readings = facts_from s day (minutes_of (length readings)) update 1 readings
 
 -- the readings that bytes are the body of, for as many intervals as they say themselves
 abbrev pub readings_in : List ℕ → Option (List (Option ReadingValue))

@@ -20,17 +20,17 @@ use Rattle.mds_world.specs.declared.facts.Key.{Key}
 use Rattle.mds_tables.specs.Layouts.{IsOwn, Layout, either, world_with}
 use Rattle.mds_tables.specs.RowFacts.{natural_at, stream_in, text_at}
 use Rattle.mds_tables.specs.Tables.{no_more, trees_taken}
-use Rattle.mds_pack_rows.specs.PackFacts.{facts_from, pack_facts, pack_versions, readings_in}
+use Rattle.mds_pack_rows.specs.PackFacts.{facts_from, minutes_of, pack_facts, pack_versions, readings_in}
 use Rattle.mds_pack_rows.specs.PackTables.{Behind, pack_tree, packs_then, schema_2, trees_packed}
 
 -- ---- mds_pack says versions alone
 
-pub only_from : (s : Stream) (day update interval : ℕ) (readings : List (Option ReadingValue)) (fact : Fact)
-    → Member fact (facts_from s day update interval readings) → IsOwn fact
-only_from s day update interval [] fact m = absurd m
-only_from s day update interval (None ∷ readings) fact m = only_from s day update (interval + 1) readings fact m
-only_from s day update interval (Some r ∷ readings) fact (inl is) = subst IsOwn (sym is) tt
-only_from s day update interval (Some r ∷ readings) fact (inr m) = only_from s day update (interval + 1) readings fact m
+pub only_from : (s : Stream) (day minutes update interval : ℕ) (readings : List (Option ReadingValue)) (fact : Fact)
+    → Member fact (facts_from s day minutes update interval readings) → IsOwn fact
+only_from s day minutes update interval [] fact m = absurd m
+only_from s day minutes update interval (None ∷ readings) fact m = only_from s day minutes update (interval + 1) readings fact m
+only_from s day minutes update interval (Some r ∷ readings) fact (inl is) = subst IsOwn (sym is) tt
+only_from s day minutes update interval (Some r ∷ readings) fact (inr m) = only_from s day minutes update (interval + 1) readings fact m
 
 pub only_both : (xs ys : List Fact) (fact : Fact) → (Member fact xs → IsOwn fact) → (Member fact ys → IsOwn fact)
     → Member fact (xs ++ ys) → IsOwn fact
@@ -41,8 +41,9 @@ only_both (x ∷ xs) ys fact one other (inr m) = only_both xs ys fact (λ n. one
 pub only_packs : (rows : List Row) (fact : Fact) → Member fact (flat_map pack_facts rows) → IsOwn fact
 only_packs [] fact m = absurd m
 only_packs (row ∷ rows) fact m =
+    let readings = unwrap_or (readings_in (text_at row 5)) [] in
     only_both (pack_facts row) (flat_map pack_facts rows) fact
-    (only_from (stream_in row) (natural_at row 3) (natural_at row 4) 1 (unwrap_or (readings_in (text_at row 5)) []) fact)
+    (only_from (stream_in row) (natural_at row 3) (minutes_of (length readings)) (natural_at row 4) 1 readings fact)
     (only_packs rows fact) m
 
 -- ---- layouts with mds_pack

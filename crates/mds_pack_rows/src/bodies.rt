@@ -7,7 +7,7 @@ ghost use Rattle.sqlite.specs.declared.types.Value.TheVariants.{Blob};
 ghost use Rattle.mds_calendar.specs.Length.{count_of, is_length};
 ghost use Rattle.mds_marks.specs.Reading.{ReadingValue};
 ghost use Rattle.mds_packs.specs.Unpacked.{number_at, unpacked};
-ghost use Rattle.mds_pack_rows.specs.PackFacts.{readings_in};
+ghost use Rattle.mds_pack_rows.specs.PackFacts.{minutes_of, readings_in};
 
 use mds_marks::Reading;
 use mds_packs::{unpack_day, unpack_readings};
@@ -52,8 +52,11 @@ pub(crate) fn unpack_for(
 ) -> Result<Option<Vec<Option<Reading>>>, AllocError>
     ensures says { IfOk result (λ o. IfSome o (λ readings. readings_in body.now ≡ Some readings.items)) }
     ensures few { IfOk result (λ o. IfSome o (λ readings. list_length readings.items < 2 ^ 16)) }
+    ensures len { IfOk result (λ o. IfSome o (λ readings. minutes_of (list_length readings.items) ≡ length)) }
     ensures value { IfOk result (λ o. option_map (λ v. v.items) o ≡ unpacked (count_of length) body.now) }
 {
+    // For the proof: so many intervals of this length are a day.
+    let _ = length.count();
     unpack_day(alloc, length, body)
 }
 
@@ -64,8 +67,11 @@ pub(crate) fn unpack_whole(
     length: Length,
     body: &[u8],
 ) -> Result<Option<DayReadings>, AllocError>
-    ensures { IfOk result (λ o. IfSome o (λ readings. readings_in body.now ≡ Some (map (λ reading. Some reading) readings))) }
+    ensures says { IfOk result (λ o. IfSome o (λ readings. readings_in body.now ≡ Some (map (λ reading. Some reading) readings))) }
+    ensures len { IfOk result (λ o. IfSome o (λ readings. minutes_of (list_length readings) ≡ length)) }
 {
+    // For the proof: so many intervals of this length are a day.
+    let _ = length.count();
     unpack_readings(alloc, length, body)
 }
 

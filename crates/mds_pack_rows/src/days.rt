@@ -1,6 +1,6 @@
 //! The versions of a day, asked of a store.
 
-ghost use Rattle.std.specs.Prelude.{◌≡◌, ◌<◌, ◌^◌, ◌++◌, ◌∷◌, [], ℕ, false, length, map, IfOk, IfSome, OnOk};
+ghost use Rattle.std.specs.Prelude.{◌≡◌, ◌<◌, ◌^◌, ◌++◌, ◌∷◌, [], ℕ, false, length as list_length, map, IfOk, IfSome, OnOk};
 ghost use Rattle.sqlite.specs.Held.{state};
 ghost use Rattle.mds_names.specs.declared.stream.Stream.{Stream as StreamValue};
 ghost use Rattle.mds_keeper.specs.Books.{row_fact};
@@ -10,7 +10,7 @@ ghost use Rattle.mds_tables.specs.Stores.{HoldsOf};
 ghost use Rattle.mds_selects.specs.Found.{AreRowsOf};
 ghost use Rattle.mds_pack_rows.specs.DailyLayout.{daily_layout, world_3};
 ghost use Rattle.mds_pack_rows.specs.DayRows.{AreHeldIn, shown_facts};
-ghost use Rattle.mds_pack_rows.specs.PackFacts.{facts_from, readings_facts};
+ghost use Rattle.mds_pack_rows.specs.PackFacts.{facts_from, minutes_of, readings_facts};
 
 use crate::bodies::{blob_at, unpack_for, unpack_whole};
 use crate::statements::day_rows;
@@ -88,7 +88,7 @@ fn whole_held(
     let Some(readings) = unpack_whole(alloc, length, body)? else {
         return Ok(None);
     };
-    Ok(Some(VersionRows::Whole(update, readings)))
+    Ok(Some(VersionRows::Whole(length, update, readings)))
 }
 
 /// The versions that rows of a day hold, one by one.
@@ -124,37 +124,45 @@ fn add_row(
     let Some(readings) = unpack_for(alloc, length, body)? else {
         return Err(Unavailable);
     };
-    add_held(update, readings, versions)
+    add_held(length, update, readings, versions)
 }
 
-/// Adds a version for each reading.
+/// Adds a version of a length for each reading.
 fn add_held(
+    length: Length,
     update: Moment,
     readings: Vec<Option<Reading>>,
     versions: &mut Vec<(u16, Version)>,
 ) -> Result<(), Unavailable>
-    requires { length readings.items < 2 ^ 16 }
+    requires few { list_length readings.items < 2 ^ 16 }
+    requires len { minutes_of (list_length readings.items) ≡ length }
     ensures { OnOk result ((s : StreamValue) (day : ℕ) → map (row_fact s day) versions.new.items ≡ map (row_fact s day) versions.old.items ++ readings_facts s day update readings.items) }
 {
     let mut interval: u16 = 0;
     for reading in readings {
         interval += 1;
-        add_one(interval, update, reading, versions)?;
+        add_one(interval, length, update, reading, versions)?;
     }
     Ok(())
 }
 
-/// Adds the version of an interval, if it has a reading.
+/// Adds the version of an interval of a length, if it has a reading.
 fn add_one(
     interval: u16,
+    length: Length,
     update: Moment,
     reading: Option<Reading>,
     versions: &mut Vec<(u16, Version)>,
 ) -> Result<(), Unavailable>
-    ensures { OnOk result ((s : StreamValue) (day : ℕ) → map (row_fact s day) versions.new.items ≡ map (row_fact s day) versions.old.items ++ facts_from s day update interval (reading ∷ [])) }
+    ensures { OnOk result ((s : StreamValue) (day : ℕ) → map (row_fact s day) versions.new.items ≡ map (row_fact s day) versions.old.items ++ facts_from s day length update interval (reading ∷ [])) }
 {
     if let Some(reading) = reading {
-        versions.push((interval, Version { update, reading }))?;
+        let version = Version {
+            update,
+            length,
+            reading,
+        };
+        versions.push((interval, version))?;
     }
     Ok(())
 }

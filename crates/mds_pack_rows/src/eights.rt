@@ -23,8 +23,9 @@ use std::alloc::{AllocError, Global};
 use std::cmp::Ordering;
 
 /// Puts versions of days, each of which has its head. Those of a day and an update that lie together go into one row at once. It
-/// is unavailable where a version is kept already, or has an interval that its day doesn't have. Days are new whose heads are
-/// given: those that this transaction has put, by stream and day. Eight new days in turn go in by one statement.
+/// is unavailable where a version is kept already, is of another length than its day, or has an interval that the day doesn't have.
+/// Days are new whose heads are given: those that this transaction has put, by stream and day. Eight new days in turn go in by
+/// one statement.
 pub fn put_days<S: Alter>(
     alloc: Global,
     tx: &mut Transaction<'_, S>,
@@ -100,8 +101,8 @@ fn pack_new_days(
     Ok(Some(rows))
 }
 
-/// The row of a day. `None` where the day isn't new, or where its versions aren't those of one update, each at an interval of its
-/// own.
+/// The row of a day. `None` where the day isn't new, or where its versions aren't those of its length and one update, each at an
+/// interval of its own.
 fn pack_new_day(
     alloc: Global,
     heads: &[Head],
@@ -116,13 +117,16 @@ fn pack_new_day(
         VersionRows::Each(rows) => {
             pack_listed(alloc, length, &added.stream, added.day, rows.as_slice())
         }
-        VersionRows::Whole(update, readings) => {
+        VersionRows::Whole(of_all, update, readings) => {
+            if *of_all != length {
+                return Ok(None);
+            }
             pack_whole(alloc, length, &added.stream, added.day, *update, readings)
         }
     }
 }
 
-/// The row of versions of a new day. `None` where they aren't those of one update, each at an interval of its own.
+/// The row of versions of a new day. `None` where they aren't those of its length and one update, each at an interval of its own.
 fn pack_listed(
     alloc: Global,
     length: Length,
@@ -150,8 +154,8 @@ fn pack_listed(
     }))
 }
 
-/// The row of a new day's readings, of all its intervals and under one update. They are packed as they lie. `None` where they
-/// are more or fewer than the day has intervals.
+/// The row of a new day's readings, of all its intervals, of its length and under one update. They are packed as they lie. `None`
+/// where they are more or fewer than the day has intervals.
 fn pack_whole(
     alloc: Global,
     length: Length,
@@ -160,7 +164,7 @@ fn pack_whole(
     update: Moment,
     readings: &DayReadings,
 ) -> Result<Option<PackRow>, AllocError>
-    ensures { IfOk result (λ o. IfSome o (λ row. set.from_list {R = fact_cmp} (said_by row) ≡ set.from_list (map (row_fact stream.now day) (whole_rows update 1 readings.now)))) }
+    ensures { IfOk result (λ o. IfSome o (λ row. set.from_list {R = fact_cmp} (said_by row) ≡ set.from_list (map (row_fact stream.now day) (whole_rows length update 1 readings.now)))) }
 {
     if readings.len() != length.count() || readings.len() == 0 {
         return Ok(None);

@@ -6,6 +6,7 @@ ghost use Rattle.sqlite.specs.Held.{state};
 ghost use Rattle.sqlite.specs.State.{KeepsCommit, Survives};
 ghost use Rattle.mds_keeper.specs.Books.{row_fact};
 ghost use Rattle.mds_keeper.specs.Content.{day_versions, version_fact, versions_of, whole_rows};
+ghost use Rattle.mds_pack_rows.specs.PackFacts.{minutes_of};
 ghost use Rattle.mds_pack_rows.specs.Putting.{IsThere, PutsFacts, SayMore, SayRows};
 
 use crate::heads::length_of_day;
@@ -17,8 +18,8 @@ use mds_terms::{Day, Length, Moment, Stream};
 use sqlite::{Alter, Transaction};
 use std::alloc::{AllocError, Global};
 
-/// Puts versions of days day by day, each of which has its head. It is unavailable where a version is kept already, or has an
-/// interval that its day doesn't have.
+/// Puts versions of days day by day, each of which has its head. It is unavailable where a version is kept already, is of another
+/// length than its day, or has an interval that the day doesn't have.
 pub(crate) fn put_each_day<S: Alter>(
     alloc: Global,
     tx: &mut Transaction<'_, S>,
@@ -51,7 +52,7 @@ fn put_known_day<S: Alter>(
 }
 
 /// Puts versions of a day with intervals of this length. Those of one update that lie together go into its row at once. It is
-/// unavailable where a version is kept already, or has an interval that the day doesn't have.
+/// unavailable where a version is kept already, is of another length, or has an interval that the day doesn't have.
 pub fn put_day<S: Alter>(
     alloc: Global,
     tx: &mut Transaction<'_, S>,
@@ -67,7 +68,10 @@ pub fn put_day<S: Alter>(
         VersionRows::Each(rows) => {
             put_listed(alloc, tx, length, &added.stream, added.day, rows.as_slice())
         }
-        VersionRows::Whole(update, readings) => {
+        VersionRows::Whole(of_all, update, readings) => {
+            if *of_all != length {
+                return Err(Unavailable);
+            }
             put_whole(
                 alloc,
                 tx,
@@ -106,7 +110,7 @@ fn put_listed<S: Alter>(
     Ok(())
 }
 
-/// Puts the readings of all intervals of a day under an update.
+/// Puts the readings of all intervals of a day, of this length and under an update.
 fn put_whole<S: Alter>(
     alloc: Global,
     tx: &mut Transaction<'_, S>,
@@ -117,7 +121,7 @@ fn put_whole<S: Alter>(
     readings: &DayReadings,
 ) -> Result<(), Unavailable>
     ensures same_reference { tx.new.conn.ghost_name ≡ tx.old.conn.ghost_name }
-    ensures ok { OnOk result (PutsFacts (state S.Store tx.old.conn.now) (state S.Store tx.new.conn.now) (map (row_fact stream.now day) (whole_rows update 1 readings.now))) }
+    ensures ok { OnOk result (PutsFacts (state S.Store tx.old.conn.now) (state S.Store tx.new.conn.now) (map (row_fact stream.now day) (whole_rows length update 1 readings.now))) }
     ensures kept { IsThere (state S.Store tx.old.conn.now) (state S.Store tx.new.conn.now) → KeepsCommit (state S.Store tx.old.conn.now) (state S.Store tx.new.conn.now) }
     ensures survives { Survives (state S.Store tx.old.conn.now) (state S.Store tx.new.conn.now) (λ _. ⊥) }
 {
@@ -156,7 +160,7 @@ fn end_of_run(rows: &[(u16, Version)]) -> usize
     rows.len()
 }
 
-/// Puts versions of one update.
+/// Puts versions of one update, which are of this length.
 fn put_run<S: Alter>(
     alloc: Global,
     tx: &mut Transaction<'_, S>,
@@ -190,8 +194,8 @@ pub(crate) fn has_some(readings: &[Option<Reading>]) -> bool
     }
 }
 
-/// The readings of versions of one update, each at its interval. `None` where a version has another update, an interval that
-/// the day doesn't have, or that of one before it.
+/// The readings of versions of one length and update, each at its interval. `None` where a version has another length or update,
+/// an interval that the day doesn't have, or that of one before it.
 pub(crate) fn spread(
     alloc: Global,
     length: Length,
@@ -203,7 +207,7 @@ pub(crate) fn spread(
 {
     let mut readings = no_readings(alloc, length)?;
     for row in rows {
-        if !set_reading(&mut readings, update, row)? {
+        if !set_reading(&mut readings, length, update, row)? {
             return Ok(None);
         }
     }
@@ -212,7 +216,8 @@ pub(crate) fn spread(
 
 /// A place for each interval, without a reading.
 fn no_readings(alloc: Global, length: Length) -> Result<Vec<Option<Reading>>, AllocError>
-    ensures { IfOk result (λ readings. (list_length readings.items < 2 ^ 16) × (readings.items ≡ replicate (list_length readings.items) None)) }
+    ensures { IfOk result (λ readings. (list_length readings.items < 2 ^ 16) × (readings.items ≡ replicate (list_length readings.items) None)
+        × (minutes_of (list_length readings.items) ≡ length)) }
 {
     let mut readings = Vec::with_capacity(alloc, length.count())?;
     for _ in 0..length.count() {
@@ -221,16 +226,21 @@ fn no_readings(alloc: Global, length: Length) -> Result<Vec<Option<Reading>>, Al
     Ok(readings)
 }
 
-/// Sets the reading of a version's interval. It tells whether there was none, and the version has this update.
+/// Sets the reading of a version's interval. It tells whether there was none, and the version has this length and update.
 fn set_reading(
     readings: &mut Vec<Option<Reading>>,
+    length: Length,
     update: Moment,
     row: &(u16, Version),
 ) -> Result<bool, AllocError>
+    requires { minutes_of (list_length readings.old.items) ≡ length }
     ensures len { OnOk result (list_length readings.new.items ≡ list_length readings.old.items) }
     ensures more { IfOk result (λ set. IsTrue set → SayMore update readings.old.items readings.new.items row.now) }
 {
     if row.1.update.seconds() != update.seconds() || row.0 == 0 {
+        return Ok(false);
+    }
+    if row.1.length.minutes() != length.minutes() {
         return Ok(false);
     }
     let place = usize::from(row.0) - 1;

@@ -1,5 +1,5 @@
 -- What rows of packed days in a range say of a World.
-use Rattle.std.specs.Prelude.{◌≡◌, ◌<◌, ◌^◌, ℕ, List, [], map, Option, refl, unwrap_or}
+use Rattle.std.specs.Prelude.{◌≡◌, ◌<◌, ◌^◌, ℕ, List, [], length, map, Option, refl, unwrap_or}
 use Rattle.std.proofs.Common.{sym, subst, ◌∙◌, arith}
 use Rattle.std.specs.List.{AllPairs}
 use Rattle.sqlite_catalog.specs.Listing.{IsSound}
@@ -19,7 +19,7 @@ use Rattle.mds_tables.specs.Tables.{head_columns, head_tree}
 use Rattle.mds_selects.proofs.Listed.{day_on, on_day}
 use Rattle.mds_selects.proofs.Named.{in_versions, of_version}
 use Rattle.mds_pack_rows.specs.DayRows.{AreHeldIn, shown_facts}
-use Rattle.mds_pack_rows.specs.PackFacts.{body_facts, pack_facts, pack_versions, readings_in}
+use Rattle.mds_pack_rows.specs.PackFacts.{body_facts, minutes_of, pack_facts, pack_versions, readings_in}
 use Rattle.mds_pack_rows.specs.DailyTables.{schema_3}
 use Rattle.mds_pack_rows.specs.PackTables.{pack_tree}
 use Rattle.mds_pack_rows.specs.DailyLayout.{daily_layout, daily_packs, day_details, world_3}
@@ -44,7 +44,7 @@ module _ (s : Stream) (first last : ℕ) (small : last < 2 ^ 63) (trees : Trees)
   same_row r stream = λ i. body_facts (stream i) (natural_at r 3) (natural_at r 4) (text_at r 5)
 
   said_on : (shown : Row) (f : Fact) → SaysPacked s shown f → IsOn s (natural_at shown 2) f
-  said_on shown f says = on_from s (natural_at shown 2) (natural_at shown 0) 1 (shown_held shown) f says
+  said_on shown f says = on_from s (natural_at shown 2) (minutes_of (length (shown_held shown))) (natural_at shown 0) 1 (shown_held shown) f says
 
   pub say_packs : SayVersions daily_layout trees s first last rows (SaysPacked s) AreHeldIn
   say_packs = record {
@@ -68,7 +68,7 @@ module _ (s : Stream) (first last : ℕ) (small : last < 2 ^ 63) (trees : Trees)
         let f : Fact = VersionIs key reading in
         let here = in_flat pack_facts (trees pack_tree) f ((daily_packs.versions trees key reading).0 ((of_version daily_layout trees key reading).0 h)) in
         let r = here.0 in
-        let at = on_from (stream_in r) (natural_at r 3) (natural_at r 4) 1 (held r) f here.2 in
+        let at = on_from (stream_in r) (natural_at r 3) (minutes_of (length (held r))) (natural_at r 4) 1 (held r) f here.2 in
         let its : IsOn s on.day f = on.on in
         let stream : stream_in r ≡ s = sym at.0 ∙ its.0 in
         let day : natural_at r 3 ≡ on.day = sym at.1 ∙ its.1 in

@@ -1,9 +1,9 @@
 //! A keeper over tables, whose days are packed.
 
-ghost use Rattle.std.specs.Prelude.{◌≡◌, IfOk, false};
+ghost use Rattle.std.specs.Prelude.{◌≡◌, IfOk, IsTrue, false};
 ghost use Rattle.sqlite.specs.Held.{state};
 ghost use Rattle.mds_world.specs.World.{World};
-ghost use Rattle.mds_keeper.specs.Books.{IsDay};
+ghost use Rattle.mds_keeper.specs.Books.{IsDay, book_world};
 ghost use Rattle.mds_keeper.specs.Content.{rows_of};
 ghost use Rattle.mds_tables.specs.Stores.{HoldsOf};
 ghost use Rattle.mds_selects.specs.Found.{AreRowsOf, IsHeadOf};
@@ -12,7 +12,7 @@ ghost use Rattle.mds_store.specs.KeptRows.{kept_in};
 ghost use Rattle.mds_store.specs.Props.{Holds-prop, settles};
 
 use crate::ranges::days_of;
-use mds_day_details::{current_details, days_without};
+use mds_day_details::{current_details, days_without, details_between};
 use mds_inserts::{job_rows, period_rows};
 use mds_jobs::{Job, JobId};
 use mds_keeper::{Additions, DayBook, DetailDays, Keeper, Unavailable, VersionRows};
@@ -65,6 +65,14 @@ fn length_in(head: &Option<(Length, Unit)>) -> Option<Length> {
     }
 }
 
+/// The unit of a day, which its head says.
+fn unit_in(head: &Option<(Length, Unit)>) -> Option<Unit> {
+    match head {
+        Some((_, unit)) => Some(*unit),
+        None => None,
+    }
+}
+
 /// The book of a day with this head and these versions. Unavailable where there is none.
 fn book_of(
     alloc: Global,
@@ -76,7 +84,37 @@ fn book_of(
     ensures book { (w : World) → IsHeadOf w stream day head → AreRowsOf w stream day (rows_of versions) → IfOk result (IsDay w) }
     ensures of_day { IfOk result (λ book. (book.stream ≡ stream) × (book.day ≡ day)) }
 {
-    DayBook::of_rows(alloc, stream, day, head, versions)?.ok_or(Unavailable)
+    let book = DayBook::of_rows(alloc, stream, day, unit_in(&head), versions)?;
+    let Some(book) = book else {
+        return Err(Unavailable);
+    };
+    if is_under(&book, &head) {
+        Ok(book)
+    } else {
+        Err(Unavailable)
+    }
+}
+
+/// Whether a book's length and unit are those of a head. Where there is none, the book has none.
+fn is_under(book: &DayBook, head: &Option<(Length, Unit)>) -> bool
+    ensures { IsTrue result → IsHeadOf (book_world book.now) book.now.stream book.now.day head.now }
+{
+    // For the proof: what a book says is a lawful World.
+    book.is_lawful();
+    is_same(book.form(), head)
+}
+
+/// Whether two lengths and units are the same, or both are none.
+fn is_same(a: Option<(Length, Unit)>, b: &Option<(Length, Unit)>) -> bool
+    ensures { IsTrue result → a ≡ b.now }
+{
+    let Some(one) = a else {
+        return b.is_none();
+    };
+    let Some(other) = b else {
+        return false;
+    };
+    one.0 == other.0 && one.1 == other.1
 }
 
 impl<S: Alter> Keeper for PackKeeper<S> {
@@ -108,6 +146,16 @@ impl<S: Alter> Keeper for PackKeeper<S> {
 
     fn details(&mut self, stream: Stream, day: Day) -> Result<Details, Unavailable> {
         current_details(self.alloc, &mut self.conn, &stream, day)
+    }
+
+    // One query, whatever the length of the range.
+    fn details_between(
+        &mut self,
+        stream: Stream,
+        first: Day,
+        last: Day,
+    ) -> Result<Vec<(Day, Details)>, Unavailable> {
+        details_between(self.alloc, &mut self.conn, &stream, first, last)
     }
 
     fn days_without(&mut self, details: &DetailDays) -> Result<Vec<Day>, Unavailable> {

@@ -1,5 +1,5 @@
 -- What an export selects, part by part.
-use Rattle.std.proofs.Common.{◌≡◌, ◌+◌, ◌-◌, ◌*◌, ◌<◌, ◌≤◌, ℕ, List, [], ◌∷◌, ◌++◌, map, take, length, get_or, None, refl, sym, ap, ◌∙◌, subst, inl, inr, arith}
+use Rattle.std.proofs.Common.{◌≡◌, ◌+◌, ◌-◌, ◌*◌, ◌<◌, ◌≤◌, ℕ, List, [], ◌∷◌, ◌++◌, map, take, length, get_or, refl, sym, ap, ◌∙◌, subst, inl, inr, arith}
 use Rattle.std.specs.Cmp.{tied_itself}
 use Rattle.std.specs.Cmp.Lexicographic.{nat_list_cmp_total, slice_cmp}
 use Rattle.std.specs.List.{All, AllPairs}
@@ -14,7 +14,7 @@ use Rattle.mds_world.proofs.Lists.{in_map, map_in}
 use Rattle.mds_world.specs.Current.{IsCurrentDetails}
 use Rattle.mds_world.specs.Lists.{Member}
 use Rattle.mds_world.specs.World.{IsKnownDay, World}
-use Rattle.mds_keeper.specs.Books.{BookValue, IsDay}
+use Rattle.mds_keeper.specs.Books.{BookValue, IsDay, book_world}
 use Rattle.mds_keeper.specs.Queries.{AreDaysOf}
 use Rattle.mds_keeper.proofs.BookPlaces.{member_at}
 use Rattle.mds_statements.specs.Selected.{AreOrderly, IsWhole, days_of, stream_cmp}
@@ -35,11 +35,10 @@ pub record AreTaken (w : World) (s : Stream) (books : List BookValue) (days : Li
 pub taken_none : (w : World) (s : Stream) (days : List SelectedDay) → days ≡ [] → AreTaken w s [] days
 taken_none w s days e = subst (AreTaken w s []) (sym e) (record { dates = refl; each = All-nil (IsSelectedDay w s) })
 
--- each of the books is of a known day
+-- each of the books is of a known day of the range
 book_known : (w : World) (s : Stream) (first last : ℕ) (books : List BookValue) (book : BookValue) → Member book books
-    → AreDaysOf w s first last books → IsKnownDay w s book.day
-book_known w s first last books book m are =
-    ((are.known book.day).0 (map_in (λ (b : BookValue). b.day) books book m)).2
+    → AreDaysOf w s first last books → (first ≤ book.day) × (book.day ≤ last) × IsKnownDay w s book.day
+book_known w s first last books book m are = (are.known book.day).0 (map_in (λ (b : BookValue). b.day) books book m)
 
 -- the book of a place
 module _ (w : World) (s : Stream) (first last : ℕ) (books : List BookValue) (i : ℕ) (book : BookValue)
@@ -47,15 +46,19 @@ module _ (w : World) (s : Stream) (first last : ℕ) (books : List BookValue) (i
   here : Member book books
   here = subst (λ b. Member b books) (sym at) (member_at books i book within)
 
+  -- its day is a known one of the range
+  pub in_range : (first ≤ book.day) × (book.day ≤ last) × IsKnownDay w s book.day
+  in_range = book_known w s first last books book here are
+
   here_is : (book.stream ≡ s) × IsDay w book
   here_is = subst (λ (b : BookValue). (b.stream ≡ s) × IsDay w b) (sym at) (are.each i book within)
 
-  -- its head is known
-  pub never_unknown : book.head ≡ None → ⊥
+  -- its book knows it
+  pub never_unknown : (IsKnownDay (book_world book) book.stream book.day → ⊥) → ⊥
   never_unknown none =
       let is = here_is in
       unknown_here w book is.1 none
-      (subst (λ t. IsKnownDay w t book.day) (sym is.0) (book_known w s first last books book here are))
+      (subst (λ t. IsKnownDay w t book.day) (sym is.0) in_range.2)
 
   -- its day comes behind
   pub taken_more : (details : DetailsValue) (day : SelectedDay) (xs ys : List SelectedDay) → day.date ≡ book.day

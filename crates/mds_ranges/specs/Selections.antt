@@ -34,7 +34,7 @@ pub record AreDistinct (suffixes distinct : List (List ℕ)) : Type 0 where
 pub record IsSelectedDay (w : World) (stream : Stream) (day : SelectedDay) : Type 0 where
   pub form : IsFormOf w stream day.date day.length day.unit
   pub details : IsCurrentDetails w stream day.date day.details
-  pub update : IsLatest w stream day.date day.update
+  pub update : IsLatest w stream day.date day.length day.update
   pub readings : AreReadings w stream day.date (count_of day.length) day.readings.items
 
 -- The known days of a stream in a range, ascending.

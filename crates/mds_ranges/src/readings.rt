@@ -2,9 +2,9 @@
 
 ghost use Rattle.std.specs.Prelude.{◌≡◌, IfOk};
 ghost use Rattle.mds_calendar.specs.Length.{count_of};
-ghost use Rattle.mds_world.specs.Current.{IsReading, no_reading as bare_n};
+ghost use Rattle.mds_world.specs.Current.{IsDayReading, no_reading as bare_n};
 ghost use Rattle.mds_world.specs.World.{World};
-ghost use Rattle.mds_keeper.specs.Books.{IsDay};
+ghost use Rattle.mds_keeper.specs.Books.{IsDay, book_world};
 ghost use Rattle.mds_ranges.specs.Readings.{AreReadings};
 
 use mds_keeper::DayBook;
@@ -31,13 +31,12 @@ pub fn current_readings(
 
 /// A copy of the current reading of an interval, or bare N where it has no version.
 fn current_reading(book: &DayBook, interval: u16) -> Result<Reading, AllocError>
-    ensures { (w : World) → IsDay w book.now
-        → IfOk result (IsReading w book.now.stream book.now.day interval) }
+    ensures { IfOk result (IsDayReading (book_world book.now) book.now.stream book.now.day interval) }
 {
-    match book.current(interval) {
-        Some(version) => version.reading(),
-        None => Ok(no_reading()),
-    }
+    let Some(version) = book.current(interval) else {
+        return Ok(no_reading());
+    };
+    version.reading()
 }
 
 /// Bare N, without a value.

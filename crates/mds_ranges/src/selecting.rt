@@ -1,12 +1,14 @@
 //! What an export selects: streams of one NMI with their days in a range.
 
-ghost use Rattle.std.specs.Prelude.{◌≡◌, ◌<◌, ◌≤◌, ℕ, List, [], IfOk, IfNone, IfSome, None, OnOk, length};
+ghost use Rattle.std.specs.Prelude.{◌≡◌, ◌<◌, ◌≤◌, ℕ, List, [], IfOk, IfNone, IfSome, OnOk, length};
 ghost use Rattle.mds_world.specs.Current.{IsCurrentDetails};
-ghost use Rattle.mds_world.specs.World.{World};
-ghost use Rattle.mds_keeper.specs.Books.{IsDay};
+ghost use Rattle.mds_world.specs.World.{IsKnownDay, World};
+ghost use Rattle.mds_keeper.specs.Books.{IsDay, book_world};
 ghost use Rattle.mds_keeper.specs.Kept.{Asks, Stays};
+ghost use Rattle.mds_keeper.specs.Queries.{AreDaysOf, AreDetailsBetween};
+ghost use Rattle.mds_names.specs.declared.stream.Stream.{Stream};
 ghost use Rattle.mds_ranges.specs.Ranges.{IsTooWide};
-ghost use Rattle.mds_ranges.specs.Selections.{Ascend, IsSelectedDay, IsSelectedStream, IsSelection};
+ghost use Rattle.mds_ranges.specs.Selections.{AreSelectedDays, Ascend, IsSelectedDay, IsSelectedStream, IsSelection};
 
 use crate::readings::current_readings;
 use mds_keeper::{DayBook, Keeper, Unavailable};
@@ -88,18 +90,62 @@ fn selected_stream<K: Keeper>(
     ensures selected { Asks (K.kept keeper.old) (K.kept keeper.new) result (λ w. IsSelectedStream w first last) }
 {
     let books = keeper.days(*stream, first, last)?;
+    if books.is_empty() {
+        return Ok(SelectedStream {
+            stream: *stream,
+            days: Vec::new(alloc),
+        });
+    }
+    // Details change only where a row tells so: no other day is asked for.
+    let at_first = keeper.details(*stream, first)?;
+    let rows = keeper.details_between(*stream, first, last)?;
+    let days = selected_days(alloc, &books, &at_first, &rows)?;
+    Ok(SelectedStream {
+        stream: *stream,
+        days,
+    })
+}
+
+/// The days of books, each with its details. They are those of the range's first day, until a row has others.
+fn selected_days(
+    alloc: Global,
+    books: &[DayBook],
+    at_first: &Details,
+    rows: &[(Day, Details)],
+) -> Result<Vec<SelectedDay>, AllocError>
+    ensures { (w : World) (stream : Stream) (first last : ℕ) → AreDaysOf w stream first last books.now
+        → IsCurrentDetails w stream first at_first.now → AreDetailsBetween w stream first last rows.now
+        → IfOk result (λ days. AreSelectedDays w stream first last days.items) }
+{
     let mut days = Vec::new(alloc);
-    for book in &books {
-        let details = keeper.details(*stream, book.day())?;
+    for book in books {
+        let details = details_on(at_first, rows, book.day())?;
         let Some(day) = selected_day(alloc, book, details)? else {
             continue;
         };
         days.push(day)?;
     }
-    Ok(SelectedStream {
-        stream: *stream,
-        days,
-    })
+    Ok(days)
+}
+
+/// The details of a day of a range: those of the last row up to it, else those of the range's first day.
+fn details_on(at_first: &Details, rows: &[(Day, Details)], day: Day) -> Result<Details, AllocError>
+    ensures { (w : World) (stream : Stream) (first last : ℕ) → first ≤ day → day ≤ last
+        → IsCurrentDetails w stream first at_first.now → AreDetailsBetween w stream first last rows.now
+        → IfOk result (IsCurrentDetails w stream day) }
+{
+    match rows_upto(rows, day).last() {
+        Some(row) => row.1.try_clone(),
+        None => at_first.try_clone(),
+    }
+}
+
+/// The rows of a range up to one of its days.
+fn rows_upto(rows: &[(Day, Details)], day: Day) -> &[(Day, Details)]
+    ensures { (w : World) (stream : Stream) (first last : ℕ) → day ≤ last → AreDetailsBetween w stream first last rows.now
+        → AreDetailsBetween w stream first day result.now }
+{
+    &rows[..rows.partition_point(|row| row.0 <= day)]
 }
 
 /// A day with its details and its current readings. `None` where it isn't known.
@@ -111,14 +157,12 @@ fn selected_day(
     ensures some { (w : World) → IsDay w book.now → IsCurrentDetails w book.now.stream book.now.day details
         → IfOk result (λ day. IfSome day (IsSelectedDay w book.now.stream)) }
     ensures date { IfOk result (λ day. IfSome day (λ day. day.date ≡ book.now.day)) }
-    ensures none { IfOk result (λ day. IfNone day (book.now.head ≡ None)) }
+    ensures none { IfOk result (λ day. IfNone day (IsKnownDay (book_world book.now) book.now.stream book.now.day → ⊥)) }
 {
-    let Some(form) = book.head() else {
+    let Some(form) = book.form() else {
         return Ok(None);
     };
     let (length, unit) = form;
-    // For the proof: the book is lawful, so that a known day has a version.
-    book.is_lawful();
     let Some(update) = book.latest_update() else {
         unreachable!();
     };

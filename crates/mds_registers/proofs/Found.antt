@@ -1,10 +1,11 @@
 -- Gaps and finals, one interval after the other.
 use Rattle.std.proofs.Common.{◌≡◌, ℕ, ◌+◌, List, [], ◌∷◌, ◌++◌, refl, sym, ap, ◌∙◌, subst, inl, inr, arith}
-use Rattle.std.specs.Prelude.{Some, None, Result, Ok, Err, OnErr}
+use Rattle.std.specs.Prelude.{Result, Ok, Err, OnErr}
 use Rattle.mds_calendar.specs.Length.{count_of}
 use Rattle.mds_quantity.specs.declared.unit.Unit.{Unit as MeasureUnit}
 use Rattle.mds_marks.specs.declared.mark.Mark.{Mark}
-use Rattle.mds_world.specs.World.{IsLawful, World}
+use Rattle.mds_world.specs.Current.{IsFormOf}
+use Rattle.mds_world.specs.World.{IsKnownDay, IsLawful, World}
 use Rattle.mds_keeper.specs.Books.{BookValue, IsDay, book_world}
 use Rattle.mds_registers.specs.Stretches.{AreFinals, AreGaps, HasIntervals, IsFinalWith, IsNull, IsStretch}
 use Rattle.mds_registers.specs.StretchesSteps.{TakesInFinal, TakesInNull}
@@ -97,8 +98,9 @@ finals_grow w book n mark old new is lawful here (inr x) t =
 
 -- all intervals
 pub gaps_are : (w : World) (book : BookValue) (form : ℕ × MeasureUnit) (n : ℕ) (gaps : List Gap) → IsDay w book
-    → book.head ≡ Some form → n ≡ count_of form.0 → AreGapsTo w book n gaps → AreGaps w book.stream book.day gaps
-gaps_are w book form n gaps is some count t =
+    → IsLawful (book_world book) → IsFormOf (book_world book) book.stream book.day form.0 form.1 → n ≡ count_of form.0
+    → AreGapsTo w book n gaps → AreGaps w book.stream book.day gaps
+gaps_are w book form n gaps is lawful some count t =
     let N = λ (g : Gap). IsNull w book.stream book.day in
     let alike = λ (i j : ℕ) (a b : Gap) (p : IsNull w book.stream book.day i) (q : IsNull w book.stream book.day i) (r : IsNull w book.stream book.day j). r in
     let same = λ (i : ℕ) (a b : Gap) (p : IsNull w book.stream book.day i) (q : IsNull w book.stream book.day i) (e : a.first ≡ b.first) (f : a.last ≡ b.last). same_gap i a b e f in
@@ -112,7 +114,7 @@ gaps_are w book form n gaps is some count t =
         )),
         (λ is_gap. elim is_gap [
           | inl x ↦
-              let e : x.0 ≡ n = count_is w book form x.0 is some x.1 ∙ sym count in
+              let e : x.0 ≡ n = count_is w book form x.0 is lawful some x.1 ∙ sym count in
               let stretch = subst (λ k. IsStretch (IsNull w book.stream book.day) k gap.first gap.last) e x.2 in
               are_all gap_first gap_last N alike same 1 n gaps gap (omega arith) stretch.from_one stretch t
           | inr x ↦ absurd (x.0 (has.0, has.1, has.2, has.3))
@@ -122,8 +124,8 @@ gaps_are w book form n gaps is some count t =
     }
 
 pub finals_are : (w : World) (book : BookValue) (form : ℕ × MeasureUnit) (n : ℕ) (finals : List Final) → IsDay w book
-    → IsLawful (book_world book) → book.head ≡ Some form → n ≡ count_of form.0 → AreFinalsTo w book n finals
-    → AreFinals w book.stream book.day finals
+    → IsLawful (book_world book) → IsFormOf (book_world book) book.stream book.day form.0 form.1 → n ≡ count_of form.0
+    → AreFinalsTo w book n finals → AreFinals w book.stream book.day finals
 finals_are w book form n finals is lawful some count t =
     let F = λ (g : Final). IsFinalWith w book.stream book.day g.mark in
     let alike = λ (i j : ℕ) (a b : Final) (p : F a i) (q : F b i) (r : F a j).
@@ -139,7 +141,7 @@ finals_are w book form n finals is lawful some count t =
           are_stretches final_first final_last F alike same 1 n finals f (omega arith) (λ y over. absurd (omega arith)) t m,
         )),
         (λ is_final.
-            let e : is_final.0 ≡ n = count_is w book form is_final.0 is some is_final.1 ∙ sym count in
+            let e : is_final.0 ≡ n = count_is w book form is_final.0 is lawful some is_final.1 ∙ sym count in
             let stretch = subst (λ k. IsStretch (F f) k f.first f.last) e is_final.2 in
             are_all final_first final_last F alike same 1 n finals f (omega arith) stretch.from_one stretch t),
       );
@@ -147,10 +149,11 @@ finals_are w book form n finals is lawful some count t =
     }
 
 -- a day that isn't known
-pub unknown_gaps : (w : World) (book : BookValue) (none gaps : List Gap) → IsDay w book → book.head ≡ None → none ≡ []
+pub unknown_gaps : (w : World) (book : BookValue) (none gaps : List Gap) → IsDay w book
+    → (IsKnownDay (book_world book) book.stream book.day → ⊥) → none ≡ []
     → gaps ≡ none ++ record { first = 0; last = 0 } ∷ [] → AreGaps w book.stream book.day gaps
-unknown_gaps w book none gaps is no_head empty are =
-    let unknown = is_unknown w book is no_head in
+unknown_gaps w book none gaps is no_form empty are =
+    let unknown = is_unknown w book is no_form in
     let one : gaps ≡ record { first = 0; last = 0 } ∷ [] =
     are ∙ ap (λ (front : List Gap). front ++ record { first = 0; last = 0 } ∷ []) empty in
     subst (AreGaps w book.stream book.day) (sym one) (record {
@@ -167,7 +170,8 @@ unknown_gaps w book none gaps is no_head empty are =
       ascending = λ i j d a b. absurd (omega arith);
     })
 
-pub unknown_finals : (w : World) (book : BookValue) (finals : List Final) → IsDay w book → book.head ≡ None → finals ≡ []
+pub unknown_finals : (w : World) (book : BookValue) (finals : List Final) → IsDay w book
+    → (IsKnownDay (book_world book) book.stream book.day → ⊥) → finals ≡ []
     → AreFinals w book.stream book.day finals
 unknown_finals w book finals is none e =
     let unknown = is_unknown w book is none in

@@ -41,11 +41,13 @@ pub fn gaps(alloc: Global, book: &DayBook) -> Result<Vec<Gap>, AllocError>
         → OnErr result (LacksReading w book.now.stream book.now.day) }
 {
     let mut gaps = Vec::new(alloc);
-    let Some(head) = book.head() else {
+    // For the proof: a day has one form.
+    book.is_lawful();
+    let Some(form) = book.form() else {
         gaps.push(WHOLE_DAY)?;
         return Ok(gaps);
     };
-    let (length, _) = head;
+    let (length, _) = form;
     for i in 0..length.count() {
         let interval = i as u16 + 1;
         if !is_null(book, interval) {
@@ -64,10 +66,10 @@ pub fn finals(alloc: Global, book: &DayBook) -> Result<Vec<Final>, AllocError>
         → OnErr result (HasFinal w book.now.stream book.now.day) }
 {
     let mut finals = Vec::new(alloc);
-    let Some(head) = book.head() else {
+    let Some(form) = book.form() else {
         return Ok(finals);
     };
-    let (length, _) = head;
+    let (length, _) = form;
     // Each interval has one current reading.
     book.is_lawful();
     for i in 0..length.count() {

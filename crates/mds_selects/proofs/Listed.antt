@@ -12,7 +12,9 @@ use Rattle.sqlite_value.specs.Order.{Row, bytes, column}
 use Rattle.mds_quantity.specs.declared.unit.Unit.{Unit as MeasureUnit}
 use Rattle.mds_names.specs.declared.stream.Stream.{Stream}
 use Rattle.mds_terms.specs.Event.{EventValue}
+use Rattle.mds_marks.specs.Reading.{ReadingValue}
 use Rattle.mds_world.specs.declared.facts.Head.{Head}
+use Rattle.mds_world.specs.declared.facts.Key.{Key}
 use Rattle.mds_world.specs.Facts.{Fact, PeriodContent, head_at, key_at}
 use Rattle.mds_statements.specs.declared.periods.PeriodKey.{PeriodKey}
 use Rattle.mds_world.specs.Facts.Fact.{DetailIs, EventIs, HeadIs, HolidayIs, JobIs, PeriodIs, VersionIs}
@@ -24,7 +26,7 @@ use Rattle.mds_keeper.specs.Queries.{AreEventsOf, AreKnownStreams, stream_cmp}
 use Rattle.mds_keeper.specs.declared.day_book.Version.{Version}
 use Rattle.mds_tables.specs.Cells as cells
 use Rattle.mds_tables.specs.Layouts.{Layout, world_with}
-use Rattle.mds_tables.specs.RowFacts.{event_fact, head_fact, int_at, letter_in, natural, natural_at, optional, optional_at, period_fact, stream_in, text_at, unit_named, version_fact}
+use Rattle.mds_tables.specs.RowFacts.{event_fact, head_fact, int_at, lengthless, letter_in, natural, natural_at, optional, optional_at, period_fact, stream_in, text_at, unit_named, version_fact}
 use Rattle.mds_tables.specs.Stores.{Begins, Selects}
 use Rattle.mds_tables.specs.Tables.{schema_with}
 use Rattle.mds_selects.specs.Found.{IsHeadOf}
@@ -94,21 +96,46 @@ module _ (read : Row → Fact) where
     )
 
 -- one row more, with its version
-one_more : (rows : List Row) (vs : List (ℕ × Version)) (row : Row) (v : ℕ × Version) → AreVersionsIn rows vs
-    → SaysVersion row v → AreVersionsIn (rows ++ row ∷ []) (vs ++ v ∷ [])
-one_more [] [] row v are says = (says, tt)
-one_more [] (w ∷ vs) row v are says = absurd are
-one_more (r ∷ rows) [] row v are says = absurd are
-one_more (r ∷ rows) (w ∷ vs) row v are says = (are.0, one_more rows vs row v are.1 says)
+one_more : (minutes : ℕ) (rows : List Row) (vs : List (ℕ × Version)) (row : Row) (v : ℕ × Version) → AreVersionsIn minutes rows vs
+    → SaysVersion minutes row v → AreVersionsIn minutes (rows ++ row ∷ []) (vs ++ v ∷ [])
+one_more minutes [] [] row v are says = (says, tt)
+one_more minutes [] (w ∷ vs) row v are says = absurd are
+one_more minutes (r ∷ rows) [] row v are says = absurd are
+one_more minutes (r ∷ rows) (w ∷ vs) row v are says = (are.0, one_more minutes rows vs row v are.1 says)
 
-pub listed_more : (rows : List Row) (i : ℕ) (row : Row) (vs new : List (ℕ × Version)) (v : ℕ × Version) → i < length rows
-    → row ≡ slice_index_or rows i row → AreVersionsIn (take i rows) vs → SaysVersion row v → new ≡ vs ++ v ∷ []
-    → AreVersionsIn (take (i + 1) rows) new
-listed_more rows i row vs new v l is are says more =
+pub listed_more : (minutes : ℕ) (rows : List Row) (i : ℕ) (row : Row) (vs new : List (ℕ × Version)) (v : ℕ × Version) → i < length rows
+    → row ≡ slice_index_or rows i row → AreVersionsIn minutes (take i rows) vs → SaysVersion minutes row v → new ≡ vs ++ v ∷ []
+    → AreVersionsIn minutes (take (i + 1) rows) new
+listed_more minutes rows i row vs new v l is are says more =
     let rest : take (i + 1) rows ≡ take i rows ++ row ∷ [] =
     take_more rows i row l ∙ ap (λ x. take i rows ++ x ∷ []) (sym is) in
-    subst (λ rs. AreVersionsIn rs new) (sym rest)
-    (subst (AreVersionsIn (take i rows ++ row ∷ [])) (sym more) (one_more (take i rows) vs row v are says))
+    subst (λ rs. AreVersionsIn minutes rs new) (sym rest)
+    (subst (AreVersionsIn minutes (take i rows ++ row ∷ [])) (sym more) (one_more minutes (take i rows) vs row v are says))
+
+-- where the version of a fact stands, and its reading
+abbrev key_of : Key → Fact → Key
+key_of none (VersionIs key reading) = key
+key_of none _ = none
+
+abbrev reading_of : ReadingValue → Fact → ReadingValue
+reading_of none (VersionIs key reading) = reading
+reading_of none _ = none
+
+-- two versions are the same where they are but for their lengths, and have one length
+same_version : (a b : Key) (r t : ReadingValue) → VersionIs (lengthless a) r ≡ VersionIs (lengthless b) t → a.length ≡ b.length
+    → VersionIs a r ≡ VersionIs b t
+same_version a b r t e of =
+    let at : lengthless a ≡ lengthless b = ap (key_of (lengthless a)) e in
+    let same : r ≡ t = ap (reading_of r) e in
+    λ i. VersionIs (key_at (at i).stream (at i).day (of i) (at i).interval (at i).update) (same i)
+
+-- and the other way round
+lengthless_same : (a b : Key) (r t : ReadingValue) → VersionIs a r ≡ VersionIs b t
+    → (VersionIs (lengthless a) r ≡ VersionIs (lengthless b) t) × (a.length ≡ b.length)
+lengthless_same a b r t e =
+    let at : a ≡ b = ap (key_of a) e in
+    let same : r ≡ t = ap (reading_of r) e in
+    ((λ i. VersionIs (lengthless (at i)) (same i)), ap (λ (k : Key). k.length) at)
 
 module _ (layout : Layout) (s : Stream) (day : ℕ) (low : day < 2 ^ 63) (trees : Trees) (sound : IsSound (schema_with layout.more) trees) where
   pub head_on : (r : Row) → Member r (trees 2) → Begins (cells.day_cells s day) r ↔ IsOn s day (head_fact r)
@@ -150,31 +177,39 @@ module _ (layout : Layout) (s : Stream) (day : ℕ) (low : day < 2 ^ 63) (trees 
         ]),
       )
 
-  version_is : (row : Row) (v : ℕ × Version) → SaysVersion row v → IsOn s day (version_fact (Null ∷ row))
-      → version_fact (Null ∷ row) ≡ row_fact s day v
-  version_is row v says on =
+  abbrev key_in : ℕ × Version → Key
+  key_in v = key_at s day v.1.length v.0 v.1.update
+
+  version_is : (minutes : ℕ) (row : Row) (v : ℕ × Version) → SaysVersion minutes row v → IsOn s day (version_fact (Null ∷ row))
+      → version_fact (Null ∷ row) ≡ VersionIs (lengthless (key_in v)) v.1.reading
+  version_is minutes row v says on =
       let o : (says.0.stream ≡ s) × (says.0.day ≡ day) = subst (IsOn s day) says.1 on in
       says.1 ∙ ap (λ k. VersionIs k v.1.reading)
-      (λ i. key_at (o.0 i) (o.1 i) (says.2 i) (says.3 i))
+      (λ i. key_at (o.0 i) (o.1 i) 0 (says.2 i) (says.3 i))
 
-  -- the versions of rows of a day are those that the rows tell
-  pub listed : (rows : List Row) (vs : List (ℕ × Version)) → AreVersionsIn rows vs
+  -- The versions of rows of a day are those that the rows tell, with the length that the rows don't say.
+  pub listed : (minutes : ℕ) (rows : List Row) (vs : List (ℕ × Version)) → AreVersionsIn minutes rows vs
       → ((f : Fact) → Tells version_fact rows f → IsOn s day f)
-      → (f : Fact) → Tells version_fact rows f ↔ Member f (map (row_fact s day) vs)
-  listed [] [] are on f = ((λ t. absurd t.1), (λ m. absurd m))
-  listed [] (v ∷ vs) are on f = absurd are
-  listed (row ∷ rows) [] are on f = absurd are
-  listed (row ∷ rows) (v ∷ vs) are on f =
-      let is : version_fact (Null ∷ row) ≡ row_fact s day v =
-      version_is row v are.0 (on (version_fact (Null ∷ row)) (row, inl refl, refl)) in
-      let rest = listed rows vs are.1 (λ g t. on g (t.0, inr t.1, t.2)) f in (
-        (λ t. elim t.1 [
-          | inl e ↦ inl (sym t.2 ∙ ap (λ r. version_fact (Null ∷ r)) e ∙ is)
-          | inr m ↦ inr (rest.0 (t.0, m, t.2))
+      → (key : Key) (reading : ReadingValue)
+      → (Tells version_fact rows (VersionIs (lengthless key) reading) × (key.length ≡ minutes)) ↔ Member (VersionIs key reading) (map (row_fact s day) vs)
+  listed minutes [] [] are on key reading = ((λ t. absurd t.0.1), (λ m. absurd m))
+  listed minutes [] (v ∷ vs) are on key reading = absurd are
+  listed minutes (row ∷ rows) [] are on key reading = absurd are
+  listed minutes (row ∷ rows) (v ∷ vs) are on key reading =
+      let is : version_fact (Null ∷ row) ≡ VersionIs (lengthless (key_in v)) v.1.reading =
+      version_is minutes row v are.0 (on (version_fact (Null ∷ row)) (row, inl refl, refl)) in
+      let of : v.1.length ≡ minutes = are.0.4 in
+      let rest = listed minutes rows vs are.1 (λ g t. on g (t.0, inr t.1, t.2)) key reading in (
+        (λ t. elim t.0.1 [
+          | inl e ↦
+              inl (same_version key (key_in v) reading v.1.reading (sym t.0.2 ∙ ap (λ r. version_fact (Null ∷ r)) e ∙ is) (t.1 ∙ sym of))
+          | inr m ↦ inr (rest.0 ((t.0.0, m, t.0.2), t.1))
         ]),
         (λ m. elim m [
-          | inl e ↦ (row, inl refl, is ∙ sym e)
-          | inr n ↦ let t = rest.1 n in (t.0, inr t.1, t.2)
+          | inl e ↦
+              let same = lengthless_same key (key_in v) reading v.1.reading e in
+              ((row, inl refl, is ∙ sym same.0), same.1 ∙ of)
+          | inr n ↦ let t = rest.1 n in ((t.0.0, inr t.0.1, t.0.2), t.1)
         ]),
       )
 

@@ -17,6 +17,7 @@ use Rattle.mds_world.proofs.Sets.{split_and}
 use Rattle.mds_world.specs.declared.facts.Key.{Key}
 use Rattle.mds_tables.proofs.FactLemmas.{version_back}
 use Rattle.mds_tables.specs.Cells.{version_cells}
+use Rattle.mds_tables.specs.RowFacts.{lengthless}
 use Rattle.mds_selects.specs.Shown.{shown_key, shown_reading}
 use Rattle.mds_selects.specs.Written.{IsRowOfVersion}
 
@@ -24,7 +25,7 @@ pub shown_back : (row : Row) (key : Key) (reading : ReadingValue) → IsRowOfVer
     → shown_reading row ≡ reading
 shown_back row key reading it =
     let cells = version_cells key reading in
-    let same : VersionIs (shown_key cells) (shown_reading cells) ≡ VersionIs key reading =
+    let same : VersionIs (shown_key 0 cells) (shown_reading cells) ≡ VersionIs (lengthless key) reading =
     version_back Null key reading quality_reads_back it.lawful in
     let back : shown_reading cells ≡ reading = cc in
     ap shown_reading it.cells ∙ back

@@ -19,13 +19,13 @@ use Rattle.mds_world.specs.Facts.Fact.{EventIs, HeadIs, VersionIs}
 use Rattle.mds_world.specs.Lists.{Member}
 use Rattle.mds_keeper.specs.declared.day_book.Version.{Version}
 use Rattle.mds_tables.specs.Cells.{number_cell}
-use Rattle.mds_tables.specs.RowFacts.{event_fact, head_fact, int_at, natural_at, optional_at, quality_named, reading_in, stream_in, text_at, version_fact}
+use Rattle.mds_tables.specs.RowFacts.{event_fact, head_fact, int_at, lengthless, natural_at, optional_at, quality_named, reading_in, stream_in, text_at, version_fact}
 use Rattle.mds_tables.specs.Stores.{Begins}
 
--- where a version stands
-abbrev pub shown_key : Row → Key
-shown_key row =
-    key_at (stream_in (Null ∷ row)) (natural_at row 2) (natural_at row 3) (natural_at row 4)
+-- where a version of a length stands
+abbrev pub shown_key : ℕ → Row → Key
+shown_key minutes row =
+    key_at (stream_in (Null ∷ row)) (natural_at row 2) minutes (natural_at row 3) (natural_at row 4)
 
 -- its reading
 abbrev pub shown_reading : Row → ReadingValue
@@ -43,18 +43,18 @@ IsOnlyHead rows (Some form) =
     (head : Head) × (row : Row) × (rows ≡ row ∷ []) × (head_fact (Null ∷ row) ≡ HeadIs head)
     × (head.length ≡ form.0) × (head.unit ≡ form.1)
 
--- the version of an interval says what the row does
-abbrev pub SaysVersion : Row → ℕ × Version → Type 0
-SaysVersion row version =
-    (key : Key) × (version_fact (Null ∷ row) ≡ VersionIs key version.1.reading)
-    × (key.interval ≡ version.0) × (key.update ≡ version.1.update)
+-- the version of an interval says what the row does, and is of a length, which the row doesn't say
+abbrev pub SaysVersion : ℕ → Row → ℕ × Version → Type 0
+SaysVersion minutes row version =
+    (key : Key) × (version_fact (Null ∷ row) ≡ VersionIs (lengthless key) version.1.reading)
+    × (key.interval ≡ version.0) × (key.update ≡ version.1.update) × (version.1.length ≡ minutes)
 
--- each row's version, in the order of the rows
-abbrev pub AreVersionsIn : List Row → List (ℕ × Version) → Type 0
-AreVersionsIn [] [] = Unit {0}
-AreVersionsIn (row ∷ rows) (version ∷ versions) = SaysVersion row version × AreVersionsIn rows versions
-AreVersionsIn [] (version ∷ versions) = ⊥
-AreVersionsIn (row ∷ rows) [] = ⊥
+-- each row's version of a length, in the order of the rows
+abbrev pub AreVersionsIn : ℕ → List Row → List (ℕ × Version) → Type 0
+AreVersionsIn minutes [] [] = Unit {0}
+AreVersionsIn minutes (row ∷ rows) (version ∷ versions) = SaysVersion minutes row version × AreVersionsIn minutes rows versions
+AreVersionsIn minutes [] (version ∷ versions) = ⊥
+AreVersionsIn minutes (row ∷ rows) [] = ⊥
 
 -- the column of mds_head that has the day
 abbrev pub head_day : ℕ

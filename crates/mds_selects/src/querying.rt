@@ -1,7 +1,7 @@
 //! What is asked of a store, found by queries. A store that can't answer is unavailable (U1). So is one that holds a row that it
 //! didn't write.
 
-ghost use Rattle.std.specs.Prelude.{◌≡◌, ◌≢◌, ◌⊎◌, ◌<◌, ◌^◌, ◌↔◌, ℕ, List, [], ◌∷◌, false, length, All, IfErr, IfOk, IsOkAnd, IsTrue, OnErr, OnOk, Option, Some};
+ghost use Rattle.std.specs.Prelude.{◌≡◌, ◌≢◌, ◌⊎◌, ◌<◌, ◌^◌, ◌↔◌, ℕ, List, [], ◌∷◌, false, length as list_length, All, IfErr, IfOk, IsOkAnd, IsTrue, OnErr, OnOk, Option, Some};
 ghost use Rattle.std.specs.Bool.{MatchBool, OnFalse};
 ghost use Rattle.std.specs.FinSet.{IsAntisymmetric};
 ghost use Rattle.std.specs.List.{AllPairs};
@@ -107,15 +107,19 @@ fn only_head(rows: &[Row]) -> Result<Option<(Length, Unit)>, Unavailable>
     }
 }
 
-/// The versions of rows, each with its interval.
-pub fn all_versions(alloc: Global, rows: &[Row]) -> Result<Vec<(u16, Version)>, Unavailable>
-    ensures { IfOk result (λ versions. AreVersionsIn rows.now versions.items) }
+/// The versions of rows of schema 1, each with its interval. The rows say no length: this one is that of their intervals.
+pub fn all_versions(
+    alloc: Global,
+    length: Length,
+    rows: &[Row],
+) -> Result<Vec<(u16, Version)>, Unavailable>
+    ensures { IfOk result (λ versions. AreVersionsIn length rows.now versions.items) }
 {
     let Ok(mut versions) = Vec::with_capacity(alloc, rows.len()) else {
         return Err(Unavailable);
     };
     for i in 0..rows.len() {
-        let version = version_at(alloc, &rows[i])?;
+        let version = version_at(alloc, length, &rows[i])?;
         let Ok(_) = versions.push(version) else {
             return Err(Unavailable);
         };
@@ -123,16 +127,17 @@ pub fn all_versions(alloc: Global, rows: &[Row]) -> Result<Vec<(u16, Version)>, 
     Ok(versions)
 }
 
-/// The version of a row, with its interval.
-fn version_at(alloc: Global, row: &Row) -> Result<(u16, Version), Unavailable>
-    ensures ok { IfOk result (SaysVersion row.now) }
+/// The version of a row and of a length, with its interval.
+fn version_at(alloc: Global, length: Length, row: &Row) -> Result<(u16, Version), Unavailable>
+    ensures ok { IfOk result (SaysVersion length row.now) }
     ensures err { OnErr result ((key : KeyValue) (reading : ReadingValue) → IsRowOfVersion row.now key reading
-        → 0 < length reading.mark.reason.text) }
+        → 0 < list_length reading.mark.reason.text) }
 {
-    let it = version_in(alloc, row)?;
+    let it = version_in(alloc, length, row)?;
     let (key, reading) = it;
     let version = Version {
         update: key.update,
+        length,
         reading,
     };
     Ok((key.interval, version))

@@ -1,6 +1,6 @@
 //! Rows that queries answer, as terms. `None` where a row isn't one that the store writes.
 
-ghost use Rattle.std.specs.Prelude.{◌≡◌, ◌≢◌, ◌<◌, ◌≤◌, ◌+◌, ◌^◌, ◌∷◌, ℕ, ℤ, List, Option, length, pos, unsigned_abs, Some, IfNone, IfOk, IfSome, IsTrue, OnErr};
+ghost use Rattle.std.specs.Prelude.{◌≡◌, ◌≢◌, ◌<◌, ◌≤◌, ◌+◌, ◌^◌, ◌∷◌, ℕ, ℤ, List, Option, length as list_length, pos, unsigned_abs, Some, IfNone, IfOk, IfSome, IsTrue, OnErr};
 ghost use Rattle.std.specs.Str.{is_utf8};
 ghost use Rattle.sqlite.specs.declared.types.Value.TheVariants.{Int, Null, Text};
 ghost use Rattle.sqlite.specs.Order.{column};
@@ -16,7 +16,7 @@ ghost use Rattle.mds_world.specs.Facts.Fact.{EventIs, HeadIs, VersionIs};
 ghost use Rattle.mds_world.specs.declared.facts.Head.{Head as HeadValue};
 ghost use Rattle.mds_world.specs.declared.facts.Key.{Key as KeyValue};
 ghost use Rattle.mds_tables.specs.Cells.{letter_text, number_cell, optional_cell};
-ghost use Rattle.mds_tables.specs.RowFacts.{event_fact, head_fact, letter_in, optional_at, quality_named, text_at as bytes_in, unit_named, version_fact};
+ghost use Rattle.mds_tables.specs.RowFacts.{event_fact, head_fact, lengthless, letter_in, optional_at, quality_named, text_at as bytes_in, unit_named, version_fact};
 ghost use Rattle.mds_terms.specs.BorrowedTexts.{event_in, text_of};
 ghost use Rattle.mds_terms.specs.Event.{EventValue, is_trans};
 ghost use Rattle.mds_terms.specs.Printable.{is_printable};
@@ -203,7 +203,7 @@ fn reading_ref_in<'a>(row: &'a Row) -> Option<ReadingRef<'a>>
 fn reading_in(alloc: Global, row: &Row) -> Result<Reading, Unavailable>
     ensures ok { IfOk result (λ reading. shown_reading row.now ≡ reading) }
     ensures err { OnErr result ((key : KeyValue) (reading : ReadingValue) → IsRowOfVersion row.now key reading
-        → 0 < length reading.mark.reason.text) }
+        → 0 < list_length reading.mark.reason.text) }
 {
     let Some(it) = reading_ref_in(row) else {
         return Err(Unavailable);
@@ -224,13 +224,17 @@ fn reading_in(alloc: Global, row: &Row) -> Result<Reading, Unavailable>
     }
 }
 
-/// The version that a row is. It takes memory only for a note.
-pub(crate) fn version_in(alloc: Global, row: &Row) -> Result<(Key, Reading), Unavailable>
-    ensures ok { IfOk result (λ it. version_fact (Null ∷ row.now) ≡ VersionIs it.0 it.1) }
+/// The version that a row is, of a length that it doesn't say. It takes memory only for a note.
+pub(crate) fn version_in(
+    alloc: Global,
+    length: Length,
+    row: &Row,
+) -> Result<(Key, Reading), Unavailable>
+    ensures ok { IfOk result (λ it. version_fact (Null ∷ row.now) ≡ VersionIs (lengthless it.0) it.1) }
     ensures err { OnErr result ((key : KeyValue) (reading : ReadingValue) → IsRowOfVersion row.now key reading
-        → 0 < length reading.mark.reason.text) }
+        → 0 < list_length reading.mark.reason.text) }
 {
-    let Some(key) = key_in(row) else {
+    let Some(key) = key_in(length, row) else {
         return Err(Unavailable);
     };
     let reading = reading_in(alloc, row)?;
@@ -245,14 +249,15 @@ fn interval_at(row: &Row, at: usize) -> Option<u16>
     u16::try_from(int_at(row, at)?).ok()
 }
 
-/// Where a version stands.
-fn key_in(row: &Row) -> Option<Key>
-    ensures some { IfSome result (λ key. key ≡ shown_key row.now) }
+/// Where a version of a length stands.
+fn key_in(length: Length, row: &Row) -> Option<Key>
+    ensures some { IfSome result (λ key. key ≡ shown_key length row.now) }
     ensures none { IfNone result ((key : KeyValue) (reading : ReadingValue) → ¬ IsRowOfVersion row.now key reading) }
 {
     Some(Key {
         stream: stream_in(row)?,
         day: day_at(row, 2)?,
+        length,
         interval: interval_at(row, 3)?,
         update: moment_at(row, 4)?,
     })
@@ -309,7 +314,7 @@ fn event_ref_in<'a>(row: &'a Row) -> Option<EventRef<'a>>
 pub(crate) fn event_at(alloc: Global, row: &Row) -> Result<Event, Unavailable>
     ensures ok { IfOk result (λ event. event_fact (Null ∷ row.now) ≡ EventIs event) }
     ensures err { OnErr result ((event : EventValue) → IsRowOfEvent row.now event
-        → 0 < length event.ticket + length event.reading) }
+        → 0 < list_length event.ticket + list_length event.reading) }
 {
     let Some(event) = event_ref_in(row) else {
         return Err(Unavailable);

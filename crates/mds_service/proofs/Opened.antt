@@ -1,6 +1,6 @@
 -- Merges that are opened before anything is claimed of their days.
 use Rattle.std.specs.Prelude.{◌≡◌, ℕ, ◌+◌, ◌<◌, ◌≤◌, List, [], ◌∷◌, false, cond, Option, Some, None, is_some}
-use Rattle.std.proofs.Common.{sym, ◌∙◌, subst, inl, inr, arith}
+use Rattle.std.proofs.Common.{sym, subst, inl, inr, arith}
 use Rattle.std.specs.BTreeMap.{BTreeMap, get}
 use Rattle.std.specs.FinSet as set
 use Rattle.std.specs.Ordering.{is_eq}
@@ -11,7 +11,7 @@ use Rattle.mds_world.specs.Facts.{Fact}
 use Rattle.mds_world.specs.Facts.Fact.{HeadIs, VersionIs, DetailIs, EventIs, PeriodIs, HolidayIs, JobIs}
 use Rattle.mds_world.proofs.Sets.{decided, not_in_empty, same_bool, union_empty}
 use Rattle.mds_world.specs.Sets.{◌∈◌}
-use Rattle.mds_world.specs.World.{Agrees, IsKnownDay, IsLawful, IsOn, World, union}
+use Rattle.mds_world.specs.World.{Agrees, IsKnownDay, IsLawful, IsOn, World, head_over, union}
 use Rattle.mds_keeper.specs.Books.{BookValue, IsDay, book_world}
 use Rattle.mds_keeper.specs.DayMerges.{DayMergeValue}
 use Rattle.mds_keeper.specs.Queries.{AreDaysOf}
@@ -74,7 +74,7 @@ empty_is_day w s first end day book of low high unknown = record {
 known_on : (w : World) (s : Stream) (day : ℕ) → IsLawful w → (f : Fact) → IsOn s day f → f ∈ w → IsKnownDay w s day
 known_on w s day lawful (HeadIs head) on h = (head, h, on.0, on.1)
 known_on w s day lawful (VersionIs key reading) on h =
-    let its = lawful.closed.headed key reading h in (its.0, its.1, its.2 ∙ on.0, its.3 ∙ on.1)
+    let its = lawful.closed.headed key reading h in (head_over key its.0, its.1, on.0, on.1)
 known_on w s day lawful (DetailIs detail) on h = absurd on
 known_on w s day lawful (EventIs event) on h = absurd on
 known_on w s day lawful (PeriodIs key content) on h = absurd on

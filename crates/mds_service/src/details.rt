@@ -81,7 +81,7 @@ fn put_group(
     Ok(())
 }
 
-/// Of days that share details those that don't have them yet, each once.
+/// Asks which of the days that share details don't have them yet. Each of these is given once.
 fn ask_all<K: Keeper>(
     alloc: Global,
     keeper: &mut K,

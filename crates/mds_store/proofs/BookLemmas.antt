@@ -26,7 +26,7 @@ use Rattle.mds_world.specs.World.{IsKnownDay, IsOn}
 use Rattle.mds_keeper.specs.Books.{BookValue, IsDay, book_facts, book_world, head_facts, row_fact}
 use Rattle.mds_keeper.specs.Queries.{AreDaysOf}
 use Rattle.mds_keeper.specs.declared.day_book.Version.{Version}
-use Rattle.mds_keeper.proofs.BookFacts.{from_book}
+use Rattle.mds_keeper.proofs.BookFacts.{from_book, member_head}
 use Rattle.mds_tables.specs.Cells.{day_cells}
 use Rattle.mds_tables.specs.Layouts.{Layout, world_with}
 use Rattle.mds_tables.specs.RowFacts.{head_fact, natural_at}
@@ -301,7 +301,7 @@ module _ (layout : Layout) (s : Stream) (first last : ℕ) (small : last < 2 ^ 6
   made_of book cut = record {
     stream = s;
     day = cut.head.day;
-    head = Some (cut.head.length, cut.head.unit);
+    unit = Some cut.head.unit;
     rows = cut.made.versions;
   }
 
@@ -315,21 +315,22 @@ module _ (layout : Layout) (s : Stream) (first last : ℕ) (small : last < 2 ^ 6
   mine_listed book cut =
       say.listed cut.head.day (has_head book cut).to cut.mine cut.made.versions cut.made.are cut.made.alike cut.among
 
+  -- the one head that its World has
+  its_form : (book : BookValue) (cut : Cut book) → HeadIs (head_in cut.head) ∈ book_world book
+  its_form book cut =
+      subst (λ d. HeadIs (head_at s d cut.head.length cut.head.unit) ∈ book_world book) cut.made.day
+      (subst (λ x. HeadIs (head_at x book.day cut.head.length cut.head.unit) ∈ book_world book) cut.made.stream cut.made.form)
+
   has_its_head : (book : BookValue) (cut : Cut book) → HeadIs cut.head ∈ book_world book
   has_its_head book cut =
-      let it = made_of book cut in
-      subst (λ w. HeadIs cut.head ∈ w) (sym cut.made.says)
-      (list_in (book_facts it) (HeadIs cut.head)
-      (append_left (HeadIs cut.head) (head_facts s cut.head.day (Some (cut.head.length, cut.head.unit)))
-      (map (row_fact s cut.head.day) cut.made.versions)
-      (inl (ap HeadIs (is_head_in cut.head (has_head book cut).stream)))))
+      subst (λ x. HeadIs x ∈ book_world book) (sym (is_head_in cut.head (has_head book cut).stream)) (its_form book cut)
 
   has_version : (book : BookValue) (cut : Cut book) (f : Fact) → IsSaid cut.mine f → f ∈ book_world book
   has_version book cut f t =
       let it = made_of book cut in
       subst (λ w. f ∈ w) (sym cut.made.says)
       (list_in (book_facts it) f
-      (append_right f (head_facts s cut.head.day (Some (cut.head.length, cut.head.unit)))
+      (append_right f (head_facts s cut.head.day (Some cut.head.unit) cut.made.versions)
       (map (row_fact s cut.head.day) cut.made.versions) ((mine_listed book cut f).0 t)))
 
   module _ (book : BookValue) (m : Member book books) where
@@ -375,16 +376,20 @@ module _ (layout : Layout) (s : Stream) (first last : ℕ) (small : last < 2 ^ 6
     whole (HolidayIs date) on h = absurd on
     whole (JobIs id content count) on h = absurd on
 
-    head_kept : (f : Fact) → Member f (HeadIs (head_in cut.head) ∷ []) → f ∈ world_with layout trees
-    head_kept f (inl e) =
-        subst (λ g. g ∈ world_with layout trees) (ap HeadIs (is_head_in cut.head its.stream) ∙ sym e) its.kept
-    head_kept f (inr n) = absurd n
+    head_kept : (f : Fact) → f ∈ book_world book → Member f (head_facts s cut.head.day (Some cut.head.unit) cut.made.versions)
+        → f ∈ world_with layout trees
+    head_kept f h a =
+        let m = member_head s cut.head.day (Some cut.head.unit) cut.made.versions f a in
+        let own : Head = head_at s cut.head.day m.2.1.length m.0 in
+        let one : own ≡ head_in cut.head =
+        cut.made.lawful.agrees.one_head own (head_in cut.head) (subst (λ g. g ∈ book_world book) m.4 h) (its_form book cut) refl refl in
+        subst (λ g. g ∈ world_with layout trees) (ap HeadIs (is_head_in cut.head its.stream ∙ sym one) ∙ sym m.4) its.kept
 
     only : (f : Fact) → f ∈ book_world book → f ∈ world_with layout trees
     only f h =
         let it = made_of book cut in
         elim (from_book it f (subst (λ w. f ∈ w) cut.made.says h)) [
-          | inl a ↦ head_kept f a
+          | inl a ↦ head_kept f h a
           | inr b ↦
               let g = row_fact s cut.head.day b.0 in
               let t = (mine_listed book cut g).1 (map_in (row_fact s cut.head.day) cut.made.versions b.0 b.1) in

@@ -6,8 +6,10 @@ use Rattle.sqlite_trees.specs.Tree.{Trees}
 use Rattle.sqlite_value.specs.Order.{Row, column}
 use Rattle.mds_names.specs.declared.stream.Stream.{Stream}
 use Rattle.mds_world.specs.declared.facts.Head.{Head}
+use Rattle.mds_world.specs.Current.{IsFormOf}
 use Rattle.mds_world.specs.Facts.Fact.{HeadIs}
 use Rattle.mds_world.specs.Lists.{Member}
+use Rattle.mds_world.specs.World.{IsLawful}
 use Rattle.mds_keeper.specs.Books.{BookValue, book_world}
 use Rattle.mds_keeper.specs.declared.day_book.Version.{Version}
 use Rattle.mds_tables.specs.Cells.{day_cells}
@@ -30,7 +32,7 @@ AreOfDay day rows = All (λ row. natural_at row 2 ≡ day) rows
 
 -- Where these versions are those that rows of a day say:
 module _ (Are : List Row → List (ℕ × Version) → Type 0) where
-  -- The book is that of a head, with the versions that rows of its day say.
+  -- The book is that of a head, with the versions that rows of its day say. They are of the head's length.
   pub record IsBookOf (s : Stream) (head : Head) (rows : List Row) (book : BookValue) : Type 0 where
     pub versions : List (ℕ × Version)
     pub are : Are rows versions
@@ -38,7 +40,9 @@ module _ (Are : List Row → List (ℕ × Version) → Type 0) where
     pub stream : book.stream ≡ s
     pub day : book.day ≡ head.day
     pub says : book_world book
-        ≡ book_world (record { stream = s; day = head.day; head = Some (head.length, head.unit); rows = versions })
+        ≡ book_world (record { stream = s; day = head.day; unit = Some head.unit; rows = versions })
+    pub form : IsFormOf (book_world book) book.stream book.day head.length head.unit
+    pub lawful : IsLawful (book_world book)
 
   -- The books of heads' rows, one for each. Each is cut from the front of what is left of the rows of versions. In the end the last
   -- of these are left.

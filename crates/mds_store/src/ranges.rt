@@ -5,6 +5,8 @@ ghost use Rattle.std.specs.Prelude.{◌≡◌, ◌≢◌, ◌<◌, ◌≤◌, �
 ghost use Rattle.std.specs.Bool.{OnFalse};
 ghost use Rattle.std.specs.List.{AllPairs};
 ghost use Rattle.sqlite_value.specs.Order.{Row as RowValue, column};
+ghost use Rattle.mds_world.specs.Current.{IsFormOf};
+ghost use Rattle.mds_keeper.specs.Books.{book_world};
 ghost use Rattle.mds_keeper.specs.Content.{rows_of};
 ghost use Rattle.mds_keeper.specs.declared.day_book.Version.{Version as VersionValue};
 ghost use Rattle.mds_tables.specs.Cells.{number_cell};
@@ -83,7 +85,7 @@ fn cut_by_day<V: ReadVersions>(
     }
 }
 
-/// The book of a head, with the versions of rows of its day.
+/// The book of a head, with the versions of rows of its day. Unavailable where there is none, or they are of another length.
 fn book_of<V: ReadVersions>(
     alloc: Global,
     stream: &Stream,
@@ -96,11 +98,27 @@ fn book_of<V: ReadVersions>(
     let Ok(versions) = V::read(alloc, head.length, rows) else {
         return Err(Unavailable);
     };
-    let form = Some((head.length, head.unit));
-    match DayBook::of_rows(alloc, *stream, head.day, form, versions) {
-        Ok(Some(book)) => Ok(book),
-        _ => Err(Unavailable),
+    let Ok(Some(book)) = DayBook::of_rows(alloc, *stream, head.day, Some(head.unit), versions)
+    else {
+        return Err(Unavailable);
+    };
+    // For the proof: what a book says is a lawful World.
+    book.is_lawful();
+    if is_under(&book, head) {
+        Ok(book)
+    } else {
+        Err(Unavailable)
     }
+}
+
+/// Whether a book's length and unit are those of a head.
+fn is_under(book: &DayBook, head: &Head) -> bool
+    ensures { IsTrue result → IsFormOf (book_world book.now) book.now.stream book.now.day head.now.length head.now.unit }
+{
+    let Some(form) = book.form() else {
+        return false;
+    };
+    form.0 == head.length && form.1 == head.unit
 }
 
 /// How many rows of versions at the front are of a day.

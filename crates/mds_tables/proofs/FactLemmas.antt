@@ -16,7 +16,7 @@ use Rattle.mds_world.specs.Facts.{head_at}
 use Rattle.mds_world.specs.Facts.Fact.{DetailIs, EventIs, HeadIs, VersionIs}
 use Rattle.mds_world.proofs.Sets.{split_and}
 use Rattle.mds_tables.specs.Cells.{detail_cells, event_cells, head_cells, letter_text, optional_cell, version_cells}
-use Rattle.mds_tables.specs.RowFacts.{detail_fact, event_fact, head_fact, letter_in, optional, quality_named, unit_named, version_fact}
+use Rattle.mds_tables.specs.RowFacts.{detail_fact, event_fact, head_fact, lengthless, letter_in, optional, quality_named, unit_named, version_fact}
 
 pub optional_back : (o : Option ℕ) → optional (id_in (optional_cell o)) ≡ o
 optional_back None = refl
@@ -69,20 +69,20 @@ lawful_value r known =
 
 pub version_back : (id : Value) (k : Key) (r : ReadingValue)
     → ((q : QualityValue) → IsTrue (is_quality q.flag q.method) → quality_of (quality_text q) ≡ Some q)
-    → IsTrue (is_lawful r) → version_fact (id ∷ version_cells k r) ≡ VersionIs k r
+    → IsTrue (is_lawful r) → version_fact (id ∷ version_cells k r) ≡ VersionIs (lengthless k) r
 version_back id k r reads known =
     let quality : quality_named (quality_text r.mark.quality) ≡ r.mark.quality =
     ap (λ o. unwrap_or o (record { flag = null; method = 0 })) (reads r.mark.quality (lawful_quality r known)) in
     let code = optional_back r.mark.reason.code in
     let value = value_back (r.mark.quality.flag == null) r.value (lawful_value r known) in
-    ap (λ (q : QualityValue). VersionIs k (record {
+    ap (λ (q : QualityValue). VersionIs (lengthless k) (record {
       mark = record {
         quality = q;
         reason = record { code = optional (id_in (optional_cell r.mark.reason.code)); text = r.mark.reason.text };
       };
       value = cond (q.flag == null) None (Some (unwrap_or r.value (pos 0)));
     })) quality
-    ∙ (λ i. VersionIs k (record {
+    ∙ (λ i. VersionIs (lengthless k) (record {
       mark = record { quality = r.mark.quality; reason = record { code = code i; text = r.mark.reason.text } };
       value = value i;
     }))

@@ -34,7 +34,7 @@ abbrev pub head_cells : Head → Row
 head_cells h =
     Text h.stream.nmi ∷ Text h.stream.suffix ∷ number_cell h.day ∷ number_cell h.length ∷ Text (unit_text h.unit) ∷ []
 
--- a reading of quality N has the amount 0
+-- The length has no column. A reading of quality N has the amount 0.
 abbrev pub version_cells : Key → ReadingValue → Row
 version_cells k r =
     Text k.stream.nmi ∷ Text k.stream.suffix ∷ number_cell k.day ∷ number_cell k.interval ∷ number_cell k.update

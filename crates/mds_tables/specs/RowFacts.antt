@@ -12,6 +12,7 @@ use Rattle.mds_jobs.specs.Bodies.{job_in, parts_of}
 pub use Rattle.mds_jobs.specs.Bodies.{unit_named}
 use Rattle.mds_statements.specs.Bodies.{content_of_body}
 use Rattle.mds_terms.specs.Details.{DetailsValue}
+use Rattle.mds_world.specs.declared.facts.Key.{Key}
 use Rattle.mds_world.specs.Facts.{Fact, detail_at, head_at, key_at}
 use Rattle.mds_world.specs.Facts.Fact.{DetailIs, EventIs, HeadIs, HolidayIs, JobIs, PeriodIs, VersionIs}
 use Rattle.mds_tables.specs.Tables.{event_tree, head_tree, holiday_tree, job_tree, period_tree, version_tree}
@@ -51,6 +52,10 @@ head_fact row =
 abbrev pub quality_named : List ℕ → QualityValue
 quality_named text = unwrap_or (quality_of text) (record { flag = null; method = 0 })
 
+-- where a version stands, with 0 in the place of its length
+abbrev pub lengthless : Key → Key
+lengthless key = key_at key.stream key.day 0 key.interval key.update
+
 -- a reading of quality N has no value, whatever the amount
 abbrev pub reading_in : QualityValue → Option ℕ → List ℕ → ℤ → ReadingValue
 reading_in quality code text amount = record {
@@ -58,9 +63,10 @@ reading_in quality code text amount = record {
   value = if quality.flag == null then None else Some amount;
 }
 
+-- Schema 1 says no length of a version, which is that of its day's head: it stands here as 0.
 abbrev pub version_fact : Row → Fact
 version_fact row =
-    VersionIs (key_at (stream_in row) (natural_at row 3) (natural_at row 4) (natural_at row 5))
+    VersionIs (key_at (stream_in row) (natural_at row 3) 0 (natural_at row 4) (natural_at row 5))
     (reading_in (quality_named (text_at row 6)) (optional_at row 7) (text_at row 8) (int_at row 9))
 
 -- the five details from a column on

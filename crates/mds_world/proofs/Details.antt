@@ -1,5 +1,5 @@
 -- The current details of a day: there are some, and no others; and what they are by the nearest day that has any.
-use Rattle.std.specs.Prelude.{◌≡◌, ◌⊎◌, ℕ, ◌<◌, ◌≤◌, true, refl}
+use Rattle.std.specs.Prelude.{◌≡◌, ◌⊎◌, ℕ, ◌≤◌, true, refl}
 use Rattle.std.proofs.Common.{sym, ap, ◌∙◌, subst, inl, inr, arith}
 use Rattle.std.specs.Cmp.{IsTotalOrder, nat_cmp_total, on_total, then_total}
 use Rattle.std.specs.Ordering.{is_le, nat_cmp, ordering_then}
@@ -10,12 +10,12 @@ use Rattle.mds_terms.specs.Details.{DetailsValue, details_cmp}
 use Rattle.mds_terms.proofs.TermOrder.{details_exact}
 use Rattle.mds_terms.specs.TermOrder.{details_total}
 use Rattle.mds_world.specs.declared.facts.Detail.{Detail}
-use Rattle.mds_world.specs.Current.{IsCurrentDetails, IsGreatestDetail, IsUpto, detail_cmp, no_details}
+use Rattle.mds_world.specs.Current.{IsCurrentDetails, detail_cmp, no_details}
 use Rattle.mds_world.specs.FactCodes.{coded_stream}
 use Rattle.mds_world.specs.FactOrder.{exact, total}
 use Rattle.mds_world.specs.Facts.{Fact}
 use Rattle.mds_world.specs.Facts.Fact.{HeadIs, VersionIs, DetailIs, EventIs, PeriodIs, HolidayIs, JobIs}
-use Rattle.mds_world.specs.Order.{coded_cmp, coded_total, coded_exact}
+use Rattle.mds_world.specs.Order.{coded_total, coded_exact}
 use Rattle.mds_world.specs.Sets.{◌∈◌}
 use Rattle.mds_world.specs.World.{World}
 use Rattle.mds_world.proofs.Greatest.{greatest_or_none}

@@ -6,11 +6,11 @@ use Rattle.mds_marks.specs.Reading.{ReadingValue}
 use Rattle.mds_world.specs.declared.facts.Detail.{Detail}
 use Rattle.mds_world.specs.declared.facts.Head.{Head}
 use Rattle.mds_world.specs.declared.facts.Key.{Key}
-use Rattle.mds_world.specs.Facts.{Fact, JobContent}
+use Rattle.mds_world.specs.Facts.{Fact, JobContent, key_at}
 use Rattle.mds_world.specs.Facts.Fact.{HeadIs, VersionIs, DetailIs, PeriodIs, JobIs}
 use Rattle.mds_world.proofs.Members.{in_union, union_left, union_right}
 use Rattle.mds_world.specs.Sets.{◌∈◌}
-use Rattle.mds_world.specs.World.{Agrees, HasHead, HasVersion, IsClosed, IsKnownDay, IsLawful, World, union}
+use Rattle.mds_world.specs.World.{Agrees, HasHead, HasVersion, IsClosed, IsKnownDay, IsLawful, World, head_over, union}
 
 -- Each rule is of two facts. So a World agrees where any two of its facts lie in one that does.
 pub pairs_agree : (w : World)
@@ -26,10 +26,11 @@ agrees_within w part more agrees = pairs_agree part (λ f g h k. (w, agrees, mor
 
 -- what a version, a head or details need is there in a larger World too
 pub wider_head : (w v : World) → ((f : Fact) → f ∈ w → f ∈ v) → (key : Key) → HasHead w key → HasHead v key
-wider_head w v more key h = (h.0, more (HeadIs h.0) h.1, h.2, h.3, h.4, h.5)
+wider_head w v more key h = (h.0, more (HeadIs (head_over key h.0)) h.1, h.2, h.3)
 
 pub wider_version : (w v : World) → ((f : Fact) → f ∈ w → f ∈ v) → (head : Head) → HasVersion w head → HasVersion v head
-wider_version w v more head h = (h.0, h.1, more (VersionIs h.0 h.1) h.2, h.3, h.4)
+wider_version w v more head h =
+    (h.0, h.1, h.2, more (VersionIs (key_at head.stream head.day head.length h.0 h.1) h.2) h.3)
 
 pub wider_day : (w v : World) → ((f : Fact) → f ∈ w → f ∈ v) → (stream : Stream) (day : ℕ) → IsKnownDay w stream day
     → IsKnownDay v stream day

@@ -1,14 +1,14 @@
 -- The greatest details up to a day are the greatest pair of the nearest day that has some.
-use Rattle.std.specs.Prelude.{◌≡◌, ◌↔◌, ◌⊎◌, ℕ, ◌<◌, ◌≤◌, true, false, refl}
-use Rattle.std.proofs.Common.{sym, ap, ◌∙◌, subst, inl, inr, arith}
+use Rattle.std.specs.Prelude.{◌≡◌, ◌↔◌, ℕ, ◌<◌, true, refl}
+use Rattle.std.proofs.Common.{sym, ◌∙◌, inl, inr, arith}
 use Rattle.std.proofs.lemmas.Bool.Decides.{nat_tests}
 use Rattle.std.specs.Ordering.{is_le, nat_cmp, ordering_then}
 use Rattle.std.specs.declared.cmp.Ordering.{Ordering}
 use Rattle.std.specs.declared.cmp.Ordering.TheVariants.{Less, Equal, Greater}
 use Rattle.mds_names.specs.declared.stream.Stream.{Stream}
-use Rattle.mds_terms.specs.Details.{DetailsValue, details_cmp}
+use Rattle.mds_terms.specs.Details.{DetailsValue}
 use Rattle.mds_world.specs.declared.facts.Detail.{Detail}
-use Rattle.mds_world.specs.Current.{IsCurrentDetails, IsGreatestDetail, IsGreatestOfDay, IsNearestDetails, IsUpto, detail_cmp}
+use Rattle.mds_world.specs.Current.{IsCurrentDetails, IsNearestDetails, IsUpto, detail_cmp}
 use Rattle.mds_world.specs.World.{World}
 use Rattle.mds_world.proofs.Orders.{le_or_lt}
 use Rattle.mds_world.proofs.Returned.{day_upto}

@@ -1,6 +1,6 @@
 -- Details that come back to their World: current ones of some days, each under that day.
-use Rattle.std.specs.Prelude.{◌≡◌, ◌↔◌, ◌⊎◌, ℕ, ◌<◌, ◌≤◌, true, false, refl}
-use Rattle.std.proofs.Common.{sym, ap, ◌∙◌, subst, inl, inr, arith}
+use Rattle.std.specs.Prelude.{◌≡◌, ℕ, ◌<◌, ◌≤◌, true, refl}
+use Rattle.std.proofs.Common.{sym, ◌∙◌, subst, inl, inr, arith}
 use Rattle.std.proofs.lemmas.Bool.Decides.{nat_tests}
 use Rattle.std.specs.Ordering.{is_le, nat_cmp, ordering_then}
 use Rattle.std.specs.declared.cmp.Ordering.{Ordering}
@@ -13,9 +13,8 @@ use Rattle.mds_world.specs.Facts.Fact.{DetailIs}
 use Rattle.mds_world.specs.Sets.{◌∈◌}
 use Rattle.mds_world.specs.World.{World, union}
 use Rattle.mds_world.proofs.Details.{one_details, same_by_both, some_details}
-use Rattle.mds_world.proofs.Members.{in_union, union_left, union_right}
+use Rattle.mds_world.proofs.Members.{in_union, union_left}
 use Rattle.mds_world.proofs.Orders.{le_or_lt}
-use Rattle.std.specs.Cmp.{nat_cmp_total}
 
 -- what is up to other details is of no later day
 pub day_upto : (a b : Detail) → is_le (detail_cmp a b) ≡ true → a.day ≤ b.day

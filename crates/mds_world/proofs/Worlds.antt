@@ -36,14 +36,14 @@ either_order w a b =
 pub split : (xs ys : List Statement) → stated (xs ++ ys) ≡ union (stated xs) (stated ys)
 split xs ys = ap set.from_list (flat_map-append facts_of xs ys) ∙ list_append total exact _ _
 
-pub one_reading : (w : World) (stream : Stream) (day interval update other : ℕ) (reading another : ReadingValue)
-    → Agrees w → IsCurrent w stream day interval update reading → IsCurrent w stream day interval other another
+pub one_reading : (w : World) (stream : Stream) (day length interval update other : ℕ) (reading another : ReadingValue)
+    → Agrees w → IsCurrent w stream day length interval update reading → IsCurrent w stream day length interval other another
     → (update ≡ other) × (reading ≡ another)
-one_reading w stream day interval update other reading another agrees current too =
+one_reading w stream day length interval update other reading another agrees current too =
     let same : update ≡ other =
     le_antisymm (too.greatest update reading current.held) (current.greatest other another too.held) in
-    let held : VersionIs (key_at stream day interval other) reading ∈ w =
-    subst (λ u. VersionIs (key_at stream day interval u) reading ∈ w) same
+    let held : VersionIs (key_at stream day length interval other) reading ∈ w =
+    subst (λ u. VersionIs (key_at stream day length interval u) reading ∈ w) same
     current.held in
     (same, agrees.one_reading _ reading another held too.held)
 

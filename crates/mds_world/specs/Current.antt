@@ -14,11 +14,10 @@ use Rattle.mds_world.specs.Facts.Fact.{DetailIs, HeadIs, VersionIs}
 use Rattle.mds_world.specs.Sets.{◌∈◌}
 use Rattle.mds_world.specs.World.{IsCurrent, IsKnownDay, World}
 
--- an interval has no version
-abbrev pub HasNoVersion : World → Stream → ℕ → ℕ → Type 0
-HasNoVersion w stream day interval =
-    (update : ℕ) (reading : ReadingValue)
-    → VersionIs (key_at stream day interval update) reading ∈ w → ⊥
+-- an interval of a length has no version
+abbrev pub HasNoVersion : World → Stream → ℕ → ℕ → ℕ → Type 0
+HasNoVersion w stream day length interval =
+    (update : ℕ) (reading : ReadingValue) → VersionIs (key_at stream day length interval update) reading ∈ w → ⊥
 
 -- bare N, without a value
 abbrev pub no_reading : ReadingValue
@@ -27,24 +26,26 @@ no_reading = record {
   value = None;
 }
 
--- The reading of an interval: the current one, and bare N where there is no version.
-abbrev pub IsReading : World → Stream → ℕ → ℕ → ReadingValue → Type 0
-IsReading w stream day interval reading =
-    ((update : ℕ) × IsCurrent w stream day interval update reading)
-    ⊎ (HasNoVersion w stream day interval × (reading ≡ no_reading))
+-- The reading of an interval of a length: the current one, and bare N where there is no version.
+abbrev pub IsReading : World → Stream → ℕ → ℕ → ℕ → ReadingValue → Type 0
+IsReading w stream day length interval reading =
+    ((update : ℕ) × IsCurrent w stream day length interval update reading)
+    ⊎ (HasNoVersion w stream day length interval × (reading ≡ no_reading))
 
 -- The form of a known day: the length of its intervals, and its unit.
 abbrev pub IsFormOf : World → Stream → ℕ → ℕ → MeasureUnit → Type 0
 IsFormOf w stream day length unit = HeadIs (head_at stream day length unit) ∈ w
 
--- The reading that a day shows of an interval.
+-- The reading that a day shows of an interval: that of the day's length, and bare N where the day isn't known.
 abbrev pub IsDayReading : World → Stream → ℕ → ℕ → ReadingValue → Type 0
-IsDayReading w stream day interval reading = IsReading w stream day interval reading
+IsDayReading w stream day interval reading =
+    ((length : ℕ) × (unit : MeasureUnit) × IsFormOf w stream day length unit × IsReading w stream day length interval reading)
+    ⊎ ((IsKnownDay w stream day → ⊥) × (reading ≡ no_reading))
 
--- The greatest update among a day's current readings.
-pub record IsLatest (w : World) (stream : Stream) (day update : ℕ) : Type 0 where
-  pub held : (interval : ℕ) × (reading : ReadingValue) × IsCurrent w stream day interval update reading
-  pub greatest : (interval other : ℕ) (reading : ReadingValue) → IsCurrent w stream day interval other reading
+-- The greatest update among a day's current readings of a length.
+pub record IsLatest (w : World) (stream : Stream) (day length update : ℕ) : Type 0 where
+  pub held : (interval : ℕ) × (reading : ReadingValue) × IsCurrent w stream day length interval update reading
+  pub greatest : (interval other : ℕ) (reading : ReadingValue) → IsCurrent w stream day length interval other reading
       → other ≤ update
 
 -- by the day, then the moment, and then the details field by field

@@ -162,9 +162,9 @@ coded_head =
 
 coded_key : Coded Key
 coded_key =
-    code_by _ (coded× coded_stream (coded× coded_ℕ (coded× coded_ℕ coded_ℕ)))
-    (λ k. (k.stream, (k.day, (k.interval, k.update))))
-    (λ p. key_at p.0 p.1.0 p.1.1.0 p.1.1.1)
+    code_by _ (coded× coded_stream (coded× coded_ℕ (coded× coded_ℕ (coded× coded_ℕ coded_ℕ))))
+    (λ k. (k.stream, (k.day, (k.length, (k.interval, k.update)))))
+    (λ p. key_at p.0 p.1.0 p.1.1.0 p.1.1.1.0 p.1.1.1.1)
     (λ _. refl)
 
 coded_detail : Coded Detail

@@ -12,9 +12,10 @@ use Rattle.mds_world.specs.declared.facts.Detail.{Detail}
 use Rattle.mds_world.specs.declared.facts.Head.{Head}
 use Rattle.mds_world.specs.declared.facts.Key.{Key}
 
--- where a version stands: an interval of a day of a stream, under an update
-abbrev pub key_at : Stream → ℕ → ℕ → ℕ → Key
-key_at stream day interval update = record { stream = stream; day = day; interval = interval; update = update }
+-- where a version stands: an interval of a day of a stream, of a length, under an update
+abbrev pub key_at : Stream → ℕ → ℕ → ℕ → ℕ → Key
+key_at stream day length interval update =
+    record { stream = stream; day = day; length = length; interval = interval; update = update }
 
 -- the head of a day of a stream, with the length of its intervals and its unit
 abbrev pub head_at : Stream → ℕ → ℕ → MeasureUnit → Head

@@ -12,18 +12,18 @@ use Rattle.mds_world.specs.Facts.{Fact, detail_at, head_at, key_at}
 use Rattle.mds_world.specs.Facts.Fact.{HeadIs, VersionIs, DetailIs, EventIs, PeriodIs}
 use Rattle.mds_world.specs.World.{World}
 
--- the versions of a day's readings in order under one update, the first of which is of the interval
-abbrev pub versions_from : Stream → ℕ → ℕ → ℕ → List ReadingValue → List Fact
-versions_from stream day update interval [] = []
-versions_from stream day update interval (reading ∷ rest) =
-    VersionIs (key_at stream day interval update) reading
-    ∷ versions_from stream day update (interval + 1) rest
+-- the versions of a day's readings of a length in order under one update, the first of which is of the interval
+abbrev pub versions_from : Stream → ℕ → ℕ → ℕ → ℕ → List ReadingValue → List Fact
+versions_from stream day length update interval [] = []
+versions_from stream day length update interval (reading ∷ rest) =
+    VersionIs (key_at stream day length interval update) reading
+    ∷ versions_from stream day length update (interval + 1) rest
 
 -- the head of a day, and a version of each interval from 1 on under one update
 abbrev pub day_facts : Stream → ℕ → ℕ → MeasureUnit → ℕ → List ReadingValue → List Fact
 day_facts stream day length unit update readings =
     HeadIs (head_at stream day length unit)
-    ∷ versions_from stream day update 1 readings
+    ∷ versions_from stream day length update 1 readings
 
 -- A header and a 200 state no fact of their own: what they say stands in what they govern.
 abbrev pub facts_of : Statement → List Fact

@@ -5,12 +5,13 @@ use Rattle.std.specs.FinSet as set
 use Rattle.std.specs.FinSet.{FinSet}
 use Rattle.mds_calendar.specs.Length.{count_of}
 use Rattle.mds_names.specs.declared.stream.Stream.{Stream}
+use Rattle.mds_quantity.specs.declared.unit.Unit.{Unit as MeasureUnit}
 use Rattle.mds_marks.specs.Reading.{ReadingValue}
 use Rattle.mds_terms.specs.Event.{EventValue}
 use Rattle.mds_world.specs.declared.facts.Detail.{Detail}
 use Rattle.mds_world.specs.declared.facts.Head.{Head}
 use Rattle.mds_world.specs.declared.facts.Key.{Key}
-use Rattle.mds_world.specs.Facts.{Fact, JobContent, PeriodContent, key_at}
+use Rattle.mds_world.specs.Facts.{Fact, JobContent, PeriodContent, head_at, key_at}
 use Rattle.mds_statements.specs.declared.periods.PeriodKey.{PeriodKey}
 use Rattle.mds_world.specs.Facts.Fact.{HeadIs, VersionIs, DetailIs, EventIs, PeriodIs, HolidayIs, JobIs}
 use Rattle.mds_world.specs.FactOrder.{fact_cmp}
@@ -23,23 +24,26 @@ World = FinSet fact_cmp
 abbrev pub union : World → World → World
 union a b = set.union a b
 
--- One head for each stream and day, one reading for each stream, day, interval and update, one content for each period.
+-- One head for each stream and day, one reading for each stream, day, length, interval and update, one content for each period.
 pub record Agrees (w : World) : Type 0 where
   pub one_head : (a b : Head) → HeadIs a ∈ w → HeadIs b ∈ w → a.stream ≡ b.stream → a.day ≡ b.day → a ≡ b
   pub one_reading : (key : Key) (a b : ReadingValue) → VersionIs key a ∈ w → VersionIs key b ∈ w → a ≡ b
   pub one_content : (key : PeriodKey) (a b : PeriodContent) → PeriodIs key a ∈ w → PeriodIs key b ∈ w → a ≡ b
 
--- a version is of a day whose head is there, and of one of its intervals
+-- the head that a version is under: of its day and its length, with a unit
+abbrev pub head_over : Key → MeasureUnit → Head
+head_over key unit = head_at key.stream key.day key.length unit
+
+-- a version's head is there, and its interval is one of that head's
 abbrev pub HasHead : World → Key → Type 0
 HasHead w key =
-    (head : Head) × (HeadIs head ∈ w) × (head.stream ≡ key.stream) × (head.day ≡ key.day)
-    × (1 ≤ key.interval) × (key.interval ≤ count_of head.length)
+    (unit : MeasureUnit) × (HeadIs (head_over key unit) ∈ w) × (1 ≤ key.interval) × (key.interval ≤ count_of key.length)
 
--- a head's day has a version
+-- a head has a version of its day and its length
 abbrev pub HasVersion : World → Head → Type 0
 HasVersion w head =
-    (key : Key) × (reading : ReadingValue) × (VersionIs key reading ∈ w)
-    × (key.stream ≡ head.stream) × (key.day ≡ head.day)
+    (interval : ℕ) × (update : ℕ) × (reading : ReadingValue)
+    × (VersionIs (key_at head.stream head.day head.length interval update) reading ∈ w)
 
 -- A known day has a head.
 abbrev pub IsKnownDay : World → Stream → ℕ → Type 0
@@ -57,11 +61,11 @@ pub record IsLawful (w : World) : Type 0 where
   pub one_job : (id : List ℕ) (a b : JobContent) (m n : ℕ) → JobIs id a m ∈ w → JobIs id b n ∈ w → (a ≡ b) × (m ≡ n)
   pub closed : IsClosed w
 
--- The current reading of an interval: that of the version with the greatest update.
-pub record IsCurrent (w : World) (stream : Stream) (day interval update : ℕ) (reading : ReadingValue) : Type 0 where
-  pub held : VersionIs (key_at stream day interval update) reading ∈ w
+-- The current reading of an interval of a length: that of the version with the greatest update.
+pub record IsCurrent (w : World) (stream : Stream) (day length interval update : ℕ) (reading : ReadingValue) : Type 0 where
+  pub held : VersionIs (key_at stream day length interval update) reading ∈ w
   pub greatest : (other : ℕ) (of_other : ReadingValue)
-      → VersionIs (key_at stream day interval other) of_other ∈ w
+      → VersionIs (key_at stream day length interval other) of_other ∈ w
       → other ≤ update
 
 -- the fact is the head, or a version, of a day

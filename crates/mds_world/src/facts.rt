@@ -64,12 +64,13 @@ pub struct Head {
     pub unit: Unit,
 }
 
-/// Where a version of a reading stands: an interval of a day, numbered from 1, and when it was
-/// updated.
+/// Where a version of a reading stands: an interval of a day, of a length and numbered from 1, and
+/// when it was updated.
 #[derive(Clone, Copy)]
 pub struct Key {
     pub stream: Stream,
     pub day: Day,
+    pub length: Length,
     pub interval: u16,
     pub update: Moment,
 }

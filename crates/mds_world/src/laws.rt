@@ -36,12 +36,12 @@ pub fn any_order()
     ensures split { (xs ys : List Statement) → stated (xs ++ ys) ≡ union (stated xs) (stated ys) }
 {}
 
-/// In a World that agrees an interval has at most one current reading, of one update.
+/// In a World that agrees an interval of a length has at most one current reading, of one update.
 pub fn one_current()
-    ensures { (w : World) (stream : Stream) (day interval update other : ℕ)
+    ensures { (w : World) (stream : Stream) (day length interval update other : ℕ)
         (reading another : ReadingValue) → Agrees w
-        → IsCurrent w stream day interval update reading
-        → IsCurrent w stream day interval other another → (update ≡ other) × (reading ≡ another) }
+        → IsCurrent w stream day length interval update reading
+        → IsCurrent w stream day length interval other another → (update ≡ other) × (reading ≡ another) }
 {}
 
 /// A part of a World that agrees agrees as well.

@@ -8,5 +8,5 @@ pub returns : goal.returns
 returns g c =
     queried daily_layout select_days_with select_days_with_plain _
     (λ clean. finds_days c.args.details.now c.args.first c.args.last _ _ (λ v. v.items) c.query_all.result
-    (rw c.range_cells.ensures at (c.query_all.ensures.ok clean)))
+    (rw c.asked_cells.ensures at (c.query_all.ensures.ok clean)))
     c.query_all.ensures.err c.query_all.ensures.mode c.query_all.ensures.survives

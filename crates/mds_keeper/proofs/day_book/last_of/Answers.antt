@@ -1,41 +1,49 @@
-use Rattle.std.proofs.Common.{subst, sym, ◌<◌, ◌-◌, ◌≤◌, ◌≡◌, ℕ, List, length, take, get_or}
-use Rattle.std.specs.List.{AllPairs}
+use Rattle.std.proofs.Common.{◌-◌, ◌≡◌, ◌∙◌, ℕ, ap, arith, length, refl, rules, subst, sym}
+use Rattle.std.proofs.lemmas.Option.{slice_get_read}
 use Rattle.mds_world.specs.World.{IsCurrent}
 use Rattle.mds_keeper.specs.Books.{book_world}
-use Rattle.mds_keeper.specs.BookPlaces.{EndsAt}
-use Rattle.mds_keeper.specs.BookRows.{IsBefore}
 use Rattle.mds_keeper.specs.LentVersions.{lent_reading}
 use Rattle.mds_keeper.specs.declared.day_book.Version.{Version}
-use Rattle.mds_keeper.proofs.BookReads.{none_before, none_last, current_last}
+use Rattle.mds_keeper.proofs.BookReads.{last_current, none_current, none_other, other_before}
 use Rattle.mds_keeper.proofs.day_book.last_of.Goals as goal
 
-pub returns-in_default-clause-none : goal.returns-in_default-clause-none
-returns-in_default-clause-none c = λ book is.
-    let item = c.in_default.ensures.item in
-    none_before book c.args.interval c.end_of-end.result
-    (subst (λ r. EndsAt r c.args.interval c.end_of-end.result) (sym is) c.end_of-end.ensures)
-    (subst (λ (r : List (ℕ × Version)). length (take c.end_of-end.result r) ≤ 0) (sym is) item.3)
+pub loop-end-init : goal.loop-end-init
+loop-end-init c = record { within = omega arith; other = none_other c.args.length c.rows_at-found.result.now }
 
-pub returns-then-number-interval-clause-some : goal.returns-then-number-interval-clause-some
-returns-then-number-interval-clause-some c = λ book is.
-    let row : ℕ × Version = c.in-Some.field-0.now in
-    let item = c.in-Some.ensures.item in
-    subst (λ u. IsCurrent (book_world book) book.stream book.day c.args.interval u (lent_reading c.lent.result)) (sym c.lent.ensures.0)
-    (subst (IsCurrent (book_world book) book.stream book.day c.args.interval row.1.update) (sym c.lent.ensures.1)
-    (current_last book (subst (AllPairs IsBefore) (sym is) c.requires) c.args.interval c.end_of-end.result row
-    (subst (λ r. EndsAt r c.args.interval c.end_of-end.result) (sym is) c.end_of-end.ensures)
-    (subst (λ (r : List (ℕ × Version)). 0 < length (take c.end_of-end.result r)) (sym is) item.3.0)
-    (subst (λ (r : List (ℕ × Version)). row ≡ get_or (take c.end_of-end.result r)
-    (length (take c.end_of-end.result r) - 1) row) (sym is) item.1)
-    c.if-number-interval.true))
+pub bounds-found-end : goal.bounds-found-end
+bounds-found-end c = let w = c.loop-end.invariant.within in omega (arith, w, c.loop-end-test.true)
 
-pub returns-else-number-interval-clause-none : goal.returns-else-number-interval-clause-none
-returns-else-number-interval-clause-none c = λ book is.
-    let row : ℕ × Version = c.in-Some.field-0.now in
-    let item = c.in-Some.ensures.item in
-    none_last book (subst (AllPairs IsBefore) (sym is) c.requires) c.args.interval c.end_of-end.result row
-    (subst (λ r. EndsAt r c.args.interval c.end_of-end.result) (sym is) c.end_of-end.ensures)
-    (subst (λ (r : List (ℕ × Version)). 0 < length (take c.end_of-end.result r)) (sym is) item.3.0)
-    (subst (λ (r : List (ℕ × Version)). row ≡ get_or (take c.end_of-end.result r)
-    (length (take c.end_of-end.result r) - 1) row) (sym is) item.1)
-    c.if-number-interval.false
+pub returns-then-eq-clause-some : goal.returns-then-eq-clause-some
+returns-then-eq-clause-some c = λ book is.
+    let w = c.loop-end.invariant.within in
+    let e = c.lent.ensures in
+    let same : c.index-found-end.result.1.length ≡ c.args.length = search (rules, c.if-eq.true, c.eq.ensures) in
+    let found = c.rows_at-found.result.now in
+    let is-row = c.index-found-end.is in
+    let minutes = e.1 ∙ sym (ap (λ (r : ℕ × Version). r.1.length) is-row) ∙ same in
+    let update = e.0 ∙ sym (ap (λ (r : ℕ × Version). r.1.update) is-row) in
+    let reading = e.2 ∙ sym (ap (λ (r : ℕ × Version). r.1.reading) is-row) in
+    let current = last_current (book_world book) book.stream book.day c.args.length c.args.interval found (c.rows_at-found.ensures book is)
+    c.loop-end.end c.loop-end.invariant.other (c.loop-end.end - 1) c.index-found-end.result (omega (arith, c.loop-end-test.true))
+    (omega (arith, w, c.loop-end-test.true))
+    (slice_get_read found (length found) (c.loop-end.end - 1) c.index-found-end.result refl (omega (arith, w, c.loop-end-test.true)) c.index-found-end.is) same in (
+      minutes,
+      subst (λ u. IsCurrent (book_world book) book.stream book.day c.args.length c.args.interval u (lent_reading c.lent.result)) (sym update)
+          (subst (IsCurrent (book_world book) book.stream book.day c.args.length c.args.interval c.index-found-end.result.1.update) (sym reading) current),
+    )
+
+pub loop-end-preserved : goal.loop-end-preserved
+loop-end-preserved c =
+    let w = c.loop-end.invariant.within in
+    let found = c.rows_at-found.result.now in record {
+      within = omega arith;
+      other = other_before c.args.length found c.loop-end.end c.loop-end.invariant.other (c.loop-end.end - 1) c.index-found-end.result
+          (omega (arith, c.loop-end-test.true))
+          (slice_get_read found (length found) (c.loop-end.end - 1) c.index-found-end.result refl (omega (arith, w, c.loop-end-test.true)) c.index-found-end.is)
+          (search (rules, c.if-eq.false, c.eq.ensures));
+    }
+
+pub returns-clause-none : goal.returns-clause-none
+returns-clause-none c = λ book is.
+    none_current (book_world book) book.stream book.day c.args.length c.args.interval c.rows_at-found.result.now (c.rows_at-found.ensures book is)
+    c.loop-end.end c.loop-end.invariant.other (omega (arith, c.loop-end-test.false))

@@ -10,13 +10,13 @@ pub returns-in_err-at : goal.returns-in_err-at
 returns-in_err-at c = λ book is.
     subst (IsUnder book c.args.interval c.args.update) (sym c.from_residual.ensures) (record {
       some = tt;
-      none = none_outside book _ _ is c.args.interval (λ k e h. c.in_err-at.ensures (omega (arith, e, c.from.ensures)));
+      none = none_outside book _ _ _ is c.args.interval (λ k e h. c.in_err-at.ensures (omega (arith, e, c.from.ensures)));
     })
 
 pub returns-then-at-len : goal.returns-then-at-len
 returns-then-at-len c = λ book is. record {
   some = tt;
-  none = none_outside book _ _ is c.args.interval (λ k e h.
+  none = none_outside book _ _ _ is c.args.interval (λ k e h.
       absurd (omega (arith, e, h, c.from.ensures, c.in_ok-at.ensures.1, c.len.ensures.value, c.if-at-len.true)));
 }
 
@@ -35,7 +35,7 @@ returns c = λ book is.
     record {
       some = (
         refl,
-        under_whole book _ _ is c.args.interval c.in_ok-at.at d (omega (arith, c.from.ensures, c.in_ok-at.ensures))
+        under_whole book _ _ _ is c.args.interval c.in_ok-at.at d (omega (arith, c.from.ensures, c.in_ok-at.ensures))
             (omega (arith, c.len.ensures.value, c.if-at-len.false)) (λ j. record { mark = c.mark.ensures d j; value = c.value.ensures d j }),
       );
       none = tt;

@@ -13,10 +13,11 @@ returns-then-seconds c = λ book is.
     record {
       some = (
         c.lent.ensures.0 ∙ same,
-        subst (λ reading. VersionIs (key_at book.stream book.day c.args.interval c.args.update) reading ∈ book_world book)
-            (sym c.lent.ensures.1)
-            (row_found _ _ _ _ _ (c.rows_at-row-items.ensures book is) c.loop-row.row-index
-            c.row-item.result c.loop-row-test.true c.row-item.is c.args.update same),
+        subst (λ reading. VersionIs (key_at book.stream book.day c.lent.result.length c.args.interval c.args.update) reading ∈ book_world book)
+            (sym c.lent.ensures.2)
+            (subst (λ n. VersionIs (key_at book.stream book.day n c.args.interval c.args.update) c.row-item.result.1.reading ∈ book_world book)
+            (sym c.lent.ensures.1) (row_found _ _ _ _ _ (c.rows_at-row-items.ensures book is) c.loop-row.row-index
+            c.row-item.result c.loop-row-test.true c.row-item.is c.args.update same)),
       );
       none = tt;
     }

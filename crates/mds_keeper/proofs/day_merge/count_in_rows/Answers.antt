@@ -7,8 +7,8 @@ use Rattle.mds_keeper.proofs.day_merge.count_in_rows.Goals as goal
 pub returns-then-is_empty : goal.returns-then-is_empty
 returns-then-is_empty c =
     let none : length c.args.rows.now ≡ 0 = grind (arith, nat_tests) in
-    held_none c.args.book.now c.args.update
-    (no_rows c.args.book.now c.args.update (sym c.requires.rows ∙ nil_from_length _ none)) c.args.readings.now
+    λ minutes of_length. held_none c.args.book.now minutes c.args.update
+    (no_rows c.args.book.now minutes c.args.update (sym c.requires.rows ∙ nil_from_length _ none)) c.args.readings.now
 
 pub loop-i-init : goal.loop-i-init
 loop-i-init c = walk_start _ _ _ _ c.requires.rows c.requires.ascending
@@ -23,7 +23,8 @@ returns-in_default c =
 
 pub loop-i-preserved : goal.loop-i-preserved
 loop-i-preserved c =
-    walk_on _ _ _ _ _ _ _ c.loop-i.invariant c.rows_from-left.ensures (omega (arith, c.len-i-end.ensures.value)) _ c.in-Some.ensures.some
+    walk_on _ _ _ _ _ _ _ c.loop-i.invariant c.rows_from-left.ensures (omega (arith, c.len-i-end.ensures.value)) _ c.in-Some.ensures.small
+    c.in-Some.ensures.some
 
 pub returns : goal.returns
 returns c = walk_end _ _ _ _ _ _ c.loop-i.invariant (omega (arith, c.len-i-end.ensures.value))

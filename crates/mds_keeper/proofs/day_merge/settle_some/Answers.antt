@@ -3,18 +3,18 @@ use Rattle.mds_keeper.proofs.Settled.{all_put, day_pushed, part_fresh, part_held
 use Rattle.mds_keeper.proofs.day_merge.settle_some.Goals as goal
 
 pub loop-i-init : goal.loop-i-init
-loop-i-init c = start_part _ _ _ _ c.new-rows.ensures.items
+loop-i-init c = start_part _ _ _ _ _ c.new-rows.ensures.items
 
 pub loop-i-preserved-then-has_reading : goal.loop-i-preserved-then-has_reading
 loop-i-preserved-then-has_reading c =
-    part_held _ _ _ _ _ c.loop-i.invariant (omega (arith, c.len-i-end.ensures.value)) _ c.in_ok-reading.ensures.value c.if-has_reading.ensures
+    part_held _ _ _ _ _ _ c.loop-i.invariant (omega (arith, c.len-i-end.ensures.value)) _ c.in_ok-reading.ensures.value c.if-has_reading.ensures
 
 pub loop-i-preserved : goal.loop-i-preserved
 loop-i-preserved c =
-    part_fresh _ _ _ _ _ c.loop-i.invariant (omega (arith, c.len-i-end.ensures.value)) _ c.in_ok-reading.ensures.value _ c.if-has_reading.ensures
-    (pushed c.args.book.now _ _ _ _ _ c.in_ok-push.ensures.items)
+    part_fresh _ _ _ _ _ _ c.loop-i.invariant (omega (arith, c.len-i-end.ensures.value)) _ c.in_ok-reading.ensures.value _ c.if-has_reading.ensures
+    (pushed c.args.book.now _ _ _ _ _ _ c.in_ok-push.ensures.items)
 
 pub returns : goal.returns
 returns c =
     day_pushed c.args.book.now _ _ _ _ c.in_ok-push-2.ensures.items c.stream.ensures c.day.ensures
-    (all_put _ _ _ _ _ c.loop-i.invariant (omega (arith, c.len-i-end.ensures.value)))
+    (all_put _ _ _ _ _ _ c.loop-i.invariant (omega (arith, c.len-i-end.ensures.value)))

@@ -4,4 +4,4 @@ use Rattle.mds_keeper.proofs.day_merge.settle_whole.Goals as goal
 pub returns : goal.returns
 returns c =
     day_pushed c.args.book.now _ _ _ _ c.in_ok-push.ensures.items c.stream.ensures c.day.ensures
-    (whole_fresh c.args.book.now c.args.update 1 c.args.readings c.requires.new)
+    (whole_fresh c.args.book.now c.args.minutes c.args.update 1 c.args.readings c.requires.new)

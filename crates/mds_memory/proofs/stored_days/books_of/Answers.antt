@@ -19,7 +19,7 @@ loop-place-preserved c =
     making_step c.args.closed _ _ c.loop-place.books c.insert.new.self c.in-Some.place c.in-Some.rows c.in-Some-2.book c.loop-place.invariant
     c.in-Some.ensures.steps (c.in_ok-insert.ensures.entries
     ∙ ap (insert_entry place_cmp c.loop-place.books.entries c.in-Some.place) c.in_ok-shared.ensures) c.insert.ensures.ordered
-    (told.0, told.1) c.number.ensures.last told.3
+    (told.0, told.1) c.number.ensures.last told.2
 
 pub loop-place-preserved-in_ok-insert : goal.loop-place-preserved-in_ok-insert
 loop-place-preserved-in_ok-insert c =
@@ -27,7 +27,7 @@ loop-place-preserved-in_ok-insert c =
     making_step c.args.closed _ _ c.loop-place.books c.insert.new.self c.in-Some.place c.in-Some.rows c.in-Some-2.book c.loop-place.invariant
     c.in-Some.ensures.steps (c.in_ok-insert.ensures.entries
     ∙ ap (insert_entry place_cmp c.loop-place.books.entries c.in-Some.place) c.in_ok-shared.ensures) c.insert.ensures.ordered
-    (told.0, told.1) c.number.ensures.last told.3
+    (told.0, told.1) c.number.ensures.last told.2
 
 pub returns : goal.returns
 returns c = making_end c.args.closed _ c.loop-place.books c.loop-place.invariant c.in-None.ensures.steps.0

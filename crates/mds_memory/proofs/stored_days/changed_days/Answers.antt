@@ -46,7 +46,7 @@ returns-in_default c =
     let ends : length c.args.heads.items ≤ c.loop-i.i = omega (arith, c.len-i-end.ensures, c.loop-i-test.false) in
     if_ok_map c.books_of.result _ _ (λ books b. (
       b.0,
-      changed_end (days_world c.args.days.now) _ c.loop-i.closed books
+      changed_end (days_world c.args.days.now) _ c.loop-i.closed books c.requires.lawful
           (changed_all (days_world c.args.days.now) c.args.heads.items c.loop-i.i c.args.versions.items _ _ _ ends c.in_default.is c.loop-i.invariant) b.1,
     )) c.books_of.ensures
 
@@ -61,6 +61,6 @@ returns c =
     let ends : length c.args.heads.items ≤ c.loop-i.i = omega (arith, c.len-i-end.ensures, c.loop-i-test.false) in
     if_ok_map c.books_of-2.result _ _ (λ books b. (
       b.0,
-      changed_end (days_world c.args.days.now) _ c.close.new.closed books
+      changed_end (days_world c.args.days.now) _ c.close.new.closed books c.requires.lawful
           (c.in_ok-close.ensures _ _ (changed_all (days_world c.args.days.now) c.args.heads.items c.loop-i.i c.args.versions.items _ _ _ ends c.in-Some-in_hand.is c.loop-i.invariant)) b.1,
     )) c.books_of-2.ensures

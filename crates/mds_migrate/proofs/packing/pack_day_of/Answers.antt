@@ -12,7 +12,7 @@ returns-clause-ok g c =
     (packs_day (state g.S.Store c.args.tx.now.conn.now) (state g.S.Store c.version_rows.new.tx.conn.now) (state g.S.Store c.put_day.new.tx.conn.now)
     c.put_day.ensures.survives.clean (λ clean. (c.in_ok-rows.ensures.ok clean).same) c.in_ok-rows.ensures.goes_on c.args.row.now c.in-Some.head
     c.in-Some.ensures.some (omega (arith, c.number.ensures.last)) c.in_ok-rows.rows.items versions
-    (subst (λ rows. AreVersionsIn rows versions) c.as_slice.ensures.value c.in_ok-all_versions.ensures) c.in_ok-rows.ensures.ok)
+    (subst (λ rows. AreVersionsIn c.in-Some.head.length rows versions) c.as_slice.ensures.value c.in_ok-all_versions.ensures) c.in_ok-rows.ensures.ok)
     c.put_day.ensures.ok
 
 pub returns-in_err-rows-clause-kept : goal.returns-in_err-rows-clause-kept

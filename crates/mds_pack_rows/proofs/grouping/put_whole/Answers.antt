@@ -1,7 +1,8 @@
-use Rattle.std.proofs.Common.{ap, subst, ◌∙◌}
+use Rattle.std.proofs.Common.{◌≡◌, ◌*◌, ap, length, rules, subst, ◌∙◌}
 use Rattle.sqlite.specs.Held.{state}
-use Rattle.mds_pack_rows.specs.PackFacts.{readings_facts}
+use Rattle.mds_pack_rows.specs.PackFacts.{minutes_of, readings_facts}
 use Rattle.mds_pack_rows.specs.Putting.{PutsFacts}
+use Rattle.mds_pack_rows.proofs.BodyLemmas.{length_back}
 use Rattle.mds_pack_rows.proofs.PutLemmas.{if_ok, whole_said}
 use Rattle.mds_pack_rows.proofs.grouping.put_whole.Goals as goal
 
@@ -10,7 +11,10 @@ returns-clause-ok g c =
     let s = c.args.stream.now in
     let day = c.args.day in
     let update = c.args.update in
+    let many : length c.args.readings.now ≡ c.count.result = search rules in
+    let full : minutes_of (length c.args.readings.now) ≡ c.args.length =
+    length_back (length c.args.readings.now) c.args.length (ap (λ n. n * c.args.length) many ∙ c.count.ensures.whole) in
     if_ok c.put_readings.result _ _
     (subst (PutsFacts (state g.S.Store c.args.tx.now.conn.now) (state g.S.Store c.put_readings.new.tx.conn.now))
-    (ap (readings_facts s day update) (c.as_slice-2.ensures.value ∙ c.in_ok-places.ensures) ∙ whole_said s day update 1 c.args.readings.now))
+    (ap (readings_facts s day update) (c.as_slice-2.ensures.value ∙ c.in_ok-places.ensures) ∙ whole_said s day c.args.length update c.args.readings.now full))
     c.put_readings.ensures.ok

@@ -1,4 +1,5 @@
-use Rattle.std.proofs.Common.{IsTrue, length, rules, arith}
+use Rattle.std.proofs.Common.{IsTrue, ap, length, rules, arith, ◌∙◌}
+use Rattle.mds_pack_rows.specs.PackFacts.{minutes_of}
 use Rattle.mds_pack_rows.proofs.SpreadLemmas.{next_said, start_said}
 use Rattle.mds_pack_rows.proofs.grouping.spread.Goals as goal
 
@@ -8,7 +9,11 @@ loop-row-init c =
     record {
       few = it.0;
       says = start_said c.args.update (length c.in_ok-readings.readings.items) c.in_ok-readings.readings.items it.1;
+      of_length = it.2;
     }
+
+pub set_reading-requires : goal.set_reading-requires
+set_reading-requires c = c.loop-row.invariant.of_length
 
 pub loop-row-preserved : goal.loop-row-preserved
 loop-row-preserved c =
@@ -17,4 +22,5 @@ loop-row-preserved c =
       few = omega (arith, c.in_ok-set_reading.ensures.len, c.loop-row.invariant.few);
       says = next_said c.args.update c.loop-row.readings.items c.set_reading.new.readings.items c.args.rows.now c.loop-row.row-index c.row-item.result
           c.loop-row-test.true c.row-item.is (c.in_ok-set_reading.ensures.more set) c.loop-row.invariant.says;
+      of_length = ap minutes_of c.in_ok-set_reading.ensures.len ∙ c.loop-row.invariant.of_length;
     }

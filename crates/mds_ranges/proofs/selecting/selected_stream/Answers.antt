@@ -1,35 +1,27 @@
-use Rattle.std.proofs.Common.{subst}
+use Rattle.std.proofs.Common.{◌≤◌, length, Ok, rules}
 use Rattle.mds_world.specs.Current.{IsCurrentDetails}
+use Rattle.mds_keeper.specs.Kept.{Asks}
+use Rattle.mds_keeper.specs.Queries.{AreDaysOf}
+use Rattle.mds_keeper.specs.declared.keeper.Unavailable.{Unavailable}
 use Rattle.mds_keeper.proofs.Asked.{asks_both, asks_so}
-use Rattle.mds_ranges.proofs.Selected.{days_selected, never_unknown, taken_more, taken_none}
+use Rattle.mds_ranges.proofs.Selected.{days_selected, taken_none}
 use Rattle.mds_ranges.proofs.selecting.selected_stream.Goals as goal
 
-pub loop-book-init : goal.loop-book-init
-loop-book-init g c =
-    asks_so c.in_ok-books.ensures (λ w are. (
-      rw c.deref-book-items.ensures.value are,
-      taken_none w _ _ c.new-days.ensures.items,
-    ))
-
-pub loop-book-preserved-in_default : goal.loop-book-preserved-in_default
-loop-book-preserved-in_default g c =
-    asks_both c.loop-book.invariant c.in_ok-details.ensures (λ w told is.
-    absurd (never_unknown w c.args.stream.now c.args.first c.args.last _ c.loop-book.book-index c.book-item.result
-    c.loop-book-test.true c.book-item.is told.0 (rw c.in_default.is at c.in_ok-day.ensures.none)))
-
-pub loop-book-preserved : goal.loop-book-preserved
-loop-book-preserved g c =
-    asks_both c.loop-book.invariant c.in_ok-details.ensures (λ w told is. (
-      told.0,
-      taken_more w c.args.stream.now c.args.first c.args.last _ c.loop-book.book-index c.book-item.result c.loop-book-test.true
-          c.book-item.is told.0 _ c.in-Some.day c.loop-book.days.items c.push.new.self.items
-          (rw c.in-Some.is at c.in_ok-day.ensures.date)
-          (subst (λ day. IsCurrentDetails w c.args.stream.now day c.in_ok-details.details) c.day.ensures is)
-          (λ day current. rw c.in-Some.is at (c.in_ok-day.ensures.some w day current)) c.in_ok-push.ensures.items told.1,
-    ))
+pub returns-then-is_empty-clause-selected : goal.returns-then-is_empty-clause-selected
+returns-then-is_empty-clause-selected g c =
+    let none : length c.in_ok-books.books.items ≤ 0 = search (rules, c.is_empty.ensures, c.if-is_empty.true) in
+    asks_so c.in_ok-books.ensures (λ w are.
+    days_selected w c.args.stream.now c.args.first c.args.last 0 c.in_ok-books.books.items c.new.result.items none
+    (taken_none w c.args.stream.now c.new.result.items c.new.ensures.items) are)
 
 pub returns-clause-selected : goal.returns-clause-selected
 returns-clause-selected g c =
-    asks_so c.loop-book.invariant (λ w told.
-    days_selected w c.args.stream.now c.args.first c.args.last c.loop-book.book-index _ c.loop-book.days.items c.loop-book-test.false
-    told.1 told.0)
+    let k = g.K.Keeper.kept in
+    let s = c.args.stream.now in
+    let books = c.in_ok-books.books.items in
+    let details = c.in_ok-at_first.at_first in
+    let told : Asks {E = Unavailable} (k c.args.keeper.now) (k c.details.new.self) (Ok books)
+    (λ w books. AreDaysOf w s c.args.first c.args.last books × IsCurrentDetails w s c.args.first details) =
+    asks_both c.in_ok-books.ensures c.in_ok-at_first.ensures (λ w are is. (are, is)) in
+    asks_both told c.in_ok-rows.ensures (λ w told are.
+    c.in_ok-days.ensures w s c.args.first c.args.last (rw c.deref.ensures.value told.0) told.1 (rw c.deref-2.ensures.value are))

@@ -1,4 +1,4 @@
-use Rattle.std.proofs.Common.{◌≡◌, ◌≤◌, ◌+◌, sym, ◌∙◌, arith}
+use Rattle.std.proofs.Common.{◌≡◌, ◌≤◌, ◌+◌, arith}
 use Rattle.mds_calendar.specs.Length.{count_of}
 use Rattle.mds_registers.proofs.BookReadings.{has_intervals}
 use Rattle.mds_registers.proofs.Found.{finals_are, finals_grow, finals_stay, on_err, unknown_finals}
@@ -6,7 +6,7 @@ use Rattle.mds_registers.proofs.stretches.finals.Goals as goal
 
 pub returns-in_default-clause-finals : goal.returns-in_default-clause-finals
 returns-in_default-clause-finals c = λ w is.
-    unknown_finals w c.args.book.now c.new-finals.result.items is (sym c.head.ensures ∙ c.in_default.is)
+    unknown_finals w c.args.book.now c.new-finals.result.items is c.in_default.ensures.none
     c.new-finals.ensures.items
 
 pub loop-i-preserved-in_default-final_mark : goal.loop-i-preserved-in_default-final_mark
@@ -18,12 +18,12 @@ pub returns-in_err-take_in_final-clause-memory : goal.returns-in_err-take_in_fin
 returns-in_err-take_in_final-clause-memory c = λ w is.
     let more = c.loop-i-test.true in
     let count = c.count-i-end.ensures.value in
-    let within : c.loop-i.i + 1 ≤ count_of c.in-Some.head.0 = omega (arith, more, count) in
+    let within : c.loop-i.i + 1 ≤ count_of c.in-Some.form.0 = omega (arith, more, count) in
     on_err c.from_residual.result (
       _,
       _,
       _,
-      has_intervals w c.args.book.now c.in-Some.head is (sym c.head.ensures ∙ c.in-Some.is),
+      has_intervals w c.args.book.now c.in-Some.form is c.in-Some.ensures.some,
       omega arith,
       within,
       c.in-Some-final_mark.ensures w is,
@@ -40,6 +40,6 @@ returns-clause-finals c = λ w is.
     let over = c.loop-i-test.false in
     let end = c.loop-i.auto.i-end in
     let count = c.count-i-end.ensures.value in
-    let all : c.loop-i.i ≡ count_of c.in-Some.head.0 = omega (arith, over, end, count) in
-    finals_are w c.args.book.now c.in-Some.head c.loop-i.i c.loop-i.finals.items is c.is_lawful.ensures
-    (sym c.head.ensures ∙ c.in-Some.is) all (c.loop-i.invariant w is)
+    let all : c.loop-i.i ≡ count_of c.in-Some.form.0 = omega (arith, over, end, count) in
+    finals_are w c.args.book.now c.in-Some.form c.loop-i.i c.loop-i.finals.items is c.is_lawful.ensures
+    c.in-Some.ensures.some all (c.loop-i.invariant w is)

@@ -14,10 +14,10 @@ found c =
     ∙ ap (λ (rows : List (ℕ × Version)). reduce max (map (λ (row : ℕ × Version). row.1.update) rows)) c.in-Each.ensures.value
 
 pub returns-in-Each-clause-some : goal.returns-in-Each-clause-some
-returns-in-Each-clause-some c = latest_is c.args.self.now c.greatest_update.result (found c)
+returns-in-Each-clause-some c = latest_is c.args.self.now c.is_lawful.ensures c.greatest_update.result (found c)
 
 pub returns-in-Each-clause-none : goal.returns-in-Each-clause-none
-returns-in-Each-clause-none c = none_latest c.args.self.now c.greatest_update.result (found c)
+returns-in-Each-clause-none c = none_latest c.args.self.now c.is_lawful.ensures c.greatest_update.result (found c)
 
 pub returns-in-Whole-clause-some : goal.returns-in-Whole-clause-some
-returns-in-Whole-clause-some c = latest_whole c.args.self.now _ _ (sym c.in-Whole.ensures.value) c.in-Whole.ensures.whole
+returns-in-Whole-clause-some c = latest_whole c.args.self.now _ _ _ (sym c.in-Whole.ensures.value) c.in-Whole.ensures.whole

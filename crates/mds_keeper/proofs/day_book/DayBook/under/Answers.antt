@@ -13,13 +13,14 @@ returns-in-Each-clause-none c = (c.row_under.ensures c.args.self.now (sym c.in-E
 
 pub returns-then-ne-clause-none : goal.returns-then-ne-clause-none
 returns-then-ne-clause-none c =
-    none_other c.args.self.now _ _ (sym c.in-Whole.ensures.value) c.args.update (search rules) c.args.interval
+    λ minutes.
+    none_other c.args.self.now _ _ _ (sym c.in-Whole.ensures.value) c.args.update (search rules) minutes c.args.interval
 
 -- the version is one of this update
 found : (c : After-lent_at) → IsUnder c.args.self.now c.args.interval c.args.update c.lent_at.result
 found c =
     let same : c.in-Whole.of_all ≡ c.args.update = search rules in
-    c.lent_at.ensures c.args.self.now (sym c.in-Whole.ensures.value ∙ ap (λ u. whole_rows u 1 c.in-Whole.readings.now) same)
+    c.lent_at.ensures c.args.self.now (sym c.in-Whole.ensures.value ∙ ap (λ u. whole_rows c.in-Whole.length u 1 c.in-Whole.readings.now) same)
 
 pub returns-else-ne-clause-some : goal.returns-else-ne-clause-some
 returns-else-ne-clause-some c = (found c).some

@@ -7,5 +7,5 @@ settle_fresh-requires-clause-short c = all_short _ _ _ c.self.invariant.0
 
 pub returns : goal.returns
 returns c =
-    settles _ _ _ c.self.invariant.0 _ c.self.view_is _ _ _ c.in_ok-settle_head.ensures c.in_ok-settle_fresh.ensures
+    settles _ _ _ c.self.invariant.0 c.is_lawful.ensures _ c.self.view_is _ _ _ c.in_ok-settle_head.ensures c.in_ok-settle_fresh.ensures
     c.self.invariant.2 refl refl refl refl refl

@@ -1,0 +1,8 @@
+use Rattle.std.proofs.Common.{◌≡◌, ◌<◌, ◌≤◌, ℕ, Some}
+use Rattle.std.specs.List.{slice_get}
+use Rattle.mds_calendar.specs.Length.{count_of}
+use Rattle.mds_keeper.specs.declared.day_book.Version.{Version}
+use Rattle.mds_keeper.proofs.day_book.are_within.Given as goal
+
+abbrev pub invariant-loop-row : goal.invariant-loop-row
+invariant-loop-row l = (k : ℕ) (row : ℕ × Version) → k < l.row-index → slice_get l.rows k ≡ Some row → (1 ≤ row.0) × (row.0 ≤ count_of row.1.length)
