@@ -1,9 +1,11 @@
 -- What SQL can ask of a store. The readings are packed: examples/unpack.py prints these.
--- Each known day: its length in minutes, its unit, how many updates it has, and the bytes that these take.
-SELECT 'day', h.nmi, h.suffix, strftime('%Y%m%d', h.day * 86400, 'unixepoch'), h.length, h.unit, count(p.body), sum(length(p.body))
-FROM mds_head AS h LEFT JOIN mds_pack AS p ON p.nmi = h.nmi AND p.suffix = h.suffix AND p.day = h.day
-GROUP BY h.nmi, h.suffix, h.day
-ORDER BY h.nmi, h.suffix, h.day;
+-- Each known day: its length in minutes, which is that of its latest update, its unit, how many updates it has, and the bytes that these take.
+SELECT 'day', p.nmi, p.suffix, strftime('%Y%m%d', p.day * 86400, 'unixepoch'),
+    (SELECT f.length FROM mds_form AS f WHERE f.nmi = p.nmi AND f.suffix = p.suffix AND f.day = p.day ORDER BY f.moment DESC LIMIT 1),
+    h.unit, count(*), sum(length(p.body))
+FROM mds_pack AS p JOIN mds_head AS h ON h.nmi = p.nmi AND h.suffix = p.suffix AND h.day = p.day
+GROUP BY p.nmi, p.suffix, p.day
+ORDER BY p.nmi, p.suffix, p.day;
 -- The details of each day, the current ones last: the day, the moment of the file, then configuration, register, data stream and meter. A
 -- day that isn't here has those of the nearest earlier day of its stream.
 SELECT 'details', nmi, suffix, strftime('%Y%m%d', day * 86400, 'unixepoch'), strftime('%Y%m%d%H%M%S', moment, 'unixepoch'),

@@ -3,15 +3,16 @@
 
     examples/unpack.py STORE > readings.csv
 
-A store of schema 3, or of schema 2, is an SQLite file. Its table mds_pack has a row for each stream, day and update. The body of a row
-holds the readings of that day that have that update. It is packed in bytes, as "Packed days" of docs/FORMATS.md tells. This script
+A store of schema 4, or of schemas 2 and 3, is an SQLite file. Its table mds_pack has a row for each stream, day and update. The body of
+a row holds the readings of that day that have that update. It is packed in bytes, as "Packed days" of docs/FORMATS.md tells. This script
 reads these rows and prints a line for each version of an interval, under a line of the names:
 
-    nmi,suffix,date,interval,update,quality,code,text,value
-    NEM1201009,E1,20240101,7,20240102010203,A,,,1.5
+    nmi,suffix,date,interval,update,quality,code,text,value,length
+    NEM1201009,E1,20240101,7,20240102010203,A,,,1.5,30
 
-An interval that was corrected has several lines. The one of the latest update is current. The code is empty where the reading has
-none, and so is the value where the quality is N. Lines are in order of stream, day, update and interval.
+The length is that of the interval in minutes. A day has that of its latest update: lines of the day that have another one are no longer
+current. An interval that was corrected has several lines of one length. The one of the latest update is current. The code is empty where
+the reading has none, and so is the value where the quality is N. Lines are in order of stream, day, update and interval.
 
 A row that isn't as the format says is told on standard error, with what is wrong with it. The others are printed all the same. The
 status is 0 where all rows were read, 1 where some weren't, and 2 where the file is no store of these schemas. Nothing that the store
@@ -26,14 +27,23 @@ import sqlite3
 import sys
 import urllib.parse
 
-COLUMNS = ["nmi", "suffix", "date", "interval", "update", "quality", "code", "text", "value"]
+COLUMNS = ["nmi", "suffix", "date", "interval", "update", "quality", "code", "text", "value", "length"]
 COUNTS = {5: 288, 15: 96, 30: 48}
 ABSENT_CODE = 0xFFFF
 EPOCH = datetime.datetime(1970, 1, 1)
 DAYS = (datetime.datetime.max - EPOCH).days + 1
-ROWS = """SELECT p.nmi, p.suffix, p.day, p.moment, p.body, h.length FROM mds_pack AS p
+
+# The rows of mds_pack, each with the unit of its day, the length of its intervals, and the table that says the length: that of updates since
+# schema 4, and before that of days. A unit or a length is missing where the row isn't there that says it.
+OF_DAYS = """SELECT p.nmi, p.suffix, p.day, p.moment, p.body, h.unit, h.length, 'mds_head' FROM mds_pack AS p
     LEFT JOIN mds_head AS h ON h.nmi = p.nmi AND h.suffix = p.suffix AND h.day = p.day
     ORDER BY p.nmi, p.suffix, p.day, p.moment"""
+OF_UPDATES = """SELECT p.nmi, p.suffix, p.day, p.moment, p.body, h.unit, f.length, 'mds_form' FROM mds_pack AS p
+    LEFT JOIN mds_head AS h ON h.nmi = p.nmi AND h.suffix = p.suffix AND h.day = p.day
+    LEFT JOIN mds_form AS f ON f.nmi = p.nmi AND f.suffix = p.suffix AND f.day = p.day AND f.moment = p.moment
+    ORDER BY p.nmi, p.suffix, p.day, p.moment"""
+# By schema the query for them, and the tables that it asks beside mds_head.
+QUERIES = {2: (OF_DAYS, {"mds_pack"}), 3: (OF_DAYS, {"mds_pack"}), 4: (OF_UPDATES, {"mds_pack", "mds_form"})}
 
 
 class Unreadable(Exception):
@@ -130,7 +140,7 @@ def readings_of(data, count):
         raise Unreadable(f"the body begins with {version}, and 1 is the version that is known")
     places = body.number(2, "the count of intervals")
     if places != count:
-        raise Unreadable(f"the body is of {places} intervals, and its day has {count}")
+        raise Unreadable(f"the body is of {places} intervals, and its length says {count}")
     readings = []
     for first, last, mark in runs_of(body, count):
         readings += [(interval, *mark) for interval in range(first, last + 1)]
@@ -148,18 +158,20 @@ def opened(path):
     return database
 
 
-def see_schema(database):
-    """Sees to it that the database is a store of schema 2 or 3, all of whose readings are packed."""
+def rows_of(database):
+    """The rows of mds_pack with what belongs to them. The database has to be a store of a schema whose readings are all packed."""
     tables = {name for name, in database.execute("SELECT name FROM sqlite_schema WHERE type = 'table'")}
     if not {"mds_schema", "mds_head", "mds_version"} <= tables:
         raise NoStore("this is no store")
     versions = [version for version, in database.execute("SELECT version FROM mds_schema")]
     if versions == [1]:
         raise NoStore("this is a store of schema 1, whose table mds_version has a row for each version already")
-    if versions not in ([2], [3]) or "mds_pack" not in tables:
-        raise NoStore(f"mds_schema says {', '.join(map(str, versions)) or 'nothing'}, and only stores of schemas 2 and 3 are read")
+    query, asked = QUERIES.get(versions[0] if len(versions) == 1 else None, (None, tables))
+    if query is None or not asked <= tables:
+        raise NoStore(f"mds_schema says {', '.join(map(str, versions)) or 'nothing'}, and only stores of schemas 2 to 4 are read")
     if database.execute("SELECT 1 FROM mds_version LIMIT 1").fetchone():
         raise NoStore(f"mds_version has rows, and in schema {versions[0]} it has none")
+    return database.execute(query)
 
 
 def row_name(nmi, suffix, day, moment):
@@ -188,25 +200,26 @@ def value_text(amount):
 
 def versions_of(row):
     """The versions that a row holds: nmi, suffix, day, interval, moment, quality, code, text and value, as the columns of a row of
-    mds_version in schema 1."""
-    nmi, suffix, day, moment, body, length = row
-    if length is None:
+    mds_version in schema 1, and behind them the length."""
+    nmi, suffix, day, moment, body, unit, length, table = row
+    if unit is None:
         raise Unreadable("its day has no row in mds_head")
+    if length is None:
+        raise Unreadable("it has no row in mds_form")
     if length not in COUNTS:
-        raise Unreadable(f"mds_head says intervals of {length} minutes, and there are only 5, 15 and 30")
+        raise Unreadable(f"{table} says intervals of {length} minutes, and there are only 5, 15 and 30")
     if not 0 <= day < DAYS:
         raise Unreadable("there is no such day from 1970 to 9999")
     if not 0 <= moment < DAYS * 86400:
         raise Unreadable("there is no such moment from 1970 to 9999")
-    return [(nmi, suffix, day, interval, moment, *reading) for interval, *reading in readings_of(body, COUNTS[length])]
+    return [(nmi, suffix, day, interval, moment, *reading, length) for interval, *reading in readings_of(body, COUNTS[length])]
 
 
 def all_versions(path, tell):
     """All versions of a store, row by row. What is wrong with a row that can't be read is told, with its name."""
     database = opened(path)
     try:
-        see_schema(database)
-        for row in database.execute(ROWS):
+        for row in rows_of(database):
             try:
                 versions = versions_of(row)
             except Unreadable as problem:
@@ -219,9 +232,9 @@ def all_versions(path, tell):
 
 def line_of(version):
     """What is printed of a version."""
-    nmi, suffix, day, interval, moment, quality, code, text, amount = version
+    nmi, suffix, day, interval, moment, quality, code, text, amount, length = version
     return [nmi, suffix, date_text(day), interval, moment_text(moment), quality, "" if code == -1 else code, text,
-            "" if quality == "N" else value_text(amount)]
+            "" if quality == "N" else value_text(amount), length]
 
 
 def main(words):

@@ -13,7 +13,7 @@ import checks
 from checks import MDSTORE, SCRIPT, limited, mdstore
 from file_parts import block, day, file_of, period
 from many_runs import ManyRuns, Shared, built, shared_numbers
-from old_stores import PERIOD_HEADER, build, job, opened, run
+from old_stores import PERIOD_HEADER, build, build_step, job, opened, run
 
 # What is written in memory is synced at once.
 DIR = tempfile.mkdtemp(dir="/dev/shm" if os.path.isdir("/dev/shm") else None)
@@ -52,9 +52,10 @@ UPDATE, LATER = "20240102010203", "20240103010203"
 TWO_DAYS = file_of(block(), day(values=VALUES, update=UPDATE), "500,O,S1,20240101101112,12\n", block(suffix="B1"),
                    day(values=VALUES[::-1], update=UPDATE))
 LATER_DAYS = file_of(block(), *(day(f"202401{number:02}", VALUES, update="20240201000000") for number in range(2, 9)))
-# The meter is another one as well.
+# The meter is another one as well, and the length of a day.
 CORRECTION = file_of(block(meter="01010"), day(values=["9.5", *VALUES[1:8], "", *VALUES[9:]], quality="V", update=LATER), run(1, 8, "A"),
-                     run(9, 9, "N", "79"), run(10, 48, "F14", "76", "Zähler gewechselt"))
+                     run(9, 9, "N", "79"), run(10, 48, "F14", "76", "Zähler gewechselt"), block(suffix="B1", length="15"),
+                     day(values=[*VALUES, *VALUES], update=LATER))
 PERIODS = file_of(period(), "550,N,,A,\n", header=PERIOD_HEADER)
 HOLIDAYS = "date\n20240126\n20240401\n"
 JOB = job("J1", "20240115", 5, 8, 15, "F", "20240116000000", "76")
@@ -65,10 +66,10 @@ EXPORT = ["export", "NEM1201009", "20240101", "20240108", "202406010000", "MDP1"
 
 class Command:
     """A command: its words, of which `INPUT` is the name of a file, the bytes of that file, the files that it finds at the path of the
-    store and beside it, and what it prints where it does its work and where that is known already. Where it does that in two steps the files
-    of a store that has what the first of them leaves are told, or else none."""
+    store and beside it, and what it prints where it does its work and where that is known already. Where it does that in several steps the
+    files of a store are told that has what each of them leaves but the last."""
 
-    def __init__(self, words, given, found, done, known, between=None):
+    def __init__(self, words, given, found, done, known, between=()):
         self.words, self.given, self.found, self.done, self.known, self.between = words, given.encode(), found, done, known, between
         self.is_query = done == known
 
@@ -131,12 +132,20 @@ def old_store(schema, *statements):
 
 
 OTHER_DAYS = "(nmi, suffix, day) != ('NEM1201009', 'E1', 19725)"
+TABLES_OF_DAYS = {1: ["mds_version", "mds_head"], 2: ["mds_pack", "mds_head"], 3: ["mds_pack", "mds_daydetail", "mds_head"]}
 
 
 def old_store_of_a_day(schema):
     """The store of a schema with one day left, which has versions of three updates."""
-    return old_store(schema, f"DELETE FROM {'mds_version' if schema == 1 else 'mds_pack'} WHERE {OTHER_DAYS}",
-                     f"DELETE FROM mds_head WHERE {OTHER_DAYS}", "VACUUM")
+    return old_store(schema, *(f"DELETE FROM {table} WHERE {OTHER_DAYS}" for table in TABLES_OF_DAYS[schema]), "VACUUM")
+
+
+def steps_behind(store_of_schema):
+    """What a migration from schema 1 has behind each of its steps but the last: the store of schema 2, and that of schema 3 that it becomes."""
+    packed = store_of_schema(2)
+    with folder_of(packed) as folder:
+        build_step(os.path.join(folder, "store.db"))
+        return packed, files_of(folder)
 
 
 def commands():
@@ -152,15 +161,15 @@ def commands():
         "init in a file of no bytes": Command(["init"], "", {"store.db": b""}, "created\n", "U3\n"),
         "import into a fresh store": Command(["import", "INPUT"], TWO_DAYS, fresh, "added 96 known 0\n", "added 0 known 96\n"),
         "import into a store with days": Command(["import", "INPUT"], MORE_DAYS, days, "added 480 known 0\n", "added 0 known 480\n"),
-        "import of a correction": Command(["import", "INPUT"], CORRECTION, days, "added 48 known 0\n", "added 0 known 48\n"),
+        "import of a correction": Command(["import", "INPUT"], CORRECTION, days, "added 144 known 0\n", "added 0 known 144\n"),
         "import of accumulations": Command(["import", "--kind", "nem13", "INPUT"], PERIODS, days, "added 1 known 0\n", "added 0 known 1\n"),
         "substitute": Command(["substitute", "INPUT"], JOB, days, "substituted 4\n", "known 4\n"),
         "holidays": Command(["holidays", "INPUT"], HOLIDAYS, days, "added 2 known 0\n", "added 0 known 2\n"),
         "holidays beside a log": Command(["holidays", "INPUT"], HOLIDAYS, with_log, "added 2 known 0\n", "added 0 known 2\n"),
         "export": Command(EXPORT, "", days, exported, exported),
-        "migrate": Command(["migrate"], "", old_store_of_a_day(1), "migrated\n", "already current\n", old_store_of_a_day(2)),
-        "migrate of many days": Command(["migrate"], "", old_store(1), "migrated\n", "already current\n", old_store(2)),
-        "migrate from schema 2": Command(["migrate"], "", old_store_of_a_day(2), "migrated\n", "already current\n"),
+        "migrate": Command(["migrate"], "", old_store_of_a_day(1), "migrated\n", "already current\n", steps_behind(old_store_of_a_day)),
+        "migrate of many days": Command(["migrate"], "", old_store(1), "migrated\n", "already current\n", steps_behind(old_store)),
+        "migrate from schema 3": Command(["migrate"], "", old_store_of_a_day(3), "migrated\n", "already current\n"),
     }
 
 
@@ -289,6 +298,16 @@ def rows_in(database):
     return (schema, rows) if schema else None
 
 
+def behind(step):
+    """The name of the state of a store behind a step."""
+    return f"behind step {step}"
+
+
+def states_between(command):
+    """The states of a store between that before a command and that after it."""
+    return [behind(step) for step, _ in enumerate(command.between, 1)]
+
+
 class Judge:
     """Tells of the files that a command left what their store has, and what the same command comes to then. The command has no other
     input than these files, so files of the same bytes are looked at once."""
@@ -296,7 +315,7 @@ class Judge:
     def __init__(self, command):
         self.command, self.states, self.seen = command, {}, {}
         self.is_new = not command.found.get("store.db")
-        self.before, self.between = rows_of(command.found), command.between and rows_of(command.between)
+        self.before, self.between = rows_of(command.found), [rows_of(files) for files in command.between]
         self.places = Shared(Disturbed(command) for _ in range(os.cpu_count()))
         undisturbed = self.run(command.found)
         check(f"{command.words} undisturbed", (undisturbed.text, undisturbed.status), (command.done, 0))
@@ -324,7 +343,7 @@ class Judge:
             return "after"
         if rows == self.before:
             return "before"
-        return "between" if self.between and rows == self.between else f"neither: {rows}"
+        return behind(1 + self.between.index(rows)) if rows in self.between else f"none of these: {rows}"
 
     def see(self, files):
         """The state of the store, and what is wrong with it or with the command once more."""
@@ -335,7 +354,7 @@ class Judge:
 
     def look(self, files):
         state = self.state_of(files)
-        problems = [] if state in ("before", "between", "after") else [f"the store is {state}"]
+        problems = [] if state in ["before", *states_between(self.command), "after"] else [f"the store is {state}"]
         again = self.run(files)
         wanted = (self.command.known, 3 if self.command.known == "U3\n" else 0) if state == "after" else (self.command.done, 0)
         if (again.text, again.status) != wanted:

@@ -230,6 +230,76 @@ TWO_UPDATES = [
     (CORRECTED, added(0, 576)),
 ]
 
+# A day of half hours comes again in 5 minutes under a later update: that length is current from then on, and no version is lost.
+QUARTERS_OF_ONE = 288 * ["0.25"]
+IN_FIVE_MINUTES = take_in(FIVE_MINUTES, day("20240101", QUARTERS_OF_ONE, "20240105000000"), END)
+TOLD_IN_FIVE_MINUTES = told_day("20240101", {1: "A,,,0.25"}, "20240105000000", 5)
+EXPORTED_IN_FIVE_MINUTES = exported(block(5), day("20240101", QUARTERS_OF_ONE, "20240105000000"))
+ANOTHER_LENGTH = [
+    (FIRST, added(48, 0)),
+    (IN_FIVE_MINUTES, added(288, 0)),
+    (tell_day("20240101"), TOLD_IN_FIVE_MINUTES),
+    (tell_versions("20240101", 1),
+     told_versions_of_lengths("20240101", 1, "20240102010203,A,,,1.5,30", "20240105000000,A,,,0.25,5")),
+    (tell_versions("20240101", 49), told_versions("20240101", 49, "20240105000000,A,,,0.25", length=5)),
+    (tell_versions("20240101", 289), refused("M10")),
+    (FIRST, added(0, 48)),
+    (tell_day("20240101"), TOLD_IN_FIVE_MINUTES),
+    (export("20240101", "20240101", "E1"), EXPORTED_IN_FIVE_MINUTES),
+    (take_in(EXPORTED_IN_FIVE_MINUTES[2]), added(0, 288)),
+    (fill_in("J1", "20240101", 1, 1, 19, "S", "20240106000000"), refused("M1")),
+    (fill_in("J1", "20240101", 1, 1, 19, "S", "20240106000000", length=5), refused("M5", interval=1)),
+    (fill_in("J1", "20240101", 1, 1, 19, "S", "20240106000000", length=5, unit="MWh"), refused("M2")),
+    # Half hours come back under a still later update.
+    (take_in(header(), block(), day("20240101", half_hours("1.25"), "20240107000000"), END), added(48, 0)),
+    (tell_day("20240101"), told_day("20240101", {1: "A,,,1.25"}, "20240107000000")),
+    (tell_versions("20240101", 288), told_versions("20240101", 288, "20240105000000,A,,,0.25", length=5)),
+    (export("20240101", "20240101", "E1"), exported(block(), day("20240101", half_hours("1.25"), "20240107000000"))),
+]
+
+# The latest update decides, and not the file that came last. One update has one length, and all updates have one unit.
+AN_EARLIER_LENGTH = [
+    (FIRST, added(48, 0)),
+    (take_in(FIVE_MINUTES, day("20240101", QUARTERS_OF_ONE, "20240102010203"), END), refused("M1", line=3)),
+    (take_in(FIVE_MINUTES, day("20240101", QUARTERS_OF_ONE, "20240101120000"), END), added(288, 0)),
+    (tell_day("20240101"), TOLD_FIRST),
+    (tell_gaps("20240101", "20240101"), gaps()),
+    (tell_versions("20240101", 288), told_versions("20240101", 288, "20240101120000,A,,,0.25", length=5)),
+    (take_in(header(), block(5, unit="MWh"), day("20240101", QUARTERS_OF_ONE, "20240101120000"), END), refused("M2", line=3)),
+    (take_in(header(), block(5, unit="MWh"), day("20240101", QUARTERS_OF_ONE, "20240101120001"), END), refused("M2", line=3)),
+    (take_in(header(), block(15), day("20240101", 96 * ["0.5"], "20240101120000"), END), refused("M1", line=3)),
+    (export("20240101", "20240101", "E1"), EXPORTED_FIRST),
+    (take_in(EXPORTED_FIRST[2]), added(0, 48)),
+]
+
+# A file may state both lengths of a day, in either order.
+BOTH_LENGTHS = take_in(header(), block(), FIRST_DAY, block(5), day("20240101", QUARTERS_OF_ONE, "20240105000000"), END)
+IN_ONE_FILE = [
+    (BOTH_LENGTHS, added(336, 0)),
+    (take_in(header(), block(5), day("20240101", QUARTERS_OF_ONE, "20240105000000"), block(), FIRST_DAY, END), added(0, 336)),
+    (tell_day("20240101"), TOLD_IN_FIVE_MINUTES),
+    (take_in(header(), block(15), day("20240101", 96 * ["0.5"], "20240106000000"), block(5),
+             day("20240101", QUARTERS_OF_ONE, "20240106000000"), END), refused("M1", line=5)),
+    (tell_day("20240101"), TOLD_IN_FIVE_MINUTES),
+]
+
+# A job brings the first length of a day, or one more update of the current one.
+ONE_INTERVAL = told_day("20240109", {1: "S19,,,0", 2: "N,,,"}, "20240110000000", 5)
+A_JOB_OF_FIVE_MINUTES = [
+    (fill_in("J1", "20240109", 1, 1, 19, "S", "20240110000000", length=5), filled(1)),
+    (take_in(header(), block(), day("20240109", half_hours("1"), "20240109230000"), END), added(48, 0)),
+    (tell_day("20240109"), ONE_INTERVAL),
+    (tell_gaps("20240109", "20240109"), gaps("20240109,2,288")),
+    (fill_in("J2", "20240109", 2, 2, 19, "S", "20240109230000", length=5), refused("M1")),
+    (fill_in("J2", "20240109", 2, 2, 19, "S", "20240109220000", length=5), filled(1)),
+    (tell_day("20240109"), told_day("20240109", {1: "S19,,,0", 3: "N,,,"}, "20240110000000", 5)),
+    (tell_versions("20240109", 2), told_versions_of_lengths("20240109", 2, "20240109220000,S19,,,0,5", "20240109230000,A,,,1,30")),
+    (take_in(header(), block(), day("20240109", half_hours("1"), "20240111000000"), END), added(48, 0)),
+    (tell_day("20240109"), told_day("20240109", {1: "A,,,1"}, "20240111000000")),
+    (tell_gaps("20240109", "20240109"), gaps()),
+    (fill_in("J1", "20240109", 1, 1, 19, "S", "20240110000000", length=5), filled_before(1)),
+]
+
 # Two days of a file are new. The events of a day stand in the order of their texts.
 BOTH_DAYS = take_in(header(), block(), FIRST_DAY, LATER_DAY, event("S"), event("", "B7", "20240104000000"), END)
 TWO_DAYS = [
@@ -413,8 +483,9 @@ ONES = day("20240101", half_hours("1"), "20240102000000")
 CLAIMS = [
     (take_in(header(), block(), ONES, *5 * [event("O")], day("20240101", OTHER_THIRD, "20240102000000"), END),
      refused("M3", line=9, interval=3)),
-    (take_in(header(), block(), ONES, block(15), day("20240101", 96 * ["1"], "20240103000000"), END), refused("M1", line=5)),
-    (take_in(header(), block(), ONES, block(15, "MWh"), day("20240101", 96 * ["1"], "20240103000000"), END), refused("M1", line=5)),
+    (take_in(header(), block(), ONES, block(15), day("20240101", 96 * ["1"], "20240102000000"), END), refused("M1", line=5)),
+    (take_in(header(), block(), ONES, block(15, "MWh"), day("20240101", 96 * ["1"], "20240102000000"), END), refused("M1", line=5)),
+    (take_in(header(), block(), ONES, block(15, "MWh"), day("20240101", 96 * ["1"], "20240103000000"), END), refused("M2", line=5)),
     (take_in(header(), block(), ONES, block(unit="MWh"), day("20240101", OTHER_THIRD, "20240102000000"), END), refused("M2", line=5)),
     (take_in(header(), block(), ONES, day("20240101", OTHER_THIRD, "20240102000000"), block(15), day("20240101", 96 * ["1"], ""), END),
      refused("M3", line=4, interval=3)),
@@ -470,6 +541,10 @@ EXAMPLES = {
     "details of refused files": NO_DETAILS_LEFT,
     "marks": MARKS,
     "two updates": TWO_UPDATES,
+    "another length": ANOTHER_LENGTH,
+    "an earlier length": AN_EARLIER_LENGTH,
+    "two lengths in one file": IN_ONE_FILE,
+    "a job of 5 minutes": A_JOB_OF_FIVE_MINUTES,
     "two days": TWO_DAYS,
     "the first moment": FIRST_MOMENT,
     "substitution": SUBSTITUTED,

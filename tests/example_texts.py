@@ -149,9 +149,13 @@ def told_day(date, readings, update, length=30, events=()):
 
 
 def told_versions(date, interval, *versions, length=30):
-    """The versions of an interval of a length, each its update and its reading, with commas between."""
-    return told({"date": date, "interval": interval, "nmi": NMI, "suffix": SUFFIX,
-                 "versions": [[*text.split(","), str(length)] for text in versions]})
+    """The versions of an interval, all of one length, each its update and its reading, with commas between."""
+    return told_versions_of_lengths(date, interval, *(f"{text},{length}" for text in versions))
+
+
+def told_versions_of_lengths(date, interval, *versions):
+    """The versions of an interval, each its update, its reading and its length, with commas between."""
+    return told({"date": date, "interval": interval, "nmi": NMI, "suffix": SUFFIX, "versions": [text.split(",") for text in versions]})
 
 
 def told_periods(nmi, suffix, *periods):

@@ -10,7 +10,7 @@ DATES = ["20240101", "20240102", "20240229", "20250203"]
 MARKS = [("A", "", ""), ("N", "", ""), ("S14", "53", "meter changed"), ("E52", "", "")]
 VALUES = ["0", "1.5", "-2", "1000.000001", "0.1"]
 COUNTS = {"30": 48, "15": 96, "5": 288}
-UPDATE = "20240501000102"
+UPDATE, OLDER = "20240501000102", "20240401000102"
 
 # The moments of headers, in their order, and the details of days: configuration, register, data stream, meter and next read.
 MOMENTS = ["202401030000", "202401030001", "20240103000101"]
@@ -40,11 +40,11 @@ def stretches(marks):
             first = place + 1
 
 
-def stated_day(date, marks, values):
+def stated_day(date, marks, values, update=UPDATE):
     """A day in a file: a 400 for each interval."""
     runs = [f"400,{place},{place},{','.join(mark)}\n" for place, mark in enumerate(marks, 1)]
     values = ["" if mark[0] == "N" else value for mark, value in zip(marks, values)]
-    return day(date, values, "V", update=UPDATE) + "".join(runs)
+    return day(date, values, "V", update=update) + "".join(runs)
 
 
 def exported_day(date, marks, values):
@@ -57,8 +57,8 @@ def exported_day(date, marks, values):
 
 
 class Day:
-    """A made day: its length and unit, the mark and the value of each interval, and the moments and details of the 200s that state it. A day
-    without such is filled in by a job."""
+    """A made day: its length and unit, the mark and the value of each interval, and the moments and details of the 200s that state it. One in
+    ten of these is of another length under an older update. A day without such is filled in by a job."""
 
     def __init__(self, numbers, date):
         self.date, self.length, self.unit = date, numbers.choice(list(COUNTS)), numbers.choice(["kWh", "kVArh"])
@@ -67,14 +67,23 @@ class Day:
             self.marks = made_marks(numbers, count)
             self.values = [numbers.choice(VALUES) for _ in self.marks]
             self.stated = [(numbers.choice(MOMENTS), numbers.choice(DETAILS)) for _ in range(numbers.choice([1, 1, 2, 3]))]
+            self.texts = [(self.length, stated_day(date, self.marks, self.values))]
+            if numbers.randrange(10) == 0:
+                self.texts.insert(numbers.randrange(2), self.older_text(numbers))
         else:
             self.first = numbers.randint(1, count)
             self.marks = (self.first - 1) * [("N", "", "")] + (count + 1 - self.first) * [("S19", "", "")]
             self.values, self.stated = count * ["0"], []
 
-    def block(self, nmi, suffix, details):
+    def older_text(self, numbers):
+        """Another length, and what states the day with it."""
+        length = numbers.choice([other for other in COUNTS if other != self.length])
+        marks = made_marks(numbers, COUNTS[length])
+        return length, stated_day(self.date, marks, [numbers.choice(VALUES) for _ in marks], OLDER)
+
+    def block(self, nmi, suffix, details, length=None):
         configuration, register, datastream, meter, read = details
-        return block(nmi, configuration, register, suffix, datastream, meter, self.unit, self.length, read)
+        return block(nmi, configuration, register, suffix, datastream, meter, self.unit, length or self.length, read)
 
     def job(self, nmi, suffix):
         """The job that fills it in, from an interval on."""
@@ -95,10 +104,11 @@ class Meter:
             records, last = [], None
             for suffix, day, details in [(suffix, day, details) for suffix, days in self.streams.items() for day in days
                                          for of, details in day.stated if of == moment]:
-                head = day.block(self.nmi, suffix, details)
-                records += [head] if head != last else []
-                records.append(stated_day(day.date, day.marks, day.values))
-                last = head
+                for length, text in day.texts:
+                    head = day.block(self.nmi, suffix, details, length)
+                    records += [head] if head != last else []
+                    records.append(text)
+                    last = head
             yield file_of(*records, header=f"100,NEM12,{moment},MDP1,RETAILER\n")
 
     def jobs(self):

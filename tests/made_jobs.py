@@ -1,7 +1,7 @@
 """Made substitution jobs, and a slow plain program that says what each comes to, by "What a job fills in" of docs/MODEL.md.
 
 Each job has an NMI of its own, with made versions of the intervals that it may look at: an interval may have none, one of an earlier
-update, one of a later update, or both.
+update, one of a later update, or both. Of some days the two are of different lengths.
 """
 
 import datetime
@@ -33,8 +33,9 @@ class MadeJob:
         last_first = self.count + 1 - size
         self.first = made.choice([1, last_first, made.randint(1, last_first), made.randint(1, last_first)])
         self.last = self.first + size - 1
-        # Of each day that the job may look at the length and the unit, and of its intervals the versions: update, flag and value.
-        self.heads, self.versions = {}, {}
+        # Of each day that the job may look at the unit, and the length under each update. Of its intervals the versions: update, flag, value
+        # and length.
+        self.units, self.lengths, self.versions = {}, {}, {}
         for day in self.days():
             self.make_day(made, day)
 
@@ -44,27 +45,28 @@ class MadeJob:
         return [day for day in sorted({*earlier, self.day - 1, self.day, self.day + 1}) if 0 <= day <= LAST_DAY]
 
     def make_day(self, made, day):
-        """A day that isn't known, or of another length or unit, or mostly as the job's."""
+        """A day that isn't known, or of another length or unit, or of another length under some updates, or mostly as the job's."""
         form = made.randrange(16)
         if form == 0:
             return
-        length = (15 if self.length == 30 else 30) if form == 1 else self.length
-        count = 1440 // length
-        around = range(self.first - 1, self.last + 2)
-        intervals = [interval for interval in sorted({1, *around, self.count}) if 1 <= interval <= count]
-        for interval in intervals:
+        other = 15 if self.length == 30 else 30
+        older, newer = {1: (other, other), 3: (other, self.length), 4: (self.length, other)}.get(form, (self.length, self.length))
+        late = 1 if older == newer else 30
+        for interval in sorted({1, *range(self.first - 1, self.last + 2), self.count, 1440 // other}):
             is_target = day == self.day and self.first <= interval <= self.last
-            versions = [self.make_version(made, is_target, is_newer) for is_newer, often in [(False, 5), (True, 15)]
-                        if made.randrange(16) < often]
+            versions = [(*self.make_version(made, is_target, is_newer, late), length)
+                        for is_newer, often, length in [(False, 5, older), (True, 15, newer)]
+                        if made.randrange(16) < often and 1 <= interval <= 1440 // length]
             if versions:
-                self.heads[day] = (length, "MWh" if form == 2 else "kWh")
+                self.units[day] = "MWh" if form == 2 else "kWh"
+                self.lengths.setdefault(day, {}).update((update, length) for update, _, _, length in versions)
                 self.versions[day, interval] = versions
 
-    def make_version(self, made, is_target, is_newer):
-        """Intervals that are to be filled are seldom of quality A or F, and others mostly; few of them have a late update."""
+    def make_version(self, made, is_target, is_newer, late):
+        """Intervals that are to be filled are seldom of quality A or F, and others mostly; so many of 90 of them have a late update."""
         number = made.randrange(90 if is_target else 40)
         flag = "FANES"[number] if number < 5 else "S" if is_target else "A"
-        is_late = is_target and made.randrange(90) == 0
+        is_late = is_target and made.randrange(90) < late
         older, newer = (UPDATE, UPDATE + 1) if is_late else (100, UPDATE - 1)
         value = made.choice([GREATEST, -GREATEST] + 38 * [made.randint(-1_000_000, 1_000_000)])
         return newer if is_newer else older, flag, value
@@ -92,27 +94,39 @@ def made_holidays(jobs):
 def put_in_tables(database, jobs, holidays):
     """Puts all that is known into the tables of a store."""
     for job in jobs:
-        for day, (length, unit) in job.heads.items():
-            database.execute("INSERT INTO mds_head VALUES (?, 'E1', ?, ?, ?)", (job.nmi, day, length, unit))
+        database.executemany("INSERT INTO mds_head VALUES (?, 'E1', ?, 0, ?)", [(job.nmi, *row) for row in job.units.items()])
         versions = [(job.nmi, "E1", day, interval, update, flag if flag in "AN" else flag + "51", -1, "", value)
-                    for (day, interval), versions in job.versions.items() for update, flag, value in versions]
-        counts = {(job.nmi, "E1", day): 1440 // length for day, (length, _) in job.heads.items()}
+                    for (day, interval), versions in job.versions.items() for update, flag, value, _ in versions]
+        forms = [(job.nmi, "E1", day, update, length) for day, lengths in job.lengths.items() for update, length in lengths.items()]
+        counts = {tuple(key): 1440 // length for *key, length in forms}
         database.executemany("INSERT INTO mds_pack VALUES (?, ?, ?, ?, ?)", rows_of(versions, counts))
+        database.executemany("INSERT INTO mds_form VALUES (?, ?, ?, ?, ?)", forms)
     for day in holidays:
         database.execute("INSERT INTO mds_holiday VALUES (?)", (day,))
 
 
 # The slow program.
 
+def length_of(job, day):
+    """The current length of a day: that of its greatest update. One that isn't known has none."""
+    lengths = job.lengths.get(day)
+    return lengths and lengths[max(lengths)]
+
+
+def versions_of(job, day, interval):
+    """The versions of an interval that have the current length of its day."""
+    return [version for version in job.versions.get((day, interval), []) if version[3] == length_of(job, day)]
+
+
 def current(job, day, interval):
-    """The version of the greatest update of an interval."""
-    return max(job.versions.get((day, interval), []), default=None)
+    """The version of the greatest update of an interval, among those of the current length of its day."""
+    return max(versions_of(job, day, interval), default=None)
 
 
 def usable(job, day, interval):
     """The value of an interval whose current reading is of quality A or F, on a day of the job's length and unit."""
     version = current(job, day, interval)
-    if job.heads.get(day) != (job.length, "kWh") or version is None or version[1] not in "AF":
+    if (length_of(job, day), job.units.get(day)) != (job.length, "kWh") or version is None or version[1] not in "AF":
         return None
     return version[2]
 
@@ -169,10 +183,9 @@ def by_line(job):
 
 def outcome(job, holidays):
     """What a job comes to: the values that it fills in, or the refusal."""
-    length, unit = job.heads.get(job.day, (job.length, "kWh"))
-    if length != job.length:
+    if any(length not in (None, job.length) for length in (length_of(job, job.day), job.lengths.get(job.day, {}).get(UPDATE))):
         return refused("M1")
-    if unit != "kWh":
+    if job.units.get(job.day, "kWh") != "kWh":
         return refused("M2")
     intervals = range(job.first, job.last + 1)
     for interval in intervals:
@@ -180,7 +193,7 @@ def outcome(job, holidays):
         if version and version[1] in "AF":
             return refused("M5", interval=interval)
     for interval in intervals:
-        if any(update >= UPDATE for update, _, _ in job.versions.get((job.day, interval), [])):
+        if any(version[0] >= UPDATE for version in versions_of(job, job.day, interval)):
             return refused("M6", interval=interval)
     if job.method == 17 and len(intervals) * job.length > 120:
         return refused("M8")

@@ -5,7 +5,7 @@ import re
 
 import no_memory_rows as rows
 from checks import MDSTORE
-from disturbed import old_store_of_a_day, store_of
+from disturbed import old_store_of_a_day, steps_behind, store_of
 from no_memory_rows import NMI, NUMBER
 
 STORE = ["--store", "@store.db"]
@@ -23,10 +23,10 @@ OTHERS = [(["import", "-"], rows.older_file(NUMBER)), (["import", "-"], rows.oth
 class Command:
     """A command: its words, of which one that begins with @ is the name of a file, the bytes of its input and of files beside it, and the
     files of its store, if it opens one. It prints a text, which may be told elsewhere, and ends with a status. By other texts and statuses
-    it may leave other files. Where it does its work in two steps U1 may also leave a store that has what that of the files `between` has.
-    One that `asks_again` looks once more when all is done, so that U1 may leave that too."""
+    it may leave other files. Where it does its work in several steps U1 may also leave a store that has what one of those of the files
+    `between` has. One that `asks_again` looks once more when all is done, so that U1 may leave that too."""
 
-    def __init__(self, words, given="", found={}, text=None, status=0, beside={}, others={}, between=None, asks_again=False):
+    def __init__(self, words, given="", found={}, text=None, status=0, beside={}, others={}, between=(), asks_again=False):
         self.words, self.given, self.found, self.text, self.status = words, given.encode(), found, text, status
         self.beside, self.others, self.between, self.asks_again = beside, others, between, asks_again
 
@@ -71,8 +71,8 @@ def changes():
         "substitute": Command(["substitute", *STORE, "@input"], rows.job_of(NUMBER), days, "substituted 4\n"),
         "holidays": Command(["holidays", *STORE, "@input"], rows.holiday(NUMBER), days, "added 1 known 0\n"),
         "import of another meter": Command(["import", *STORE, "@input"], rows.other_meter(NUMBER), store_of(TWO_DAYS, DAY), "added 0 known 48\n"),
-        "migrate": Command(["migrate", *STORE], found=old_store_of_a_day(1), text="migrated\n", between=old_store_of_a_day(2)),
-        "migrate from schema 2": Command(["migrate", *STORE], found=old_store_of_a_day(2), text="migrated\n", asks_again=True),
+        "migrate": Command(["migrate", *STORE], found=old_store_of_a_day(1), text="migrated\n", between=steps_behind(old_store_of_a_day)),
+        "migrate from schema 3": Command(["migrate", *STORE], found=old_store_of_a_day(3), text="migrated\n", asks_again=True),
     }
 
 

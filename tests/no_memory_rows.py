@@ -19,7 +19,8 @@ def first_file(number):
 
 
 def older_file(number):
-    return first_file(number).replace(",1.5", ",9").replace("20240104010203", "20240103230000")
+    """The day of the first file in another length, under an update before."""
+    return file_of(block(nmi_of(number), length="15"), day("20240103", 96 * ["9"], update="20240103230000"))
 
 
 def other_meter(number):
@@ -53,7 +54,7 @@ A_DAY = "a day", posts("/v1/imports", first_file), told(added=48, known=0), told
 TWO_DAYS = "two days", posts("/v1/imports", two_days), told(added=96, known=0), told(added=0, known=96), []
 CHANGES = [
     A_DAY,
-    ("an older update of it", posts("/v1/imports", older_file), told(added=48, known=0), told(added=0, known=48), [A_DAY]),
+    ("an older update of it", posts("/v1/imports", older_file), told(added=96, known=0), told(added=0, known=96), [A_DAY]),
     ("another meter of it", posts("/v1/imports", other_meter), told(added=0, known=48), told(added=0, known=48), [A_DAY]),
     TWO_DAYS,
     ("a job", posts("/v1/substitutions", job_of), told(count=4, known=False), told(count=4, known=True), [TWO_DAYS]),
@@ -76,8 +77,8 @@ FIELDS = ["1141", "01", "11", "11", "METSER66", "E", "000021.2", "20031001103230
           "", "343.5", "kWh", "20040509", "20040202125010"]
 DAY = {"date": "20240103", "events": [], "length": 30, "nmi": NMI, "readings": 48 * [["A", "", "", "1.5"]], "suffix": "E1", "unit": "kWh",
        "update": "20240104010203"}
-VERSIONS = {"date": "20240103", "interval": 7, "nmi": NMI, "suffix": "E1", 
-            "versions": [["20240103230000", "A", "", "", "9", "30"], ["20240104010203", "A", "", "", "1.5", "30"]]}
+VERSIONS = {"date": "20240103", "interval": 7, "nmi": NMI, "suffix": "E1",
+            "versions": [["20240103230000", "A", "", "", "9", "15"], ["20240104010203", "A", "", "", "1.5", "30"]]}
 PERIODS = {"nmi": NMI, "periods": [{"fields": FIELDS, "notes": [["N", "", "A", ""]]}], "suffix": "11"}
 NO_NAMES = dict.fromkeys(["configuration", "datastream", "meter", "next", "register"], "")
 STREAMS = [{**NO_NAMES, "nmi": NMI, "suffix": "11"},

@@ -1,14 +1,15 @@
-"""The stores of schemas 1 and 2 that tests/migration takes to schema 3: what they were made of, and what is asked of them.
+"""The stores of schemas 1 to 3 that tests/migration takes to schema 4: what they were made of, and what is asked of them.
 
     tests/old_stores.py MDSTORE
 
-Run by itself, with a program that makes stores of one of these schemas, it writes the store as SQL text, tests/schema_1.sql or
-tests/schema_2.sql. What the program of schema 1 answers it writes as tests/schema_1.answers, and that of schema 2 has to answer the same.
-The programs were those of commits ec70073 and 286d010. Their stores depend on nothing but what comes to them, so another run writes the
-same bytes.
+Run by itself, with a program that makes stores of one of these schemas, it writes the store as SQL text, tests/schema_1.sql or one of its
+neighbours. What the program of schema 1 answers it writes as tests/schema_1.answers. That of schema 2 has to answer the same. So has that
+of schema 3, but that it tells lengths of versions, and exports the details that files stated of each day. The programs were those of commits
+ec70073, 286d010 and 6bf038a. Their stores depend on nothing but what comes to them, so another run writes the same bytes.
 """
 
 import contextlib
+import datetime
 import http.client
 import itertools
 import json
@@ -25,7 +26,7 @@ from checks import MDSTORE, check, finish, free_port, is_listening, mdstore
 from file_parts import HEADER, block, day, file_of, period
 
 # The schemas, and the commits whose programs made their stores.
-COMMITS = {1: "ec70073", 2: "286d010"}
+COMMITS = {1: "ec70073", 2: "286d010", 3: "6bf038a"}
 ANSWERS = "tests/schema_1.answers"
 
 
@@ -120,11 +121,17 @@ LATER_STEPS = [
     (["import", "-"], file_of(block(*LATER_WEEK), day("20240108", 48 * ["3"], update="20240110000000"))),
     (["substitute", "-"], job("J6", "20240126", 3, 4, 19, "F", "20240127000000", text="again")),
     (["import", "-"], file_of(block(*LATER_WEEK), day("20240107", 48 * ["3"], update="20240108093000"))),
-    (["import", "-"], file_of(block(*LATER_WEEK[:7], "15"), day("20240122", 96 * ["3"]))),
     (["substitute", "-"], job("J1", "20240108", 5, 8, 15, "F", "20240109000000", "77")),
+    # another length under the update of a job, under a later one, and under one before both
+    (["import", "-"], file_of(block(*LATER_WEEK[:7], "15"), day("20240122", 96 * ["3"], update="20240123000000"))),
+    (["import", "-"], file_of(block(*LATER_WEEK[:7], "15"), day("20240122", 96 * ["3"], update="20240125000000"))),
+    (["import", "-"], file_of(block(*LATER_WEEK[:7], "5"), day("20240122", 288 * ["4"], update="20240122000000"))),
+    (["substitute", "-"], job("J7", "20240122", 5, 8, 19, "F", "20240126000000")),
 ]
 
 LENGTHS = {("NEM1201011", "Q1"): 96, ("NEM1201012", "E1"): 288}
+# The day that has more intervals after the further steps than before.
+LATER_LENGTHS = {("NEM1201009", "E1", "20240122"): 288}
 STREAMS = [("NEM1201009", "E1"), ("NEM1201009", "B1"), ("NEM1201010", "E1"), *LENGTHS, ("NEM1201013", "E1")]
 WEEK = [f"2024010{k}" for k in range(1, 8)]
 DATES = {
@@ -202,15 +209,16 @@ def versions_told(service, nmi, suffix, date, count):
     return told
 
 
-def all_answers(store):
-    """All that is asked of a store, each with the answer."""
+def all_answers(store, lengths={}):
+    """All that is asked of a store, each with the answer. Days may have more intervals than others of their stream."""
     answers = {}
     with Service(store) as service:
         for target in questions():
             answers[target] = list(service.get(target))
         for stream in STREAMS:
             for date in DATES[stream]:
-                answers["versions " + " ".join([*stream, date])] = versions_told(service, *stream, date, LENGTHS.get(stream, 48))
+                count = lengths.get((*stream, date), LENGTHS.get(stream, 48))
+                answers["versions " + " ".join([*stream, date])] = versions_told(service, *stream, date, count)
     # A service that is killed leaves its log beside the store.
     mdstore("streams", "--store", store)
     return answers
@@ -271,6 +279,91 @@ def build(store, schema):
         database.executescript(file.read())
 
 
+def build_step(store):
+    """Takes the store of schema 2 in a file to schema 3, as a step of a migration does."""
+    with open(sql_of(3), encoding="utf-8") as file, opened(store) as database:
+        details = dated(all_rows(database))
+        database.execute(next(line for line in file if line.startswith("CREATE TABLE mds_daydetail ")))
+        database.executemany("INSERT INTO mds_daydetail VALUES (?, ?, ?, ?, ?, ?, ?, ?, ?)", details)
+        database.execute("DELETE FROM mds_detail")
+        database.execute("UPDATE mds_schema SET version = 3")
+
+
+# Details of meters: of a stream before schema 3, and of a day since. Numbers of days and moments are those of the tables.
+
+EPOCH = datetime.datetime(1970, 1, 1)
+NO_DETAILS = "", "", "", "", -1
+
+
+def day_number(date):
+    return (datetime.datetime.strptime(date, "%Y%m%d") - EPOCH).days
+
+
+def moment_number(text):
+    """The seconds of a moment, which may leave off its own."""
+    return int((datetime.datetime.strptime(text.ljust(14, "0"), "%Y%m%d%H%M%S") - EPOCH).total_seconds())
+
+
+def date_text(number):
+    """A date, or nothing where it is absent."""
+    return "" if number == -1 else f"{EPOCH + datetime.timedelta(number):%Y%m%d}"
+
+
+def dated(rows):
+    """The rows of mds_daydetail, in order, by those of a store of an earlier schema. Each known day has the greatest moment of its stream,
+    with the greatest details under it. A stream without details has none on its days."""
+    details = {}
+    for nmi, suffix, *detail in rows["mds_detail"]:
+        details[nmi, suffix] = max(tuple(detail), details.get((nmi, suffix), (-1,)))
+    return sorted((*head[:3], *details[head[:2]]) for head in rows["mds_head"] if head[:2] in details)
+
+
+def stated_details(steps):
+    """The rows of mds_daydetail that files state, in order: of each 300 the moment of the 100, and what the 200 says."""
+    rows = set()
+    for (name, *_), given in steps:
+        for kind, *fields in [line.split(",") for line in given.splitlines()] if name == "import" else []:
+            if kind == "100":
+                moment = moment_number(fields[1])
+            elif kind == "200":
+                nmi, configuration, register, suffix, datastream, meter, _, _, read = fields[:9]
+            elif kind == "300":
+                rows.add((nmi, suffix, day_number(fields[0]), moment, configuration, register, datastream, meter,
+                          day_number(read) if read else -1))
+    return sorted(rows)
+
+
+def current_details(rows, nmi, suffix, date):
+    """The current details of a day, by the rows of mds_daydetail: the greatest of the nearest day that isn't later and has some."""
+    found = [row[2:] for row in rows if row[:2] == (nmi, suffix) and row[2] <= day_number(date)]
+    return max(found)[2:] if found else NO_DETAILS
+
+
+def with_details(export, rows):
+    """An export where the details of days are others: a 200 stands where length, unit or details change from the day before."""
+    lines, last = [], None
+    for line in export.split("\r\n"):
+        kind, *fields = line.split(",")
+        if kind == "200":
+            nmi, _, _, suffix, _, _, unit, length, _ = fields
+            continue
+        if kind == "300":
+            configuration, register, datastream, meter, read = current_details(rows, nmi, suffix, fields[0])
+            block = ",".join(["200", nmi, configuration, register, suffix, datastream, meter, unit, length, date_text(read)])
+            lines += [block] if block != last else []
+            last = block
+        lines.append(line)
+    return "\r\n".join(lines)
+
+
+def answers_with(answers, rows):
+    """All answers where the details of days are others. These show in exports alone: the last day of each stream has the same ones."""
+    return {target: [answer[0], with_details(answer[1], rows)] if target.startswith("/v1/exports/") else answer
+            for target, answer in answers.items()}
+
+
+# Answers that are kept.
+
 def with_length(name, answer):
     """An answer as it is told now: a version has the length of its interval, which the programs of schemas 1 and 2 didn't tell."""
     kind, *parts = name.split()
@@ -280,11 +373,17 @@ def with_length(name, answer):
     return [[[*version, length] for version in versions] for versions in answer]
 
 
-def kept_answers():
-    """What the programs printed of the steps, what they printed of them again, and what they answered."""
+def kept_of_schema_1():
+    """What the program of schema 1 printed of the steps, what it printed of them again, and what it answered."""
     with open(ANSWERS, encoding="utf-8") as file:
         whole = json.load(file)
-    return whole["printed"], whole["again"], {name: with_length(name, answer) for name, answer in whole["answers"].items()}
+    return whole["printed"], whole["again"], whole["answers"]
+
+
+def kept_answers():
+    """The same, with the lengths of versions."""
+    printed, again, answers = kept_of_schema_1()
+    return printed, again, {name: with_length(name, answer) for name, answer in answers.items()}
 
 
 def write(folder):
@@ -310,8 +409,11 @@ def write(folder):
     print("\n".join([*printed, "again:", *again, "later:", *later]), file=sys.stderr)
     if schema == 1:
         write_answers({"printed": printed, "again": again, "answers": answers})
+    elif schema == 2:
+        check("what a store of schema 1 answers", (printed, again, answers), kept_of_schema_1())
     else:
-        check("what a store of schema 1 answers", (printed, again, answers), kept_answers())
+        *wanted, told = kept_answers()
+        check("what a store of schema 1 answers", (printed, again, answers), (*wanted, answers_with(told, stated_details(STEPS))))
 
 
 def write_answers(whole):

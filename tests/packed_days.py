@@ -32,9 +32,9 @@ def actual(value):
 
 def rows_of(versions, counts):
     """The rows of mds_pack, in order, of rows of mds_version: nmi, suffix, day, interval, moment, quality, code, text, value. How many
-    intervals each day has is told by nmi, suffix and day."""
+    intervals a day has under an update is told by nmi, suffix, day and moment."""
     days = {}
     for nmi, suffix, day, interval, moment, *reading in versions:
-        empty = counts[nmi, suffix, day] * [None]
-        days.setdefault((nmi, suffix, day, moment), empty)[interval - 1] = tuple(reading)
+        key = nmi, suffix, day, moment
+        days.setdefault(key, counts[key] * [None])[interval - 1] = tuple(reading)
     return [(*key, body_of(readings)) for key, readings in sorted(days.items())]

@@ -11,8 +11,10 @@ import service_rows as rows
 EPOCH = datetime.datetime(1970, 1, 1)
 HEADER_MOMENT = 1_704_240_000
 HEADER = "100,NEM12,202401030000,MDP1,RETAILER\n"
-COUNT = 48
 WEEK = 7
+
+# How many intervals a day has mostly, and now and then.
+COUNT, OTHER_COUNT = 48, 96
 
 # So many days a meter stands before it is exchanged.
 STAND = 4
@@ -68,11 +70,25 @@ def row_body(readings):
     return packed_days.body_of([it and (it[0], int(it[1] or "-1"), it[2], it[3]) for it in readings])
 
 
+def minutes(count):
+    """The length of intervals of which a day has so many."""
+    return 1440 // count
+
+
 class Day:
-    """The readings of a day by update, each a list of one for each interval, or of none. A day without an update isn't known."""
+    """The readings of a day by update, each a list of one for each interval, or of none. So each update has a length of its own. A day without
+    an update isn't known."""
 
     def __init__(self, updates=()):
         self.updates = dict(updates)
+
+    def count(self):
+        """How many intervals it has: those of its latest update. One that isn't known has as many as most."""
+        return len(self.updates[max(self.updates)]) if self.updates else COUNT
+
+    def greatest_count(self):
+        """How many intervals it has under the update that has most of them."""
+        return max(map(len, self.updates.values()))
 
     def with_readings(self, update, readings):
         """The same day with more readings of an update."""
@@ -80,10 +96,11 @@ class Day:
         return Day({**self.updates, update: [new or old for new, old in zip(readings, held)]})
 
     def current(self):
-        """The current update and reading of each interval, or none."""
-        found = [None] * COUNT
+        """The current update and reading of each interval, or none. Updates of another length don't count."""
+        found = [None] * self.count()
         for update, readings in sorted(self.updates.items()):
-            found = [(update, new) if new else old for old, new in zip(found, readings)]
+            if len(readings) == len(found):
+                found = [(update, new) if new else old for old, new in zip(found, readings)]
         return found
 
     def readings(self):
@@ -114,10 +131,10 @@ class Meter:
         nearest = max((it for it in self.stated if it <= number), default=None)
         return ("", "", "", "") if nearest is None else stated_details(nearest)
 
-    def block(self, details):
-        """The record that begins days with these details."""
+    def block(self, details, count):
+        """The record that begins days with these details and so many intervals."""
         configuration, register, datastream, meter = details
-        return f"200,{self.nmi},{configuration},{register},E1,{datastream},{meter},kWh,30,\n"
+        return f"200,{self.nmi},{configuration},{register},E1,{datastream},{meter},kWh,{minutes(count)},\n"
 
     def day(self, number):
         return self.days.get(number, UNKNOWN)
@@ -131,16 +148,16 @@ class Meter:
         day = self.day(number)
         if not day.updates:
             return rows.UNKNOWN_DAY
-        return rows.told(date=date_text(number), events=[], length=30, nmi=self.nmi, readings=[reading_told(it) for it in day.readings()],
-                         suffix="E1", unit="kWh", update=moment_text(day.update()))
+        return rows.told(date=date_text(number), events=[], length=minutes(day.count()), nmi=self.nmi,
+                         readings=[reading_told(it) for it in day.readings()], suffix="E1", unit="kWh", update=moment_text(day.update()))
 
     def told_versions(self, number, interval, day=None):
         """The answer of the versions of an interval of a day, as it is or as another one."""
         day = day or self.day(number)
-        if not day.updates:
+        if not day.updates or interval > day.greatest_count():
             return rows.UNKNOWN_DAY
-        versions = [[moment_text(update), *reading_told(readings[interval - 1]), "30"]
-                    for update, readings in sorted(day.updates.items()) if readings[interval - 1]]
+        versions = [[moment_text(update), *reading_told(readings[interval - 1]), str(minutes(len(readings)))]
+                    for update, readings in sorted(day.updates.items()) if interval <= len(readings) and readings[interval - 1]]
         return rows.told(date=date_text(number), interval=interval, nmi=self.nmi, suffix="E1", versions=versions)
 
     def told_gaps(self, first, last):
@@ -163,9 +180,9 @@ class Meter:
         text, held = HEADER, None
         for number in range(first, last + 1):
             if self.day(number).updates:
-                details = self.details(number)
-                text += ("" if details == held else self.block(details)) + self.exported(number)
-                held = details
+                block = self.block(self.details(number), self.day(number).count())
+                text += ("" if block == held else block) + self.exported(number)
+                held = block
         return rows.answer(rows.OK, (text + "900\n").replace("\n", "\r\n"))
 
     def exported(self, number):
@@ -174,7 +191,11 @@ class Meter:
         return day_records(number, day.update(), day.readings(), "0")
 
     def heads(self):
-        return {(self.nmi, "E1", number, 30, "kWh") for number in self.days}
+        return {(self.nmi, "E1", number, 0, "kWh") for number in self.days}
+
+    def forms(self):
+        return {(self.nmi, "E1", number, update, minutes(len(readings))) for number, day in self.days.items()
+                for update, readings in day.updates.items()}
 
     def detail_rows(self):
         return {(self.nmi, "E1", number, HEADER_MOMENT, *stated_details(number), -1) for number in self.stated}
@@ -185,16 +206,17 @@ class Meter:
 
 
 class Job:
-    """A substitution job of some intervals of a day of a meter, of method 19 (zero) or 14 (like day)."""
+    """A substitution job of some intervals of a day of a meter that has so many, of method 19 (zero) or 14 (like day)."""
 
-    def __init__(self, name, meter, number, first, last, method, flag, update):
+    def __init__(self, name, meter, number, day_count, first, last, method, flag, update):
         self.name, self.meter, self.number, self.first, self.last, self.method, self.flag = name, meter, number, first, last, method, flag
-        self.update = update
+        self.day_count, self.update = day_count, update
 
     def members(self):
         """What it says, in the order of the row that keeps it."""
-        return {"nmi": self.meter.nmi, "suffix": "E1", "date": date_text(self.number), "first": self.first, "last": self.last, "length": 30,
-                "unit": "kWh", "method": self.method, "flag": self.flag, "code": "76", "text": "", "update": moment_text(self.update)}
+        return {"nmi": self.meter.nmi, "suffix": "E1", "date": date_text(self.number), "first": self.first, "last": self.last,
+                "length": minutes(self.day_count), "unit": "kWh", "method": self.method, "flag": self.flag, "code": "76", "text": "",
+                "update": moment_text(self.update)}
 
     def row(self):
         """The row that keeps it."""
@@ -207,9 +229,11 @@ class Job:
         return range(self.first - 1, self.last)
 
     def refusal(self):
-        """Why it can't be done, or nothing: M5, M6 and M7 in this order."""
+        """Why it can't be done, or nothing: M1, M5, M6 and M7 in this order."""
         day = self.meter.day(self.number)
-        current = day.current()
+        current = day.current() if day.updates else [None] * self.day_count
+        if {len(current), len(day.updates.get(self.update, current))} != {self.day_count}:
+            return rows.refused(rows.CONFLICT, error="M1")
         for place in self.places():
             if current[place] and current[place][1][0][0] in "AF":
                 return rows.refused(rows.CONFLICT, error="M5", interval=place + 1)
@@ -224,13 +248,13 @@ class Job:
             return [0] * self.count()
         for weeks in [1, 2, 3, 4]:
             readings = self.meter.day(self.number - WEEK * weeks).readings()
-            if all(readings[place][0][0] in "AF" for place in self.places()):
+            if len(readings) == self.day_count and all(readings[place][0][0] in "AF" for place in self.places()):
                 return [readings[place][3] for place in self.places()]
         return None
 
     def readings(self):
         """The readings that it fills in, each at its place."""
-        found = [None] * COUNT
+        found = [None] * self.day_count
         for place, value in zip(self.places(), self.values()):
             found[place] = (f"{self.flag}{self.method}", "76", "", value)
         return found

@@ -10,7 +10,7 @@ import time
 import service_rows as rows
 from checks import check
 from service_rows import CONFLICT, UNPROCESSABLE, refused, told
-from soak_model import COUNT, HEADER, Job, Meter, Register, date_text, day_records, stated_details
+from soak_model import COUNT, HEADER, OTHER_COUNT, Job, Meter, Register, date_text, day_records, stated_details
 
 METERS, PERIODS, VALUES = 3, 20, [number * 12_500 for number in range(-20, 500)]
 FIRST_DAY, FIRST_HOLIDAY, HOLIDAYS = 19_000, 40_000, 3_000
@@ -185,22 +185,26 @@ class Peer:
         self.updates += 1
         return EARLIER + self.updates
 
-    def values(self):
-        return self.made.choices(VALUES, k=COUNT)
+    def count(self):
+        """How many intervals a day has under an update, one time in ten another number."""
+        return OTHER_COUNT if self.made.random() < 0.1 else COUNT
+
+    def actual(self, count):
+        """The readings of so many intervals, all of them actual."""
+        return [("A", "", "", value) for value in self.made.choices(VALUES, k=count)]
 
     def made_readings(self):
         """The readings of a day: most are actual, and some of them, or all, are null, estimated or substituted."""
-        form = self.made.random()
-        readings = [("A", "", "", value) for value in self.values()]
+        form, readings = self.made.random(), self.actual(self.count())
         if form < 0.65:
             return readings
-        null, first, last = [("N", "", "", None)] * COUNT, self.made.randint(1, 24), self.made.randint(25, 47)
+        null, first, last = [("N", "", "", None)] * len(readings), self.made.randint(1, 24), self.made.randint(25, 47)
         if form < 0.8:
             return null
         if form < 0.9:
             return readings[:first] + null[first:last] + readings[last:]
         mark = self.made.choice(["E52", "S14", "F14"]), "76", ""
-        return readings[:first] + [(*mark, value) for value in self.values()[first:]]
+        return readings[:first] + [(*mark, value) for *_, value in readings[first:]]
 
     def made_days(self, place, count):
         """So many new days of a meter, behind those that are known."""
@@ -209,12 +213,15 @@ class Peer:
 
     def file_of(self, meter, days):
         """A file of days, each behind the record of its meter."""
-        return HEADER + "".join(meter.block(stated_details(number)) + day_records(number, *day) for number, day in days.items()) + "900\n"
+        return HEADER + "".join(meter.block(stated_details(number), len(day[1])) + day_records(number, *day)
+                                for number, day in days.items()) + "900\n"
 
     def file_change(self, place, days, known=()):
         """The change that a file of days makes, some of which are known under their updates."""
         meter = self.meters[place]
         after = {number: meter.day(number).with_readings(*day) for number, day in days.items() if number not in known}
+        counts = {number: len(readings) for number, (_, readings) in days.items()}
+        count, count_known = sum(counts.values()), sum(counts[number] for number in known)
 
         def keep():
             meter.days.update(after)
@@ -222,10 +229,10 @@ class Peer:
             self.next_days[place] = max(self.next_days[place], 1 + max(days))
 
         def views():
-            return [view for number, day in after.items() for view in self.views_of(meter, number, day, [1, COUNT])]
+            return [view for number, day in after.items() for view in self.views_of(meter, number, day, [1, counts[number]])]
 
-        return Change(post("/v1/imports", self.file_of(meter, days)), told(added=COUNT * len(after), known=COUNT * len(known)),
-                      told(added=0, known=COUNT * len(days)), keep, views)
+        return Change(post("/v1/imports", self.file_of(meter, days)), told(added=count - count_known, known=count_known),
+                      told(added=0, known=count), keep, views)
 
     def views_of(self, meter, number, day, intervals):
         """The queries of the versions of some intervals, which show whether a day is as another one."""
@@ -272,22 +279,24 @@ class Peer:
         self.ask(change.request, change.again.decode(), pause=self.rest())
 
     def conflict(self):
-        """A file with a new day, and with another value of an interval under a known update."""
+        """A file with a new day, and with another value of an interval under a known update, or with another length."""
         place = self.any_meter()
         number, update = self.whole_update(place)
-        new_day = {self.next_days[place]: (self.later(), [("A", "", "", value) for value in self.values()])}
+        new_day = {self.next_days[place]: (self.later(), self.actual(COUNT))}
         if not update or any(it[0] != "A" for it in update[1]):
             return
-        interval = self.made.randint(1, COUNT)
-        other = list(update[1])
+        interval = self.made.randint(1, len(update[1]))
+        other, refusal = list(update[1]), {"error": "M3", "interval": interval, "line": 5}
         other[interval - 1] = ("A", "", "", other[interval - 1][3] + 1)
+        if self.made.random() < 0.3:
+            other, refusal = self.actual(COUNT + OTHER_COUNT - len(other)), {"error": "M1", "line": 5}
         file = self.file_of(self.meters[place], {**new_day, number: (update[0], other)})
-        self.ask(post("/v1/imports", file), refused(CONFLICT, error="M3", interval=interval, line=5))
+        self.ask(post("/v1/imports", file), refused(CONFLICT, **refusal))
 
     def faulty(self):
         """A file of a new day that has a fault: no end, another first line, a value that is none, or a line that is too long."""
         place = self.any_meter()
-        day = {self.next_days[place]: (self.later(), [("A", "", "", value) for value in self.values()])}
+        day = {self.next_days[place]: (self.later(), self.actual(COUNT))}
         file, field = self.file_of(self.meters[place], day), self.made.randint(3, COUNT + 2)
         lines = file.split("\n")
         parts = lines[2].split(",")
@@ -299,11 +308,14 @@ class Peer:
         self.ask(post("/v1/imports", text), refused(UNPROCESSABLE, **fault))
 
     def made_job(self):
-        place, first = self.any_meter(), self.made.randint(1, COUNT - 3)
+        """A job of the length that its day has, or seldom of any."""
+        place = self.any_meter()
         number = self.made.randint(FIRST_DAY, self.next_days[place] + 3)
+        count = self.count() if self.made.random() < 0.2 else self.meters[place].day(number).count()
+        first = self.made.randint(1, count - 3)
         update = STALE if self.made.random() < 0.1 else self.later()
         self.job_names += 1
-        return Job(f"J{self.number}-{self.job_names}", self.meters[place], number, first, first + self.made.randrange(4),
+        return Job(f"J{self.number}-{self.job_names}", self.meters[place], number, count, first, first + self.made.randrange(4),
                    self.made.choice([14, 19]), self.made.choice("SFE"), update)
 
     def job(self):
@@ -362,8 +374,10 @@ class Peer:
         self.ask(get(self.meters[place].target(number)), self.meters[place].told_day(number))
 
     def tell_versions(self):
-        meter, interval = self.meters[self.any_meter()], self.made.randint(1, COUNT)
+        """The versions of an interval of a known day, seldom of one that it has under no update."""
+        meter = self.meters[self.any_meter()]
         number = self.made.choice(sorted(meter.days))
+        interval = self.made.randint(1, meter.day(number).greatest_count() + 1)
         self.ask(get(meter.target(number, interval)), meter.told_versions(number, interval))
 
     def any_range(self, place):

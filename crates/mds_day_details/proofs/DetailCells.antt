@@ -14,23 +14,25 @@ use Rattle.mds_world.specs.Sets.{◌∈◌}
 use Rattle.mds_world.specs.declared.facts.Detail.{Detail}
 use Rattle.mds_world.proofs.Lists.{append_right, in_flat, in_map, map_in, member_append}
 use Rattle.mds_tables.specs.Cells.{day_cells, detail_cells}
+use Rattle.mds_tables.specs.Layouts.{Layout, world_with}
 use Rattle.mds_tables.specs.RowFacts.{detail_fact, details_from, int_at, natural_at, stream_in, text_at}
 use Rattle.mds_tables.specs.Tables.{daydetail_tree}
 use Rattle.mds_selects.proofs.Named.{Names, of_detail}
 use Rattle.mds_selects.proofs.QueryLemmas.{kept}
 use Rattle.mds_selects.proofs.TypedLemmas.{AreFor, AreTyped, alike, both}
 use Rattle.mds_selects.proofs.TypedRows.{HasKeyCells}
-use Rattle.mds_pack_rows.specs.DailyLayout.{daily_layout, day_details, world_3}
-use Rattle.mds_pack_rows.specs.DailyTables.{daily, daydetail_table, schema_3}
+use Rattle.mds_pack_rows.specs.DailyLayout.{daily_layout, daily_own, day_details, world_3}
+use Rattle.mds_pack_rows.specs.DailyTables.{daydetail_table}
+use Rattle.mds_pack_rows.specs.FormTables.{formed, schema_4}
 use Rattle.mds_pack_rows.specs.PackFacts.{facts_from, minutes_of, pack_facts, pack_versions, readings_in}
 use Rattle.mds_pack_rows.specs.PackTables.{pack_tree}
 
 -- ---- the types of the columns
 
-pub row_typed : (db : Trees) → IsSound schema_3 db → (row : Row) → Member row (db daydetail_tree) → AreTyped daydetail_table.columns row
+pub row_typed : (db : Trees) → IsSound schema_4 db → (row : Row) → Member row (db daydetail_tree) → AreTyped daydetail_table.columns row
 row_typed db sound row m =
     let fits = (sound.obeys.rules Datatype).1.1.1.1.1.1.1.1.1.0 in
-    let it = kept daily db sound row daydetail_table (db daydetail_tree) fits (sound.obeys.rules NotNull).1.1.1.1.1.1.1.1.1.0 m in
+    let it = kept formed db sound row daydetail_table (db daydetail_tree) fits (sound.obeys.rules NotNull).1.1.1.1.1.1.1.1.1.0 m in
     record { typed = (both _ _ it.0).0; present = it.1 }
 
 pub day_for : (s : Stream) (day : ℕ) → AreFor daydetail_table.columns (day_cells s day)
@@ -54,7 +56,7 @@ any_for : AreFor daydetail_table.columns (detail_cells any_detail)
 any_for =
     ((codes "nmi", refl), ((codes "suffix", refl), ((codes "day", refl), ((codes "moment", refl), ((codes "configuration", refl), ((codes "register", refl), ((codes "datastream", refl), ((codes "meter", refl), ((codes "next", refl), tt)))))))))
 
-pub row_cells : (db : Trees) → IsSound schema_3 db → (row : Row) → Member row (db daydetail_tree) → HasCells row
+pub row_cells : (db : Trees) → IsSound schema_4 db → (row : Row) → Member row (db daydetail_tree) → HasCells row
 row_cells db sound row m =
     let it = alike daydetail_table.columns (detail_cells any_detail) row any_for (row_typed db sound row m) in
     let rest = it.1.1.1 in
@@ -90,13 +92,20 @@ none_in r d m =
     let readings = unwrap_or (readings_in (text_at r 5)) [] in
     none_from (stream_in r) (natural_at r 3) (minutes_of (length readings)) (natural_at r 4) 1 readings d m
 
--- a World has the details that rows name
-pub named : (trees : Trees) (d : Detail) → (DetailIs d ∈ world_3 trees) ↔ Names detail_fact (trees daydetail_tree) (DetailIs d)
-named trees d = (
-  (λ h. elim (member_append (DetailIs d) (pack_versions trees) (day_details trees) ((of_detail daily_layout trees d).0 h)) [
-    | inl m ↦ let r = in_flat pack_facts (trees pack_tree) (DetailIs d) m in absurd (none_in r.0 d r.2)
-    | inr m ↦ let r = in_map detail_fact (trees daydetail_tree) (DetailIs d) m in (r.0, r.1, sym r.2)
-  ]),
-  (λ n. (of_detail daily_layout trees d).1 (append_right (DetailIs d) (pack_versions trees) (day_details trees)
-      (subst (λ f. Member f (map detail_fact (trees daydetail_tree))) n.2 (map_in detail_fact (trees daydetail_tree) n.0 n.1)))),
+-- a World has the details that rows name, where its layout says versions and details as schema 3 does
+pub named_in : (layout : Layout) → layout.own ≡ daily_own → (trees : Trees) (d : Detail)
+    → (DetailIs d ∈ world_with layout trees) ↔ Names detail_fact (trees daydetail_tree) (DetailIs d)
+named_in layout of trees d = (
+  (λ h. elim (member_append (DetailIs d) (pack_versions trees) (day_details trees)
+      (subst (λ own. Member (DetailIs d) (own trees)) of ((of_detail layout trees d).0 h))) [
+        | inl m ↦ let r = in_flat pack_facts (trees pack_tree) (DetailIs d) m in absurd (none_in r.0 d r.2)
+        | inr m ↦ let r = in_map detail_fact (trees daydetail_tree) (DetailIs d) m in (r.0, r.1, sym r.2)
+      ]),
+  (λ n. (of_detail layout trees d).1 (subst (λ own. Member (DetailIs d) (own trees)) (sym of)
+      (append_right (DetailIs d) (pack_versions trees) (day_details trees)
+      (subst (λ f. Member f (map detail_fact (trees daydetail_tree))) n.2 (map_in detail_fact (trees daydetail_tree) n.0 n.1))))),
 )
+
+-- that of schema 3 does, which a migration makes
+pub named : (trees : Trees) (d : Detail) → (DetailIs d ∈ world_3 trees) ↔ Names detail_fact (trees daydetail_tree) (DetailIs d)
+named = named_in daily_layout refl

@@ -1,4 +1,4 @@
-//! The details of days, asked of a store of schema 3.
+//! The details of days, asked of a store of schema 4.
 #![tactic(auto)]
 
 mod querying;

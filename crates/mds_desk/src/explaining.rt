@@ -211,15 +211,18 @@ What to do: give quality N to the interval without a value, or put its value in.
 
 ## M1: The day has another interval length
 
-The store knows the day of this stream with another length of intervals. The file or the job is
-refused whole. The same day twice in one file, with two lengths, is refused as well.
+An update of a day has one length of intervals, and the store knows another one under this update.
+The file or the job is refused whole. The same day and update twice in one file, with two lengths,
+is refused as well. A job is refused too where its length isn't the day's current one.
 
-Usual causes: a meter that was changed from 30 to 5 minutes; a job with the wrong `length`.
+Usual causes: a file that was made again in 5 minutes under the old update; a job with the wrong
+`length`.
 
-Example: a file states 20240101 of NEM1201009 E1 with 48 values. Another one states it with 288
-values, in its line 3. `import` prints `M1 line 3`.
+Example: a file states 20240101 of NEM1201009 E1 with 48 values, updated 20240102010203. Another
+one states it with 288 values and the same update, in its line 3. `import` prints `M1 line 3`.
 
-What to do: send the day in the length that is known. A store keeps one length for each day.
+What to do: send the day in its new length under an update of its own. The latest update decides
+which length is current, and `mdstore day` shows it. Write the job for that length.
 
 ## M2: The day has another unit
 
@@ -267,7 +270,8 @@ What to do: leave these intervals out of the job, or send a corrected file with 
 
 ## M6: An interval has a version that isn't older
 
-A job has to be later than all versions of its intervals. The first one that isn't is named.
+A job has to be later than all versions of its intervals in the day's current length. The first
+one that isn't is named.
 
 Usual causes: two jobs of one day with the same `update`; a clock that is behind.
 
@@ -312,7 +316,8 @@ What to do: fill the whole gap by one job, import the other day, or take another
 
 ## M10: The day isn't known, or has no such interval
 
-The store has nothing of this day of the stream, or the interval's number is beyond the day.
+The store has nothing of this day of the stream, or the interval's number is beyond the day in each
+of its lengths.
 
 Usual causes: a wrong date or suffix; a file that wasn't imported; interval 49 of 30 minutes.
 
@@ -420,8 +425,8 @@ new store by `mdstore init`. Take a damaged one back from a backup: `docs/USE.md
 
 ## U2: The store is of an earlier schema
 
-The file is a store of schema 1 or 2, and this version of mdstore keeps stores of schema 3. Nothing
-was changed in it. `mdstore --version` tells the schema.
+The file is a store of schema 1, 2 or 3, and this version of mdstore keeps stores of schema 4.
+Nothing was changed in it. `mdstore --version` tells the schema.
 
 Usual causes: a store that an earlier version of mdstore made; such a store from a backup.
 

@@ -5,13 +5,12 @@ use Rattle.mds_quantity.specs.declared.unit.Unit.{Unit as MeasureUnit}
 use Rattle.mds_names.specs.declared.stream.Stream.{Stream}
 use Rattle.mds_marks.specs.Quality.{actual, final, null}
 use Rattle.mds_marks.specs.Reading.{ReadingValue}
-use Rattle.mds_world.specs.Current.{HasNoVersion, IsDayReading, IsFormOf, IsReading, no_reading}
-use Rattle.mds_world.specs.declared.facts.Head.{Head}
-use Rattle.mds_world.specs.Facts.{Fact, JobContent, head_at, key_at}
+use Rattle.mds_world.specs.Current.{HasNoVersion, IsDayReading, IsFormOf, no_reading}
+use Rattle.mds_world.specs.Facts.{Fact, JobContent, key_at}
 use Rattle.mds_world.specs.Facts.Fact.{HeadIs, VersionIs}
 use Rattle.mds_world.specs.Sets.{◌∈◌}
-use Rattle.mds_world.specs.World.{IsCurrent, IsLawful, IsOn, World}
-use Rattle.mds_world.proofs.Worlds.{one_reading}
+use Rattle.mds_world.specs.World.{IsCurrent, IsLawful, IsOn, World, head_over}
+use Rattle.mds_world.proofs.Forms.{form_or_none, one_day_reading, one_size}
 use Rattle.mds_keeper.specs.Books.{BookValue, book_world}
 use Rattle.mds_fill.specs.Fills.{Finds, IsActualOrFinal, IsBookOf, IsProtected, IsStale, IsUsable}
 
@@ -24,88 +23,78 @@ back : (P : Stream → ℕ → Type 0) (w : World) (s : Stream) (d : ℕ) (book 
     → P s d → P book.stream book.day
 back P w s d book is h = subst (λ n. P book.stream n) (sym is.of_day) (subst (λ t. P t d) (sym is.of_stream) h)
 
--- a form and a version of the World's day are the book's
+-- Worlds that have the same facts of a day have the same form of it, and show the same readings
+module _ (w v : World) (s : Stream) (d : ℕ) (there : (f : Fact) → IsOn s d f → f ∈ w → f ∈ v)
+    (here : (f : Fact) → IsOn s d f → f ∈ v → f ∈ w) where
+  form_there : (m : ℕ) (unit : MeasureUnit) → IsFormOf w s d m unit → IsFormOf v s d m unit
+  form_there m unit (head, is, length, same) = (
+    head,
+    record {
+      held = (there (HeadIs head) (is.held.1, is.held.2) is.held.0, is.held.1, is.held.2);
+      greatest = λ other h. is.greatest other (here (HeadIs other) (h.1, h.2) h.0, h.1, h.2);
+    },
+    length,
+    same,
+  )
+
+  shows : (i : ℕ) (r : ReadingValue) → IsDayReading w s d i r → IsDayReading v s d i r
+  shows i r (inl (m, unit, form, inl (u, current))) = inl (
+    m,
+    unit,
+    form_there m unit form,
+    inl (
+      u,
+      record {
+        held = there _ (refl, refl) current.held;
+        greatest = λ other of_other h. current.greatest other of_other (here _ (refl, refl) h);
+      },
+    ),
+  )
+  shows i r (inl (m, unit, form, inr (none, bare))) =
+      inl (m, unit, form_there m unit form, inr ((λ u q h. none u q (here _ (refl, refl) h)), bare))
+  shows i r (inr (unknown, bare)) =
+      inr ((λ k. unknown (k.0, here (HeadIs k.0) (k.2, k.3) k.1, k.2, k.3)), bare)
+
+-- a form of the book's day is one of the World's, and the other way
+form_in : (w : World) (s : Stream) (d : ℕ) (book : BookValue) (m : ℕ) (unit : MeasureUnit) → IsBookOf w s d book
+    → IsFormOf (book_world book) book.stream book.day m unit → IsFormOf w s d m unit
+form_in w s d book m unit is form = at (λ t n. IsFormOf w t n m unit) w s d book is
+    (form_there (book_world book) w book.stream book.day (λ f on h. is.facts.only f h) is.facts.whole m unit form)
+
 form_out : (w : World) (s : Stream) (d : ℕ) (book : BookValue) (m : ℕ) (unit : MeasureUnit) → IsBookOf w s d book
     → IsFormOf w s d m unit → IsFormOf (book_world book) book.stream book.day m unit
 form_out w s d book m unit is form =
-    is.facts.whole _ (refl, refl) (back (λ t n. IsFormOf w t n m unit) w s d book is form)
+    form_there w (book_world book) book.stream book.day is.facts.whole (λ f on h. is.facts.only f h) m unit
+    (back (λ t n. IsFormOf w t n m unit) w s d book is form)
 
+-- a version of the World's day is one of the book's
 version_out : (w : World) (s : Stream) (d : ℕ) (book : BookValue) (m i u : ℕ) (r : ReadingValue) → IsBookOf w s d book
     → VersionIs (key_at s d m i u) r ∈ w → VersionIs (key_at book.stream book.day m i u) r ∈ book_world book
 version_out w s d book m i u r is held =
     is.facts.whole _ (refl, refl) (back (λ t n. VersionIs (key_at t n m i u) r ∈ w) w s d book is held)
 
--- Worlds that have the same facts of a day show the same of it
-shows : (w v : World) (s : Stream) (d i : ℕ) (r : ReadingValue) → ((f : Fact) → IsOn s d f → f ∈ w → f ∈ v)
-    → ((f : Fact) → IsOn s d f → f ∈ v → f ∈ w) → IsDayReading w s d i r → IsDayReading v s d i r
-shows w v s d i r there here (inl (m, unit, form, inl (u, current))) = inl (
-  m,
-  unit,
-  there _ (refl, refl) form,
-  inl (
-    u,
-    record {
-      held = there _ (refl, refl) current.held;
-      greatest = λ other of_other h. current.greatest other of_other (here _ (refl, refl) h);
-    },
-  ),
-)
-shows w v s d i r there here (inl (m, unit, form, inr (none, bare))) =
-    inl (m, unit, there _ (refl, refl) form, inr ((λ u q h. none u q (here _ (refl, refl) h)), bare))
-shows w v s d i r there here (inr (unknown, bare)) =
-    inr ((λ k. unknown (k.0, here (HeadIs k.0) (k.2, k.3) k.1, k.2, k.3)), bare)
-
 -- what the book shows of an interval the World shows, and the other way
 shown_in : (w : World) (s : Stream) (d : ℕ) (book : BookValue) (i : ℕ) (r : ReadingValue) → IsBookOf w s d book
     → IsDayReading (book_world book) book.stream book.day i r → IsDayReading w s d i r
 shown_in w s d book i r is shown = at (λ t n. IsDayReading w t n i r) w s d book is
-    (shows (book_world book) w book.stream book.day i r (λ f on h. is.facts.only f h) is.facts.whole shown)
+    (shows (book_world book) w book.stream book.day (λ f on h. is.facts.only f h) is.facts.whole i r shown)
 
 shown_out : (w : World) (s : Stream) (d : ℕ) (book : BookValue) (i : ℕ) (r : ReadingValue) → IsBookOf w s d book
     → IsDayReading w s d i r → IsDayReading (book_world book) book.stream book.day i r
 shown_out w s d book i r is shown =
-    shows w (book_world book) book.stream book.day i r is.facts.whole (λ f on h. is.facts.only f h)
+    shows w (book_world book) book.stream book.day is.facts.whole (λ f on h. is.facts.only f h) i r
     (back (λ t n. IsDayReading w t n i r) w s d book is shown)
-
--- an interval of a length has one reading
-one_read : (w : World) (s : Stream) (d m i : ℕ) (a b : ReadingValue) → IsLawful w → IsReading w s d m i a
-    → IsReading w s d m i b → a ≡ b
-one_read w s d m i a b lawful (inl x) (inl y) = (one_reading w s d m i x.0 y.0 a b lawful.agrees x.1 y.1).1
-one_read w s d m i a b lawful (inl x) (inr y) = absurd (y.0 x.0 a x.1.held)
-one_read w s d m i a b lawful (inr x) (inl y) = absurd (x.0 y.0 b y.1.held)
-one_read w s d m i a b lawful (inr x) (inr y) = x.1 ∙ sym y.1
-
--- a day has one length and one unit
-pub one_form : (w : World) (s : Stream) (d m n : ℕ) (x y : MeasureUnit) → IsLawful w → IsFormOf w s d m x
-    → IsFormOf w s d n y → (m ≡ n) × (x ≡ y)
-one_form w s d m n x y lawful here other =
-    let one = lawful.agrees.one_head (head_at s d m x) (head_at s d n y) here other refl refl in
-    (ap (λ (h : Head). h.length) one, ap (λ (h : Head). h.unit) one)
-
-one_length : (w : World) (s : Stream) (d m n : ℕ) (x y : MeasureUnit) → IsLawful w → IsFormOf w s d m x
-    → IsFormOf w s d n y → m ≡ n
-one_length w s d m n x y lawful here other = (one_form w s d m n x y lawful here other).0
 
 -- an equal form is one of the book too
 pub same_form : (book : BookValue) (m n : ℕ) (x y : MeasureUnit) → m ≡ n → x ≡ y
     → IsFormOf (book_world book) book.stream book.day m x → IsFormOf (book_world book) book.stream book.day n y
-same_form book m n x y e f = subst (λ h. HeadIs h ∈ book_world book) (λ i. head_at book.stream book.day (e i) (f i))
-
--- a day shows one reading of an interval
-one_shown : (w : World) (s : Stream) (d i : ℕ) (a b : ReadingValue) → IsLawful w → IsDayReading w s d i a
-    → IsDayReading w s d i b → a ≡ b
-one_shown w s d i a b lawful (inl x) (inl y) =
-    let same : y.0 ≡ x.0 = one_length w s d y.0 x.0 y.1 x.1 lawful y.2 x.2 in
-    one_read w s d x.0 i a b lawful x.3 (subst (λ n. IsReading w s d n i b) same y.3)
-one_shown w s d i a b lawful (inl x) (inr y) = absurd (y.0 (head_at s d x.0 x.1, x.2, refl, refl))
-one_shown w s d i a b lawful (inr x) (inl y) = absurd (x.0 (head_at s d y.0 y.1, y.2, refl, refl))
-one_shown w s d i a b lawful (inr x) (inr y) = x.1 ∙ sym y.1
+same_form book m n x y e f (head, is, length, unit) = (head, is, length ∙ e, unit ∙ f)
 
 -- the reading that the book shows is that of the World
 same_shown : (w : World) (s : Stream) (d : ℕ) (book : BookValue) (i : ℕ) (a b : ReadingValue) → IsBookOf w s d book
     → IsLawful (book_world book) → IsDayReading (book_world book) book.stream book.day i a → IsDayReading w s d i b → a ≡ b
-same_shown w s d book i a b is lawful here other =
-    one_shown (book_world book) book.stream book.day i a b lawful here (shown_out w s d book i b is other)
+same_shown w s d book i a b is lawful shown other =
+    one_day_reading (book_world book) book.stream book.day i a b lawful.agrees shown (shown_out w s d book i b is other)
 
 -- bare N is neither A nor F
 pub bare_is_neither : IsActualOrFinal no_reading.mark.quality.flag → ⊥
@@ -132,27 +121,37 @@ pub stale_by : (w : World) (s : Stream) (d : ℕ) (book : BookValue) (i than m :
     → MatchBool b (IsStale w s d i than) (IsStale w s d i than → ⊥)
 stale_by w s d book i than m unit u r true is lawful form current late = record {
   minutes = m;
-  of_day = λ length x other. one_length (book_world book) book.stream book.day length m x unit lawful (form_out w s d book length x is other) form;
+  of_day = λ length x other.
+      (one_size (book_world book) book.stream book.day length m x unit lawful.agrees (form_out w s d book length x is other) form).0;
   update = u;
   reading = r;
   held = at (λ t n. VersionIs (key_at t n m i u) r ∈ w) w s d book is (is.facts.only _ current.held);
   late = late;
 }
 stale_by w s d book i than m unit u r false is lawful form current late = λ stale.
-    let same : stale.minutes ≡ m = sym (stale.of_day m unit (at (λ t n. IsFormOf w t n m unit) w s d book is (is.facts.only _ form))) in
+    let same : stale.minutes ≡ m = sym (stale.of_day m unit (form_in w s d book m unit is form)) in
     let held = version_out w s d book stale.minutes i stale.update stale.reading is stale.held in
     let up : stale.update ≤ u = current.greatest stale.update stale.reading
     (subst (λ n. VersionIs (key_at book.stream book.day n i stale.update) stale.reading ∈ book_world book) same held) in
     late (omega (arith, up, stale.late))
 
--- and one without a version of the day's length isn't
+-- and one without a version of the day's current length isn't
 pub never_stale : (w : World) (s : Stream) (d : ℕ) (book : BookValue) (i than : ℕ) → IsBookOf w s d book → IsLawful (book_world book)
     → ((minutes : ℕ) (unit : MeasureUnit) → IsFormOf (book_world book) book.stream book.day minutes unit
     → HasNoVersion (book_world book) book.stream book.day minutes i) → IsStale w s d i than → ⊥
 never_stale w s d book i than is lawful none stale =
+    let key = key_at book.stream book.day stale.minutes i stale.update in
     let held = version_out w s d book stale.minutes i stale.update stale.reading is stale.held in
-    let head = lawful.closed.headed _ _ held in
-    none stale.minutes head.0 head.1 stale.update stale.reading held
+    elim (form_or_none (book_world book) book.stream book.day) [
+      | inl (head, of_day) ↦
+          let form : IsFormOf (book_world book) book.stream book.day head.length head.unit = (head, of_day, refl, refl) in
+          let same : stale.minutes ≡ head.length = sym (stale.of_day head.length head.unit (form_in w s d book head.length head.unit is form)) in
+          none head.length head.unit form stale.update stale.reading
+          (subst (λ n. VersionIs (key_at book.stream book.day n i stale.update) stale.reading ∈ book_world book) same held)
+      | inr unknown ↦
+          let head = lawful.closed.headed key stale.reading held in
+          unknown (head_over key head.0, head.1, refl, refl)
+    ]
 
 -- a day of another length or unit has no usable value
 pub other_form : (w : World) (job : JobContent) (d : ℕ) (book : BookValue) (i : ℕ) → IsBookOf w job.stream d book
@@ -177,7 +176,7 @@ pub usable_is : (w : World) (job : JobContent) (d : ℕ) (book : BookValue) (i :
     → IsDayReading (book_world book) book.stream book.day i r
     → IsActualOrFinal r.mark.quality.flag → value ≡ r.value → Finds (IsUsable w job d i) value
 usable_is w job d book i r (Some value) is lawful form shown flag e = record {
-  known = at (λ t n. IsFormOf w t n job.length job.unit) w job.stream d book is (is.facts.only _ form);
+  known = form_in w job.stream d book job.length job.unit is form;
   reading = r;
   shown = shown_in w job.stream d book i r is shown;
   flag = flag;

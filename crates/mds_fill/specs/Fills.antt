@@ -31,7 +31,7 @@ target_count job = job.last + 1 - job.first
 abbrev pub IsActualOrFinal : ℕ → Type 0
 IsActualOrFinal flag = (flag ≡ actual) ⊎ (flag ≡ final)
 
--- A value that may stand in: that of a current reading A or F of a day with the job's length and unit.
+-- A value that may stand in: that of a current reading A or F of a day whose current length and unit are the job's.
 pub record IsUsable (w : World) (job : JobContent) (day interval : ℕ) (value : ℤ) : Type 0 where
   pub known : IsFormOf w job.stream day job.length job.unit
   pub reading : ReadingValue
@@ -45,7 +45,8 @@ pub record IsProtected (w : World) (stream : Stream) (day interval : ℕ) : Type
   pub shown : IsDayReading w stream day interval reading
   pub flag : IsActualOrFinal reading.mark.quality.flag
 
--- A version of the interval, of the day's length where it has one, current or not, has an update that isn't before this one.
+-- A version of the interval, of the day's current length where it has one, has an update that isn't before this one. The version
+-- needn't be current.
 pub record IsStale (w : World) (stream : Stream) (day interval than : ℕ) : Type 0 where
   pub minutes : ℕ
   pub of_day : (length : ℕ) (unit : MeasureUnit) → IsFormOf w stream day length unit → length ≡ minutes

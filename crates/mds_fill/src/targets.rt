@@ -76,18 +76,18 @@ fn first_stale(book: &DayBook, job: &Job) -> Option<u16>
     None
 }
 
-/// Whether an interval has a version, of its day's length, whose update isn't before this one.
+/// Whether an interval has a version, of its day's current length, whose update isn't before this one.
 fn is_stale(book: &DayBook, interval: u16, than: Moment) -> bool
     ensures { (w : World) (stream : Stream) (day : ℕ) → IsBookOf w stream day book.now
         → MatchBool result (IsStale w stream day interval than) (IsStale w stream day interval than → ⊥) }
 {
-    // For the proof: a book's day has one length.
+    // For the proof: a book's day has one current length.
     book.is_lawful();
-    // The current version is that of the greatest update, so no other needs to be looked at.
-    match book.current(interval) {
-        Some(version) => version.update.seconds() >= than.seconds(),
-        None => false,
-    }
+    // The current version has the greatest update of that length. Versions of other lengths don't count.
+    let Some(version) = book.current(interval) else {
+        return false;
+    };
+    version.update.seconds() >= than.seconds()
 }
 
 /// Whether more than two hours are to be interpolated.

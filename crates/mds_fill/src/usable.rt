@@ -59,11 +59,11 @@ pub(crate) fn has_all(book: &DayBook, job: &Job) -> bool
     true
 }
 
-/// Whether a day is known with a job's length and unit.
+/// Whether a day is known, and its current length and its unit are those of a job.
 fn has_form_of(book: &DayBook, job: &Job) -> bool
     ensures { IsTrue result ↔ IsFormOf (book_world book.now) book.now.stream book.now.day job.now.length job.now.unit }
 {
-    // For the proof: a book's day has one form.
+    // For the proof: a book's day has one current form.
     book.is_lawful();
     match book.form() {
         Some(form) => form.0.minutes() == job.length.minutes() && form.1 == job.unit,

@@ -24,14 +24,12 @@ use Rattle.sqlite_value.specs.Order.{Row}
 use Rattle.mds_quantity.specs.Unit.{unit_of, unit_text}
 use Rattle.mds_terms.specs.Event.{EventValue}
 use Rattle.mds_world.specs.Facts.{Fact}
-use Rattle.mds_world.specs.World.{union}
-use Rattle.mds_world.specs.Facts.Fact.{EventIs, HeadIs, HolidayIs}
+use Rattle.mds_world.specs.Facts.Fact.{EventIs, HolidayIs}
 use Rattle.mds_world.specs.declared.facts.Head.{Head}
-use Rattle.mds_keeper.specs.Content.{details_of, versions_of}
 use Rattle.mds_keeper.specs.declared.additions.Additions.{Additions}
 use Rattle.mds_tables.proofs.InsertLemmas.{cast_int, simple}
 use Rattle.mds_tables.proofs.OpenTexts.{event_terms, head_terms, holiday_terms, insert_event, insert_event_is, insert_event_plain, insert_head, insert_head_is, insert_head_plain, insert_holiday, insert_holiday_is, insert_holiday_plain, insert_job, insert_job_is, insert_job_plain, insert_period, insert_period_is, insert_period_plain, job_terms, period_terms}
-use Rattle.mds_tables.specs.Cells.{event_cells, head_cells, holiday_cells, optional_cell}
+use Rattle.mds_tables.specs.Cells.{event_cells, holiday_cells, optional_cell, unit_cells}
 use Rattle.mds_tables.specs.RowFacts.{event_fact, head_fact, holiday_fact, job_fact, period_fact}
 use Rattle.mds_tables.specs.Layouts.{Layout}
 use Rattle.mds_tables.specs.Stores.{AddsOf, AreRowsOf, Gained, Gains}
@@ -46,7 +44,7 @@ use Rattle.mds_tables.proofs.CauseLemmas.{IsWhole, fails_since, fails_until, sto
 use Rattle.sqlite.specs.Rows.{Outcome}
 use Rattle.sqlite.specs.declared.error.Error.{Error}
 use Rattle.sqlite_tied.specs.Compute.{everything}
-use Rattle.mds_tables.proofs.FactLemmas.{event_back, head_back}
+use Rattle.mds_tables.proofs.FactLemmas.{event_back, unit_back}
 use Rattle.mds_inserts.proofs.ManyLemmas.{AddsAll, AreFit, adds_all, sources}
 use Rattle.mds_inserts.proofs.RowLemmas.{gains_kept, gains_more, job_rows_are, kept_gains, of, own_facts, period_rows_are, say_more, world_after}
 
@@ -121,11 +119,11 @@ module _ (more : More) (table : Table) (at : ℕ) (text : List ℕ) (terms : Lis
         ]
 
 pub puts_head : (more : More) (old new : State) (h : Head) (count : ℕ) → unit_of (unit_text h.unit) ≡ Some h.unit
-    → (HasCleanDisk new → ExecutesInside 0 insert_head (head_cells h) old new (Ok count))
+    → (HasCleanDisk new → ExecutesInside 0 insert_head (unit_cells h) old new (Ok count))
     → PutsThere (schema_with more) head_part old new (h ∷ [])
 puts_head more old new h count reads runs =
-    puts_there more head_table 1 insert_head head_terms 6 refl (insert_head_is more) (insert_head_plain more) head_cells HeadIs head_fact
-    old new (h ∷ []) (head_cells h) count refl (rw (cast_int, cast_int), tt) ((λ id. head_back id h reads), tt) runs
+    puts_there more head_table 1 insert_head head_terms 6 refl (insert_head_is more) (insert_head_plain more) unit_cells head_part.fact head_fact
+    old new (h ∷ []) (unit_cells h) count refl (rw (cast_int, cast_int), tt) ((λ id. unit_back id h reads), tt) runs
 
 pub puts_event : (more : More) (old new : State) (e : EventValue) (count : ℕ)
     → (HasCleanDisk new → ExecutesInside 0 insert_event (event_cells e) old new (Ok count))
@@ -182,16 +180,16 @@ unfolding understood everything
 job_whole more = (omega arith, refl, refl)
 
 pub takes_head : (more : More) (old new : State) (h : Head) (count : ℕ) → old.now.schema ≡ schema_with more
-    → ExecutesInside 0 insert_head (head_cells h) old new (Ok count) → TakesAll old.step_limit (singly head_part (h ∷ [])) old.now new.now
+    → ExecutesInside 0 insert_head (unit_cells h) old new (Ok count) → TakesAll old.step_limit (singly head_part (h ∷ [])) old.now new.now
 takes_head more old new h count has ran =
-    takes_all more head_table 1 insert_head head_terms 6 refl (insert_head_is more) (insert_head_plain more) head_cells HeadIs head_fact
-    old new (h ∷ []) (head_cells h) refl refl count has ran
+    takes_all more head_table 1 insert_head head_terms 6 refl (insert_head_is more) (insert_head_plain more) unit_cells head_part.fact head_fact
+    old new (h ∷ []) (unit_cells h) refl refl count has ran
 
 pub fails_head : (more : More) (old new : State) (h : Head) (e : Error) → old.now.schema ≡ schema_with more
-    → ExecutesInside 0 insert_head (head_cells h) old new (Err e) → FailsToPut old new (singly head_part (h ∷ [])) old.now e
+    → ExecutesInside 0 insert_head (unit_cells h) old new (Err e) → FailsToPut old new (singly head_part (h ∷ [])) old.now e
 fails_head more old new h e has ran =
-    fails_to_put more head_table 1 insert_head head_terms 6 refl (insert_head_is more) (insert_head_plain more) head_cells HeadIs head_fact
-    old new (h ∷ []) (head_cells h) refl refl e (head_whole more) has ran
+    fails_to_put more head_table 1 insert_head head_terms 6 refl (insert_head_is more) (insert_head_plain more) unit_cells head_part.fact head_fact
+    old new (h ∷ []) (unit_cells h) refl refl e (head_whole more) has ran
 
 pub takes_event : (more : More) (old new : State) (event : EventValue) (count : ℕ) → old.now.schema ≡ schema_with more
     → ExecutesInside 0 insert_event (event_cells event) old new (Ok count) → TakesAll old.step_limit (singly event_part (event ∷ [])) old.now new.now
@@ -336,12 +334,6 @@ if_ok (Err e) A B f h = tt
 -- ---- the parts of what is added
 
 -- trees that come behind all others
-behind_keeps : (tree : ℕ) → tree < trees_taken → (old new : Trees) (tables : List Table) → AllByRecursion (λ (t : Table). trees_taken ≤ t.tree) tables
-    → KeepsOthers tree old new tables → Keeps old new tables
-behind_keeps tree low old new [] behind same = tt
-behind_keeps tree low old new (t ∷ ts) behind same =
-    (same.0 (λ e. omega (arith, behind.0, low, e)), behind_keeps tree low old new ts behind.1 same.1)
-
 behind_rest : (tree : ℕ) → trees_taken ≤ tree → AllByRecursion (λ at. tree ≢ at) rest_trees
 behind_rest tree high =
     (λ e. omega (arith, high, e), (λ e. omega (arith, high, e), (λ e. omega (arith, high, e), (λ e. omega (arith, high, e), tt))))
@@ -414,87 +406,77 @@ module _ (more : More) (a b c d f : State) (added : Additions) (periods : List P
     said_jobs = s.said;
   }
 
+same_tables : (a : Trees) (tables : List Table) → Keeps a a tables
+same_tables a [] = tt
+same_tables a (t ∷ ts) = (refl, same_tables a ts)
+
 -- heads, versions and details, and the rest, in any layout
-module _ (layout : Layout) (HasOwn : Gained) (steady : IsSteady layout.more HasOwn) (a b c h : State) (added : Additions)
+module _ (layout : Layout) (HasOwn : Gained) (steady : IsSteady layout.more HasOwn) (a b c : State) (added : Additions)
     (periods : List PeriodRow) (jobs : List JobRow) (of_periods : AreRowsOf IsRowOfPeriod added.periods.items periods)
     (of_jobs : AreRowsOf IsRowOfJob added.jobs.items jobs) where
   abbrev all_under : Schema
   all_under = schema_with layout.more
 
-  abbrev PutsTheOwn : Type 0
-  PutsTheOwn = PutsOwn layout HasOwn b c (versions_of added.days.items) (details_of added.details.items)
+  module _ (p : PutsOwn layout HasOwn a b added) (q : PutsRest all_under b c added periods jobs) where
+    rest_kept : Keeps b.now.trees c.now.trees layout.more.tables
+    rest_kept = rest_keeps b.now.trees c.now.trees layout.more.tables layout.behind q.others.1.1.1.1.1.1.1.1
 
-  module _ (p : Puts all_under head_part a b added.heads.items) (q : PutsTheOwn) (r : PutsRest all_under c h added periods jobs) where
-    heads_kept : Keeps a.now.trees b.now.trees layout.more.tables
-    heads_kept = behind_keeps 2 (omega arith) a.now.trees b.now.trees layout.more.tables layout.behind p.others.1.1.1.1.1.1.1.1
+    heads_kept : c.now.trees 2 ≡ b.now.trees 2
+    heads_kept = q.others.1.0 (before_rest 2 (omega arith))
 
-    rest_kept : Keeps c.now.trees h.now.trees layout.more.tables
-    rest_kept = rest_keeps c.now.trees h.now.trees layout.more.tables layout.behind r.others.1.1.1.1.1.1.1.1
+    versions_kept : c.now.trees 4 ≡ b.now.trees 4
+    versions_kept = q.others.1.1.0 (before_rest 4 (omega arith))
 
-    heads_keep_versions : b.now.trees 4 ≡ a.now.trees 4
-    heads_keep_versions = p.others.1.1.0 (λ e. omega arith)
+    gains_periods : Gains 10 (map period_part.cells periods) a.now.trees c.now.trees
+    gains_periods = kept_gains 10 _ a.now.trees b.now.trees c.now.trees p.others.1.1.1.0 q.accumulated
 
-    rest_keeps_versions : h.now.trees 4 ≡ c.now.trees 4
-    rest_keeps_versions = r.others.1.1.0 (before_rest 4 (omega arith))
-
-    gains_periods : Gains 10 (map period_part.cells periods) a.now.trees h.now.trees
-    gains_periods =
-        kept_gains 10 _ a.now.trees c.now.trees h.now.trees (q.others.1.1.1.1.0 ∙ p.others.1.1.1.1.1.0 (λ e. omega arith)) r.accumulated
-
-    gains_jobs : Gains 14 (map job_part.cells jobs) a.now.trees h.now.trees
-    gains_jobs =
-        kept_gains 14 _ a.now.trees c.now.trees h.now.trees (q.others.1.1.1.1.1.1.0 ∙ p.others.1.1.1.1.1.1.1.0 (λ e. omega arith)) r.planned
+    gains_jobs : Gains 14 (map job_part.cells jobs) a.now.trees c.now.trees
+    gains_jobs = kept_gains 14 _ a.now.trees b.now.trees c.now.trees p.others.1.1.1.1.1.0 q.planned
 
     -- Each table has the rows of its part, and no other.
-    all_added : AddsOf HasOwn a.now.trees h.now.trees added
+    all_added : AddsOf HasOwn a.now.trees c.now.trees added
     all_added =
         let one = a.now.trees in
         let two = b.now.trees in
-        let three = c.now.trees in
-        let last = h.now.trees in
+        let last = c.now.trees in
         record {
-          schema = r.others.0 (before_rest 0 (omega arith)) ∙ q.others.0 ∙ p.others.0 (λ e. omega arith);
-          heads = gains_kept 2 _ one two last p.rows (r.others.1.0 (before_rest 2 (omega arith)) ∙ q.others.1.0);
-          own = steady one two three last (versions_of added.days.items) (details_of added.details.items) heads_keep_versions heads_kept q.rows
-              rest_keeps_versions rest_kept;
-          undated = r.others.1.1.1.0 (before_rest 6 (omega arith)) ∙ q.others.1.1.0 ∙ p.others.1.1.1.0 (λ e. omega arith);
-          events = kept_gains 8 _ one three last (q.others.1.1.1.0 ∙ p.others.1.1.1.1.0 (λ e. omega arith)) r.events;
+          schema = q.others.0 (before_rest 0 (omega arith)) ∙ p.others.0;
+          own = steady one one two last added refl refl (same_tables one layout.more.tables) p.rows heads_kept versions_kept rest_kept;
+          undated = q.others.1.1.1.0 (before_rest 6 (omega arith)) ∙ p.others.1.0;
+          events = kept_gains 8 _ one two last p.others.1.1.0 q.events;
           periods = (map period_part.cells periods, period_rows_are added.periods.items periods of_periods, gains_periods);
-          holidays = kept_gains 12 _ one three last (q.others.1.1.1.1.1.0 ∙ p.others.1.1.1.1.1.1.0 (λ e. omega arith)) r.holidays;
+          holidays = kept_gains 12 _ one two last p.others.1.1.1.1.0 q.holidays;
           jobs = (map job_part.cells jobs, job_rows_are added.jobs.items jobs of_jobs, gains_jobs);
         }
 
-    -- what the layout says by itself is more by the versions and details that are added
-    names_more : IsMore (layout.own h.now.trees) (layout.own a.now.trees) (own_facts added)
+    -- what the layout says by itself is more by the heads, versions and details that are added
+    names_more : IsMore (layout.heads c.now.trees ++ layout.own c.now.trees) (layout.heads a.now.trees ++ layout.own a.now.trees) (own_facts added)
     names_more =
-        ap of (layout.steady c.now.trees h.now.trees rest_keeps_versions rest_kept)
-        ∙ q.names ∙ ap (λ v. union (of v) (of (own_facts added))) (layout.steady a.now.trees b.now.trees heads_keep_versions heads_kept)
+        let heads = layout.steady_heads b.now.trees c.now.trees heads_kept rest_kept in
+        let own = layout.steady b.now.trees c.now.trees versions_kept rest_kept in
+        (λ i. of (heads i ++ own i)) ∙ p.names
 
-  pub all_there : doubt b.is_clean ≤ doubt c.is_clean → doubt c.is_clean ≤ doubt h.is_clean
-      → PutsThere all_under head_part a b added.heads.items
-      → PutsOwnThere layout HasOwn b c (versions_of added.days.items) (details_of added.details.items)
-      → PutsRestThere all_under c h added periods jobs → PutsAllOf layout HasOwn a h added
-  all_there bc ch p q r =
-      let parts : HasCleanDisk h → IsTrue a.is_open → a.now.schema ≡ all_under → IsSound all_under a.now.trees
-      → Puts all_under head_part a b added.heads.items × PutsTheOwn × PutsRest all_under c h added periods jobs =
+  pub all_there : doubt b.is_clean ≤ doubt c.is_clean → PutsOwnThere layout HasOwn a b added
+      → PutsRestThere all_under b c added periods jobs → PutsAllOf layout HasOwn a c added
+  all_there bc p q =
+      let parts : HasCleanDisk c → IsTrue a.is_open → a.now.schema ≡ all_under → IsSound all_under a.now.trees
+      → PutsOwn layout HasOwn a b added × PutsRest all_under b c added periods jobs =
       λ clean o has sound.
       let one = p.puts (omega arith) o has sound in
-      let o2 = p.is_open (omega arith) o in
-      let two = q.puts (omega arith) o2 one.schema one.sound in
-      (one, two, r.puts clean (q.is_open (omega arith) o2) two.schema two.sound) in
+      (one, q.puts clean (p.is_open (omega arith) o) one.schema one.sound) in
       record {
-        was_open = λ clean o. p.was_open (omega arith) (q.was_open (omega arith) (r.was_open clean o));
-        is_open = λ clean o. r.is_open clean (q.is_open (omega arith) (p.is_open (omega arith) o));
-        inside = λ clean o. r.inside clean (q.inside (omega arith) (p.inside (omega arith) o));
-        schema = λ clean o has sound. (parts clean o has sound).2.schema;
+        was_open = λ clean o. p.was_open (omega arith) (q.was_open clean o);
+        is_open = λ clean o. q.is_open clean (p.is_open (omega arith) o);
+        inside = λ clean o. q.inside clean (p.inside (omega arith) o);
+        schema = λ clean o has sound. (parts clean o has sound).1.schema;
         added = λ clean o has sound.
             let all = parts clean o has sound in
-            let rows = all_added all.0 all.1 all.2 in
+            let rows = all_added all.0 all.1 in
             record {
               rows = rows;
-              world = world_after layout HasOwn a.now.trees h.now.trees added periods jobs of_periods of_jobs p.said
-                  (names_more all.0 all.1 all.2) r.said_events r.said_periods r.said_holidays r.said_jobs rows
-                  (gains_periods all.0 all.1 all.2) (gains_jobs all.0 all.1 all.2);
-              sound = all.2.sound;
+              world = world_after layout HasOwn a.now.trees c.now.trees added periods jobs of_periods of_jobs
+                  (names_more all.0 all.1) q.said_events q.said_periods q.said_holidays q.said_jobs rows
+                  (gains_periods all.0 all.1) (gains_jobs all.0 all.1);
+              sound = all.1.sound;
             };
       }

@@ -20,17 +20,17 @@ use Rattle.mds_world.specs.declared.facts.Detail.{Detail}
 use Rattle.mds_world.specs.Facts.Fact.{DetailIs, HeadIs, JobIs, PeriodIs}
 use Rattle.mds_world.proofs.Sets.{list_append, union_assoc, union_comm}
 use Rattle.mds_world.specs.World.{World, union}
-use Rattle.mds_keeper.specs.Content.{content, details_of, versions_of, job_fact as content_fact, period_fact as content_period_fact, version_fact as content_version_fact}
+use Rattle.mds_keeper.specs.Content.{content, details_of, heads_of, versions_of, job_fact as content_fact, period_fact as content_period_fact, version_fact as content_version_fact}
 use Rattle.mds_keeper.specs.declared.additions.Additions.{Additions}
 use Rattle.mds_tables.proofs.FactLemmas.{detail_back}
-use Rattle.mds_tables.specs.RowFacts.{detail_fact, event_fact, head_fact, holiday_fact, job_fact, natural, period_fact}
+use Rattle.mds_tables.specs.RowFacts.{detail_fact, event_fact, holiday_fact, job_fact, natural, period_fact}
 use Rattle.mds_tables.specs.Layouts.{Layout, world_with}
 use Rattle.mds_tables.specs.Stores.{AddsOf, AreRowsOf, Gained, Gains, IsJobRow, IsPeriodRow}
 use Rattle.mds_tables.specs.Cells.{job_cells, period_cells}
 use Rattle.mds_inserts.specs.MadeRows.{IsRowOfJob, IsRowOfPeriod}
 use Rattle.mds_inserts.specs.declared.jobs.JobRow.{JobRow}
 use Rattle.mds_inserts.specs.declared.periods.PeriodRow.{PeriodRow}
-use Rattle.mds_inserts.specs.Parts.{Part, Says, detail_part, event_part, head_part, holiday_part, job_part, period_part}
+use Rattle.mds_inserts.specs.Parts.{Part, Says, detail_part, event_part, holiday_part, job_part, period_part}
 pub use Rattle.mds_inserts.specs.Writing.{IsMore}
 
 -- a row under a fresh rowid is put between the others
@@ -129,10 +129,6 @@ pub says_details : (details : List Detail) → Says detail_part details
 says_details [] = tt
 says_details (d ∷ ds) = ((λ id. detail_back id d), says_details ds)
 
-head_bare : Unnamed head_fact
-head_bare [] = refl
-head_bare (x ∷ xs) = refl
-
 pub detail_bare : Unnamed detail_fact
 detail_bare [] = refl
 detail_bare (x ∷ xs) = refl
@@ -210,29 +206,24 @@ job_facts_are : (jobs : List (Job × ℕ)) (rows : List JobRow) → AreRowsOf Is
 job_facts_are = same_facts IsRowOfJob job_part.fact content_fact
     (λ job row is i. JobIs (is.id i) (is.says i) (natural (is.count i)))
 
--- the versions and the details of days among what is added
+-- the heads, the versions and the details of days among what is added
 abbrev pub own_facts : Additions → List Fact
-own_facts added = map content_version_fact (versions_of added.days.items) ++ map DetailIs (details_of added.details.items)
+own_facts added =
+    map HeadIs (heads_of added) ++ map content_version_fact (versions_of added.days.items) ++ map DetailIs (details_of added.details.items)
 
 -- the World that the tables of a layout name is the union
 pub world_after : (layout : Layout) (HasOwn : Gained) (old new : Trees) (added : Additions) (periods : List PeriodRow) (jobs : List JobRow)
     → AreRowsOf IsRowOfPeriod added.periods.items periods → AreRowsOf IsRowOfJob added.jobs.items jobs
-    → Says head_part added.heads.items → IsMore (layout.own new) (layout.own old) (own_facts added)
+    → IsMore (layout.heads new ++ layout.own new) (layout.heads old ++ layout.own old) (own_facts added)
     → Says event_part added.events.items → Says period_part periods
     → Says holiday_part added.holidays.items → Says job_part jobs
     → AddsOf HasOwn old new added → Gains 10 (map period_part.cells periods) old new → Gains 14 (map job_part.cells jobs) old new
     → world_with layout new ≡ union (world_with layout old) (content added)
-world_after layout HasOwn old new added periods jobs of_periods of_jobs heads own events accumulated holidays rows adds more_periods more_jobs =
+world_after layout HasOwn old new added periods jobs of_periods of_jobs own events accumulated holidays rows adds more_periods more_jobs =
     more_both _ (map job_fact (old 14)) _ (map job_fact (new 14)) _ _
     (more_both _ (map holiday_fact (old 12)) _ (map holiday_fact (new 12)) _ _
     (more_both _ (map period_fact (old 10)) _ (map period_fact (new 10)) _ _
-    (more_both _ (map event_fact (old 8)) _ (map event_fact (new 8)) _ _
-    (subst (IsMore (map head_fact (new 2) ++ layout.own new) (map head_fact (old 2) ++ layout.own old))
-    (sym (append_assoc (map HeadIs added.heads.items) (map content_version_fact (versions_of added.days.items))
-    (map DetailIs (details_of added.details.items))))
-    (more_both (map head_fact (old 2)) (layout.own old) (map head_fact (new 2)) (layout.own new) _ _
-    (more head_part head_bare added.heads.items heads old new adds.heads)
-    own))
+    (more_both _ (map event_fact (old 8)) _ (map event_fact (new 8)) _ _ own
     (more event_part event_bare added.events.items events old new adds.events))
     (subst (λ fs. IsMore (map period_fact (new 10)) (map period_fact (old 10)) fs)
     (period_facts_are added.periods.items periods of_periods)

@@ -6,7 +6,7 @@ use Rattle.sqlite.specs.declared.types.Value.{Value}
 use Rattle.sqlite_value.specs.Order.{Row}
 use Rattle.mds_terms.specs.Event.{EventValue}
 use Rattle.mds_jobs.specs.Bodies.{job_in, parts_of}
-use Rattle.mds_world.specs.Facts.{Fact}
+use Rattle.mds_world.specs.Facts.{Fact, head_at}
 use Rattle.mds_statements.specs.Bodies.{content_of_body}
 use Rattle.mds_world.specs.Facts.Fact.{DetailIs, EventIs, HeadIs, HolidayIs, JobIs, PeriodIs}
 use Rattle.mds_world.specs.declared.facts.Detail.{Detail}
@@ -14,7 +14,7 @@ use Rattle.mds_world.specs.declared.facts.Head.{Head}
 use Rattle.mds_keeper.specs.declared.additions.Additions.{Additions}
 use Rattle.mds_inserts.specs.declared.jobs.JobRow.{JobRow}
 use Rattle.mds_inserts.specs.declared.periods.PeriodRow.{PeriodRow}
-use Rattle.mds_tables.specs.Cells.{detail_cells, event_cells, head_cells, holiday_cells, job_cells, period_cells}
+use Rattle.mds_tables.specs.Cells.{detail_cells, event_cells, holiday_cells, job_cells, period_cells, unit_cells}
 use Rattle.mds_tables.specs.RowFacts.{detail_fact, event_fact, head_fact, holiday_fact, job_fact, natural, period_fact}
 
 -- How things of one kind are kept. A table has a place in the schema and a tree. Each thing has a row, without a rowid, and a
@@ -26,10 +26,17 @@ pub record Part (A : Type 0) : Type 0 where
   pub fact : A → Fact
   pub read : Row → Fact
 
+-- A day that comes new, by a head of it: its row says its unit. The fact is what the row says as one of schemas 1 to 3.
 abbrev pub head_part : Part Head
-head_part = record { place = 1; tree = 2; cells = head_cells; fact = HeadIs; read = head_fact }
+head_part = record {
+  place = 1;
+  tree = 2;
+  cells = unit_cells;
+  fact = λ h. HeadIs (head_at h.stream h.day 0 0 h.unit);
+  read = head_fact;
+}
 
--- its table stands in schema 3 alone
+-- its table stands behind those that every schema has
 abbrev pub detail_part : Part Detail
 detail_part = record { place = 9; tree = 18; cells = detail_cells; fact = DetailIs; read = detail_fact }
 

@@ -9,18 +9,15 @@ use Rattle.sqlite.specs.declared.error.Error.{Error}
 use Rattle.sqlite_catalog.specs.Listing.{IsSound}
 use Rattle.sqlite_trees.specs.Tree.{Trees}
 use Rattle.sqlite_value.specs.Order.{Row}
-use Rattle.mds_marks.specs.Reading.{ReadingValue}
 use Rattle.mds_world.specs.FactOrder.{fact_cmp}
 use Rattle.mds_world.specs.Facts.{Fact}
-use Rattle.mds_world.specs.Facts.Fact.{DetailIs}
+use Rattle.mds_world.specs.Facts.Fact.{DetailIs, HeadIs}
 use Rattle.mds_world.specs.World.{union}
-use Rattle.mds_world.specs.declared.facts.Detail.{Detail}
-use Rattle.mds_world.specs.declared.facts.Key.{Key}
 use Rattle.mds_keeper.specs.Content as content
 use Rattle.mds_keeper.specs.declared.additions.Additions.{Additions}
 use Rattle.mds_tables.specs.Layouts.{Layout, world_with}
 use Rattle.mds_tables.specs.Stores.{AddsOf, Gained, Gains}
-use Rattle.mds_tables.specs.Tables.{More, detail_table, event_table, head_table, holiday_table, job_table, period_table, schema_table, schema_with, version_tree}
+use Rattle.mds_tables.specs.Tables.{More, detail_table, event_table, head_tree, holiday_table, job_table, period_table, schema_table, schema_with, version_tree}
 use Rattle.mds_inserts.specs.declared.jobs.JobRow.{JobRow}
 use Rattle.mds_inserts.specs.declared.periods.PeriodRow.{PeriodRow}
 use Rattle.mds_inserts.specs.Parts.{Part, Says, event_part, holiday_part, job_part, period_part}
@@ -85,17 +82,19 @@ module _ (under : Schema) (old new : State) (additions : Additions) (periods : L
 abbrev pub IsMore : List Fact → List Fact → List Fact → Type 0
 IsMore more some facts = set.from_list {R = fact_cmp} more ≡ union (set.from_list some) (set.from_list facts)
 
--- the tables that every schema has, but that of versions
-abbrev pub unversioned : List Table
-unversioned = schema_table ∷ head_table ∷ detail_table ∷ event_table ∷ period_table ∷ holiday_table ∷ job_table ∷ []
+-- the tables that every schema has, but those of heads and of versions
+abbrev pub other_tables : List Table
+other_tables = schema_table ∷ detail_table ∷ event_table ∷ period_table ∷ holiday_table ∷ job_table ∷ []
 
-module _ (layout : Layout) (HasOwn : Gained) (old new : State) (versions : List (Key × ReadingValue)) (details : List Detail) where
-  -- the same of versions and details, in any layout: they are in its tables, and these say them beside those that they said
+module _ (layout : Layout) (HasOwn : Gained) (old new : State) (additions : Additions) where
+  -- the same of heads, versions and details, in any layout: they are in its tables, and these say them beside those that they said
   pub record PutsOwn : Type 0 where
     pub schema : new.now.schema ≡ schema_with layout.more
-    pub rows : HasOwn old.now.trees new.now.trees versions details
-    pub names : IsMore (layout.own new.now.trees) (layout.own old.now.trees) (map content.version_fact versions ++ map DetailIs details)
-    pub others : Keeps old.now.trees new.now.trees unversioned
+    pub rows : HasOwn old.now.trees new.now.trees additions
+    pub names : IsMore (layout.heads new.now.trees ++ layout.own new.now.trees) (layout.heads old.now.trees ++ layout.own old.now.trees)
+        (map HeadIs (content.heads_of additions) ++ map content.version_fact (content.versions_of additions.days.items)
+        ++ map DetailIs (content.details_of additions.details.items))
+    pub others : Keeps old.now.trees new.now.trees other_tables
     pub sound : IsSound (schema_with layout.more) new.now.trees
 
   pub record PutsOwnThere : Type 0 where
@@ -105,13 +104,13 @@ module _ (layout : Layout) (HasOwn : Gained) (old new : State) (versions : List 
     pub puts : HasCleanDisk new → IsTrue old.is_open → old.now.schema ≡ schema_with layout.more
         → IsSound (schema_with layout.more) old.now.trees → PutsOwn
 
--- What is told of the rows of versions and details reads mds_version and the tables behind those that every schema has, and no
--- others.
+-- What is told of the rows of heads, versions and details reads mds_head, mds_version and the tables behind those that every schema
+-- has, and no others.
 abbrev pub IsSteady : More → Gained → Type 0
 IsSteady more HasOwn =
-    (a b c d : Trees) (versions : List (Key × ReadingValue)) (details : List Detail) → b version_tree ≡ a version_tree
-    → Keeps a b more.tables → HasOwn b c versions details → d version_tree ≡ c version_tree → Keeps c d more.tables
-    → HasOwn a d versions details
+    (a b c d : Trees) (additions : Additions) → b head_tree ≡ a head_tree → b version_tree ≡ a version_tree → Keeps a b more.tables
+    → HasOwn b c additions → d head_tree ≡ c head_tree → d version_tree ≡ c version_tree → Keeps c d more.tables
+    → HasOwn a d additions
 
 -- the connection is open, and the tables are as the schema says
 pub record IsFit (under : Schema) (state : State) : Type 0 where

@@ -4,7 +4,7 @@ ghost use Rattle.std.specs.Prelude.{◌≡◌, [], ◌∷◌, length};
 ghost use Rattle.std.specs.List.{flat_map};
 ghost use Rattle.sqlite.specs.Held.{state};
 ghost use Rattle.sqlite.specs.Values.{bound};
-ghost use Rattle.mds_tables.specs.Cells.{head_cells as cells_of_head};
+ghost use Rattle.mds_tables.specs.Cells.{unit_cells as cells_of_day};
 ghost use Rattle.mds_tables.specs.Tables.{More, schema_with};
 ghost use Rattle.mds_inserts.specs.Parts.{Part, by_eights, event_part, head_part, holiday_part, job_part, period_part, rest_in, singly, statements_of};
 ghost use Rattle.mds_inserts.specs.Writing.{Changes, PutsEach, PutsRestThere};
@@ -13,7 +13,7 @@ use crate::jobs::JobRow;
 use crate::periods::PeriodRow;
 use mds_keeper::Additions;
 use mds_quantity::units_read_back;
-use mds_tables::{event_cells, head_cells, holiday_cells, job_cells, letter_of, period_cells};
+use mds_tables::{event_cells, holiday_cells, job_cells, letter_of, period_cells, unit_cells};
 use mds_terms::{Day, Event};
 use mds_world::Head;
 use sqlite::types::ValueRef;
@@ -45,7 +45,7 @@ fn put_each<T: Put, S: Alter>(tx: &mut Transaction<'_, S>, items: &[T]) -> Resul
     Ok(())
 }
 
-/// Puts the rows of heads, whatever tables stand behind those that every schema has.
+/// Puts the rows of mds_head for days that come new, whatever tables stand behind those that every schema has.
 pub fn put_heads<S: Alter>(tx: &mut Transaction<'_, S>, heads: &[Head]) -> Result<(), Error>
     ensures same_reference { tx.new.conn.ghost_name ≡ tx.old.conn.ghost_name }
     ensures puts { (more : More) → PutsEach (schema_with more) head_part (by_eights head_part heads.now) (state S.Store tx.old.conn.now) (state S.Store tx.new.conn.now) result heads.now }
@@ -57,7 +57,7 @@ pub fn put_heads<S: Alter>(tx: &mut Transaction<'_, S>, heads: &[Head]) -> Resul
     put_each(tx, rest)
 }
 
-/// Puts the rows of eight heads by one statement.
+/// Puts the rows of eight days by one statement.
 fn put_eight<S: Alter>(tx: &mut Transaction<'_, S>, heads: &[Head; TOGETHER]) -> Result<(), Error>
     ensures same_reference { tx.new.conn.ghost_name ≡ tx.old.conn.ghost_name }
     ensures puts { (more : More) → PutsEach (schema_with more) head_part (statements_of head_part (heads.now ∷ [])) (state S.Store tx.old.conn.now) (state S.Store tx.new.conn.now) result heads.now }
@@ -71,10 +71,10 @@ fn put_eight<S: Alter>(tx: &mut Transaction<'_, S>, heads: &[Head; TOGETHER]) ->
     Ok(())
 }
 
-/// The columns of eight heads.
+/// The columns of eight days.
 fn eight_cells<'a>(heads: &'a [Head]) -> [[ValueRef<'a>; 5]; 8]
     requires { length heads.now ≡ 8 }
-    ensures { bound (flat_map (λ x. x) result) ≡ flat_map cells_of_head heads.now }
+    ensures { bound (flat_map (λ x. x) result) ≡ flat_map cells_of_day heads.now }
 {
     let a = &heads[0];
     let b = &heads[1];
@@ -85,14 +85,14 @@ fn eight_cells<'a>(heads: &'a [Head]) -> [[ValueRef<'a>; 5]; 8]
     let g = &heads[6];
     let h = &heads[7];
     [
-        head_cells(a),
-        head_cells(b),
-        head_cells(c),
-        head_cells(d),
-        head_cells(e),
-        head_cells(f),
-        head_cells(g),
-        head_cells(h),
+        unit_cells(a),
+        unit_cells(b),
+        unit_cells(c),
+        unit_cells(d),
+        unit_cells(e),
+        unit_cells(f),
+        unit_cells(g),
+        unit_cells(h),
     ]
 }
 
@@ -119,7 +119,7 @@ impl Put for Head {
 
     fn put<S: Alter>(&self, tx: &mut Transaction<'_, S>) -> Result<(), Error> {
         units_read_back();
-        let cells = head_cells(self);
+        let cells = unit_cells(self);
         tx.execute(
             "INSERT INTO mds_head (nmi, suffix, day, length, unit) VALUES (?1, ?2, ?3, ?4, ?5)",
             &cells,

@@ -1,4 +1,4 @@
--- The facts of a day's book, from its head and its rows and back.
+-- The facts of a day's book, from its heads and its rows and back.
 use Rattle.std.specs.Prelude.{◌≡◌, ◌⊎◌, ◌≤◌, ℕ, List, map, Option, Some, None, refl}
 use Rattle.std.proofs.Common.{sym, ap, ◌∙◌, subst, inl, inr, arith}
 use Rattle.mds_calendar.specs.Length.{count_of}
@@ -15,10 +15,11 @@ use Rattle.mds_world.proofs.Lists.{member_append, append_left, append_right, in_
 use Rattle.mds_world.specs.Lists.{Member}
 use Rattle.mds_world.proofs.Members.{in_list, list_in, same_by}
 use Rattle.mds_world.specs.Sets.{◌∈◌}
-use Rattle.mds_world.specs.World.{IsLawful, IsOn, World, head_over}
+use Rattle.mds_world.specs.World.{IsLawful, IsOn, World, head_over, key_under}
 use Rattle.mds_keeper.specs.BookRows.{AreWithin, Fits, IsFormOfRows, Misfits, OneEach, OneLength}
 use Rattle.mds_keeper.specs.Books.{BookValue, IsDay, book_facts, book_world, head_facts, row_fact, row_head}
 use Rattle.mds_keeper.specs.declared.day_book.Version.{Version}
+use Rattle.mds_keeper.proofs.Rows.{same_some}
 
 -- where the fact of a book comes from
 pub from_book : (book : BookValue) (f : Fact) → f ∈ book_world book
@@ -93,7 +94,7 @@ version_of_book book key reading h = elim (from_book book (VersionIs key reading
 -- a head of the book is that of a row
 pub head_of_book : (book : BookValue) (head : Head) → HeadIs head ∈ book_world book
     → (head.stream ≡ book.stream) × (head.day ≡ book.day) × (book.unit ≡ Some head.unit)
-    × (row : ℕ × Version) × Member row book.rows × (row.1.length ≡ head.length)
+    × (row : ℕ × Version) × Member row book.rows × (row.1.length ≡ head.length) × (row.1.update ≡ head.update)
 head_of_book book head h = elim (from_book book (HeadIs head) h) [
   | inl a ↦
       let m = member_head book.stream book.day book.unit book.rows (HeadIs head) a in
@@ -104,15 +105,16 @@ head_of_book book head h = elim (from_book book (HeadIs head) h) [
     parts : (head : Head) (unit : MeasureUnit) → book.unit ≡ Some unit → (row : ℕ × Version) → Member row book.rows
         → HeadIs head ≡ row_head book.stream book.day unit row
         → (head.stream ≡ book.stream) × (head.day ≡ book.day) × (book.unit ≡ Some head.unit)
-        × (row : ℕ × Version) × Member row book.rows × (row.1.length ≡ head.length)
+        × (row : ℕ × Version) × Member row book.rows × (row.1.length ≡ head.length) × (row.1.update ≡ head.update)
     parts head unit e row m f =
-        let same : head ≡ head_at book.stream book.day row.1.length unit = cc in (
+        let same : head ≡ head_at book.stream book.day row.1.update row.1.length unit = cc in (
           ap (λ (h : Head). h.stream) same,
           ap (λ (h : Head). h.day) same,
           e ∙ sym (ap (λ (h : Head). Some h.unit) same),
           row,
           m,
           sym (ap (λ (h : Head). h.length) same),
+          sym (ap (λ (h : Head). h.update) same),
         )
 
     not_row : (head : Head) (row : ℕ × Version) → HeadIs head ≡ row_fact book.stream book.day row → ⊥
@@ -177,34 +179,31 @@ head_of_row book lawful row m =
     let k = head_of_book book _ h.1 in
     (h.0, k.2, h.2, h.3)
 
--- the rows of a lawful book are of one length
+-- the rows of one update of a lawful book are of one length
 pub one_minutes : (book : BookValue) → IsLawful (book_world book) → OneLength book.rows
-one_minutes book lawful a b m n =
+one_minutes book lawful a b m n e =
     let p = head_of_row book lawful a m in
-    let one = head_in_book book a m p.0 p.1 in
-    let two = head_in_book book b n p.0 p.1 in
-    ap (λ (h : Head). h.length)
-    (lawful.agrees.one_head (head_at book.stream book.day a.1.length p.0) (head_at book.stream book.day b.1.length p.0) one two refl refl)
-
--- a row of a lawful book is of the length of its form
-pub row_of_form : (book : BookValue) → IsLawful (book_world book) → (minutes : ℕ) (unit : MeasureUnit)
-    → IsFormOf (book_world book) book.stream book.day minutes unit → (row : ℕ × Version) → Member row book.rows
-    → row.1.length ≡ minutes
-row_of_form book lawful minutes unit form row m =
-    let k = head_of_book book (head_at book.stream book.day minutes unit) form in
-    one_minutes book lawful row k.3 m k.4 ∙ k.5
+    lawful.agrees.one_length (head_at book.stream book.day a.1.update a.1.length p.0) (head_at book.stream book.day b.1.update b.1.length p.0)
+    (head_in_book book a m p.0 p.1) (head_in_book book b n p.0 p.1) refl refl e
 
 -- the length of a row of the greatest update, with the unit, is the book's form
 pub form_in_book : (book : BookValue) (form : ℕ × MeasureUnit) → IsFormOfRows (Some form) book.rows → book.unit ≡ Some form.1
     → IsFormOf (book_world book) book.stream book.day form.0 form.1
-form_in_book book form (row, m, same, top) e =
-    subst (λ n. HeadIs (head_at book.stream book.day n form.1) ∈ book_world book) same (head_in_book book row m form.1 e)
+form_in_book book form (row, m, same, top) e = (
+  head_at book.stream book.day row.1.update row.1.length form.1,
+  record {
+    held = (head_in_book book row m form.1 e, refl, refl);
+    greatest = λ other h. let k = head_of_book book other h.0 in subst (λ n. n ≤ row.1.update) k.6 (top k.3 k.4);
+  },
+  same,
+  refl,
+)
 
 -- a lawful book has one reading of an interval and update
 pub one_reading : (book : BookValue) → IsLawful (book_world book) → (a b : ℕ × Version) → Member a book.rows
     → Member b book.rows → a.0 ≡ b.0 → a.1.update ≡ b.1.update → a ≡ b
 one_reading book lawful a b m n e f =
-    let l : a.1.length ≡ b.1.length = one_minutes book lawful a b m n in
+    let l : a.1.length ≡ b.1.length = one_minutes book lawful a b m n f in
     let key : Key = key_at book.stream book.day b.1.length b.0 b.1.update in
     let at_b : a ≡ (b.0, record { update = b.1.update; length = b.1.length; reading = a.1.reading }) =
     λ i. (e i, record { update = f i; length = l i; reading = a.1.reading }) in
@@ -212,12 +211,6 @@ one_reading book lawful a b m n e f =
     let same = lawful.agrees.one_reading key a.1.reading b.1.reading
     (row_in_book book (b.0, record { update = b.1.update; length = b.1.length; reading = a.1.reading }) here) (row_in_book book b n) in
     at_b ∙ ap (λ (r : ReadingValue). (b.0, record { update = b.1.update; length = b.1.length; reading = r })) same
-
-same_head : (a b : Head) → a.stream ≡ b.stream → a.day ≡ b.day → a.length ≡ b.length → ◌≡◌ {A = Option MeasureUnit} (Some a.unit) (Some b.unit)
-    → a ≡ b
-same_head a b s d l e =
-    let unit : a.unit ≡ b.unit = cc in
-    λ i. head_at (s i) (d i) (l i) (unit i)
 
 -- rows that fit have a unit
 pub fits_row : (known : Option MeasureUnit) (rows : List (ℕ × Version)) → Fits known rows → (row : ℕ × Version) → Member row rows
@@ -229,11 +222,12 @@ fits_row (Some unit) rows fits row m = (unit, refl, fits.0, fits.1)
 pub lawful_book : (book : BookValue) → OneEach book.rows → Fits book.unit book.rows → IsLawful (book_world book)
 lawful_book book each fits = record {
   agrees = record {
-    one_head = λ a b h k s d.
+    one_length = λ a b h k s d u.
         let m = head_of_book book a h in
         let n = head_of_book book b k in
         let f = fits_row book.unit book.rows fits m.3 m.4 in
-        same_head a b s d (sym m.5 ∙ f.2 m.3 n.3 m.4 n.4 ∙ n.5) (sym m.2 ∙ n.2);
+        sym m.5 ∙ f.2 m.3 n.3 m.4 n.4 (m.6 ∙ u ∙ sym n.6) ∙ n.5;
+    one_unit = λ a b h k s d. same_some a.unit b.unit (sym (head_of_book book a h).2 ∙ (head_of_book book b k).2);
     one_reading = λ key a b h k.
         let m = version_of_book book key a h in
         let n = version_of_book book key b k in
@@ -247,17 +241,16 @@ lawful_book book each fits = record {
         let f = fits_row book.unit book.rows fits _ m.2 in
         let within = f.3 _ m.2 in (
           f.0,
-          subst (λ h. HeadIs h ∈ book_world book) (λ i. head_at (sym m.0 i) (sym m.1 i) key.length f.0) (head_in_book book _ m.2 f.0 f.1),
+          subst (λ h. HeadIs h ∈ book_world book) (λ i. head_at (sym m.0 i) (sym m.1 i) key.update key.length f.0) (head_in_book book _ m.2 f.0 f.1),
           within.0,
           within.1,
         );
     versioned = λ head h.
         let m = head_of_book book head h in (
           m.3.0,
-          m.3.1.update,
           m.3.1.reading,
           subst (λ k. VersionIs k m.3.1.reading ∈ book_world book)
-              (λ i. key_at (sym m.0 i) (sym m.1 i) (m.5 i) m.3.0 m.3.1.update) (row_in_book book m.3 m.4),
+              (λ i. key_at (sym m.0 i) (sym m.1 i) (m.5 i) m.3.0 (m.6 i)) (row_in_book book m.3 m.4),
         );
     detailed = λ detail h. absurd (on_day book _ h);
   };
@@ -276,7 +269,7 @@ lawful_day w book lawful day = record {
     versioned = λ head h.
         let m = head_of_book book head h in
         let v = lawful.closed.versioned head (day.only _ h) in
-        (v.0, v.1, v.2, day.whole (VersionIs (key_at head.stream head.day head.length v.0 v.1) v.2) (m.0, m.1) v.3);
+        (v.0, v.1, day.whole (VersionIs (key_under head v.0) v.1) (m.0, m.1) v.2);
     detailed = λ detail h. absurd (on_day book _ h);
   };
 }
@@ -285,7 +278,7 @@ misfit : (known : Option MeasureUnit) (rows : List (ℕ × Version))
     → ((row : ℕ × Version) → Member row rows → (unit : MeasureUnit) × (known ≡ Some unit) × (1 ≤ row.0) × (row.0 ≤ count_of row.1.length))
     → OneLength rows → Misfits known rows → ⊥
 misfit None rows heads one (row, m) = let f = heads row m in let e = f.1 in cc
-misfit (Some unit) rows heads one (inl (a, b, m, n, other)) = other (one a b m n)
+misfit (Some unit) rows heads one (inl (a, b, m, n, e, other)) = other (one a b m n e)
 misfit (Some unit) rows heads one (inr (row, m, bad)) =
     let f = heads row m in
     let low = f.2 in

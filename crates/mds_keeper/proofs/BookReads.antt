@@ -1,26 +1,28 @@
 -- What the readers of a day's book say.
-use Rattle.std.specs.Prelude.{◌≡◌, ◌≢◌, ◌⊎◌, ◌+◌, ◌-◌, ◌<◌, ◌≤◌, ℕ, max, min, List, [], ◌∷◌, length, map, Option, Some, None, IfSome, IfNone, refl}
+use Rattle.std.specs.Prelude.{◌≡◌, ◌≢◌, ◌↔◌, ◌⊎◌, ◌+◌, ◌-◌, ◌<◌, ◌≤◌, ℕ, max, min, List, [], ◌∷◌, length, map, Option, Some, None, IfSome, IfNone, refl}
 use Rattle.std.specs.List.{AllPairs, fold, reduce, slice_get}
 use Rattle.std.proofs.Common.{sym, ap, ◌∙◌, subst, inl, inr, arith, get_or, take, drop}
 use Rattle.std.proofs.lemmas.Bool.{cases_lt}
 use Rattle.std.proofs.lemmas.List.{get_or-take, length-take, get_or-drop, length-drop}
-use Rattle.mds_world.specs.Current.{HasNoVersion, IsDayReading, IsFormOf, IsLatest, no_reading}
+use Rattle.mds_calendar.specs.Length.{count_of}
+use Rattle.mds_world.specs.Current.{HasNoVersion, IsDayReading, IsFormOf, IsHeadOf, IsLatest, no_reading}
 use Rattle.mds_world.specs.declared.facts.Head.{Head}
 use Rattle.mds_names.specs.declared.stream.Stream.{Stream}
 use Rattle.mds_world.specs.Facts.{head_at, key_at}
 use Rattle.mds_world.specs.Facts.Fact.{VersionIs}
+use Rattle.mds_world.proofs.Forms.{form_is_latest, form_known, one_size}
 use Rattle.mds_world.proofs.Lists.{in_map, map_in}
 use Rattle.mds_world.specs.Lists.{Member}
 use Rattle.mds_world.specs.Sets.{◌∈◌}
 use Rattle.mds_quantity.specs.declared.unit.Unit.{Unit as MeasureUnit}
 use Rattle.mds_world.specs.World.{IsCurrent, IsKnownDay, IsLawful, World}
 use Rattle.mds_keeper.specs.Books.{BookValue, book_world}
-use Rattle.mds_keeper.proofs.BookFacts.{form_in_book, head_of_book, row_in_book, row_of_book, row_of_form}
+use Rattle.mds_keeper.proofs.BookFacts.{form_in_book, head_in_book, head_of_book, head_of_row, row_in_book, row_of_book}
 use Rattle.mds_keeper.proofs.Rows.{member_get, row_found, same_some}
 use Rattle.std.proofs.lemmas.Option.{get_or_from_slice_get, slice_get_within}
 use Rattle.mds_keeper.proofs.BookPlaces.{before_end, member_at, no_row, place_of}
 use Rattle.mds_keeper.specs.BookPlaces.{EndsAt, StartsAt}
-use Rattle.mds_keeper.specs.BookRows.{AreVersionsOf, IsBefore, IsFormOfRows, unit_of}
+use Rattle.mds_keeper.specs.BookRows.{AreVersionsOf, HasIntervalOf, IsBefore, IsFormOfRows, unit_of}
 use Rattle.mds_keeper.specs.LentVersions.{lent_reading, reading_of}
 use Rattle.mds_keeper.specs.declared.day_book.Version.{Version}
 use Rattle.mds_keeper.specs.declared.lent_version.LentVersion.{LentVersion}
@@ -43,7 +45,7 @@ fold_max a (x ∷ xs) =
       ],
     )
 
-greatest_of : (xs : List ℕ) (m : ℕ) → Some m ≡ reduce max xs → Member m xs × ((x : ℕ) → Member x xs → x ≤ m)
+pub greatest_of : (xs : List ℕ) (m : ℕ) → Some m ≡ reduce max xs → Member m xs × ((x : ℕ) → Member x xs → x ≤ m)
 greatest_of [] m e = absurd cc
 greatest_of (x ∷ xs) m e =
     let f : m ≡ fold max x xs = cc in
@@ -56,7 +58,7 @@ greatest_of (x ∷ xs) m e =
       (λ y n. elim n [ inl g ↦ omega arith | inr k ↦ let h = r.1 y k in omega arith ]),
     )
 
--- The greatest update of all versions is that of the current ones, where all are of the form's length.
+-- The greatest update of all versions is that of the form, and so the latest of the current ones.
 pub latest_is : (book : BookValue) → IsLawful (book_world book) → (result : Option ℕ)
     → result ≡ reduce max (map (λ (row : ℕ × Version). row.1.update) book.rows)
     → IfSome result (λ update. (minutes : ℕ) (unit : MeasureUnit) → IsFormOf (book_world book) book.stream book.day minutes unit
@@ -66,21 +68,17 @@ latest_is book lawful (Some update) e = λ minutes unit form.
     let update_of : ℕ × Version → ℕ = λ row. row.1.update in
     let g = greatest_of (map update_of book.rows) update e in
     let r = in_map update_of book.rows update g.0 in
-    let same : r.0.1.length ≡ minutes = row_of_form book lawful minutes unit form r.0 r.1 in
-    record {
-      held = (
-        r.0.0,
-        r.0.1.reading,
-        record {
-          held = subst (λ k. VersionIs k r.0.1.reading ∈ book_world book)
-              (λ i. key_at book.stream book.day (same i) r.0.0 (sym r.2 i)) (row_in_book book r.0 r.1);
-          greatest = λ other of_other h.
-              g.1 other (map_in update_of book.rows _ (row_of_book book minutes r.0.0 other of_other h));
-        },
-      );
-      greatest = λ interval other reading h.
-          g.1 other (map_in update_of book.rows _ (row_of_book book minutes interval other reading h.held));
-    }
+    let h = head_of_row book lawful r.0 r.1 in
+    let k = head_of_book book form.0 form.1.held.0 in
+    let at : update ≡ r.0.1.update = r.2 in
+    let up : r.0.1.update ≤ form.0.update =
+    form.1.greatest (head_at book.stream book.day r.0.1.update r.0.1.length h.0) (head_in_book book r.0 r.1 h.0 h.1, refl, refl) in
+    let down : k.3.1.update ≤ update = g.1 k.3.1.update (map_in update_of book.rows k.3 k.4) in
+    let of_head : k.3.1.update ≡ form.0.update = k.6 in
+    let same : form.0.update ≡ update = omega arith in
+    subst (λ u. IsLatest (book_world book) book.stream book.day minutes u) same
+    (subst (λ n. IsLatest (book_world book) book.stream book.day n form.0.update) form.2
+    (form_is_latest (book_world book) book.stream book.day form.0 lawful form.1))
 
 none_of : (xs : List ℕ) → None ≡ reduce max xs → (x : ℕ) → Member x xs → ⊥
 none_of [] e x m = m
@@ -202,8 +200,7 @@ module _ (book : BookValue) (lawful : IsLawful (book_world book)) (minutes : ℕ
   pub shown_none : (lent : Option LentVersion) → IsCurrentOf book minutes interval lent → IfNone lent ((size : ℕ) (other : MeasureUnit)
       → IsFormOf (book_world book) book.stream book.day size other → HasNoVersion (book_world book) book.stream book.day size interval)
   shown_none None is = λ size other too.
-      let same : minutes ≡ size = ap (λ (h : Head). h.length)
-      (lawful.agrees.one_head (head_at book.stream book.day minutes unit) (head_at book.stream book.day size other) form too refl refl) in
+      let same : minutes ≡ size = (one_size (book_world book) book.stream book.day minutes size unit other lawful.agrees form too).0 in
       subst (λ n. HasNoVersion (book_world book) book.stream book.day n interval) same is.none
   shown_none (Some version) is = tt
 
@@ -222,7 +219,7 @@ module _ (book : BookValue) (none : book.rows ≡ []) where
 
   pub unknown_form : (interval minutes : ℕ) (unit : MeasureUnit) → IsFormOf (book_world book) book.stream book.day minutes unit
       → HasNoVersion (book_world book) book.stream book.day minutes interval
-  unknown_form interval minutes unit form = absurd (unknown_book (head_at book.stream book.day minutes unit, form, refl, refl))
+  unknown_form interval minutes unit form = absurd (unknown_book (form_known (book_world book) book.stream book.day minutes unit form))
 
 -- a book's form
 pub form_some : (book : BookValue) (form : Option (ℕ × MeasureUnit)) → IsFormOfRows form book.rows → unit_of form ≡ book.unit
@@ -234,6 +231,23 @@ pub form_none : (book : BookValue) (form : Option (ℕ × MeasureUnit)) → IsFo
     → IfNone form (IsKnownDay (book_world book) book.stream book.day → ⊥)
 form_none book None is = unknown_book book is
 form_none book (Some form) is = tt
+
+-- a head of a lawful book has the interval where a row's length has it
+pub head_has : (book : BookValue) → IsLawful (book_world book) → (interval : ℕ)
+    → HasIntervalOf book.rows interval ↔ ((head : Head) × IsHeadOf (book_world book) book.stream book.day head
+    × (1 ≤ interval) × (interval ≤ count_of head.length))
+head_has book lawful interval = (
+  (λ has.
+      let h = head_of_row book lawful has.0 has.1 in (
+        head_at book.stream book.day has.0.1.update has.0.1.length h.0,
+        (head_in_book book has.0 has.1 h.0 h.1, refl, refl),
+        has.2,
+        has.3,
+      )),
+  (λ has.
+      let k = head_of_book book has.0 has.1.0 in
+      (k.3, k.4, has.2, subst (λ n. interval ≤ count_of n) (sym k.5) has.3)),
+)
 
 -- ---- the last version of an interval that has a length
 

@@ -16,7 +16,7 @@ use Rattle.mds_keeper.specs.BookOrder.{HasStep, IsInOrder, SameMembers, TwoReadi
 use Rattle.mds_keeper.proofs.BookPlaces.{member_at, no_row, place_of}
 use Rattle.mds_keeper.specs.declared.day_book.Version.{Version}
 
-lt_tells : (a b : ℕ) → ((ltb a b ≡ true) × (a < b)) ⊎ ((ltb a b ≡ false) × (b ≤ a))
+pub lt_tells : (a b : ℕ) → ((ltb a b ≡ true) × (a < b)) ⊎ ((ltb a b ≡ false) × (b ≤ a))
 lt_tells a b = elim (leb_tells (suc a) b) [
   | inl p ↦ inl (p.0, p.1)
   | inr p ↦ let h = p.1 in inr (p.0, omega arith)

@@ -1,33 +1,30 @@
--- When rows and a head make a day's book.
-use Rattle.std.specs.Prelude.{◌≡◌, ◌⊎◌, ◌≤◌, ◌==◌, ℕ, Bool, true, false, List, [], ◌∷◌, length, Option, Some, None, is_some, not, refl}
+-- When rows and a unit make a day's book.
+use Rattle.std.specs.Prelude.{◌≡◌, ◌⊎◌, ◌≤◌, ◌==◌, ℕ, Bool, true, false, List, [], ◌∷◌, length, map, max, Option, Some, None, is_some, not, refl}
 use Rattle.std.specs.Bool.{MatchBool}
-use Rattle.std.specs.List.{AllPairs}
+use Rattle.std.specs.List.{AllPairs, reduce}
 use Rattle.std.proofs.Common.{sym, ap, ◌∙◌, subst, inl, inr, arith}
 use Rattle.std.proofs.lemmas.Bool.Decides.{eqb_tells}
 use Rattle.mds_quantity.specs.declared.unit.Unit.{Unit as MeasureUnit}
 use Rattle.mds_names.specs.declared.stream.Stream.{Stream}
+use Rattle.mds_world.proofs.Lists.{in_map, map_in}
 use Rattle.mds_world.specs.Lists.{Member}
 use Rattle.mds_world.specs.World.{IsLawful, World}
 use Rattle.mds_keeper.specs.Books.{BookValue, IsDay, book_world}
-use Rattle.mds_keeper.proofs.BookFacts.{lawful_book, lawful_day, no_misfit, one_reading, same_rows}
+use Rattle.mds_keeper.proofs.BookFacts.{lawful_book, lawful_day, no_misfit, one_minutes, one_reading, same_rows}
+use Rattle.mds_keeper.proofs.BookReads.{greatest_of}
 use Rattle.std.specs.FinSet as set
-use Rattle.std.proofs.lemmas.Bool.{cases_lt}
-use Rattle.mds_keeper.specs.BookRows.{AreWithin, Fits, IsBefore, IsBook, IsFormOfRows, IsOneOutside, Misfits, OneLength, TwoLengths, unit_of}
+use Rattle.mds_keeper.specs.BookRows.{AreWithin, Fits, IsBefore, IsBook, IsFormOfRows, IsLengthIn, IsOneOutside, Misfits, OneLength, TwoLengths, unit_of}
 use Rattle.mds_keeper.specs.BookOrder.{SameMembers, TwoReadings}
 use Rattle.mds_keeper.specs.declared.day_book.Version.{Version}
 use Rattle.mds_keeper.proofs.BookRowsMade.{one_each}
 
--- rows with a unit
+-- rows of one length under each update, with a unit
 pub fit_some : (known : Option MeasureUnit) (rows : List (ℕ × Version)) (unit : MeasureUnit) (r : Bool) → known ≡ Some unit
-    → AreWithin rows → MatchBool r (OneLength rows) (TwoLengths rows) → MatchBool r (Fits known rows) (Misfits known rows)
-fit_some known rows unit true e within one =
+    → OneLength rows → MatchBool r (AreWithin rows) (IsOneOutside rows) → MatchBool r (Fits known rows) (Misfits known rows)
+fit_some known rows unit true e one within =
     subst (λ (o : Option MeasureUnit). Fits o rows) (sym e) (one, within)
-fit_some known rows unit false e within two =
-    subst (λ (o : Option MeasureUnit). Misfits o rows) (sym e) (inl two)
-
-pub fit_out : (known : Option MeasureUnit) (rows : List (ℕ × Version)) (unit : MeasureUnit) → known ≡ Some unit → IsOneOutside rows
-    → Misfits known rows
-fit_out known rows unit e out = subst (λ (o : Option MeasureUnit). Misfits o rows) (sym e) (inr out)
+fit_some known rows unit false e one out =
+    subst (λ (o : Option MeasureUnit). Misfits o rows) (sym e) (inr out)
 
 -- rows without one
 pub fit_none : (known : Option MeasureUnit) (rows : List (ℕ × Version)) → known ≡ None
@@ -54,46 +51,53 @@ some_unit None true e t = cc
 some_unit None false e t = cc
 some_unit (Some unit) none e t = (unit, refl)
 
--- a row of the greatest update, where there is one
-pub latest_row : (row : ℕ × Version) (rows : List (ℕ × Version)) → (top : ℕ × Version) × Member top (row ∷ rows)
-    × ((other : ℕ × Version) → Member other (row ∷ rows) → other.1.update ≤ top.1.update)
-latest_row row [] = (row, inl refl, λ other m. elim m [ inl e ↦ same other row e | inr none ↦ absurd none ])
-  where
-    same : (a b : ℕ × Version) → a ≡ b → a.1.update ≤ b.1.update
-    same a b e = let u = ap (λ (x : ℕ × Version). x.1.update) e in omega arith
-latest_row row (next ∷ rows) =
-    let t = latest_row next rows in
-    elim (cases_lt t.0.1.update row.1.update) [
-      | inl above ↦ (
-        row,
-        inl refl,
-        λ other m. elim m [
-          | inl e ↦ let u = ap (λ (x : ℕ × Version). x.1.update) e in omega arith
-          | inr n ↦ let h = t.2 other n in omega arith
-        ],
-      )
-      | inr below ↦ (
-        t.0,
-        inr t.1,
-        λ other m. elim m [
-          | inl e ↦ let u = ap (λ (x : ℕ × Version). x.1.update) e in omega arith
-          | inr n ↦ t.2 other n
-        ],
-      )
-    ]
+-- ---- the form of rows
 
--- the length of rows of one length is that of a row of the greatest update
-pub form_of_rows : (rows : List (ℕ × Version)) (row : ℕ × Version) → Member row rows → (form : ℕ × MeasureUnit) → OneLength rows
-    → row.1.length ≡ form.0 → IsFormOfRows (Some form) rows
-form_of_rows [] row m form one e = absurd m
-form_of_rows (first ∷ rows) row m form one e =
-    let t = latest_row first rows in
-    (t.0, t.1, one t.0 row t.1 m ∙ e, t.2)
+module _ (rows : List (ℕ × Version)) where
+  abbrev update_of : ℕ × Version → ℕ
+  update_of row = row.1.update
+
+  -- the greatest update has a row, so it has a length
+  pub some_length : (update : ℕ) → Some update ≡ reduce max (map update_of rows) → IsLengthIn rows update None → ⊥
+  some_length update e none =
+      let r = in_map update_of rows update (greatest_of (map update_of rows) update e).0 in
+      none r.0 r.1 (sym r.2)
+
+  -- and that is the form's
+  pub form_of_length : (update : ℕ) → Some update ≡ reduce max (map update_of rows) → (form : ℕ × MeasureUnit)
+      → IsLengthIn rows update (Some form.0) → IsFormOfRows (Some form) rows
+  form_of_length update e form (row, m, of_update, same) = (
+    row,
+    m,
+    same,
+    (λ other n.
+        subst (λ u. other.1.update ≤ u) (sym of_update)
+        ((greatest_of (map update_of rows) update e).1 other.1.update (map_in update_of rows other n))),
+  )
+
+-- without one there is no row
+pub no_update : (rows : List (ℕ × Version)) → None ≡ reduce max (map (λ (row : ℕ × Version). row.1.update) rows) → rows ≡ []
+no_update [] e = refl
+no_update (row ∷ rows) e = cc
+
+pub no_unit_fits : (known : Option MeasureUnit) (rows : List (ℕ × Version)) → Fits known rows → known ≡ None → rows ≡ []
+no_unit_fits known rows fits e = subst (λ (o : Option MeasureUnit). Fits o rows) e fits
+
+-- ---- what no lawful World has
 
 -- no lawful World has a day with two readings of an interval and update
 pub two_refused : (book : BookValue) → TwoReadings book.rows → (w : World) → IsLawful w → IsDay w book → ⊥
 two_refused book (a, b, m, n, e, f, apart) w lawful day =
     apart (one_reading book (lawful_day w book lawful day) a b m n e f)
+
+-- or with two lengths under an update
+pub lengths_refused : (book : BookValue) → TwoLengths book.rows → (w : World) → IsLawful w → IsDay w book → ⊥
+lengths_refused book (a, b, m, n, e, other) w lawful day =
+    other (one_minutes book (lawful_day w book lawful day) a b m n e)
+
+-- two readings stay, however the rows lie
+pub readings_kept : (rows sorted : List (ℕ × Version)) → SameMembers rows sorted → TwoReadings sorted → TwoReadings rows
+readings_kept rows sorted same (a, b, m, n, e, f, apart) = (a, b, same.only a m, same.only b n, e, f, apart)
 
 module _ (stream : Stream) (day : ℕ) (unit : Option MeasureUnit) (rows sorted : List (ℕ × Version))
     (same : SameMembers rows sorted) where

@@ -8,9 +8,9 @@ use Rattle.std.specs.Ordering.{is_eq, nat_cmp, match_ordering}
 use Rattle.std.specs.declared.cmp.Ordering.{Ordering}
 use Rattle.std.specs.declared.cmp.Ordering.TheVariants.{Less, Equal, Greater}
 use Rattle.std.proofs.lemmas.Bool.Decides.{nat_tests}
-use Rattle.mds_marks.specs.Reading.{ReadingValue}
 use Rattle.mds_world.specs.Lists.{Member}
 use Rattle.mds_keeper.specs.ClaimedUpdates.{ComesBeside, entries_of}
+use Rattle.mds_keeper.specs.declared.claimed.ClaimedReadings.{ClaimedReadings}
 use Rattle.mds_keeper.specs.declared.claimed.ClaimedUpdate.{ClaimedUpdate}
 use Rattle.mds_keeper.proofs.Rows.{same_some}
 
@@ -64,32 +64,32 @@ module _ {V : Type 0} (cmp : ℕ → ℕ → Ordering) (key : ℕ) (order : (oth
       go Greater h rest = (e ∷ rest.0, rest.1, ap (λ l. e ∷ l) rest.2, ap (λ l. e ∷ l) rest.3)
 
 -- what is among the others is among all
-pub among_all : (first : Option ClaimedUpdate) (others : List (ℕ × Option (List ReadingValue))) (x : ℕ × Option (List ReadingValue))
+pub among_all : (first : Option ClaimedUpdate) (others : List (ℕ × ClaimedReadings)) (x : ℕ × ClaimedReadings)
     → Member x others → Member x (entries_of first others)
 among_all None others x m = m
 among_all (Some f) others x m = inr m
 
-module _ (first : Option ClaimedUpdate) (others all : List (ℕ × Option (List ReadingValue))) (is : entries_of first others ≡ all) (update : ℕ) where
+module _ (first : Option ClaimedUpdate) (others all : List (ℕ × ClaimedReadings)) (is : entries_of first others ≡ all) (update : ℕ) where
   module _ (row : ℕ → Ordering) (order : (other : ℕ) → row other ≡ nat_cmp update other) where
-    pub found : (r : Option (Bor (Option (List ReadingValue)))) → option_copied r ≡ lookup (λ k. is_eq (row k)) others
+    pub found : (r : Option (Bor ClaimedReadings)) → option_copied r ≡ lookup (λ k. is_eq (row k)) others
         → IfSome r (λ kept. Member (update, kept.now) all)
     found None got = tt
     found (Some kept) got =
         subst (Member (update, kept.now)) is (among_all first others _ (found_entry row update order others kept.now got))
 
-    pub missed : ((f : ClaimedUpdate) → first ≡ Some f → f.update ≢ update) → (r : Option (Bor (Option (List ReadingValue))))
+    pub missed : ((f : ClaimedUpdate) → first ≡ Some f → f.update ≢ update) → (r : Option (Bor ClaimedReadings))
         → option_copied r ≡ lookup (λ k. is_eq (row k)) others
-        → IfNone r ((kept : Option (List ReadingValue)) → Member (update, kept) all → ⊥)
+        → IfNone r ((kept : ClaimedReadings) → Member (update, kept) all → ⊥)
     missed apart (Some kept) got = tt
     missed apart None got = λ kept m. go kept first refl (subst (Member (update, kept)) (sym is) m)
       where
-        go : (kept : Option (List ReadingValue)) (o : Option ClaimedUpdate) → first ≡ o → Member (update, kept) (entries_of o others) → ⊥
+        go : (kept : ClaimedReadings) (o : Option ClaimedUpdate) → first ≡ o → Member (update, kept) (entries_of o others) → ⊥
         go kept None e n = absent_entry row update order others got _ n refl
         go kept (Some f) e (inl same) = apart f e (sym (ap (λ x. x.0) same))
         go kept (Some f) e (inr n) = absent_entry row update order others got _ n refl
 
-  pub inserted : (cmp : ℕ → ℕ → Ordering) → ((other : ℕ) → cmp update other ≡ nat_cmp update other) → (v : Option (List ReadingValue))
-      → ((kept : Option (List ReadingValue)) → Member (update, kept) all → ⊥) → (next : List (ℕ × Option (List ReadingValue)))
+  pub inserted : (cmp : ℕ → ℕ → Ordering) → ((other : ℕ) → cmp update other ≡ nat_cmp update other) → (v : ClaimedReadings)
+      → ((kept : ClaimedReadings) → Member (update, kept) all → ⊥) → (next : List (ℕ × ClaimedReadings))
       → next ≡ insert_entry cmp others update v → ComesBeside all (entries_of first next) (update, v)
   inserted cmp order v absent next put =
       subst (λ l. ComesBeside l (entries_of first next) (update, v)) is
@@ -100,4 +100,4 @@ module _ (first : Option ClaimedUpdate) (others all : List (ℕ × Option (List 
       go : (o : Option ClaimedUpdate) → ComesBeside others (insert_entry cmp others update v) (update, v)
           → ComesBeside (entries_of o others) (entries_of o (insert_entry cmp others update v)) (update, v)
       go None p = p
-      go (Some f) p = ((f.update, f.readings) ∷ p.0, p.1, ap (λ l. (f.update, f.readings) ∷ l) p.2, ap (λ l. (f.update, f.readings) ∷ l) p.3)
+      go (Some f) p = ((f.update, f.kept) ∷ p.0, p.1, ap (λ l. (f.update, f.kept) ∷ l) p.2, ap (λ l. (f.update, f.kept) ∷ l) p.3)

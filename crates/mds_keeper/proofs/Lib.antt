@@ -8,6 +8,7 @@ pub mod ClaimedEntries
 pub mod KeptReadings
 pub mod Planned
 pub mod Rows
+pub mod RowsByUpdate
 pub mod RowsMoved
 pub mod Settled
 pub mod Taken

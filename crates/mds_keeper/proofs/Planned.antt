@@ -20,7 +20,7 @@ use Rattle.mds_world.specs.Sets.{◌∈◌}
 use Rattle.mds_world.specs.Stated.{day_facts}
 use Rattle.mds_world.specs.World.{Agrees, IsLawful, World, union}
 use Rattle.mds_keeper.specs.Books.{BookValue, book_world}
-use Rattle.mds_keeper.specs.Content.{content, content_facts, details_of, job_fact, period_fact, version_fact, versions_of}
+use Rattle.mds_keeper.specs.Content.{content, content_facts, details_of, heads_of, job_fact, period_fact, version_fact, versions_of}
 use Rattle.mds_keeper.specs.DayMerges.{AreAscending, DayMergeValue, IfRefused, IsPlan, Settles}
 use Rattle.mds_keeper.specs.Merge.{Breaks, IsRefusal, claim_facts, claim_world, claims_upto, claims_world}
 use Rattle.mds_keeper.specs.declared.additions.Additions.{Additions}
@@ -33,7 +33,8 @@ use Rattle.mds_keeper.proofs.Rows.{member_get}
 
 agrees_sub : (a b : World) → ((f : Fact) → f ∈ a → f ∈ b) → Agrees b → Agrees a
 agrees_sub a b s g = record {
-  one_head = λ x y i j. g.one_head x y (s _ i) (s _ j);
+  one_length = λ x y i j. g.one_length x y (s _ i) (s _ j);
+  one_unit = λ x y i j. g.one_unit x y (s _ i) (s _ j);
   one_reading = λ key x y i j. g.one_reading key x y (s _ i) (s _ j);
   one_content = λ key x y i j. g.one_content key x y (s _ i) (s _ j);
 }
@@ -208,9 +209,9 @@ nil_map f [] e = refl
 nil_map f (x ∷ xs) e = cc
 
 added_facts : (d : DayMergeValue) (old new : Additions) (counts : MergeCounts) (s : Settles d old new counts) → content_facts old ≡ []
-    → (content_facts new ≡ map HeadIs s.heads ++ map version_fact s.versions) × (versions_of new.days.items ≡ s.versions)
+    → (content_facts new ≡ map HeadIs (s.first ++ s.further) ++ map version_fact s.versions) × (versions_of new.days.items ≡ s.versions)
 added_facts d old new counts s e =
-    let H = map HeadIs old.heads.items in
+    let H = map HeadIs (heads_of old) in
     let V = map version_fact (versions_of old.days.items) in
     let D = map DetailIs (details_of old.details.items) in
     let E = map EventIs old.events.items in
@@ -222,22 +223,25 @@ added_facts d old new counts s e =
     let e4 : ((H ++ V) ++ D) ++ E ≡ [] = nil_left (((H ++ V) ++ D) ++ E) P e5 in
     let e3 : (H ++ V) ++ D ≡ [] = nil_left ((H ++ V) ++ D) E e4 in
     let e2 : H ++ V ≡ [] = nil_left (H ++ V) D e3 in
-    let hs : old.heads.items ≡ [] = nil_map HeadIs old.heads.items (nil_left H V e2) in
+    let hs : heads_of old ≡ [] = nil_map HeadIs (heads_of old) (nil_left H V e2) in
+    let ns : old.new_days.items ≡ [] = nil_left old.new_days.items old.heads.items hs in
+    let fs : old.heads.items ≡ [] = nil_right old.new_days.items old.heads.items hs in
     let vs : versions_of old.days.items ≡ [] = nil_map version_fact (versions_of old.days.items) (nil_right H V e2) in
     let ds : details_of old.details.items ≡ [] = nil_map DetailIs (details_of old.details.items) (nil_right (H ++ V) D e3) in
     let es : old.events.items ≡ [] = nil_map EventIs old.events.items (nil_right ((H ++ V) ++ D) E e4) in
     let ps : old.periods.items ≡ [] = nil_map period_fact old.periods.items (nil_right (((H ++ V) ++ D) ++ E) P e5) in
     let ls : old.holidays.items ≡ [] = nil_map HolidayIs old.holidays.items (nil_right ((((H ++ V) ++ D) ++ E) ++ P) L e6) in
     let js : old.jobs.items ≡ [] = nil_map job_fact old.jobs.items (nil_right (((((H ++ V) ++ D) ++ E) ++ P) ++ L) J e) in
-    let h : new.heads.items ≡ s.heads = s.more_heads ∙ ap (λ l. l ++ s.heads) hs in
+    let n : new.new_days.items ≡ s.first = s.more_first ∙ ap (λ l. l ++ s.first) ns in
+    let h : new.heads.items ≡ s.further = s.more_heads ∙ ap (λ l. l ++ s.further) fs in
     let v : versions_of new.days.items ≡ s.versions = s.more_versions ∙ ap (λ l. l ++ s.versions) vs in
     let x : details_of new.details.items ≡ [] = ap (λ k. details_of k.items) s.same_details ∙ ds in
     let y : new.events.items ≡ [] = ap (λ k. k.items) s.same_events ∙ es in
     let p : new.periods.items ≡ [] = ap (λ k. k.items) s.same_periods ∙ ps in
     let z : new.holidays.items ≡ [] = ap (λ k. k.items) s.same_holidays ∙ ls in
     let w : new.jobs.items ≡ [] = ap (λ k. k.items) s.same_jobs ∙ js in
-    let N = map HeadIs s.heads ++ map version_fact s.versions in (
-      (λ i. map HeadIs (h i) ++ map version_fact (v i) ++ map DetailIs (x i) ++ map EventIs (y i) ++ map period_fact (p i)
+    let N = map HeadIs (s.first ++ s.further) ++ map version_fact s.versions in (
+      (λ i. map HeadIs (n i ++ h i) ++ map version_fact (v i) ++ map DetailIs (x i) ++ map EventIs (y i) ++ map period_fact (p i)
           ++ map HolidayIs (z i) ++ map job_fact (w i))
           ∙ append-nil ((((N ++ []) ++ []) ++ []) ++ []) ∙ append-nil (((N ++ []) ++ []) ++ []) ∙ append-nil ((N ++ []) ++ []) ∙ append-nil (N ++ []) ∙ append-nil N,
       v,
@@ -258,11 +262,11 @@ planned b claims i d is low high old new settled none s = record {
     absent = λ f m h. (in_difference total exact d.said (book_world b) f (subst (λ w. f ∈ w) added (list_in (content_facts new) f m))).1 h;
   };
   counted = ap length facts.1 ∙ sym (length-map s.versions version_fact)
-      ∙ sym (len_list (map version_fact s.versions) (apart_tail (map HeadIs s.heads) (map version_fact s.versions) s.apart))
+      ∙ sym (len_list (map version_fact s.versions) (apart_tail (map HeadIs (s.first ++ s.further)) (map version_fact s.versions) s.apart))
       ∙ ap set.len counts ∙ ap (λ w. set.len (set.difference (countable w) (countable (book_world b)))) all;
 }
   where
-    facts : (content_facts new ≡ map HeadIs s.heads ++ map version_fact s.versions) × (versions_of new.days.items ≡ s.versions)
+    facts : (content_facts new ≡ map HeadIs (s.first ++ s.further) ++ map version_fact s.versions) × (versions_of new.days.items ≡ s.versions)
     facts = added_facts d old new settled s none
 
     all : d.said ≡ claims_world b.stream b.day claims
@@ -294,16 +298,16 @@ planned b claims i d is low high old new settled none s = record {
         let p = in_map version_fact s.versions f n in
         let one : is_counted f ≡ true = ap is_counted p.2 in
         let w = in_difference total exact d.said (book_world b) f (subst (λ w. f ∈ w) (s.just ∙ ap (λ x. set.difference d.said (book_world x)) is.book)
-        (list_in (map HeadIs s.heads ++ map version_fact s.versions) f (append_right f (map HeadIs s.heads) (map version_fact s.versions) n))) in
+        (list_in (map HeadIs (s.first ++ s.further) ++ map version_fact s.versions) f (append_right f (map HeadIs (s.first ++ s.further)) (map version_fact s.versions) n))) in
         difference_in total exact _ _ f (retain_in total exact d.said is_counted f w.0 one)
         (λ h. w.1 (in_retain total exact (book_world b) is_counted f h).0))
         (λ f m.
         let w = in_difference total exact _ _ f m in
         let c = in_retain total exact d.said is_counted f w.0 in
         let out : set.contains (book_world b) f ≢ true = λ h. w.1 (retain_in total exact (book_world b) is_counted f h c.1) in
-        let n = in_list (map HeadIs s.heads ++ map version_fact s.versions) f (subst (λ x. f ∈ x)
+        let n = in_list (map HeadIs (s.first ++ s.further) ++ map version_fact s.versions) f (subst (λ x. f ∈ x)
         (sym (s.just ∙ ap (λ x. set.difference d.said (book_world x)) is.book)) (difference_in total exact d.said (book_world b) f c.0 out)) in
-        list_in (map version_fact s.versions) f (elim (member_append f (map HeadIs s.heads) (map version_fact s.versions) n) [
-          | inl k ↦ let p = in_map HeadIs s.heads f k in let z : is_counted f ≡ false = ap is_counted p.2 in let y = c.1 in cc
+        list_in (map version_fact s.versions) f (elim (member_append f (map HeadIs (s.first ++ s.further)) (map version_fact s.versions) n) [
+          | inl k ↦ let p = in_map HeadIs (s.first ++ s.further) f k in let z : is_counted f ≡ false = ap is_counted p.2 in let y = c.1 in cc
           | inr k ↦ k
         ]))

@@ -1,5 +1,5 @@
 -- A walk down the rows of a book, side by side with the readings of a claim.
-use Rattle.std.proofs.Common.{◌≡◌, ◌≢◌, ℕ, suc, ◌+◌, ◌<◌, ◌≤◌, List, [], ◌∷◌, ◌++◌, ◌-◌, length, take, take_all, drop, get_or, Option, Some, refl, sym, ap, ◌∙◌, subst, inl, inr, arith, drop-cons, length-append}
+use Rattle.std.proofs.Common.{◌≡◌, ◌≢◌, ℕ, suc, ◌+◌, ◌<◌, ◌≤◌, List, [], ◌∷◌, ◌++◌, ◌-◌, length, take, take_all, drop, get_or, Some, refl, sym, ap, ◌∙◌, subst, inl, inr, arith, drop-cons, length-append}
 use Rattle.std.specs.Prelude.{Bool, true, false, cond, Ok, Err, IsTrue, ◌↔◌}
 use Rattle.std.specs.List.{AllPairs, slice_get}
 use Rattle.std.proofs.lemmas.Bool.{cases_lt}
@@ -13,8 +13,9 @@ use Rattle.mds_world.specs.World.{Agrees, IsLawful}
 use Rattle.mds_keeper.specs.Books.{BookValue, book_world}
 use Rattle.mds_keeper.specs.BookRows.{IsBefore}
 use Rattle.mds_keeper.specs.ClaimedUpdates.{ComesBeside}
-use Rattle.mds_keeper.specs.Claims.{Suits, fresh_all, fresh_versions, held_all, held_count, is_held, key_of}
+use Rattle.mds_keeper.specs.Claims.{Entry, Suits, fresh_all, fresh_versions, held_all, held_count, is_held, key_of}
 use Rattle.mds_keeper.specs.DayMergeSteps.{AreCounts, AreHeld, AreOfLength, IsFrom, claimed_entries, claimed_readings, row_of}
+use Rattle.mds_keeper.specs.declared.claimed.ClaimedReadings.{ClaimedReadings}
 use Rattle.mds_keeper.specs.declared.day_book.Version.{Version}
 use Rattle.mds_keeper.proofs.BookFacts.{one_minutes, row_in_book, row_of_book}
 use Rattle.mds_keeper.proofs.BookPlaces.{place_of}
@@ -286,7 +287,7 @@ pub other_length : (b : BookValue) → IsLawful (book_world b) → (minutes size
 other_length b lawful minutes size interval update held reading there other =
     is_false (is_held b minutes update interval reading) (λ here. other
     (one_minutes b lawful (row_of size interval update held) (row_of minutes interval update reading)
-    (row_of_book b size interval update held there) (row_of_book b minutes interval update reading here)))
+    (row_of_book b size interval update held there) (row_of_book b minutes interval update reading here) refl))
 
 -- a book that has a reading of this length has this one where they are the same
 pub held_is : (b : BookValue) → IsLawful (book_world b) → (minutes size interval update : ℕ) (held reading : ReadingValue)
@@ -342,46 +343,47 @@ one_or_other b minutes update interval (r ∷ rs) = go (is_held b minutes update
     go true h = omega arith
     go false h = omega arith
 
-module _ (b : BookValue) (minutes update : ℕ) (kept : Option (List ReadingValue)) where
-  held_beside : (front back : List (ℕ × Option (List ReadingValue)))
-      → held_all b minutes (claimed_entries b (front ++ (update, kept) ∷ back))
-      ≡ held_all b minutes (claimed_entries b (front ++ back)) + held_count b minutes update 1 (claimed_readings b update kept)
+module _ (b : BookValue) (update : ℕ) (kept : ClaimedReadings) where
+  held_beside : (front back : List (ℕ × ClaimedReadings))
+      → held_all b (claimed_entries b (front ++ (update, kept) ∷ back))
+      ≡ held_all b (claimed_entries b (front ++ back)) + held_count b kept.length update 1 (claimed_readings b update kept.readings)
   held_beside [] back = omega arith
   held_beside (e ∷ front) back = let rest = held_beside front back in omega arith
 
-  fresh_beside : (front back : List (ℕ × Option (List ReadingValue)))
-      → length (fresh_all b minutes (claimed_entries b (front ++ (update, kept) ∷ back)))
-      ≡ length (fresh_all b minutes (claimed_entries b (front ++ back))) + length (fresh_versions b minutes update 1 (claimed_readings b update kept))
+  fresh_beside : (front back : List (ℕ × ClaimedReadings))
+      → length (fresh_all b (claimed_entries b (front ++ (update, kept) ∷ back)))
+      ≡ length (fresh_all b (claimed_entries b (front ++ back))) + length (fresh_versions b kept.length update 1 (claimed_readings b update kept.readings))
   fresh_beside [] back =
-      length-append (fresh_versions b minutes update 1 (claimed_readings b update kept)) (fresh_all b minutes (claimed_entries b back)) ∙ omega arith
+      length-append (fresh_versions b kept.length update 1 (claimed_readings b update kept.readings)) (fresh_all b (claimed_entries b back)) ∙ omega arith
   fresh_beside (e ∷ front) back =
       let rest = fresh_beside front back in
-      let l = length-append (fresh_versions b minutes e.0 1 (claimed_readings b e.0 e.1)) (fresh_all b minutes (claimed_entries b (front ++ (update, kept) ∷ back))) in
-      let m = length-append (fresh_versions b minutes e.0 1 (claimed_readings b e.0 e.1)) (fresh_all b minutes (claimed_entries b (front ++ back))) in
+      let here : List _ = fresh_versions b e.1.length e.0 1 (claimed_readings b e.0 e.1.readings) in
+      let l = length-append here (fresh_all b (claimed_entries b (front ++ (update, kept) ∷ back))) in
+      let m = length-append here (fresh_all b (claimed_entries b (front ++ back))) in
       omega arith
 
-  pub counts_more : (es later : List (ℕ × Option (List ReadingValue))) → ComesBeside es later (update, kept)
-      → (rs : List ReadingValue) → claimed_readings b update kept ≡ rs
-      → (held fresh one other all_held all_fresh : ℕ) → AreCounts b minutes (claimed_entries b es) held fresh
-      → one ≡ held_count b minutes update 1 rs → one + other ≡ length rs → all_held ≡ held + one → all_fresh ≡ fresh + other
-      → AreCounts b minutes (claimed_entries b later) all_held all_fresh
+  pub counts_more : (es later : List (ℕ × ClaimedReadings)) → ComesBeside es later (update, kept)
+      → (rs : List ReadingValue) → claimed_readings b update kept.readings ≡ rs
+      → (held fresh one other all_held all_fresh : ℕ) → AreCounts b (claimed_entries b es) held fresh
+      → one ≡ held_count b kept.length update 1 rs → one + other ≡ length rs → all_held ≡ held + one → all_fresh ≡ fresh + other
+      → AreCounts b (claimed_entries b later) all_held all_fresh
   counts_more es later put rs same held fresh one other all_held all_fresh c is split h f =
-      let both = one_or_other b minutes update 1 (claimed_readings b update kept) in
-      let p : held ≡ held_all b minutes (claimed_entries b (put.0 ++ put.1)) = c.held_are ∙ ap (λ l. held_all b minutes (claimed_entries b l)) put.2 in
-      let q : fresh ≡ length (fresh_all b minutes (claimed_entries b (put.0 ++ put.1))) =
-      c.fresh_are ∙ ap (λ l. length (fresh_all b minutes (claimed_entries b l))) put.2 in
-      let one_is : one ≡ held_count b minutes update 1 (claimed_readings b update kept) = is ∙ ap (held_count b minutes update 1) (sym same) in
-      let all : one + other ≡ length (claimed_readings b update kept) = split ∙ ap length (sym same) in
+      let both = one_or_other b kept.length update 1 (claimed_readings b update kept.readings) in
+      let p : held ≡ held_all b (claimed_entries b (put.0 ++ put.1)) = c.held_are ∙ ap (λ l. held_all b (claimed_entries b l)) put.2 in
+      let q : fresh ≡ length (fresh_all b (claimed_entries b (put.0 ++ put.1))) =
+      c.fresh_are ∙ ap (λ l. length (fresh_all b (claimed_entries b l))) put.2 in
+      let one_is : one ≡ held_count b kept.length update 1 (claimed_readings b update kept.readings) =
+      is ∙ ap (held_count b kept.length update 1) (sym same) in
+      let all : one + other ≡ length (claimed_readings b update kept.readings) = split ∙ ap length (sym same) in
       record {
-        held_are = (let z : all_held ≡ held_all b minutes (claimed_entries b (put.0 ++ (update, kept) ∷ put.1)) = omega (arith, held_beside put.0 put.1) in z)
-            ∙ ap (λ l. held_all b minutes (claimed_entries b l)) (sym put.3);
-        fresh_are = (let z : all_fresh ≡ length (fresh_all b minutes (claimed_entries b (put.0 ++ (update, kept) ∷ put.1))) = omega (arith, fresh_beside put.0 put.1) in z)
-            ∙ ap (λ l. length (fresh_all b minutes (claimed_entries b l))) (sym put.3);
+        held_are = (let z : all_held ≡ held_all b (claimed_entries b (put.0 ++ (update, kept) ∷ put.1)) = omega (arith, held_beside put.0 put.1) in z)
+            ∙ ap (λ l. held_all b (claimed_entries b l)) (sym put.3);
+        fresh_are = (let z : all_fresh ≡ length (fresh_all b (claimed_entries b (put.0 ++ (update, kept) ∷ put.1))) = omega (arith, fresh_beside put.0 put.1) in z)
+            ∙ ap (λ l. length (fresh_all b (claimed_entries b l))) (sym put.3);
       }
 
-pub counts_same : (b : BookValue) (minutes : ℕ) (es later : List (ℕ × List ReadingValue)) (held fresh : ℕ) → later ≡ es → AreCounts b minutes es held fresh
-    → AreCounts b minutes later held fresh
-counts_same b minutes es later held fresh e c = subst (λ l. AreCounts b minutes l held fresh) (sym e) c
+pub counts_same : (b : BookValue) (es later : List Entry) (held fresh : ℕ) → later ≡ es → AreCounts b es held fresh → AreCounts b later held fresh
+counts_same b es later held fresh e c = subst (λ l. AreCounts b l held fresh) (sym e) c
 
-pub counts_none : (b : BookValue) (minutes : ℕ) (es : List (ℕ × List ReadingValue)) → es ≡ [] → AreCounts b minutes es 0 0
-counts_none b minutes es e = subst (λ l. AreCounts b minutes l 0 0) (sym e) (record { held_are = refl; fresh_are = refl })
+pub counts_none : (b : BookValue) (es : List Entry) → es ≡ [] → AreCounts b es 0 0
+counts_none b es e = subst (λ l. AreCounts b l 0 0) (sym e) (record { held_are = refl; fresh_are = refl })

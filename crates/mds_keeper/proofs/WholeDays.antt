@@ -1,19 +1,18 @@
 -- A day's book that has one version of each interval, all under one update.
-use Rattle.std.proofs.Common.{◌≡◌, ◌≢◌, ℕ, zero, suc, ◌+◌, ◌<◌, ◌≤◌, List, [], ◌∷◌, length, get_or, Option, Some, None, refl, sym, ap, ◌∙◌, subst, inl, inr, arith}
+use Rattle.std.proofs.Common.{◌≡◌, ◌≢◌, ◌↔◌, ℕ, zero, suc, ◌+◌, ◌<◌, ◌≤◌, List, [], ◌∷◌, length, get_or, Option, Some, None, refl, sym, ap, ◌∙◌, subst, inl, inr, arith}
 use Rattle.std.specs.Prelude.{cond, true, IfNone, IfSome, Ok, Err}
 use Rattle.std.specs.List.{AllPairs, slice_get}
 use Rattle.std.proofs.lemmas.Option.{slice_get_cases, slice_get_read}
 use Rattle.mds_quantity.specs.declared.unit.Unit.{Unit as MeasureUnit}
 use Rattle.mds_marks.specs.Reading.{ReadingValue}
 use Rattle.mds_world.specs.Current.{HasNoVersion, IsFormOf, IsLatest}
-use Rattle.mds_world.specs.Facts.{head_at}
 use Rattle.mds_world.specs.Facts.Fact.{VersionIs}
 use Rattle.mds_world.specs.Lists.{Member}
 use Rattle.mds_world.specs.Sets.{◌∈◌}
-use Rattle.mds_world.specs.World.{IsCurrent, IsLawful}
+use Rattle.mds_world.specs.World.{IsCurrent}
 use Rattle.mds_keeper.specs.Books.{BookValue, book_world}
 use Rattle.mds_calendar.specs.Length.{count_of}
-use Rattle.mds_keeper.specs.BookRows.{AreVersionsOf, Fits, IsBefore, IsFormOfRows}
+use Rattle.mds_keeper.specs.BookRows.{AreVersionsOf, Fits, HasIntervalOf, IsBefore, IsFormOfRows}
 use Rattle.mds_keeper.specs.Claims.{Contradicts, IsFirst, IsLengthUnder, Suits, held_count, is_held, key_of}
 use Rattle.mds_keeper.specs.Content.{whole_rows}
 use Rattle.mds_keeper.specs.DayMergeSteps.{AreAsMany, AreHeld, AreOfLength, row_of}
@@ -21,7 +20,7 @@ use Rattle.mds_keeper.specs.KeptRows.{AreWhole}
 use Rattle.mds_keeper.specs.LentVersions.{IsUnder, lent_reading}
 use Rattle.mds_keeper.specs.declared.day_book.Version.{Version}
 use Rattle.mds_keeper.specs.declared.lent_version.LentVersion.{LentVersion}
-use Rattle.mds_keeper.proofs.BookFacts.{head_of_book, row_in_book, row_of_book, row_of_form}
+use Rattle.mds_keeper.proofs.BookFacts.{head_of_book, row_in_book, row_of_book}
 use Rattle.mds_keeper.proofs.BookReads.{IsCurrentOf}
 use Rattle.mds_keeper.proofs.Rows.{get_below, same_some}
 
@@ -70,7 +69,7 @@ some_whole minutes update (r ∷ rs) some = omega arith
 pub fits_whole : (unit : MeasureUnit) (minutes update : ℕ) (rs : List ReadingValue) → AreWhole (Some (minutes, length rs))
     → Fits (Some unit) (whole_rows minutes update 1 rs)
 fits_whole unit minutes update rs (count, some) = (
-  (λ a b m n.
+  (λ a b m n e.
       let x = from_whole minutes update 1 rs a m in
       let y = from_whole minutes update 1 rs b n in
       ap (λ (x : ℕ × Version). x.1.length) x.3 ∙ sym (ap (λ (x : ℕ × Version). x.1.length) y.3)),
@@ -155,12 +154,20 @@ module _ (b : BookValue) (minutes update : ℕ) (rs : List ReadingValue) (is : b
   none_whole interval None u = has_none interval u.none
   none_whole interval (Some version) u = tt
 
+  -- all its rows are of its length, and so its form
+  form_of_whole : (size : ℕ) (unit : MeasureUnit) → IsFormOf (book_world b) b.stream b.day size unit → minutes ≡ size
+  form_of_whole size unit form =
+      let h = head_of_book b form.0 form.1.held.0 in
+      let n = from_whole minutes update 1 rs h.3 (subst (Member h.3) is h.4) in
+      sym (ap (λ (x : ℕ × Version). x.1.length) n.3) ∙ h.5 ∙ form.2
+
   -- so it is what is current of the form
-  pub current_of_whole : IsLawful (book_world b) → (size : ℕ) (unit : MeasureUnit) → IsFormOf (book_world b) b.stream b.day size unit
+  pub current_of_whole : (size : ℕ) (unit : MeasureUnit) → IsFormOf (book_world b) b.stream b.day size unit
       → (interval : ℕ) (lent : Option LentVersion) → IsUnder b interval update lent → IsCurrentOf b size interval lent
-  current_of_whole lawful size unit form interval None u = record { some = tt; none = none_whole interval None u size }
-  current_of_whole lawful size unit form interval (Some version) u =
-      let same : version.length ≡ size = row_of_form b lawful size unit form _ (row_of_book b version.length interval update (lent_reading version) u.some.1) in
+  current_of_whole size unit form interval None u = record { some = tt; none = none_whole interval None u size }
+  current_of_whole size unit form interval (Some version) u =
+      let same : version.length ≡ size =
+      (of_whole version.length interval update (lent_reading version) u.some.1).1 ∙ form_of_whole size unit form in
       record {
         some = (
           same,
@@ -169,6 +176,21 @@ module _ (b : BookValue) (minutes update : ℕ) (rs : List ReadingValue) (is : b
         );
         none = tt;
       }
+
+  -- it has just the intervals of its length
+  pub whole_has : 0 < length rs → (interval : ℕ) → ((1 ≤ interval) × (interval ≤ count_of minutes)) ↔ HasIntervalOf b.rows interval
+  whole_has some interval = (
+    (λ in_it. at_first rs some is in_it),
+    (λ has.
+        let n = from_whole minutes update 1 rs has.0 (subst (Member has.0) is has.1) in
+        (has.2, subst (λ l. interval ≤ count_of l) (ap (λ (x : ℕ × Version). x.1.length) n.3) has.3)),
+  )
+    where
+      at_first : (xs : List ReadingValue) → 0 < length xs → b.rows ≡ whole_rows minutes update 1 xs
+          → (1 ≤ interval) × (interval ≤ count_of minutes) → HasIntervalOf b.rows interval
+      at_first [] h e in_it = absurd (omega arith)
+      at_first (x ∷ xs) h e in_it =
+          (row_of minutes 1 update x, subst (Member (row_of minutes 1 update x)) (sym e) (inl refl), in_it.0, in_it.1)
 
   -- as many as are asked of the rows of its update
   pub as_many_whole : AreWhole (Some (minutes, length rs)) → (count : ℕ) → AreAsMany b update count → length rs ≡ count
@@ -189,7 +211,7 @@ module _ (b : BookValue) (minutes update : ℕ) (rs : List ReadingValue) (is : b
       1,
       (first rs whole.1).0,
       current_is size 1 update (first rs whole.1).0 refl
-          (subst (λ n. VersionIs (key_of b n 1 update) (first rs whole.1).0 ∈ book_world b) same (in_whole 0 (first rs whole.1).0 (first rs whole.1).1)),
+          (subst (λ n. VersionIs (key_of b n 1 update) (first rs whole.1).0 ∈ book_world b) (form_of_whole size unit form) (in_whole 0 (first rs whole.1).0 (first rs whole.1).1)),
     );
     greatest = λ interval other r c. let same = (of_whole size interval other r c.held).0 in omega arith;
   }
@@ -197,12 +219,6 @@ module _ (b : BookValue) (minutes update : ℕ) (rs : List ReadingValue) (is : b
       first : (xs : List ReadingValue) → 0 < length xs → (r : ReadingValue) × (slice_get xs 0 ≡ Some r)
       first [] h = absurd (omega arith)
       first (x ∷ xs) h = (x, refl)
-
-      same : minutes ≡ size
-      same =
-          let h = head_of_book b (head_at b.stream b.day size unit) form in
-          let n = from_whole minutes update 1 rs h.3 (subst (Member h.3) is h.4) in
-          sym (ap (λ (x : ℕ × Version). x.1.length) n.3) ∙ h.5
 
   -- the versions of an interval are one or none
   pub no_versions : (interval : ℕ) (rows : List (ℕ × Version)) → rows ≡ []

@@ -1,5 +1,6 @@
 -- The order of the rows of a day's book.
-use Rattle.std.specs.Prelude.{◌≡◌, ◌≢◌, ◌+◌, ◌<◌, ℕ, Bool, false, List, length, get_or}
+use Rattle.std.specs.Prelude.{◌≡◌, ◌≢◌, ◌+◌, ◌<◌, ◌≤◌, ℕ, Bool, true, false, cond, nat_eq, List, length, get_or}
+use Rattle.std.specs.List.{AllPairs}
 use Rattle.std.specs.Ordering.{is_lt, nat_cmp, ordering_then}
 use Rattle.std.specs.declared.cmp.Ordering.{Ordering}
 use Rattle.mds_world.specs.Lists.{Member}
@@ -31,3 +32,15 @@ IsInOrder rows = (k : ℕ) (d : ℕ × Version) → k + 1 < length rows
 abbrev pub HasStep : List (ℕ × Version) → Type 0
 HasStep rows = (k : ℕ) × (k + 1 < length rows)
     × ((d : ℕ × Version) → comes_before (get_or rows k d) (get_or rows (k + 1) d) ≡ false)
+
+-- no row has an earlier update than one before it
+abbrev pub AscendByUpdate : List (ℕ × Version) → Type 0
+AscendByUpdate rows = AllPairs (λ a b. a.1.update ≤ b.1.update) rows
+
+-- the one row has an earlier update than the other
+abbrev pub is_earlier : ℕ × Version → ℕ × Version → Bool
+is_earlier a b = is_lt (nat_cmp a.1.update b.1.update)
+
+-- the rows are of two updates, or of one length
+abbrev pub agrees : ℕ × Version → ℕ × Version → Bool
+agrees a b = cond (nat_eq a.1.update b.1.update) (nat_eq a.1.length b.1.length) true

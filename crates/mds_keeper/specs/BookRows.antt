@@ -30,13 +30,15 @@ pub record AreVersionsOf (w : World) (stream : Stream) (day interval : ℕ) (row
   pub here : All (λ row. row.0 ≡ interval) rows
   pub ascending : AllPairs (λ a b. a.1.update < b.1.update) rows
 
--- all rows are of one length
+-- rows of one update are of one length
 abbrev pub OneLength : List (ℕ × Version) → Type 0
-OneLength rows = (a b : ℕ × Version) → Member a rows → Member b rows → a.1.length ≡ b.1.length
+OneLength rows =
+    (a b : ℕ × Version) → Member a rows → Member b rows → a.1.update ≡ b.1.update → a.1.length ≡ b.1.length
 
--- two rows are of two lengths
+-- two rows of one update are of two lengths
 abbrev pub TwoLengths : List (ℕ × Version) → Type 0
-TwoLengths rows = (a b : ℕ × Version) × Member a rows × Member b rows × (a.1.length ≢ b.1.length)
+TwoLengths rows =
+    (a b : ℕ × Version) × Member a rows × Member b rows × (a.1.update ≡ b.1.update) × (a.1.length ≢ b.1.length)
 
 -- each row's interval is one of its length
 abbrev pub AreWithin : List (ℕ × Version) → Type 0
@@ -45,6 +47,16 @@ AreWithin rows = (row : ℕ × Version) → Member row rows → (1 ≤ row.0) ×
 -- that of one isn't
 abbrev pub IsOneOutside : List (ℕ × Version) → Type 0
 IsOneOutside rows = (row : ℕ × Version) × Member row rows × ((row.0 < 1) ⊎ (count_of row.1.length < row.0))
+
+-- it is one of the length of a row
+abbrev pub HasIntervalOf : List (ℕ × Version) → ℕ → Type 0
+HasIntervalOf rows interval = (row : ℕ × Version) × Member row rows × (1 ≤ interval) × (interval ≤ count_of row.1.length)
+
+-- it is the length of rows of an update, or there is no such row
+abbrev pub IsLengthIn : List (ℕ × Version) → ℕ → Option ℕ → Type 0
+IsLengthIn rows update None = (row : ℕ × Version) → Member row rows → row.1.update ≢ update
+IsLengthIn rows update (Some minutes) =
+    (row : ℕ × Version) × Member row rows × (row.1.update ≡ update) × (row.1.length ≡ minutes)
 
 -- rows of a day with this unit
 abbrev pub Fits : Option MeasureUnit → List (ℕ × Version) → Type 0

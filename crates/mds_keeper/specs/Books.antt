@@ -1,4 +1,4 @@
--- A day of a World: its unit and all its versions. Its head is that of its versions.
+-- A day of a World: its unit and all its versions. Its heads are those of its versions.
 use Rattle.std.specs.Prelude.{ℕ, List, [], ◌++◌, map, Option, Some, None}
 use Rattle.std.specs.FinSet as set
 use Rattle.mds_quantity.specs.declared.unit.Unit.{Unit as MeasureUnit}
@@ -16,9 +16,9 @@ pub record BookValue : Type 0 where
   pub unit : Option MeasureUnit
   pub rows : List (ℕ × Version)
 
--- the head that a row is under
+-- the head that a row is under: that of its update
 abbrev pub row_head : Stream → ℕ → MeasureUnit → ℕ × Version → Fact
-row_head stream day unit row = HeadIs (head_at stream day row.1.length unit)
+row_head stream day unit row = HeadIs (head_at stream day row.1.update row.1.length unit)
 
 -- that of each row, where the day is known
 abbrev pub head_facts : Stream → ℕ → Option MeasureUnit → List (ℕ × Version) → List Fact
@@ -36,7 +36,7 @@ book_facts book = head_facts book.stream book.day book.unit book.rows ++ map (ro
 abbrev pub book_world : BookValue → World
 book_world book = set.from_list (book_facts book)
 
--- The book has just the head and the versions that the World has of its day.
+-- The book has just the heads and the versions that the World has of its day.
 pub record IsDay (w : World) (book : BookValue) : Type 0 where
   pub whole : (f : Fact) → IsOn book.stream book.day f → f ∈ w → f ∈ book_world book
   pub only : (f : Fact) → f ∈ book_world book → f ∈ w

@@ -1,12 +1,12 @@
--- What was claimed of a day, as a list: each update, and its readings where they are kept (profile).
+-- What was claimed of a day, as a list: each update, its length, and its readings where they are kept (profile).
 use Rattle.std.specs.Prelude.{◌≡◌, ℕ, List, ◌∷◌, ◌++◌, Option, Some, None}
-use Rattle.mds_marks.specs.Reading.{ReadingValue}
+use Rattle.mds_keeper.specs.declared.claimed.ClaimedReadings.{ClaimedReadings}
 use Rattle.mds_keeper.specs.declared.claimed.ClaimedUpdate.{ClaimedUpdate}
 
 -- the first update, if there is one, and then the others
-abbrev pub entries_of : Option ClaimedUpdate → List (ℕ × Option (List ReadingValue)) → List (ℕ × Option (List ReadingValue))
+abbrev pub entries_of : Option ClaimedUpdate → List (ℕ × ClaimedReadings) → List (ℕ × ClaimedReadings)
 entries_of None others = others
-entries_of (Some first) others = (first.update, first.readings) ∷ others
+entries_of (Some first) others = (first.update, first.kept) ∷ others
 
 -- an entry more, somewhere among the others
 abbrev pub ComesBeside : {T : Type 0} → List T → List T → T → Type 0

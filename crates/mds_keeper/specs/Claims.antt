@@ -1,6 +1,6 @@
 -- What a claim says beside a day's book: which rule it breaks first, and which of its versions the book doesn't have.
-use Rattle.std.specs.Prelude.{◌≡◌, ◌≢◌, ℕ, ◌+◌, ◌<◌, ◌≤◌, Bool, cond, nat_eq, List, [], ◌∷◌, ◌++◌, length, Option, Some, None}
-use Rattle.std.specs.List.{slice_get}
+use Rattle.std.specs.Prelude.{◌≡◌, ◌≢◌, ℕ, ◌+◌, ◌<◌, ◌≤◌, Bool, cond, nat_eq, List, [], ◌∷◌, ◌++◌, length, Option, Some}
+use Rattle.std.specs.List.{list_any, slice_get}
 use Rattle.std.specs.FinSet as set
 use Rattle.mds_quantity.specs.declared.unit.Unit.{Unit as MeasureUnit}
 use Rattle.mds_marks.specs.Reading.{ReadingValue}
@@ -11,6 +11,7 @@ use Rattle.mds_world.specs.Facts.Fact.{VersionIs}
 use Rattle.mds_world.specs.Lists.{Member}
 use Rattle.mds_world.specs.Sets.{◌∈◌}
 use Rattle.mds_world.specs.World.{World}
+use Rattle.mds_keeper.specs.BookRows.{IsLengthIn}
 use Rattle.mds_keeper.specs.Books.{BookValue, book_world}
 use Rattle.mds_keeper.specs.declared.day_book.Version.{Version}
 use Rattle.mds_keeper.specs.declared.refusal.RefusalCode.{RefusalCode}
@@ -37,31 +38,47 @@ abbrev pub IsFirst : (ℕ → Type 0) → (ℕ → Type 0) → ℕ → Type 0
 IsFirst IsWrong IsRight interval =
     (k : ℕ) × (interval ≡ k + 1) × IsWrong k × ((j : ℕ) → j < k → IsRight j)
 
--- the rule that a claim's length and unit break where the day has others: on the length before the unit
-abbrev pub BreaksForm : Option (ℕ × MeasureUnit) → ℕ → MeasureUnit → RefusalCode → Type 0
-BreaksForm form length unit LengthConflict = (known : ℕ × MeasureUnit) × (form ≡ Some known) × (known.0 ≢ length)
-BreaksForm form length unit UnitConflict =
-    (known : ℕ × MeasureUnit) × (form ≡ Some known) × (known.0 ≡ length) × (known.1 ≢ unit)
-BreaksForm form length unit code = ⊥
+-- it is what is known, where something is
+abbrev pub SuitsKnown : {T : Type 0} → Option T → T → Type 0
+SuitsKnown known one = (other : _) → known ≡ Some other → other ≡ one
 
-abbrev pub SuitsForm : Option (ℕ × MeasureUnit) → ℕ → MeasureUnit → Type 0
-SuitsForm form length unit = (known : ℕ × MeasureUnit) → form ≡ Some known → known ≡ (length, unit)
+-- something else is known
+abbrev pub IsOther : {T : Type 0} → Option T → T → Type 0
+IsOther known one = (other : _) × (known ≡ Some other) × (other ≢ one)
 
--- it is the length of the rows of an update, or there is no such row
+-- The rule that a length and a unit break beside the length that is known, of an update or of a day, and the day's unit: on the length
+-- before the unit.
+abbrev pub BreaksHead : Option ℕ → Option MeasureUnit → ℕ → MeasureUnit → RefusalCode → Type 0
+BreaksHead known of_day length unit LengthConflict = IsOther known length
+BreaksHead known of_day length unit UnitConflict = SuitsKnown known length × IsOther of_day unit
+BreaksHead known of_day length unit code = ⊥
+
+abbrev pub SuitsHead : Option ℕ → Option MeasureUnit → ℕ → MeasureUnit → Type 0
+SuitsHead known of_day length unit = SuitsKnown known length × SuitsKnown of_day unit
+
+-- it is the length of the book's rows of an update, or there is no such row
 abbrev pub IsLengthUnder : BookValue → ℕ → Option ℕ → Type 0
-IsLengthUnder book update None = (row : ℕ × Version) → Member row book.rows → row.1.update ≢ update
-IsLengthUnder book update (Some minutes) =
-    (row : ℕ × Version) × Member row book.rows × (row.1.update ≡ update) × (row.1.length ≡ minutes)
+IsLengthUnder book update known = IsLengthIn book.rows update known
 
 -- the book has this reading of the interval under the update
 abbrev pub is_held : BookValue → ℕ → ℕ → ℕ → ReadingValue → Bool
 is_held book minutes update interval reading =
     set.contains (book_world book) (VersionIs (key_of book minutes interval update) reading)
 
--- the head that is claimed, where the book has no row
-abbrev pub fresh_heads : BookValue → Option (ℕ × MeasureUnit) → List Head
-fresh_heads book None = []
-fresh_heads book (Some form) = cond (nat_eq (length book.rows) 0) (head_at book.stream book.day form.0 form.1 ∷ []) []
+-- the readings that were claimed under an update, and their length
+abbrev pub Entry : Type 0
+Entry = ℕ × (ℕ × List ReadingValue)
+
+-- a row is of the update
+abbrev pub has_update : ℕ → List (ℕ × Version) → Bool
+has_update update rows = list_any (λ row. nat_eq row.1.update update) rows
+
+-- the heads of updates that were claimed of which the book has no row
+abbrev pub fresh_heads : BookValue → MeasureUnit → List Entry → List Head
+fresh_heads book unit [] = []
+fresh_heads book unit (entry ∷ rest) =
+    cond (has_update entry.0 book.rows) (fresh_heads book unit rest)
+    (head_at book.stream book.day entry.0 entry.1.0 unit ∷ fresh_heads book unit rest)
 
 -- of an update's readings of a length, from an interval on, those that the book doesn't have, with where they stand
 abbrev pub fresh_versions : BookValue → ℕ → ℕ → ℕ → List ReadingValue → List (Key × ReadingValue)
@@ -77,15 +94,15 @@ held_count book minutes update interval [] = 0
 held_count book minutes update interval (reading ∷ rest) =
     cond (is_held book minutes update interval reading) 1 0 + held_count book minutes update (interval + 1) rest
 
--- of all updates that were claimed with a length
-abbrev pub fresh_all : BookValue → ℕ → List (ℕ × List ReadingValue) → List (Key × ReadingValue)
-fresh_all book minutes [] = []
-fresh_all book minutes (entry ∷ rest) = fresh_versions book minutes entry.0 1 entry.1 ++ fresh_all book minutes rest
+-- of all updates that were claimed
+abbrev pub fresh_all : BookValue → List Entry → List (Key × ReadingValue)
+fresh_all book [] = []
+fresh_all book (entry ∷ rest) = fresh_versions book entry.1.0 entry.0 1 entry.1.1 ++ fresh_all book rest
 
-abbrev pub held_all : BookValue → ℕ → List (ℕ × List ReadingValue) → ℕ
-held_all book minutes [] = 0
-held_all book minutes (entry ∷ rest) = held_count book minutes entry.0 1 entry.1 + held_all book minutes rest
+abbrev pub held_all : BookValue → List Entry → ℕ
+held_all book [] = 0
+held_all book (entry ∷ rest) = held_count book entry.1.0 entry.0 1 entry.1.1 + held_all book rest
 
 -- none has more readings than a day has minutes
-abbrev pub AreShort : List (ℕ × List ReadingValue) → Type 0
-AreShort claimed = (entry : ℕ × List ReadingValue) → Member entry claimed → length entry.1 ≤ 1440
+abbrev pub AreShort : List Entry → Type 0
+AreShort claimed = (entry : Entry) → Member entry claimed → length entry.1.1 ≤ 1440

@@ -7,6 +7,7 @@ use Rattle.mds_names.specs.declared.stream.Stream.{Stream}
 use Rattle.mds_jobs.specs.Jobs.{content_of}
 use Rattle.mds_jobs.specs.declared.job.Job.{Job}
 use Rattle.mds_world.specs.declared.facts.Detail.{Detail}
+use Rattle.mds_world.specs.declared.facts.Head.{Head}
 use Rattle.mds_world.specs.declared.facts.Key.{Key}
 use Rattle.mds_world.specs.Facts.{Fact, detail_at, key_at}
 use Rattle.mds_statements.specs.declared.periods.Period.{Period}
@@ -65,10 +66,14 @@ details_on details = map (detail_on details) details.days.items
 abbrev pub details_of : List DetailDays → List Detail
 details_of groups = flat_map details_on groups
 
+-- the heads: those of days that come new, and then the others
+abbrev pub heads_of : Additions → List Head
+heads_of additions = additions.new_days.items ++ additions.heads.items
+
 -- the facts of each list, one list after the other
 abbrev pub content_facts : Additions → List Fact
 content_facts additions =
-    map HeadIs additions.heads.items ++ map version_fact (versions_of additions.days.items)
+    map HeadIs (heads_of additions) ++ map version_fact (versions_of additions.days.items)
     ++ map DetailIs (details_of additions.details.items) ++ map EventIs additions.events.items
     ++ map period_fact additions.periods.items ++ map HolidayIs additions.holidays.items ++ map job_fact additions.jobs.items
 

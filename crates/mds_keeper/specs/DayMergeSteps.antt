@@ -1,5 +1,5 @@
--- What a merge holds, as a value.
-use Rattle.std.specs.Prelude.{◌≡◌, ◌⊎◌, ◌+◌, ◌≤◌, ℕ, cond, nat_eq, List, [], ◌∷◌, map, Option, Some, None, Result, IfErr, IfOk, OnOk, length, refl}
+-- What a merge holds, as a value, and what it puts behind additions.
+use Rattle.std.specs.Prelude.{◌≡◌, ◌≢◌, ◌⊎◌, ◌+◌, ◌≤◌, ℕ, Bool, true, false, cond, nat_eq, List, [], ◌∷◌, ◌++◌, map, Option, Some, None, IsNone, Result, IfErr, IfOk, OnOk, length, refl}
 use Rattle.std.specs.Coded.{Coded, code_by, coded×, coded_ℕ, coded_list, coded_option}
 use Rattle.std.specs.FinSet as set
 use Rattle.std.specs.FinSet.{code}
@@ -7,6 +7,8 @@ use Rattle.std.specs.List.{AllPairs, flat_map, slice_get}
 use Rattle.mds_calendar.specs.Length.{count_of}
 use Rattle.mds_quantity.specs.declared.unit.Unit.{Unit as MeasureUnit}
 use Rattle.mds_marks.specs.Reading.{ReadingValue}
+use Rattle.mds_world.specs.declared.facts.Head.{Head}
+use Rattle.mds_world.specs.declared.facts.Key.{Key}
 use Rattle.mds_world.specs.Facts.{Fact}
 use Rattle.mds_world.specs.Facts.Fact.{VersionIs}
 use Rattle.mds_world.specs.FactCodes.{coded_fact, coded_measure, coded_reading, coded_stream}
@@ -16,8 +18,11 @@ use Rattle.mds_world.specs.Stated.{day_facts}
 use Rattle.mds_world.specs.World.{Agrees, World, union}
 use Rattle.mds_keeper.specs.Books.{BookValue, book_world}
 use Rattle.mds_keeper.specs.BookRows.{IsBefore}
-use Rattle.mds_keeper.specs.Claims.{Contradicts, IsFirst, Suits, fresh_all, held_all, held_count, key_of}
+use Rattle.mds_keeper.specs.Claims.{Contradicts, Entry, IsFirst, IsLengthUnder, Suits, fresh_all, fresh_heads, held_all, held_count, key_of}
+use Rattle.mds_keeper.specs.Content.{versions_of}
 use Rattle.mds_keeper.specs.DayMerges.{DayMergeValue}
+use Rattle.mds_keeper.specs.declared.additions.Additions.{Additions}
+use Rattle.mds_keeper.specs.declared.claimed.ClaimedReadings.{ClaimedReadings}
 use Rattle.mds_keeper.specs.declared.day_book.Version.{Version}
 
 -- the readings that rows have under an update, by interval where the rows ascend
@@ -41,59 +46,97 @@ AreAsMany book update count =
 abbrev pub AreOfLength : BookValue → ℕ → ℕ → Type 0
 AreOfLength book minutes update = (row : ℕ × Version) → Member row book.rows → row.1.update ≡ update → row.1.length ≡ minutes
 
--- the length that a day has, where it is known or claimed
-abbrev pub minutes_in : Option (ℕ × MeasureUnit) → ℕ
-minutes_in None = 0
-minutes_in (Some form) = form.0
-
 -- the readings claimed under an update: where none are kept, those that the book has
 abbrev pub claimed_readings : BookValue → ℕ → Option (List ReadingValue) → List ReadingValue
 claimed_readings book update (Some readings) = readings
 claimed_readings book update None = readings_under update book.rows
 
-abbrev pub claimed_entry : BookValue → ℕ × Option (List ReadingValue) → ℕ × List ReadingValue
-claimed_entry book entry = (entry.0, claimed_readings book entry.0 entry.1)
+-- what was claimed under an update
+abbrev pub claimed_entry : BookValue → ℕ × ClaimedReadings → Entry
+claimed_entry book entry = (entry.0, (entry.1.length, claimed_readings book entry.0 entry.1.readings))
 
 -- the same of all updates that were claimed
-abbrev pub claimed_entries : BookValue → List (ℕ × Option (List ReadingValue)) → List (ℕ × List ReadingValue)
+abbrev pub claimed_entries : BookValue → List (ℕ × ClaimedReadings) → List Entry
 claimed_entries book claimed = map (claimed_entry book) claimed
 
--- where none are kept, the book has them
-abbrev pub AreInBook : BookValue → ℕ → List (ℕ × Option (List ReadingValue)) → Type 0
-AreInBook book minutes claimed = (update : ℕ) → Member (update, None) claimed → IsInBook book minutes update
+-- where none are kept, the book has them, with the length that was claimed
+abbrev pub AreInBook : BookValue → List (ℕ × ClaimedReadings) → Type 0
+AreInBook book claimed = (update : ℕ) (kept : ClaimedReadings) → Member (update, kept) claimed → IsNone kept.readings
+    → IsInBook book kept.length update
+
+-- each has a reading
+abbrev pub HaveReadings : List Entry → Type 0
+HaveReadings claimed = (entry : Entry) → Member entry claimed → 1 ≤ length entry.1.1
+
+-- It is the length that was claimed under an update. Or nothing was claimed under it, and it is that of the book's rows of the update.
+abbrev pub IsKnownLength : BookValue → List Entry → ℕ → Option ℕ → Type 0
+IsKnownLength book claimed update known =
+    ((entry : Entry) × Member entry claimed × (entry.0 ≡ update) × (known ≡ Some entry.1.0))
+    ⊎ (((entry : Entry) → Member entry claimed → entry.0 ≢ update) × IsLengthUnder book update known)
 
 -- what was claimed under an update; on which lines isn't kept
-abbrev pub claimed_facts : BookValue → ℕ × MeasureUnit → ℕ × List ReadingValue → List Fact
-claimed_facts book form entry = day_facts book.stream book.day form.0 form.1 entry.0 entry.1
+abbrev pub claimed_facts : BookValue → MeasureUnit → Entry → List Fact
+claimed_facts book unit entry = day_facts book.stream book.day entry.1.0 unit entry.0 entry.1.1
 
 -- what was claimed, update by update
-abbrev pub all_claimed : BookValue → Option (ℕ × MeasureUnit) → List (ℕ × List ReadingValue) → World
+abbrev pub all_claimed : BookValue → Option MeasureUnit → List Entry → World
 all_claimed book None claimed = set.empty
-all_claimed book (Some form) claimed = set.from_list (flat_map (claimed_facts book form) claimed)
+all_claimed book (Some unit) claimed = set.from_list (flat_map (claimed_facts book unit) claimed)
 
-abbrev pub merge_value : BookValue → Option (ℕ × MeasureUnit) → List (ℕ × List ReadingValue) → DayMergeValue
-merge_value book form claimed = record {
+abbrev pub merge_value : BookValue → Option MeasureUnit → List Entry → DayMergeValue
+merge_value book unit claimed = record {
   book = book;
-  said = all_claimed book form claimed;
+  said = all_claimed book unit claimed;
 }
 
--- All agrees, each claim has a reading for each interval, no update comes twice, and the length and unit are those that
--- the book or a claim says.
-pub record IsDayMerge (book : BookValue) (form : Option (ℕ × MeasureUnit)) (claimed : List (ℕ × List ReadingValue)) : Type 0 where
-  pub agrees : Agrees (union (book_world book) (merge_value book form claimed).said)
-  pub whole : (known : ℕ × MeasureUnit) → form ≡ Some known → (entry : ℕ × List ReadingValue)
-      → Member entry claimed → length entry.1 ≡ count_of known.0
+-- All agrees, no update comes twice, and each claim has a reading for each interval of its length. The unit is that which the
+-- book or a claim says.
+pub record IsDayMerge (book : BookValue) (unit : Option MeasureUnit) (claimed : List Entry) : Type 0 where
+  pub agrees : Agrees (union (book_world book) (merge_value book unit claimed).said)
+  pub whole : (entry : Entry) → Member entry claimed → length entry.1.1 ≡ count_of entry.1.0
+  pub some : HaveReadings claimed
   pub once : Apart (map (λ entry. entry.0) claimed)
-  pub none : form ≡ None → claimed ≡ []
-  pub known : (row : ℕ × Version) → Member row book.rows → (unit : MeasureUnit) → book.unit ≡ Some unit → form ≡ Some (row.1.length, unit)
-  pub told : (known : ℕ × MeasureUnit) → form ≡ Some known
-      → ((row : ℕ × Version) × Member row book.rows × (row.1.length ≡ known.0) × (book.unit ≡ Some known.1))
-      ⊎ ((entry : ℕ × List ReadingValue) × Member entry claimed)
+  pub none : unit ≡ None → claimed ≡ []
+  pub known : (one : MeasureUnit) → book.unit ≡ Some one → unit ≡ Some one
+  pub told : (one : MeasureUnit) → unit ≡ Some one
+      → ((row : ℕ × Version) × Member row book.rows × (book.unit ≡ Some one)) ⊎ ((entry : Entry) × Member entry claimed)
 
 -- how many of the readings claimed the book has, and how many it doesn't
-pub record AreCounts (book : BookValue) (minutes : ℕ) (claimed : List (ℕ × List ReadingValue)) (held fresh : ℕ) : Type 0 where
-  pub held_are : held ≡ held_all book minutes claimed
-  pub fresh_are : fresh ≡ length (fresh_all book minutes claimed)
+pub record AreCounts (book : BookValue) (claimed : List Entry) (held fresh : ℕ) : Type 0 where
+  pub held_are : held ≡ held_all book claimed
+  pub fresh_are : fresh ≡ length (fresh_all book claimed)
+
+-- the head of an update that was claimed, where the book has no row of it
+abbrev pub fresh_head : BookValue → MeasureUnit → ℕ → ℕ → List Head
+fresh_head book unit update minutes = fresh_heads book unit ((update, (minutes, [])) ∷ [])
+
+-- the heads of all updates that were claimed of which the book has no row: where something was claimed there is a unit
+abbrev pub new_heads : BookValue → Option MeasureUnit → List Entry → List Head
+new_heads book None claimed = []
+new_heads book (Some unit) claimed = fresh_heads book unit claimed
+
+-- the first of the heads of a new day
+abbrev pub first_of : Bool → List Head → List Head
+first_of false heads = []
+first_of true [] = []
+first_of true (head ∷ rest) = head ∷ []
+
+-- the others: all, where the day isn't new
+abbrev pub further_of : Bool → List Head → List Head
+further_of false heads = heads
+further_of true [] = []
+further_of true (head ∷ rest) = rest
+
+-- Heads and versions are put behind what is to be added: of a new day the first head behind those of new days.
+pub record Gains (old new : Additions) (is_new_day : Bool) (heads : List Head) (versions : List (Key × ReadingValue)) : Type 0 where
+  pub more_first : new.new_days.items ≡ old.new_days.items ++ first_of is_new_day heads
+  pub more_heads : new.heads.items ≡ old.heads.items ++ further_of is_new_day heads
+  pub more_versions : versions_of new.days.items ≡ versions_of old.days.items ++ versions
+  pub same_details : new.details ≡ old.details
+  pub same_events : new.events ≡ old.events
+  pub same_periods : new.periods ≡ old.periods
+  pub same_holidays : new.holidays ≡ old.holidays
+  pub same_jobs : new.jobs ≡ old.jobs
 
 -- how many of an update's readings of a length the book has, or the first interval of which it has another
 pub record AreHeld (book : BookValue) (minutes update : ℕ) (readings : List ReadingValue) (result : Result ℕ ℕ) : Type 0 where

@@ -1,5 +1,5 @@
 -- A day's book with what lines claim of the day.
-use Rattle.std.specs.Prelude.{◌≡◌, ◌<◌, List, ◌++◌, map, length}
+use Rattle.std.specs.Prelude.{◌≡◌, ◌<◌, ◌≤◌, List, [], ◌++◌, map, length}
 use Rattle.std.specs.List.{AllPairs}
 use Rattle.std.specs.FinSet as set
 use Rattle.mds_marks.specs.Reading.{ReadingValue}
@@ -8,7 +8,7 @@ use Rattle.mds_world.specs.declared.facts.Key.{Key}
 use Rattle.mds_world.specs.Counts.{countable}
 use Rattle.mds_world.specs.Facts.Fact.{HeadIs}
 use Rattle.mds_world.specs.Lists.{Apart}
-use Rattle.mds_world.specs.World.{Agrees, World, union}
+use Rattle.mds_world.specs.World.{Agrees, IsKnownDay, World, union}
 use Rattle.mds_keeper.specs.Books.{BookValue, book_world}
 use Rattle.mds_keeper.specs.Content.{AreNew, content, version_fact, versions_of}
 use Rattle.mds_keeper.specs.declared.additions.Additions.{Additions}
@@ -40,19 +40,25 @@ pub record IsPlan (w said : World) (additions : Additions) : Type 0 where
   pub counted : length (versions_of additions.days.items) ≡ set.len (set.difference (countable said) (countable w))
 
 -- What a merge puts behind additions: heads and versions, each once, that are just what is claimed and isn't in the
--- book; how many versions these are, and how many of those claimed are in it.
+-- book. Of a day that isn't known one head comes first, behind those of new days. It tells how many versions these are, and how many of
+-- those claimed are in the book.
 pub record Settles (merge : DayMergeValue) (old new : Additions) (counts : MergeCounts) : Type 0 where
-  pub heads : List Head
+  pub first : List Head
+  pub further : List Head
   pub versions : List (Key × ReadingValue)
-  pub more_heads : new.heads.items ≡ old.heads.items ++ heads
+  pub one_first : length first ≤ 1
+  pub known_day : IsKnownDay (book_world merge.book) merge.book.stream merge.book.day → first ≡ []
+  pub new_day : (IsKnownDay (book_world merge.book) merge.book.stream merge.book.day → ⊥) → first ≡ [] → further ≡ []
+  pub more_first : new.new_days.items ≡ old.new_days.items ++ first
+  pub more_heads : new.heads.items ≡ old.heads.items ++ further
   pub more_versions : versions_of new.days.items ≡ versions_of old.days.items ++ versions
   pub same_details : new.details ≡ old.details
   pub same_events : new.events ≡ old.events
   pub same_periods : new.periods ≡ old.periods
   pub same_holidays : new.holidays ≡ old.holidays
   pub same_jobs : new.jobs ≡ old.jobs
-  pub apart : Apart (map HeadIs heads ++ map version_fact versions)
-  pub just : set.from_list (map HeadIs heads ++ map version_fact versions)
+  pub apart : Apart (map HeadIs (first ++ further) ++ map version_fact versions)
+  pub just : set.from_list (map HeadIs (first ++ further) ++ map version_fact versions)
       ≡ set.difference merge.said (book_world merge.book)
   pub added : counts.added ≡ length versions
   pub known : counts.known ≡ set.len (set.intersection (countable merge.said) (countable (book_world merge.book)))

@@ -20,13 +20,13 @@ use Rattle.mds_keeper.specs.declared.refusal.Refusal.{Refusal}
 use Rattle.mds_keeper.specs.declared.refusal.RefusalCode.{RefusalCode}
 use Rattle.mds_keeper.specs.declared.refusal.RefusalCode.TheVariants.{LengthConflict, UnitConflict, VersionConflict}
 
--- a day has two lengths
+-- a day has two lengths under one update
 abbrev pub HasTwoLengths : World → Type 0
 HasTwoLengths w =
     (a : Head) × (b : Head) × (HeadIs a ∈ w) × (HeadIs b ∈ w) × (a.stream ≡ b.stream) × (a.day ≡ b.day)
-    × (a.length ≢ b.length)
+    × (a.update ≡ b.update) × (a.length ≢ b.length)
 
--- a day has two units
+-- a day has two units, under whatever updates
 abbrev pub HasTwoUnits : World → Type 0
 HasTwoUnits w =
     (a : Head) × (b : Head) × (HeadIs a ∈ w) × (HeadIs b ∈ w) × (a.stream ≡ b.stream) × (a.day ≡ b.day)

@@ -135,6 +135,9 @@ pub struct DetailDays {
 /// What a change adds to each set that a World has.
 #[derive(Drop)]
 pub struct Additions {
+    /// The first head of each day that isn't known yet.
+    pub new_days: Vec<Head>,
+    /// The heads of further updates.
     pub heads: Vec<Head>,
     /// The versions. A day may stand there more than once.
     pub days: Vec<DayVersions>,
@@ -157,6 +160,7 @@ impl Additions {
         ensures { content_facts result ≡ [] }
     {
         Additions {
+            new_days: Vec::new(alloc),
             heads: Vec::new(alloc),
             days: Vec::new(alloc),
             details: Vec::new(alloc),

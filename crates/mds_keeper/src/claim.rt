@@ -8,8 +8,8 @@ use mds_runs::DayReadings;
 use mds_terms::{Length, Moment};
 use std::alloc::{AllocError, Global};
 
-/// What a line of a file claims of a day of a stream. It has the day's length of intervals and unit,
-/// and under an update the reading of each interval.
+/// What a line of a file claims of a day of a stream. It has the day's unit, and under an update the
+/// length of intervals and the reading of each.
 #[derive(Drop)]
 pub struct Claim {
     /// The number of the line, from 1.

@@ -1,21 +1,22 @@
 //! A day of a stream, with all its versions.
 
-ghost use Rattle.std.specs.Prelude.{◌≡◌, ◌≢◌, ◌<◌, ◌⊎◌, ℕ, [], length, max, map, IfSome, IfNone, IfOk, IsTrue, OnErr, Some};
+ghost use Rattle.std.specs.Prelude.{◌≡◌, ◌≢◌, ◌↔◌, ◌<◌, ◌≤◌, ◌⊎◌, ℕ, [], length, max, map, IfSome, IfNone, IfOk, IsTrue, OnErr, Some};
 ghost use Rattle.std.specs.Bool.{MatchBool};
 ghost use Rattle.std.specs.List.{AllPairs, reduce};
+ghost use Rattle.mds_calendar.specs.Length.{count_of};
 ghost use Rattle.mds_quantity.specs.declared.unit.Unit.{Unit as MeasureUnit};
-ghost use Rattle.mds_world.specs.Current.{HasNoVersion, IsDayReading, IsFormOf, IsLatest};
-ghost use Rattle.mds_world.specs.Lists.{Member};
+ghost use Rattle.mds_world.specs.Current.{HasNoVersion, IsDayReading, IsFormOf, IsHeadOf, IsLatest};
 ghost use Rattle.mds_world.specs.World.{World, IsCurrent, IsKnownDay, IsLawful};
 ghost use Rattle.mds_keeper.specs.Books.{BookValue, IsDay, book_world};
-ghost use Rattle.mds_keeper.specs.BookRows.{AreVersionsOf, AreWithin, Fits, IsBefore, IsFormOfRows, IsMade, IsOneOutside, Misfits, OneLength, TwoLengths, unit_of};
-ghost use Rattle.mds_keeper.specs.BookOrder.{HasStep, IsInOrder, SameMembers, TwoReadings, row_cmp};
+ghost use Rattle.mds_keeper.specs.BookRows.{AreVersionsOf, AreWithin, Fits, HasIntervalOf, IsBefore, IsFormOfRows, IsLengthIn, IsMade, IsOneOutside, Misfits, OneLength, TwoLengths, unit_of};
+ghost use Rattle.mds_keeper.specs.BookOrder.{AscendByUpdate, HasStep, IsInOrder, SameMembers, TwoReadings, agrees, row_cmp};
 ghost use Rattle.mds_keeper.specs.Claims.{IsLengthUnder};
 ghost use Rattle.mds_keeper.specs.BookPlaces.{EndsAt, StartsAt};
 ghost use Rattle.mds_keeper.specs.Content.{rows_of, whole_rows};
 ghost use Rattle.mds_keeper.specs.KeptRows.{AreWhole, lent_rows, lent_whole};
 ghost use Rattle.mds_keeper.specs.LentVersions.{IsUnder, lent_reading, reading_of};
 ghost use Rattle.mds_marks.specs.Reading.{ReadingValue};
+ghost use Rattle.mds_world.specs.declared.facts.Head.{Head};
 ghost use Rattle.mds_world.specs.Facts.{key_at};
 ghost use Rattle.mds_world.specs.Facts.Fact.{VersionIs};
 ghost use Rattle.mds_world.specs.Sets.{◌∈◌};
@@ -40,7 +41,7 @@ pub struct Version {
 }
 
 /// A day of a stream: its unit, where it is known, and all versions of its intervals, as a lawful
-/// World holds them. Its head is that of its versions.
+/// World holds them. Its heads are those of its versions.
 #[derive(Drop)]
 pub struct DayBook {
     stream: Stream,
@@ -67,8 +68,8 @@ impl Model for DayBook {
 impl DayBook {
     /// The day of a stream that has this unit, where it is known, and these versions, each with the
     /// number of its interval. `None` where no lawful World holds that as this day. Then there is a
-    /// version and no unit, or versions are of two lengths. Or an interval has two readings under one
-    /// update, or is 0 or above the count of its length.
+    /// version and no unit, or versions of one update are of two lengths. Or an interval has two
+    /// readings under one update, or is 0 or above the count of its length.
     pub fn new(
         stream: Stream,
         day: Day,
@@ -77,6 +78,10 @@ impl DayBook {
     ) -> Option<DayBook>
         ensures { IsMade (record { stream = stream; day = day; unit = unit; rows = versions.items }) result }
     {
+        let mut versions = versions;
+        if !have_one_length(&mut versions) {
+            return None;
+        }
         let Some(rows) = in_order(versions) else {
             return None;
         };
@@ -166,6 +171,27 @@ impl DayBook {
         // For the proof: what a book says is a lawful World.
         self.is_lawful();
         self.form
+    }
+
+    /// Its unit. `None` where the day isn't known.
+    pub fn unit(&self) -> Option<Unit>
+        ensures { result ≡ self.now.unit }
+    {
+        let (_, unit) = self.form?;
+        Some(unit)
+    }
+
+    /// Whether one of its heads has the interval: it is from 1 to the count of that head's length.
+    pub fn has_interval(&self, interval: u16) -> bool
+        ensures { IsTrue result ↔ ((head : Head) × IsHeadOf (book_world self.now) self.now.stream self.now.day head
+            × (1 ≤ interval) × (interval ≤ count_of head.length)) }
+    {
+        // For the proof: what a book says is a lawful World.
+        self.is_lawful();
+        match self.lent_rows() {
+            LentRows::Each(rows) => is_of_some(rows, interval),
+            LentRows::Whole(length, _, _) => is_of(length, interval),
+        }
     }
 
     /// The length under an update. `None` where it has no version under it.
@@ -339,7 +365,7 @@ fn last_of(rows: &[(u16, Version)], length: Length, interval: u16) -> Option<Len
 
 /// The length of the first row of an update.
 fn length_in(rows: &[(u16, Version)], update: Moment) -> Option<Length>
-    ensures { (book : BookValue) → book.rows ≡ rows.now → IsLengthUnder book update result }
+    ensures { IsLengthIn rows.now update result }
 {
     for row in rows {
         if row.1.update == update {
@@ -497,18 +523,70 @@ fn is_same(a: &(u16, Version), b: &(u16, Version)) -> bool
         && a.1.reading.is_same(&b.1.reading)
 }
 
-/// Whether rows that ascend are those of a day with this unit.
+/// Whether an interval is one of a length.
+fn is_of(length: Length, interval: u16) -> bool
+    ensures { IsTrue result ↔ ((1 ≤ interval) × (interval ≤ count_of length)) }
+{
+    0 < interval && usize::from(interval) <= length.count()
+}
+
+/// Whether an interval is one of the length of some row.
+fn is_of_some(rows: &[(u16, Version)], interval: u16) -> bool
+    ensures { IsTrue result ↔ HasIntervalOf rows.now interval }
+{
+    for row in rows {
+        if is_of(row.1.length, interval) {
+            return true;
+        }
+    }
+    false
+}
+
+/// Whether rows of one update are of one length. Rows of more than one length are put in the order of their updates for that.
+fn have_one_length(rows: &mut Vec<(u16, Version)>) -> bool
+    ensures members { SameMembers rows.old.items rows.new.items }
+    ensures lengths { MatchBool result (OneLength rows.old.items) (TwoLengths rows.old.items) }
+{
+    if are_of_one_length(rows) {
+        return true;
+    }
+    put_by_update(rows);
+    agree_with_next(rows)
+}
+
+/// Whether rows that ascend, those of one update of one length, are those of a day with this unit.
 fn fit(unit: Option<Unit>, rows: &[(u16, Version)]) -> bool
-    requires { AllPairs IsBefore rows.now }
+    requires { OneLength rows.now }
     ensures { MatchBool result (Fits unit rows.now) (Misfits unit rows.now) }
 {
     if unit.is_none() {
         return rows.is_empty();
     }
-    if !are_within(rows) {
-        return false;
-    }
-    are_of_one_length(rows)
+    are_within(rows)
+}
+
+/// Puts the rows in the order of their updates.
+fn put_by_update(rows: &mut Vec<(u16, Version)>)
+    ensures members { SameMembers rows.old.items rows.new.items }
+    ensures sorted { AscendByUpdate rows.new.items }
+{
+    rows.sort_unstable_by(|a, b| a.1.update.cmp(&b.1.update));
+}
+
+/// Whether rows in the order of their updates, those of one update, are of one length.
+fn agree_with_next(rows: &[(u16, Version)]) -> bool
+    requires { AscendByUpdate rows.now }
+    ensures { MatchBool result (OneLength rows.now) (TwoLengths rows.now) }
+{
+    // It asks of each row and the next.
+    rows.is_sorted_by(|a, b| agree(a, b))
+}
+
+/// Whether two rows are of two updates, or of one length.
+fn agree(a: &(u16, Version), b: &(u16, Version)) -> bool
+    ensures { result ≡ agrees a.now b.now }
+{
+    a.1.update != b.1.update || a.1.length == b.1.length
 }
 
 /// Whether the interval of each row is from 1 to the count of its length.
@@ -528,7 +606,7 @@ fn are_within(rows: &[(u16, Version)]) -> bool
 
 /// Whether all rows are of one length.
 fn are_of_one_length(rows: &[(u16, Version)]) -> bool
-    ensures { MatchBool result (OneLength rows.now) (TwoLengths rows.now) }
+    ensures { IsTrue result → OneLength rows.now }
 {
     let [first, ..] = rows else {
         return true;
@@ -541,15 +619,14 @@ fn are_of_one_length(rows: &[(u16, Version)]) -> bool
     true
 }
 
-/// The length of rows of one length, and the unit. `None` where there is no row.
+/// The length under the greatest update of rows, and the unit. `None` where there is no row.
 fn form_of(unit: Option<Unit>, rows: &[(u16, Version)]) -> Option<(Length, Unit)>
     requires { Fits unit rows.now }
     ensures form { IsFormOfRows result rows.now }
     ensures unit { (rows.now ≡ []) ⊎ (unit_of result ≡ unit) }
 {
-    let [first, ..] = rows else {
-        return None;
-    };
+    let update = greatest_update(rows)?;
+    let length = length_in(rows, update)?;
     let unit = unit?;
-    Some((first.1.length, unit))
+    Some((length, unit))
 }

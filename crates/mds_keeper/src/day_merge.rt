@@ -16,14 +16,14 @@ ghost use Rattle.mds_keeper.specs.Content.{versions_of, whole_rows};
 ghost use Rattle.mds_keeper.specs.declared.day_merge.Stop.TheVariants.{Memory, Refused};
 ghost use Rattle.mds_keeper.specs.declared.refusal.RefusalCode.TheVariants.{VersionConflict};
 ghost use Rattle.mds_keeper.specs.DayMerges.{DayMergeValue, AreAscending, IfRefused, IsPlan, Settles};
-ghost use Rattle.mds_keeper.specs.Claims.{IsFirst, BreaksForm, SuitsForm, AreShort, fresh_all, fresh_heads, fresh_versions, held_all, held_count, is_held, key_of};
-ghost use Rattle.mds_keeper.specs.DayMergeSteps.{AreAsMany, AreCounts, AreHeld, AreInBook, AreOfLength, IsFrom, IsInBook, claimed_entries, claimed_readings, minutes_in, readings_under, row_of};
+ghost use Rattle.mds_keeper.specs.Claims.{IsFirst, BreaksHead, SuitsHead, AreShort, fresh_all, fresh_versions, held_all, held_count, is_held, key_of};
+ghost use Rattle.mds_keeper.specs.DayMergeSteps.{AreAsMany, AreCounts, AreHeld, AreInBook, AreOfLength, Gains, HaveReadings, IsFrom, IsInBook, IsKnownLength, claimed_entries, claimed_readings, fresh_head, new_heads, readings_under, row_of};
 ghost use Rattle.mds_keeper.specs.Merge.{Breaks, IsRefusal, claim_world, claims_upto, claims_world};
 
 use crate::additions::{Additions, DayVersions, VersionRows};
 use crate::book_rows::LentRows;
 use crate::claim::Claim;
-use crate::claimed::{ClaimedUpdate, ClaimedUpdates};
+use crate::claimed::{ClaimedReadings, ClaimedUpdate, ClaimedUpdates};
 use crate::day_book::{DayBook, Version};
 use crate::refusal::{Refusal, RefusalCode};
 use mds_marks::Reading;
@@ -72,8 +72,8 @@ pub struct MergeCounts {
 #[derive(Drop)]
 pub struct DayMerge {
     book: DayBook,
-    /// The length and unit of the book, or of the first claim.
-    form: Option<(Length, Unit)>,
+    /// The unit of the book, or of the first claim.
+    unit: Option<Unit>,
     claimed: ClaimedUpdates,
     /// How many of the readings claimed the book has.
     held: u64,
@@ -83,35 +83,39 @@ pub struct DayMerge {
 
 impl Model for DayMerge {
     ghost use Rattle.mds_keeper.specs.DayMerges.{DayMergeValue};
-    ghost use Rattle.mds_keeper.specs.DayMergeSteps.{AreCounts, AreInBook, IsDayMerge, claimed_entries, coded_merge, merge_value, minutes_in};
+    ghost use Rattle.mds_keeper.specs.DayMergeSteps.{AreCounts, AreInBook, IsDayMerge, claimed_entries, coded_merge, merge_value};
 
     ghost Value = { DayMergeValue };
 
     ghost coded = { coded_merge };
 
-    ghost view = { λ d. merge_value d.book d.form (claimed_entries d.book d.claimed) };
+    ghost view = { λ d. merge_value d.book d.unit (claimed_entries d.book d.claimed) };
 
-    ghost invariant = { λ d. IsDayMerge d.book d.form (claimed_entries d.book d.claimed)
-        × AreInBook d.book (minutes_in d.form) d.claimed
-        × AreCounts d.book (minutes_in d.form) (claimed_entries d.book d.claimed) d.held d.fresh };
+    ghost invariant = { λ d. IsDayMerge d.book d.unit (claimed_entries d.book d.claimed)
+        × AreInBook d.book d.claimed
+        × AreCounts d.book (claimed_entries d.book d.claimed) d.held d.fresh };
 }
 
-/// The rule that a length and a unit break where a day has others (M1, M2): on the length before the
-/// unit.
+/// The rule that a length and a unit break (M1, M2). The length is held against the one that is known
+/// of an update or of a day, and then the unit against the day's.
 pub fn head_conflict(
-    form: Option<(Length, Unit)>,
+    known: Option<Length>,
+    of_day: Option<Unit>,
     length: Length,
     unit: Unit,
 ) -> Option<RefusalCode>
-    ensures some { IfSome result (BreaksForm form length unit) }
-    ensures none { IfNone result (SuitsForm form length unit) }
+    ensures some { IfSome result (BreaksHead known of_day length unit) }
+    ensures none { IfNone result (SuitsHead known of_day length unit) }
 {
-    let (known_length, known_unit) = form?;
-    if known_length != length {
-        return Some(RefusalCode::LengthConflict);
+    if let Some(other) = known {
+        if other != length {
+            return Some(RefusalCode::LengthConflict);
+        }
     }
-    if known_unit != unit {
-        return Some(RefusalCode::UnitConflict);
+    if let Some(other) = of_day {
+        if other != unit {
+            return Some(RefusalCode::UnitConflict);
+        }
     }
     None
 }
@@ -357,23 +361,33 @@ fn kept_of(book: &DayBook, update: Moment, held: u64, readings: DayReadings) -> 
     Some(readings)
 }
 
-/// Puts the head that was claimed behind the heads to be added, where a book has none.
+/// Puts the head of an update behind the heads to be added, where a book has no row of it. The first of
+/// a day that isn't known goes behind those of new days.
 fn settle_head(
     book: &DayBook,
-    form: Option<(Length, Unit)>,
-    heads: &mut Vec<Head>,
+    unit: Unit,
+    is_new_day: bool,
+    update: Moment,
+    length: Length,
+    additions: &mut Additions,
 ) -> Result<(), AllocError>
-    ensures { OnOk result (heads.new.items
-        ≡ heads.old.items ++ fresh_heads book.now form) }
+    ensures { OnOk result (Gains additions.old additions.new is_new_day (fresh_head book.now unit update length) []) }
 {
-    if let (None, Some((length, unit))) = (book.form(), form) {
-        heads.push(Head {
-            stream: book.stream(),
-            day: book.day(),
-            length,
-            unit,
-        })?;
+    if book.length_under(update).is_some() {
+        return Ok(());
     }
+    let head = Head {
+        stream: book.stream(),
+        day: book.day(),
+        update,
+        length,
+        unit,
+    };
+    if is_new_day {
+        additions.new_days.push(head)?;
+        return Ok(());
+    }
+    additions.heads.push(head)?;
     Ok(())
 }
 
@@ -432,85 +446,110 @@ fn settle_some(
     Ok(())
 }
 
-/// Puts the readings of an update that a book doesn't have behind the days to be added. Where none are kept, the book has them
-/// all. Where all that was claimed is new, nothing is looked up or copied.
+/// Puts the head of an update and those of its readings that a book doesn't have behind what is to be
+/// added. Where no readings are kept, the book has them all, and the head. Where all that was claimed
+/// is new, nothing is looked up or copied.
 fn settle_update(
     alloc: Global,
     book: &DayBook,
-    minutes: Length,
+    unit: Unit,
+    is_new_day: bool,
     are_new: bool,
     update: Moment,
-    kept: Option<DayReadings>,
-    days: &mut Vec<DayVersions>,
+    kept: ClaimedReadings,
+    additions: &mut Additions,
 ) -> Result<(), AllocError>
-    requires few { length (claimed_readings book.now update kept) ≤ 1440 }
-    requires kept { IsNone kept → IsInBook book.now minutes update }
-    requires new { IsTrue are_new → held_count book.now minutes update 1 (claimed_readings book.now update kept) ≡ 0 }
-    ensures { OnOk result (versions_of days.new.items
-        ≡ versions_of days.old.items ++ fresh_versions book.now minutes update 1 (claimed_readings book.now update kept)) }
+    requires few { length (claimed_readings book.now update kept.readings) ≤ 1440 }
+    requires some { 1 ≤ length (claimed_readings book.now update kept.readings) }
+    requires kept { IsNone kept.readings → IsInBook book.now kept.length update }
+    requires new { IsTrue are_new → held_count book.now kept.length update 1 (claimed_readings book.now update kept.readings) ≡ 0 }
+    ensures { OnOk result (Gains additions.old additions.new is_new_day (fresh_head book.now unit update kept.length)
+        (fresh_versions book.now kept.length update 1 (claimed_readings book.now update kept.readings))) }
 {
-    let Some(readings) = kept else {
+    let ClaimedReadings { length, readings } = kept;
+    let Some(readings) = readings else {
         return Ok(());
     };
+    settle_head(book, unit, is_new_day, update, length, additions)?;
     if are_new {
-        settle_whole(book, minutes, update, readings, days)
-    } else {
-        settle_some(alloc, book, minutes, update, &readings, days)
+        settle_whole(book, length, update, readings, &mut additions.days)?;
+        return Ok(());
     }
+    settle_some(alloc, book, length, update, &readings, &mut additions.days)?;
+    Ok(())
 }
 
-/// The same for updates that lie in a map.
+/// The same for updates that lie in a map, none of which is the first of a day that isn't known.
 fn settle_others(
     alloc: Global,
     book: &DayBook,
-    minutes: Length,
+    unit: Unit,
     are_new: bool,
-    claimed: BTreeMap<Moment, Option<DayReadings>>,
-    days: &mut Vec<DayVersions>,
+    claimed: BTreeMap<Moment, ClaimedReadings>,
+    additions: &mut Additions,
 ) -> Result<(), AllocError>
     requires short { AreShort (claimed_entries book.now claimed.entries) }
-    requires kept { AreInBook book.now minutes claimed.entries }
-    requires new { IsTrue are_new → held_all book.now minutes (claimed_entries book.now claimed.entries) ≡ 0 }
-    ensures { OnOk result (versions_of days.new.items
-        ≡ versions_of days.old.items ++ fresh_all book.now minutes (claimed_entries book.now claimed.entries)) }
+    requires some { HaveReadings (claimed_entries book.now claimed.entries) }
+    requires kept { AreInBook book.now claimed.entries }
+    requires new { IsTrue are_new → held_all book.now (claimed_entries book.now claimed.entries) ≡ 0 }
+    ensures { OnOk result (Gains additions.old additions.new false (new_heads book.now (Some unit) (claimed_entries book.now claimed.entries))
+        (fresh_all book.now (claimed_entries book.now claimed.entries))) }
 {
     for (update, kept) in claimed {
-        settle_update(alloc, book, minutes, are_new, update, kept, days)?;
+        settle_update(alloc, book, unit, false, are_new, update, kept, additions)?;
     }
     Ok(())
 }
 
-/// Puts the readings claimed that a book doesn't have behind the days to be added. So many are in the
-/// book and so many aren't: nothing is looked at where all are. Where something is claimed there is a form.
+/// Puts the heads and the readings claimed that a book doesn't have behind what is to be added. So many
+/// readings are in the book and so many aren't: nothing is looked at where all are. Where something is
+/// claimed there is a unit. A new day's book has no row.
 fn settle_fresh(
     alloc: Global,
     book: &DayBook,
-    form: &Option<(Length, Unit)>,
+    unit: Option<Unit>,
+    is_new_day: bool,
     claimed: ClaimedUpdates,
     held: u64,
     fresh: u64,
-    days: &mut Vec<DayVersions>,
+    additions: &mut Additions,
 ) -> Result<(), AllocError>
     requires short { AreShort (claimed_entries book.now claimed) }
-    requires kept { AreInBook book.now (minutes_in form.now) claimed }
-    requires counts { AreCounts book.now (minutes_in form.now) (claimed_entries book.now claimed) held fresh }
-    requires none { form.now ≡ None → claimed_entries book.now claimed ≡ [] }
-    ensures { OnOk result (versions_of days.new.items
-        ≡ versions_of days.old.items ++ fresh_all book.now (minutes_in form.now) (claimed_entries book.now claimed)) }
+    requires some { HaveReadings (claimed_entries book.now claimed) }
+    requires kept { AreInBook book.now claimed }
+    requires counts { AreCounts book.now (claimed_entries book.now claimed) held fresh }
+    requires none { unit ≡ None → claimed_entries book.now claimed ≡ [] }
+    requires new_day { IsTrue is_new_day → book.now.rows ≡ [] }
+    ensures { OnOk result (Gains additions.old additions.new is_new_day (new_heads book.now unit (claimed_entries book.now claimed))
+        (fresh_all book.now (claimed_entries book.now claimed))) }
 {
     if fresh == 0 {
         return Ok(());
     }
-    let Some((minutes, _)) = form else {
+    let Some(unit) = unit else {
         return Ok(());
     };
     let are_new = held == 0;
     let (first, others) = claimed.into_parts();
-    if let Some(first) = first {
-        let ClaimedUpdate { update, readings } = first;
-        settle_update(alloc, book, *minutes, are_new, update, readings, days)?;
+    let Some(first) = first else {
+        return Ok(());
+    };
+    let ClaimedUpdate { update, kept } = first;
+    settle_update(
+        alloc, book, unit, is_new_day, are_new, update, kept, additions,
+    )?;
+    settle_others(alloc, book, unit, are_new, others, additions)?;
+    Ok(())
+}
+
+/// The length under an update: that of what was claimed under it, or of what the book has.
+fn known_length(book: &DayBook, claimed: &ClaimedUpdates, update: Moment) -> Option<Length>
+    ensures { IsKnownLength book.now (claimed_entries book.now claimed.now) update result }
+{
+    match claimed.get(update) {
+        Some(kept) => Some(kept.length),
+        None => book.length_under(update),
     }
-    settle_others(alloc, book, *minutes, are_new, others, days)
 }
 
 impl DayMerge {
@@ -518,12 +557,13 @@ impl DayMerge {
     pub fn new(alloc: Global, book: DayBook) -> DayMerge
         ensures { result ≡ record { book = book; said = set.empty } }
     {
-        // For the proof: what a book says is a lawful World.
+        // For the proof: what a book says is a lawful World, and a book with a unit has a row.
         book.is_lawful();
-        let form = book.form();
+        book.form();
+        let unit = book.unit();
         DayMerge {
             book,
-            form,
+            unit,
             claimed: ClaimedUpdates::new(alloc),
             held: 0,
             fresh: 0,
@@ -555,13 +595,15 @@ impl DayMerge {
             update,
             readings,
         } = claim;
-        // For the proof: what a book says is a lawful World.
+        // For the proof: what a book says is a lawful World, and a day has intervals of each length.
         self.book.is_lawful();
-        if let Some(code) = head_conflict(self.form, length, unit) {
+        length.count();
+        let known = known_length(&self.book, &self.claimed, update);
+        if let Some(code) = head_conflict(known, self.unit, length, unit) {
             return Err(Stop::Refused(Refusal::at_line(code, line)));
         }
-        if let Some(claimed) = self.claimed.get(update) {
-            if let Some(interval) = difference(&self.book, update, claimed, &readings) {
+        if let Some(kept) = self.claimed.get(update) {
+            if let Some(interval) = difference(&self.book, update, &kept.readings, &readings) {
                 return Err(conflict(line, interval));
             }
             return Ok(());
@@ -578,9 +620,10 @@ impl DayMerge {
         let Some(all_fresh) = self.fresh.checked_add(fresh) else {
             return Err(Stop::Memory);
         };
-        let kept = kept_of(&self.book, update, held, readings);
-        self.claimed.insert(update, kept)?;
-        self.form = Some((length, unit));
+        let readings = kept_of(&self.book, update, held, readings);
+        self.claimed
+            .insert(update, ClaimedReadings { length, readings })?;
+        self.unit = Some(unit);
         self.held = all_held;
         self.fresh = all_fresh;
         Ok(())
@@ -592,22 +635,16 @@ impl DayMerge {
     {
         let DayMerge {
             book,
-            form,
+            unit,
             claimed,
             held,
             fresh,
         } = self;
         // For the proof: what a book says is a lawful World.
         book.is_lawful();
-        settle_head(&book, form, &mut additions.heads)?;
+        let is_new_day = book.form().is_none();
         settle_fresh(
-            alloc,
-            &book,
-            &form,
-            claimed,
-            held,
-            fresh,
-            &mut additions.days,
+            alloc, &book, unit, is_new_day, claimed, held, fresh, additions,
         )?;
         Ok(MergeCounts {
             added: fresh,

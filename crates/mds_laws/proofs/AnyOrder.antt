@@ -24,12 +24,21 @@ use Rattle.mds_messages.specs.declared.answer.Answer.{Answer}
 use Rattle.mds_messages.specs.declared.answer.Answer.TheVariants as told
 use Rattle.mds_service.specs.Machine.{ImportStep, Run, Step, fault_in, stated_in}
 use Rattle.mds_laws.specs.Answered.{IsGiven, answered, given}
-use Rattle.mds_laws.specs.AnyOrder.{AllAgree, EachIsTakenIn, IsImported, IsWellFormed, PartsEndAsTheWhole, SameFactsEndAlike, facts_in, statements_in, together}
+use Rattle.mds_laws.specs.AnyOrder.{AgreeByDay, AllAgree, EachIsTakenIn, IsImported, IsWellFormed, PartsEndAsTheWhole, SameFactsEndAlike, facts_in, statements_in, together}
 use Rattle.mds_laws.proofs.Answered.{all_given, unanswered_stand_aside}
 use Rattle.mds_laws.proofs.Conflicts.{breaks_none, union_within, upto_within}
 use Rattle.mds_laws.proofs.Kept.{counts_of_run, step_counts}
 use Rattle.mds_laws.proofs.Members.{none_in}
 use Rattle.mds_laws.proofs.Parts.{in_together, parts_state_the_whole}
+
+-- what agreed when a day had one length agrees
+pub agrees_as_before : (w : World) → AgreeByDay w → Agrees w
+agrees_as_before w by = record {
+  one_length = λ a b h k s d u. by.one_length a b h k s d;
+  one_unit = by.one_unit;
+  one_reading = by.one_reading;
+  one_content = by.one_content;
+}
 
 -- files of which every two agree, and with the World, agree as a whole
 module _ (w : World) (files : List Request) (agree : AllAgree w files) where

@@ -1,8 +1,7 @@
 -- Where a World agrees, no rule is broken.
 use Rattle.std.specs.Prelude.{◌≡◌, ◌⊎◌, ℕ, Bool, true, false, cond, List, [], ◌∷◌}
 use Rattle.std.specs.List.{filter}
-use Rattle.std.proofs.Common.{ap, inl, inr}
-use Rattle.mds_world.specs.declared.facts.Head.{Head}
+use Rattle.std.proofs.Common.{inl, inr}
 use Rattle.mds_world.specs.Facts.{Fact}
 use Rattle.mds_world.specs.Lists.{Member}
 use Rattle.mds_world.proofs.Members.{in_union, union_left, union_right}
@@ -16,10 +15,10 @@ use Rattle.mds_keeper.specs.declared.refusal.RefusalCode.TheVariants as code
 use Rattle.mds_laws.proofs.Members.{in_stated, stated_in}
 
 two_lengths : (w : World) → Agrees w → HasTwoLengths w → ⊥
-two_lengths w agrees (a, b, h, k, s, d, other) = other (ap (λ (x : Head). x.length) (agrees.one_head a b h k s d))
+two_lengths w agrees (a, b, h, k, s, d, u, other) = other (agrees.one_length a b h k s d u)
 
 two_units : (w : World) → Agrees w → HasTwoUnits w → ⊥
-two_units w agrees (a, b, h, k, s, d, other) = other (ap (λ (x : Head). x.unit) (agrees.one_head a b h k s d))
+two_units w agrees (a, b, h, k, s, d, other) = other (agrees.one_unit a b h k s d)
 
 two_readings : (w : World) (interval : ℕ) → Agrees w → HasTwoReadings w interval → ⊥
 two_readings w interval agrees (inl (key, a, b, h, k, at, other)) = other (agrees.one_reading key a b h k)

@@ -14,6 +14,7 @@ use Rattle.mds_world.specs.Counts.{added_by, countable, counted, is_counted}
 use Rattle.mds_world.specs.FactOrder.{exact, fact_cmp, total}
 use Rattle.mds_world.specs.Facts.{Fact}
 use Rattle.mds_world.specs.Facts.Fact.{HeadIs, VersionIs, PeriodIs, HolidayIs, JobIs}
+use Rattle.mds_world.proofs.Forms.{one_under}
 use Rattle.mds_world.proofs.Lists.{in_map}
 use Rattle.mds_world.specs.Lists.{Member}
 use Rattle.mds_world.proofs.Members.{in_list, in_union, len_list, list_in, same_by, union_left}
@@ -35,7 +36,7 @@ use Rattle.mds_service.specs.Machine.{ImportStep, Run, Step, TellsDay, TellsPeri
 use Rattle.mds_service.specs.RangeAnswers.{TellsExport, TellsFinals, TellsGaps}
 use Rattle.mds_service.specs.Substitution.{SubstituteStep, SuitsDay, head_of, job_world}
 use Rattle.mds_service.proofs.ListedWorld.{lawful_with_holidays}
-use Rattle.mds_service.proofs.Substituted.{lawful_with_job, suits_length}
+use Rattle.mds_service.proofs.Substituted.{lawful_with_job}
 use Rattle.mds_laws.specs.Kept.{AreUnaltered, CameBy, ComesBy, IsOfJob, came_in}
 use Rattle.mds_laws.proofs.Lawful.{lawful_with_file}
 use Rattle.mds_laws.proofs.Members.{none_in, versions_apart, versions_count, within}
@@ -146,7 +147,7 @@ module _ (old : World) (job : Job) (readings : List ReadingValue) (are : AreSubs
         target v.0 v.1 v.2,
         record {
           minutes = job.length;
-          of_day = suits_length old job suits;
+          of_day = suits.current;
           update = job.update;
           reading = v.1;
           held = subst (λ g. g ∈ old) v.3 h;
@@ -303,7 +304,8 @@ nothing_is_altered old new requests answers run lawful =
     let stays = law_stays old new requests answers run lawful in
     let agrees = stays.agrees in record {
       versions = λ key a b h k. agrees.one_reading key a b (keep (VersionIs key a) h) k;
-      heads = λ a b h k s d. agrees.one_head a b (keep (HeadIs a) h) k s d;
+      heads = λ a b h k s d u. one_under new a b agrees (keep (HeadIs a) h) k s d u;
+      units = λ a b h k s d. agrees.one_unit a b (keep (HeadIs a) h) k s d;
       periods = λ key a b h k. agrees.one_content key a b (keep (PeriodIs key a) h) k;
       jobs = λ id a b m n h k. stays.one_job id a b m n (keep (JobIs id a m) h) k;
     }

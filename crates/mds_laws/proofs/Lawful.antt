@@ -40,7 +40,7 @@ days_are_whole Nem12 text well =
 days_are_whole Nem13 text well = subst (All IsWholeDay) (sym (no_days text)) (All-nil IsWholeDay)
 
 abbrev head_of : DayStatement → Head
-head_of day = head_at day.stream day.date day.length day.unit
+head_of day = head_at day.stream day.date day.update day.length day.unit
 
 same_head : (x y : Head) → HeadIs x ≡ HeadIs y → x ≡ y
 same_head x y e = cc
@@ -129,7 +129,7 @@ module _ (w : World) (xs : List Statement) (sound : All IsWholeDay (days_of xs))
       let is = is_whole day m in
       let some : 0 < length day.readings = subst (λ n. 0 < n) (sym is.whole) (has_intervals day.length is.sized) in
       let v = first_version day some in
-      subst (HasVersion whole) (sym same) (1, day.update, v.0, more _ (DayOf day) m v.1)
+      subst (HasVersion whole) (sym same) (1, v.0, more _ (DayOf day) m v.1)
   versioned (DayOf day) head m (inr n) =
       let v = from_versions day.stream day.date day.length day.update 1 day.readings _ n in let e = v.3 in cc
   versioned (EventOf event) head m (inl e) = cc

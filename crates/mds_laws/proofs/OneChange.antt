@@ -134,13 +134,13 @@ module _ (w : World) (lawful : IsLawful w) (job : Job) where
           let both = both_done v u m n p q in (told_same a b _ _ e f both.0, both.1)
       by (inl (m, e, p)) (inr (inl (n, f, q))) = absurd (p.1 (content_of job) n q.1)
       by (inl (m, e, p)) (inr (inr (r, f, q))) =
-          absurd (done_not_stopped w job lawful.agrees p.3.0 r p.0 p.1 p.2 p.3.1 q.0)
+          absurd (done_not_stopped w job p.3.0 r p.0 p.1 p.2 p.3.1 q.0)
       by (inr (inl (m, e, p))) (inl (n, f, q)) = absurd (q.1 (content_of job) m p.1)
       by (inr (inl (m, e, p))) (inr (inl (n, f, q))) =
           (told_same a b _ _ e f (lawful.one_job job.id (content_of job) (content_of job) m n p.1 q.1).1, p.2 ∙ sym q.2)
       by (inr (inl (m, e, p))) (inr (inr (r, f, q))) = absurd (known_not_stopped w job m r lawful p.0 p.1 q.0)
       by (inr (inr (r, e, p))) (inl (n, f, q)) =
-          absurd (done_not_stopped w job lawful.agrees q.3.0 r q.0 q.1 q.2 q.3.1 p.0)
+          absurd (done_not_stopped w job q.3.0 r q.0 q.1 q.2 q.3.1 p.0)
       by (inr (inr (r, e, p))) (inr (inl (n, f, q))) = absurd (known_not_stopped w job n r lawful q.0 q.1 p.0)
       by (inr (inr (r, e, p))) (inr (inr (s, f, q))) =
-          (told_same a b _ _ e f (one_stop w job lawful.agrees r s p.0 q.0), p.1 ∙ sym q.1)
+          (told_same a b _ _ e f (one_stop w job r s p.0 q.0), p.1 ∙ sym q.1)

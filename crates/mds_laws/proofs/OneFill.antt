@@ -8,6 +8,7 @@ use Rattle.mds_calendar.proofs.Days.{weekday_later}
 use Rattle.mds_quantity.specs.Rounding.{IsRounded, line_times_steps}
 use Rattle.mds_quantity.proofs.Nearest.{only_one}
 use Rattle.mds_marks.specs.Reading.{ReadingValue}
+use Rattle.mds_world.proofs.Forms.{one_day_reading}
 use Rattle.mds_world.specs.Facts.{JobContent}
 use Rattle.mds_world.specs.Facts.Fact.{HolidayIs}
 use Rattle.mds_world.specs.Sets.{◌∈◌}
@@ -15,7 +16,6 @@ use Rattle.mds_world.specs.World.{Agrees, World}
 use Rattle.mds_fill.specs.Candidates.{IsCandidate, IsSunday}
 use Rattle.mds_fill.specs.Fills.{AreSubstitutes, Finds, IsCopied, IsFilled, IsLike, IsLikeValue, IsMean, IsNearestLike, IsOnLine, IsSubstitute, IsUsable, IsValueAfter, IsValueBefore, count_some, target_count, total}
 use Rattle.mds_laws.proofs.OneList.{one_by_places}
-use Rattle.mds_laws.proofs.ReturnedReadings.{one_shown}
 
 -- a week has one Sunday
 sunday_upto : (day place a b : ℕ) → a ≤ b → IsSunday a → IsSunday b → b + 7 * place < day → day ≤ a + 7 * place + 7 → a ≡ b
@@ -52,7 +52,7 @@ module _ (w : World) (agrees : Agrees w) (job : JobContent) where
   -- an interval has one value that may stand in
   one_usable : (day i : ℕ) (v u : ℤ) → IsUsable w job day i v → IsUsable w job day i u → v ≡ u
   one_usable day i v u a b =
-      let same = one_shown w job.stream day i a.reading b.reading agrees a.shown b.shown in
+      let same = one_day_reading w job.stream day i a.reading b.reading agrees a.shown b.shown in
       let e : Some v ≡ Some u = sym a.same ∙ ap (λ (x : ReadingValue). x.value) same ∙ b.same in cc
 
   one_like_value : (place i : ℕ) (v u : ℤ) → IsLikeValue w job place i v → IsLikeValue w job place i u → v ≡ u

@@ -1,16 +1,15 @@
 -- What becomes of a job is determined.
 use Rattle.std.specs.Prelude.{◌≡◌, ◌⊎◌, ℕ, ℤ, ◌+◌, ◌-◌, ◌<◌, ◌≤◌, List, [], ◌∷◌, length, get_or, slice_get, Option, Some, None}
-use Rattle.std.proofs.Common.{sym, ap, ◌∙◌, subst, inl, inr, arith, refl, suc}
+use Rattle.std.proofs.Common.{sym, ◌∙◌, subst, inl, inr, arith, refl, suc}
 use Rattle.std.proofs.lemmas.Option.{slice_get-get_or}
 use Rattle.std.proofs.Math.Nat.{le_antisymm}
 use Rattle.std.proofs.lemmas.Bool.{cases_lt}
 use Rattle.mds_marks.specs.Reading.{ReadingValue}
-use Rattle.mds_world.specs.declared.facts.Head.{Head}
 use Rattle.mds_world.specs.Current.{no_reading}
 use Rattle.mds_world.specs.Facts.{JobContent}
 use Rattle.mds_world.specs.Facts.Fact.{JobIs}
 use Rattle.mds_world.specs.Sets.{◌∈◌}
-use Rattle.mds_world.specs.World.{Agrees, IsLawful, World}
+use Rattle.mds_world.specs.World.{IsLawful, World}
 use Rattle.mds_jobs.specs.Jobs.{IsBad, content_of}
 use Rattle.mds_jobs.specs.declared.job.Job.{Job}
 use Rattle.mds_keeper.specs.declared.refusal.Refusal.{Refusal}
@@ -105,18 +104,15 @@ FromBad w job stop interval =
     ((stop ≡ code.BadJob) × IsBad (content_of job) × (interval ≡ 0))
     ⊎ ((IsBad (content_of job) → ⊥) × FromId w job stop interval)
 
--- a job that suits its day has its length and its unit, and a day has one length
+-- a job that suits its day has its length, now and under the job's update, and its unit
 no_other_length : (w : World) (job : Job) → SuitsDay w job → HasOtherLength w job → ⊥
-no_other_length w job suits (head, held, s, d, other) = other (ap (λ (h : Head). h.length) (suits head held s d))
+no_other_length w job suits (inl (length, unit, form, other)) = other (suits.current length unit form)
+no_other_length w job suits (inr (head, held, update, other)) = other (suits.under head held update)
 
 no_other_unit : (w : World) (job : Job) → SuitsDay w job → HasOtherUnit w job → ⊥
-no_other_unit w job suits (head, held, s, d, same, other) = other (ap (λ (h : Head). h.unit) (suits head held s d))
+no_other_unit w job suits (head, held, other) = other (suits.unit head held)
 
-one_conflict : (w : World) (job : Job) → Agrees w → HasOtherUnit w job → HasOtherLength w job → ⊥
-one_conflict w job agrees (a, h, s, d, same, unit) (b, k, t, e, other) =
-    other (ap (λ (x : Head). x.length) (agrees.one_head b a k h (t ∙ sym s) (e ∙ sym d)) ∙ same)
-
-module _ (w : World) (job : Job) (agrees : Agrees w) where
+module _ (w : World) (job : Job) where
   -- a rule of filling in stands behind all others
   filled : (stop : RefusalCode) (interval : ℕ)
       → (IsBad (content_of job) → ⊥) × IsNewJob w job × SuitsDay w job × IsFillFault w (content_of job) stop interval
@@ -134,8 +130,8 @@ module _ (w : World) (job : Job) (agrees : Agrees w) where
   by_job_rule code.JobReused interval (good, reused, zero) = inr (good, inl (refl, reused, zero))
   by_job_rule code.LengthConflict interval (good, fresh, other, zero) =
       inr (good, inr (fresh, inl (refl, other, zero)))
-  by_job_rule code.UnitConflict interval (good, fresh, other, zero) =
-      inr (good, inr (fresh, inr (one_conflict w job agrees other, inl (refl, other, zero))))
+  by_job_rule code.UnitConflict interval (good, fresh, one, other, zero) =
+      inr (good, inr (fresh, inr (one, inl (refl, other, zero))))
   by_job_rule code.VersionConflict interval fault = filled code.VersionConflict interval fault
   by_job_rule code.Protected interval fault = filled code.Protected interval fault
   by_job_rule code.StaleUpdate interval fault = filled code.StaleUpdate interval fault
@@ -229,14 +225,14 @@ some_target job good = elim (cases_lt job.last job.first) [
   | inr upto ↦ upto
 ]
 
-module _ (w : World) (job : Job) (agrees : Agrees w) where
+module _ (w : World) (job : Job) where
   pub done_not_stopped : (readings : List ReadingValue) (r : Refusal) → (IsBad (content_of job) → ⊥) → IsNewJob w job
       → SuitsDay w job → AreSubstitutes w (content_of job) readings → IsJobRefusal w job r → ⊥
   done_not_stopped readings r good fresh suits are is =
-      elim (by_job_rule w job agrees r.code r.interval is.fault) [
+      elim (by_job_rule w job r.code r.interval is.fault) [
         | inl x ↦ good x.1
         | inr x ↦ elim x.1 [
-          | inl y ↦ reused_new w job agrees y.1 fresh
+          | inl y ↦ reused_new w job y.1 fresh
           | inr y ↦ elim y.1 [
             | inl z ↦ no_other_length w job suits z.1
             | inr z ↦ elim z.1 [
@@ -251,7 +247,7 @@ module _ (w : World) (job : Job) (agrees : Agrees w) where
 pub known_not_stopped : (w : World) (job : Job) (count : ℕ) (r : Refusal) → IsLawful w → (IsBad (content_of job) → ⊥)
     → JobIs job.id (content_of job) count ∈ w → IsJobRefusal w job r → ⊥
 known_not_stopped w job count r lawful good held is =
-    elim (by_job_rule w job lawful.agrees r.code r.interval is.fault) [
+    elim (by_job_rule w job r.code r.interval is.fault) [
       | inl x ↦ good x.1
       | inr x ↦ elim x.1 [
         | inl y ↦

@@ -17,6 +17,7 @@ use Rattle.mds_terms.specs.TermOrder.{event_total}
 use Rattle.mds_statements.specs.declared.periods.Period.{Period}
 use Rattle.mds_statements.specs.declared.periods.PeriodKey.{PeriodKey}
 use Rattle.mds_world.proofs.Details.{one_details}
+use Rattle.mds_world.proofs.Forms.{form_known, one_day_reading, one_size}
 use Rattle.mds_world.specs.Current.{IsCurrentDetails, IsLastDay, IsLatest, IsStreamDetails}
 use Rattle.mds_world.specs.World.{Agrees, IsKnownDay, World}
 use Rattle.mds_keeper.specs.Queries.{period_cmp, stream_cmp}
@@ -34,7 +35,7 @@ use Rattle.mds_laws.specs.Determined.{AreSame, AreSamePeriods, AreSameVersions, 
 use Rattle.mds_laws.proofs.OneList.{not_both_less, one_ascending, one_by_places, same_first}
 use Rattle.mds_laws.proofs.OneRefusal.{one_refusal}
 use Rattle.mds_laws.proofs.OneSelection.{stream_total}
-use Rattle.mds_laws.proofs.ReturnedReadings.{one_form, one_latest, one_shown}
+use Rattle.mds_laws.proofs.ReturnedReadings.{one_latest}
 
 -- answers that are such tell the same
 pub told_same : (a b x y : Answer) → a ≡ x → b ≡ y → AreSame x y → AreSame a b
@@ -47,11 +48,7 @@ one_unknown r s a b = one_refusal r s (a.0 ∙ sym b.0) (a.1 ∙ sym b.1) (a.2 �
 -- ---- a day
 
 module _ (w : World) (agrees : Agrees w) (s : Stream) (d : ℕ) where
-  -- a day has one length and unit, one list of events, and one answer with them
-  one_head : (a b : DayAnswer) → IsDayAnswer w s d a → IsDayAnswer w s d b → (a.length ≡ b.length) × (a.unit ≡ b.unit)
-  one_head a b x y =
-      one_form w s d a.length b.length a.unit b.unit agrees x.form y.form
-
+  -- a day has one list of events, and one answer with them
   one_events : (a b : DayAnswer) → IsDayAnswer w s d a → IsDayAnswer w s d b → a.events.items ≡ b.events.items
   one_events a b x y =
       one_ascending (λ p q. event_cmp p q ≡ Less) (not_both_less event_cmp event_total) a.events.items b.events.items
@@ -61,19 +58,19 @@ module _ (w : World) (agrees : Agrees w) (s : Stream) (d : ℕ) where
 
   one_day : (a b : DayAnswer) → IsDayAnswer w s d a → IsDayAnswer w s d b → IsSameDayTold a b
   one_day a b x y =
-      let head = one_head a b x y in record {
+      let form = one_size w s d a.length b.length a.unit b.unit agrees x.form y.form in record {
         stream = x.stream ∙ sym y.stream;
         day = x.day ∙ sym y.day;
-        length = head.0;
-        unit = head.1;
-        update = one_latest w s d b.length a.update b.update (subst (λ m. IsLatest w s d m a.update) head.0 x.update) y.update;
-        readings = one_by_places a.readings.items b.readings.items (x.count ∙ ap count_of head.0 ∙ sym y.count)
-            (λ k p q e f. one_shown w s d (k + 1) p q agrees (x.readings k p e) (y.readings k q f));
+        length = form.0;
+        unit = form.1;
+        update = one_latest w s d b.length a.update b.update (subst (λ m. IsLatest w s d m a.update) form.0 x.update) y.update;
+        readings = one_by_places a.readings.items b.readings.items (x.count ∙ ap count_of form.0 ∙ sym y.count)
+            (λ k p q e f. one_day_reading w s d (k + 1) p q agrees (x.readings k p e) (y.readings k q f));
         events = one_events a b x y;
       }
 
   is_known : (a : DayAnswer) → IsDayAnswer w s d a → IsKnownDay w s d
-  is_known a x = (_, x.form, refl, refl)
+  is_known a x = form_known w s d a.length a.unit x.form
 
   abbrev DayTold : Answer → Type 0
   DayTold answer =

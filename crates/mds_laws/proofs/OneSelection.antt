@@ -12,6 +12,7 @@ use Rattle.mds_quantity.specs.Unit.{unit_text}
 use Rattle.mds_names.specs.declared.stream.Stream.{Stream}
 use Rattle.mds_terms.specs.Details.{details_cmp}
 use Rattle.mds_world.proofs.Details.{one_details}
+use Rattle.mds_world.proofs.Forms.{one_day_reading, one_size}
 use Rattle.mds_world.specs.Current.{IsCurrentDetails, IsDayReading, IsFormOf, IsLatest}
 use Rattle.mds_world.specs.World.{Agrees, World}
 use Rattle.mds_statements.specs.Statements.{HeaderValue}
@@ -26,7 +27,7 @@ use Rattle.mds_ranges.proofs.Pairs.{map_pairs}
 use Rattle.mds_ranges.specs.Selections.{AreSelectedDays, IsSelectedDay, IsSelectedStream, IsSelection}
 use Rattle.mds_laws.specs.Determined.{OneByOne}
 use Rattle.mds_laws.proofs.OneList.{both_fit, not_both_less, one_ascending, one_by_places, same_first}
-use Rattle.mds_laws.proofs.ReturnedReadings.{one_form, one_latest, one_shown}
+use Rattle.mds_laws.proofs.ReturnedReadings.{one_latest}
 
 -- Two days, and two streams, that are the same but for where their readings and days lie.
 record IsSameDay (a b : SelectedDay) : Type 0 where
@@ -57,7 +58,7 @@ module _ (w : World) (agrees : Agrees w) where
   day_at s t a b same date x y =
       let known : IsFormOf w t b.date a.length a.unit =
       subst (λ d. IsFormOf w t d a.length a.unit) date (subst (λ z. IsFormOf w z a.date a.length a.unit) same x.form) in
-      let form = one_form w t b.date a.length b.length a.unit b.unit agrees known y.form in record {
+      let form = one_size w t b.date a.length b.length a.unit b.unit agrees known y.form in record {
         date = date;
         length = form.0;
         unit = form.1;
@@ -71,7 +72,7 @@ module _ (w : World) (agrees : Agrees w) where
             y.update;
         readings = one_by_places a.readings.items b.readings.items
             (x.readings.count_is ∙ ap count_of form.0 ∙ sym y.readings.count_is)
-            (λ k p q e f. one_shown w t b.date (k + 1) p q agrees
+            (λ k p q e f. one_day_reading w t b.date (k + 1) p q agrees
             (subst (λ d. IsDayReading w t d (k + 1) p) date
             (subst (λ z. IsDayReading w z a.date (k + 1) p) same (x.readings.each k p e)))
             (y.readings.each k q f));

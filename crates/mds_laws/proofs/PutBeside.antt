@@ -25,7 +25,6 @@ use Rattle.mds_keeper.specs.declared.refusal.RefusalCode.TheVariants as code
 use Rattle.mds_keeper.proofs.Taken.{from_versions}
 use Rattle.mds_fill.specs.Fills.{AreSubstitutes}
 use Rattle.mds_service.specs.Substitution.{SuitsDay, head_of, job_world}
-use Rattle.mds_service.proofs.Substituted.{suits_length}
 use Rattle.mds_laws.proofs.Kept.{target, version_of_job}
 use Rattle.mds_laws.proofs.Members.{same_key}
 
@@ -83,30 +82,53 @@ module _ (w : World) (job : Job) (readings : List ReadingValue) (are : AreSubsti
       | inr b ↦ inl (union_right w facts f b)
     ]
 
-    -- a head of the job's day is the job's
-    head_alone : (a : Head) → HeadIs a ∈ less → a.stream ≡ job.stream → a.day ≡ job.day → a ≡ head_of job
-    head_alone a h s d = elim (in_union w facts (HeadIs a) h) [
-      | inl x ↦ suits a x s d
+    -- a head of the job's day has the job's length under the job's update
+    length_alone : (a : Head) → HeadIs a ∈ less → a.stream ≡ job.stream → a.day ≡ job.day → a.update ≡ job.update
+        → a.length ≡ job.length
+    length_alone a h s d u = elim (in_union w facts (HeadIs a) h) [
+      | inl x ↦ suits.under a (x, s, d) u
       | inr y ↦ absurd (elsewhere.heads a y s d)
     ]
 
-    heads_meet : (a b : Head) → HeadIs a ∈ more → HeadIs b ∈ more → a.stream ≡ b.stream → a.day ≡ b.day
-        → (a ≡ b) ⊎ ((HeadIs a ∈ less) × (HeadIs b ∈ less))
-    heads_meet a b h k s d = elim (whence (HeadIs a) h) [
+    -- and the job's unit under any
+    unit_alone : (a : Head) → HeadIs a ∈ less → a.stream ≡ job.stream → a.day ≡ job.day → a.unit ≡ job.unit
+    unit_alone a h s d = elim (in_union w facts (HeadIs a) h) [
+      | inl x ↦ suits.unit a (x, s, d)
+      | inr y ↦ absurd (elsewhere.heads a y s d)
+    ]
+
+    -- Two heads were both there, or they have a part in common: where one is the job's, the other has that part of it.
+    heads_meet : {X : Type 0} (part : Head → X) (a b : Head) → HeadIs a ∈ more → HeadIs b ∈ more
+        → (HeadIs a ∈ less → b ≡ head_of job → part a ≡ part (head_of job))
+        → (HeadIs b ∈ less → a ≡ head_of job → part b ≡ part (head_of job))
+        → (part a ≡ part b) ⊎ ((HeadIs a ∈ less) × (HeadIs b ∈ less))
+    heads_meet part a b h k one other = elim (whence (HeadIs a) h) [
       | inl x ↦ elim (whence (HeadIs b) k) [
         | inl y ↦ inr (x, y)
-        | inr y ↦
-            let e = head_in_job job readings b y in
-            inl (head_alone a x (s ∙ ap (λ (i : Head). i.stream) e) (d ∙ ap (λ (i : Head). i.day) e) ∙ sym e)
+        | inr y ↦ let e = head_in_job job readings b y in inl (one x e ∙ sym (ap part e))
       ]
       | inr x ↦
           let e = head_in_job job readings a x in
           elim (whence (HeadIs b) k) [
-            | inl y ↦ inl (e ∙ sym (head_alone b y (sym s ∙ ap (λ (i : Head). i.stream) e)
-                (sym d ∙ ap (λ (i : Head). i.day) e)))
-            | inr y ↦ inl (e ∙ sym (head_in_job job readings b y))
+            | inl y ↦ inl (ap part e ∙ sym (other y e))
+            | inr y ↦ inl (ap part (e ∙ sym (head_in_job job readings b y)))
           ]
     ]
+
+    lengths_meet : (a b : Head) → HeadIs a ∈ more → HeadIs b ∈ more → a.stream ≡ b.stream → a.day ≡ b.day
+        → a.update ≡ b.update
+        → (a.length ≡ b.length) ⊎ ((HeadIs a ∈ less) × (HeadIs b ∈ less))
+    lengths_meet a b h k s d u = heads_meet (λ (i : Head). i.length) a b h k
+        (λ x e. length_alone a x (s ∙ ap (λ (i : Head). i.stream) e) (d ∙ ap (λ (i : Head). i.day) e)
+        (u ∙ ap (λ (i : Head). i.update) e))
+        (λ y e. length_alone b y (sym s ∙ ap (λ (i : Head). i.stream) e) (sym d ∙ ap (λ (i : Head). i.day) e)
+        (sym u ∙ ap (λ (i : Head). i.update) e))
+
+    units_meet : (a b : Head) → HeadIs a ∈ more → HeadIs b ∈ more → a.stream ≡ b.stream → a.day ≡ b.day
+        → (a.unit ≡ b.unit) ⊎ ((HeadIs a ∈ less) × (HeadIs b ∈ less))
+    units_meet a b h k s d = heads_meet (λ (i : Head). i.unit) a b h k
+        (λ x e. unit_alone a x (s ∙ ap (λ (i : Head). i.stream) e) (d ∙ ap (λ (i : Head). i.day) e))
+        (λ y e. unit_alone b y (sym s ∙ ap (λ (i : Head). i.stream) e) (sym d ∙ ap (λ (i : Head). i.day) e))
 
     -- no target has a version of the job's update
     version_alone : (key : Key) (r q : ReadingValue) → VersionIs key r ∈ less → Member (VersionIs key q) versions → ⊥
@@ -118,7 +140,7 @@ module _ (w : World) (job : Job) (readings : List ReadingValue) (are : AreSubsti
             target w job readings are v.0 v.1 v.2,
             record {
               minutes = job.length;
-              of_day = suits_length w job suits;
+              of_day = suits.current;
               update = job.update;
               reading = r;
               held = subst (λ k. VersionIs k r ∈ w) same x;
@@ -164,9 +186,13 @@ module _ (w : World) (job : Job) (readings : List ReadingValue) (are : AreSubsti
 
     pub agrees_more : Agrees less → Agrees more
     agrees_more agrees = record {
-      one_head = λ a b h k s d. elim (heads_meet a b h k s d) [
+      one_length = λ a b h k s d u. elim (lengths_meet a b h k s d u) [
         | inl e ↦ e
-        | inr both ↦ agrees.one_head a b both.0 both.1 s d
+        | inr both ↦ agrees.one_length a b both.0 both.1 s d u
+      ];
+      one_unit = λ a b h k s d. elim (units_meet a b h k s d) [
+        | inl e ↦ e
+        | inr both ↦ agrees.one_unit a b both.0 both.1 s d
       ];
       one_reading = λ key a b h k. elim (versions_meet key a b h k) [
         | inl e ↦ e
@@ -179,20 +205,20 @@ module _ (w : World) (job : Job) (readings : List ReadingValue) (are : AreSubsti
     agrees_less = agrees_within more less wider
 
     lengths_more : HasTwoLengths less → HasTwoLengths more
-    lengths_more (a, b, h, k, s, d, other) = (a, b, wider _ h, wider _ k, s, d, other)
+    lengths_more (a, b, h, k, s, d, u, other) = (a, b, wider _ h, wider _ k, s, d, u, other)
 
     lengths_less : HasTwoLengths more → HasTwoLengths less
-    lengths_less (a, b, h, k, s, d, other) = elim (heads_meet a b h k s d) [
-      | inl e ↦ absurd (other (ap (λ (x : Head). x.length) e))
-      | inr both ↦ (a, b, both.0, both.1, s, d, other)
+    lengths_less (a, b, h, k, s, d, u, other) = elim (lengths_meet a b h k s d u) [
+      | inl e ↦ absurd (other e)
+      | inr both ↦ (a, b, both.0, both.1, s, d, u, other)
     ]
 
     units_more : HasTwoUnits less → HasTwoUnits more
     units_more (a, b, h, k, s, d, other) = (a, b, wider _ h, wider _ k, s, d, other)
 
     units_less : HasTwoUnits more → HasTwoUnits less
-    units_less (a, b, h, k, s, d, other) = elim (heads_meet a b h k s d) [
-      | inl e ↦ absurd (other (ap (λ (x : Head). x.unit) e))
+    units_less (a, b, h, k, s, d, other) = elim (units_meet a b h k s d) [
+      | inl e ↦ absurd (other e)
       | inr both ↦ (a, b, both.0, both.1, s, d, other)
     ]
 

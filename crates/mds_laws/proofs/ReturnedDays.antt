@@ -1,25 +1,22 @@
 -- What an export of a lawful World states comes back to it.
-use Rattle.std.specs.Prelude.{◌≡◌, ◌↔◌, ◌≤◌, ℕ, ◌+◌, List, length, get_or, slice_get, Some, refl}
-use Rattle.std.proofs.Common.{sym, ap, ◌∙◌, subst, inl, inr, arith, zero, suc}
-use Rattle.std.proofs.lemmas.Bool.{cases_lt}
+use Rattle.std.specs.Prelude.{◌≡◌, ◌<◌, ◌≤◌, ℕ, ◌+◌, List, length, get_or, slice_get, Some}
+use Rattle.std.proofs.Common.{sym, ap, ◌∙◌, subst, arith, zero, suc}
 use Rattle.std.proofs.lemmas.Option.{slice_get-get_or, slice_get_within}
 use Rattle.mds_calendar.specs.Length.{count_of}
-use Rattle.mds_quantity.specs.declared.unit.Unit.{Unit as MeasureUnit}
 use Rattle.mds_names.specs.declared.stream.Stream.{Stream}
 use Rattle.mds_marks.specs.Reading.{ReadingValue}
 use Rattle.mds_statements.specs.Statements.{HeaderValue}
 use Rattle.mds_world.specs.declared.facts.Detail.{Detail}
 use Rattle.mds_world.specs.declared.facts.Head.{Head}
 use Rattle.mds_world.specs.declared.facts.Key.{Key}
-use Rattle.mds_world.specs.Current.{HasNoVersion, HasSameDetails, IsCurrentDetails, IsFormOf, IsLatest, IsReading, no_reading}
-use Rattle.mds_world.specs.Facts.{head_at, key_at}
+use Rattle.mds_world.specs.Current.{HasSameDetails, IsCurrentDetails, IsForm, IsReading, no_reading}
 use Rattle.mds_world.specs.Facts.Fact.{HeadIs, VersionIs}
 use Rattle.mds_world.proofs.Lists.{in_map, map_in}
 use Rattle.mds_world.specs.Lists.{Member}
 use Rattle.mds_world.proofs.Returned.{details_alone, details_beside}
 use Rattle.mds_world.specs.Sets.{◌∈◌}
 use Rattle.mds_world.specs.Stated.{stated}
-use Rattle.mds_world.specs.World.{HasHead, IsKnownDay, IsLawful, World, head_over}
+use Rattle.mds_world.specs.World.{HasHead, IsKnownDay, IsLawful, World, head_over, key_under}
 use Rattle.mds_export.specs.Shows.{selection_stated}
 use Rattle.mds_statements.specs.declared.selected.SelectedDay.{SelectedDay}
 use Rattle.mds_statements.specs.declared.selected.SelectedStream.{SelectedStream}
@@ -27,7 +24,7 @@ use Rattle.mds_ranges.proofs.Pairs.{all_member}
 use Rattle.mds_ranges.specs.Selections.{IsSelectedDay, IsSelectedStream, IsSelection}
 use Rattle.mds_laws.proofs.ReturnedCounts.{intervals_counted}
 use Rattle.mds_laws.proofs.ReturnedFacts.{IsChosen, detail_of, detail_stated, detail_whence, head_of, head_stated, head_whence, key_of, no_period, version_stated, version_whence}
-use Rattle.mds_laws.proofs.ReturnedReadings.{ComesFrom, agrees_alone, agrees_home, current_alone, one_form, same_day_by, same_day_home, same_readings, shown_by_form}
+use Rattle.mds_laws.proofs.ReturnedReadings.{ComesFrom, agrees_alone, agrees_home, form_by_latest, same_day_alone, same_day_home, shown_by_form}
 use Rattle.mds_laws.specs.Returns.{IsAskedFor, IsSameDay}
 use Rattle.mds_laws.proofs.ReturnedWorlds.{ComesBackAlone, ComesBackHome}
 
@@ -64,7 +61,14 @@ module _ (w : World) (nmi : List ℕ) (suffixes : List (List ℕ)) (first last :
         subst (λ (x : Key). key.interval ≤ count_of x.length) (sym same) high,
       )
 
-  -- a reading of a day that is selected is that of the day's length
+  -- the head of a day that is selected decides its form
+  form_of : (selected : SelectedStream) (day : SelectedDay) → IsChosen streams selected day
+      → IsForm w selected.stream day.date (head_of selected day)
+  form_of selected day chosen =
+      let d = day_is selected day chosen in
+      form_by_latest w selected.stream day.date day.update day.length day.unit lawful d.form d.update
+
+  -- a reading of a day that is selected is one of the day's current length
   reading_there : (selected : SelectedStream) (day : SelectedDay) → IsChosen streams selected day → (k : ℕ)
       (reading : ReadingValue) → slice_get day.readings.items k ≡ Some reading
       → IsReading w selected.stream day.date day.length (k + 1) reading
@@ -73,20 +77,40 @@ module _ (w : World) (nmi : List ℕ) (suffixes : List (List ℕ)) (first last :
       shown_by_form w selected.stream day.date day.length (k + 1) day.unit reading lawful.agrees d.form
       (d.readings.each k reading at)
 
+  -- each interval of a day that is selected has a version under its head
+  whole : (selected : SelectedStream) (day : SelectedDay) → IsChosen streams selected day → (interval : ℕ)
+      → 1 ≤ interval → interval ≤ count_of day.length
+      → (reading : ReadingValue)
+      × (VersionIs (key_under (head_of selected day) interval) reading ∈ stated (selection_stated header streams))
+  whole selected day chosen zero low high = absurd (omega (arith, low))
+  whole selected day chosen (suc k) low high =
+      let size = (day_is selected day chosen).readings.count_is in
+      let less : k < length day.readings.items = omega (arith, high, size) in
+      let reading : ReadingValue = get_or day.readings.items k no_reading in
+      let at = slice_get-get_or day.readings.items k no_reading less in
+      let z : k + 1 ≡ suc k = omega arith in (
+        reading,
+        subst (λ n. VersionIs (key_of selected day n) reading ∈ stated (selection_stated header streams)) z
+            (version_stated header streams selected day chosen k reading at),
+      )
+
   -- what is stated comes from the World
   comes_from : ComesFrom w (stated (selection_stated header streams))
   comes_from = record {
-    heads = λ head h.
+    forms = λ head h.
         let v = head_whence header streams head h in
-        subst (λ x. HeadIs x ∈ w) (sym v.3) (day_is v.0 v.1 v.2).form;
-    latest = λ key reading h.
-        let v = version_whence header streams key reading h in
-        subst (λ (x : Key). IsLatest w x.stream x.day x.length x.update) (sym v.5) (day_is v.0 v.1 v.3).update;
+        subst (λ (x : Head). IsForm w x.stream x.day x) (sym v.3) (form_of v.0 v.1 v.2);
     readings = λ key reading h.
         let v = version_whence header streams key reading h in
         subst (λ (x : Key). IsReading w x.stream x.day x.length x.interval reading) (sym v.5)
         (reading_there v.0 v.1 v.3 v.2 reading v.4);
     headed = headed;
+    whole = λ head interval h low high.
+        let v = head_whence header streams head h in
+        subst (λ (x : Head). (reading : ReadingValue)
+        × (VersionIs (key_under x interval) reading ∈ stated (selection_stated header streams)))
+        (sym v.3)
+        (whole v.0 v.1 v.2 interval low (subst (λ (x : Head). interval ≤ count_of x.length) v.3 high));
     details = λ detail h.
         let v = detail_whence header streams detail h in
         subst (λ (x : Detail). IsCurrentDetails w x.stream x.day x.details) (sym v.3) (day_is v.0 v.1 v.2).details;
@@ -133,85 +157,12 @@ module _ (w : World) (nmi : List ℕ) (suffixes : List (List ℕ)) (first last :
       let c = chosen_of stream day a in
       (head_of c.0 c.1, head_stated header streams c.0 c.1 c.2, c.3, c.4)
 
-  -- an interval of a selected day is within its readings, where it has a version
-  within : (selected : SelectedStream) (day : SelectedDay) → IsChosen streams selected day → (interval update : ℕ)
-      (reading : ReadingValue) → VersionIs (key_at selected.stream day.date day.length interval update) reading ∈ w
-      → (1 ≤ interval) × (interval ≤ length day.readings.items)
-  within selected day chosen interval update reading h =
-      let headed = lawful.closed.headed (key_at selected.stream day.date day.length interval update) reading h in
-      let size = (day_is selected day chosen).readings.count_is in
-      let low = headed.2 in
-      let high = headed.3 in
-      (low, omega (arith, high, size))
-
-  -- so none outside of them has one, in the World
-  none_there : (selected : SelectedStream) (day : SelectedDay) → IsChosen streams selected day → (interval : ℕ)
-      → ((1 ≤ interval) → (interval ≤ length day.readings.items) → ⊥)
-      → HasNoVersion w selected.stream day.date day.length interval
-  none_there selected day chosen interval out = λ u r h.
-      let n = within selected day chosen interval u r h in out n.0 n.1
-
-  -- and in what is stated
-  none_back : (selected : SelectedStream) (day : SelectedDay) → IsChosen streams selected day → (interval : ℕ)
-      → ((1 ≤ interval) → (interval ≤ length day.readings.items) → ⊥)
-      → HasNoVersion (stated (selection_stated header streams)) selected.stream day.date day.length interval
-  none_back selected day chosen interval out = λ u r h.
-      let headed = headed (key_at selected.stream day.date day.length interval u) r h in
-      let size = (day_is selected day chosen).readings.count_is in
-      let low = headed.2 in
-      let high = headed.3 in
-      out low (omega (arith, high, size))
-
-  -- each interval of a selected day has one reading there and in what is stated
-  reading_both : (selected : SelectedStream) (day : SelectedDay) → IsChosen streams selected day → (interval : ℕ)
-      → (q : ReadingValue) × IsReading w selected.stream day.date day.length interval q
-      × IsReading (stated (selection_stated header streams)) selected.stream day.date day.length interval q
-  reading_both selected day chosen zero = (
-    no_reading,
-    inr (none_there selected day chosen zero (λ low high. absurd (omega (arith, low))), refl),
-    inr (none_back selected day chosen zero (λ low high. absurd (omega (arith, low))), refl),
-  )
-  reading_both selected day chosen (suc k) = elim (cases_lt k (length day.readings.items)) [
-    | inl less ↦
-        let q : ReadingValue = get_or day.readings.items k no_reading in
-        let at = slice_get-get_or day.readings.items k no_reading less in
-        let z : k + 1 ≡ suc k = omega arith in (
-          q,
-          subst (λ n. IsReading w selected.stream day.date day.length n q) z (reading_there selected day chosen k q at),
-          subst (λ n. IsReading (stated (selection_stated header streams)) selected.stream day.date day.length n q) z
-              (current_alone w (stated (selection_stated header streams)) lawful comes_from
-              (key_of selected day (k + 1)) q (version_stated header streams selected day chosen k q at)),
-        )
-    | inr more ↦ (
-      no_reading,
-      inr (none_there selected day chosen (suc k) (λ low high. absurd (omega (arith, more, high))), refl),
-      inr (none_back selected day chosen (suc k) (λ low high. absurd (omega (arith, more, high))), refl),
-    )
-  ]
-
   -- a selected day is the same in what is stated
   day_alone : (selected : SelectedStream) (day : SelectedDay) → IsChosen streams selected day
       → IsSameDay w (stated (selection_stated header streams)) selected.stream day.date
   day_alone selected day chosen =
-      let back = stated (selection_stated header streams) in
-      let one = λ (minutes : ℕ) (unit : MeasureUnit) (known : IsFormOf w selected.stream day.date minutes unit).
-      one_form w selected.stream day.date day.length minutes day.unit unit lawful.agrees
-      (day_is selected day chosen).form known in
-      same_day_by w back selected.stream day.date
-      (λ minutes unit. (
-        (λ known.
-            let same = one minutes unit known in
-            subst (λ n. IsFormOf back selected.stream day.date n unit) same.0
-            (subst (IsFormOf back selected.stream day.date day.length) same.1
-            (head_stated header streams selected day chosen))),
-        comes_from.heads (head_at selected.stream day.date minutes unit),
-      ))
-      (λ minutes unit known interval r.
-      let q = reading_both selected day chosen interval in
-      subst (λ n. IsReading w selected.stream day.date n interval r ↔ IsReading back selected.stream day.date n interval r)
-      (one minutes unit known).0
-      (same_readings w back selected.stream day.date day.length interval q.0 lawful.agrees
-      (agrees_alone w back lawful comes_from) q.1 q.2 r))
+      same_day_alone w (stated (selection_stated header streams)) lawful comes_from (head_of selected day)
+      (head_stated header streams selected day chosen)
 
   -- and has the same details
   details_same : (selected : SelectedStream) (day : SelectedDay) → IsChosen streams selected day

@@ -99,10 +99,10 @@ to_placed selected before (x ∷ days) day (inr m) =
 abbrev pub detail_of : HeaderValue → SelectedStream → SelectedDay → Detail
 detail_of header selected day = detail_at selected.stream day.date header.moment day.details
 
--- the head of a selected day
+-- the head of a selected day under its update
 abbrev pub head_of : SelectedStream → SelectedDay → Head
 head_of selected day =
-    head_at selected.stream day.date day.length day.unit
+    head_at selected.stream day.date day.update day.length day.unit
 
 -- where a reading of a selected day stands
 abbrev pub key_of : SelectedStream → SelectedDay → ℕ → Key

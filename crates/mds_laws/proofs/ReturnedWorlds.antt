@@ -19,8 +19,8 @@ StatesTheSelection =
     → (stated (statements_of text) ≡ stated (selection_stated header streams))
     × (intervals_in (statements_of text) ≡ intervals_in (selection_stated header streams))
 
--- What an export of a lawful World states agrees. It knows just the days that were asked for, each with the same head, the
--- same current details and the same current readings.
+-- What an export of a lawful World states agrees. It knows just the days that were asked for, each with the same current length
+-- and unit, the same current details and the same current readings.
 abbrev pub ComesBackAlone : Type 0
 ComesBackAlone =
     (w : World) (nmi : List ℕ) (suffixes : List (List ℕ)) (first last : ℕ) (header : HeaderValue)
@@ -32,8 +32,8 @@ ComesBackAlone =
     → IsSameDay w (stated (selection_stated header streams)) stream day
     × HasSameDetails w (stated (selection_stated header streams)) stream day)
 
--- It agrees with that World too, and together with it each day has the head, the current details and the current readings that
--- it had. What comes in and what is there are its intervals.
+-- It agrees with that World too. Together with it each day has the current length and unit, the current details and the current
+-- readings that it had. What comes in and what is there are its intervals.
 abbrev pub ComesBackHome : Type 0
 ComesBackHome =
     (w : World) (nmi : List ℕ) (suffixes : List (List ℕ)) (first last : ℕ) (header : HeaderValue)

@@ -1,10 +1,11 @@
 -- What a job does turns on what it may look at.
 use Rattle.std.specs.Prelude.{◌≡◌, ◌↔◌, ◌+◌, ℕ, ℤ, List, Option, Some, None}
 use Rattle.std.proofs.Common.{inl, inr, refl, subst, sym}
+use Rattle.mds_quantity.specs.declared.unit.Unit.{Unit as MeasureUnit}
 use Rattle.mds_marks.specs.Reading.{ReadingValue}
 use Rattle.mds_world.specs.declared.facts.Head.{Head}
 use Rattle.mds_world.specs.declared.facts.Key.{Key}
-use Rattle.mds_world.specs.Current.{IsDayReading}
+use Rattle.mds_world.specs.Current.{IsDayReading, IsFormOf, IsHeadOf}
 use Rattle.mds_world.specs.Facts.{JobContent}
 use Rattle.mds_world.specs.Facts.Fact.{HeadIs, VersionIs, HolidayIs, JobIs}
 use Rattle.mds_world.specs.Sets.{◌∈◌}
@@ -15,7 +16,7 @@ use Rattle.mds_keeper.specs.declared.refusal.Refusal.{Refusal}
 use Rattle.mds_keeper.specs.declared.refusal.RefusalCode.{RefusalCode}
 use Rattle.mds_keeper.specs.declared.refusal.RefusalCode.TheVariants as code
 use Rattle.mds_fill.specs.Fills.{AreSubstitutes, Finds, HasAll, IsFillFault, IsFilled, IsFree, IsLike, IsLikeValue, IsNearestLike, IsProtected, IsStale, IsTally, IsUsable, IsValueAfter, IsValueBefore, LacksAnchor, LacksLikeDay}
-use Rattle.mds_service.specs.Substitution.{IsJobFault, IsJobRefusal, IsNewJob, SuitsDay}
+use Rattle.mds_service.specs.Substitution.{HasOtherLength, IsJobFault, IsJobRefusal, IsNewJob, SuitsDay}
 use Rattle.mds_laws.specs.Exchange.{MayLookAt}
 
 -- Of what a job may look at, both hold the same.
@@ -48,12 +49,34 @@ back w m job s =
       jobs = λ id content n. ((s.jobs id content n).1, (s.jobs id content n).0);
     }
 
+-- a day that a job may look at has the same heads in both
+head_there : (w m : World) (job : JobContent) → AreAlike w m job → (day : ℕ) (head : Head) → MayLookAt w job day
+    → IsHeadOf w job.stream day head → IsHeadOf m job.stream day head
+head_there w m job s day head l (h, e, d) = ((s.heads head e (subst (MayLookAt w job) (sym d) l)).0 h, e, d)
+
+head_back : (w m : World) (job : JobContent) → AreAlike w m job → (day : ℕ) (head : Head) → MayLookAt w job day
+    → IsHeadOf m job.stream day head → IsHeadOf w job.stream day head
+head_back w m job s day head l = head_there m w job (back w m job s) day head (looks w m job s.holidays day l)
+
+-- so it has the same form
+form_there : (w m : World) (job : JobContent) → AreAlike w m job → (day length : ℕ) (unit : MeasureUnit)
+    → MayLookAt w job day → IsFormOf w job.stream day length unit → IsFormOf m job.stream day length unit
+form_there w m job s day length unit l (head, form, size, measured) = (
+  head,
+  record {
+    held = head_there w m job s day head l form.held;
+    greatest = λ other h. form.greatest other (head_back w m job s day other l h);
+  },
+  size,
+  measured,
+)
+
 shown : (w m : World) (job : JobContent) → AreAlike w m job → (day i : ℕ) (reading : ReadingValue) → MayLookAt w job day
     → IsDayReading w job.stream day i reading → IsDayReading m job.stream day i reading
 shown w m job s day i reading l (inl (minutes, unit, form, inl (update, c))) = inl (
   minutes,
   unit,
-  (s.heads _ refl l).0 form,
+  form_there w m job s day minutes unit l form,
   inl (
     update,
     record {
@@ -62,17 +85,21 @@ shown w m job s day i reading l (inl (minutes, unit, form, inl (update, c))) = i
     },
   ),
 )
-shown w m job s day i reading l (inl (minutes, unit, form, inr (none, bare))) =
-    inl (minutes, unit, (s.heads _ refl l).0 form, inr ((λ u q h. none u q ((s.versions _ q refl l).1 h)), bare))
+shown w m job s day i reading l (inl (minutes, unit, form, inr (none, bare))) = inl (
+  minutes,
+  unit,
+  form_there w m job s day minutes unit l form,
+  inr ((λ u q h. none u q ((s.versions _ q refl l).1 h)), bare),
+)
 shown w m job s day i reading l (inr (unknown, bare)) = inr (
-  (λ k. unknown (k.0, (s.heads k.0 k.2 (subst (MayLookAt w job) (sym k.3) l)).1 k.1, k.2, k.3)),
+  (λ k. let h = head_back w m job s day k.0 l (k.1, k.2, k.3) in unknown (k.0, h.0, h.1, h.2)),
   bare,
 )
 
 usable : (w m : World) (job : JobContent) → AreAlike w m job → (day i : ℕ) (value : ℤ) → MayLookAt w job day
     → IsUsable w job day i value → IsUsable m job day i value
 usable w m job s day i value l u = record {
-  known = (s.heads _ refl l).0 u.known;
+  known = form_there w m job s day job.length job.unit l u.known;
   reading = u.reading;
   shown = shown w m job s day i u.reading l u.shown;
   flag = u.flag;
@@ -91,7 +118,7 @@ stale : (w m : World) (job : JobContent) → AreAlike w m job → (i : ℕ) → 
     → IsStale m job.stream job.day i job.update
 stale w m job s i p = record {
   minutes = p.minutes;
-  of_day = λ length unit form. p.of_day length unit ((s.heads _ refl (inl refl)).1 form);
+  of_day = λ length unit form. p.of_day length unit (form_there m w job (back w m job s) job.day length unit (inl refl) form);
   update = p.update;
   reading = p.reading;
   held = (s.versions _ p.reading refl (inl refl)).0 p.held;
@@ -206,7 +233,18 @@ pub new_job : (w m : World) (job : Job) → AreAlike w m (content_of job) → Is
 new_job w m job s new content n h = new content n ((s.jobs job.id content n).1 h)
 
 pub suits_day : (w m : World) (job : Job) → AreAlike w m (content_of job) → SuitsDay w job → SuitsDay m job
-suits_day w m job s suits head h e d = suits head ((s.heads head e (inl d)).1 h) e d
+suits_day w m job s suits = record {
+  current = λ length unit form. suits.current length unit
+      (form_there m w (content_of job) (back w m (content_of job) s) job.day length unit (inl refl) form);
+  under = λ head h. suits.under head (head_back w m (content_of job) s job.day head (inl refl) h);
+  unit = λ head h. suits.unit head (head_back w m (content_of job) s job.day head (inl refl) h);
+}
+
+other_length : (w m : World) (job : Job) → AreAlike w m (content_of job) → HasOtherLength w job → HasOtherLength m job
+other_length w m job s (inl (length, unit, form, other)) =
+    inl (length, unit, form_there w m (content_of job) s job.day length unit (inl refl) form, other)
+other_length w m job s (inr (head, h, update, other)) =
+    inr (head, head_there w m (content_of job) s job.day head (inl refl) h, update, other)
 
 job_fault : (w m : World) (job : Job) → AreAlike w m (content_of job) → (broken : RefusalCode) (interval : ℕ)
     → IsJobFault w job broken interval → IsJobFault m job broken interval
@@ -214,10 +252,15 @@ job_fault w m job s code.BadJob interval f = f
 job_fault w m job s code.RangeTooWide interval (good, new, suits, f) = absurd f
 job_fault w m job s code.JobReused interval (good, (content, n, h, other), z) =
     (good, (content, n, (s.jobs job.id content n).0 h, other), z)
-job_fault w m job s code.LengthConflict interval (good, new, (head, h, e, d, other), z) =
-    (good, new_job w m job s new, (head, (s.heads head e (inl d)).0 h, e, d, other), z)
-job_fault w m job s code.UnitConflict interval (good, new, (head, h, e, d, same, other), z) =
-    (good, new_job w m job s new, (head, (s.heads head e (inl d)).0 h, e, d, same, other), z)
+job_fault w m job s code.LengthConflict interval (good, new, other, z) =
+    (good, new_job w m job s new, other_length w m job s other, z)
+job_fault w m job s code.UnitConflict interval (good, new, one, (head, h, other), z) = (
+  good,
+  new_job w m job s new,
+  (λ length. one (other_length m w job (back w m (content_of job) s) length)),
+  (head, head_there w m (content_of job) s job.day head (inl refl) h, other),
+  z,
+)
 job_fault w m job s code.Protected interval (good, new, suits, f) =
     (good, new_job w m job s new, suits_day w m job s suits, fill_fault w m (content_of job) s code.Protected interval f)
 job_fault w m job s code.StaleUpdate interval (good, new, suits, f) =

@@ -2,9 +2,16 @@
 use Rattle.std.specs.Prelude.{◌≡◌, ◌⊎◌, None, List, [], ◌∷◌, map}
 use Rattle.std.specs.FinSet as set
 use Rattle.std.specs.List.{All, sum_by}
+use Rattle.mds_marks.specs.Reading.{ReadingValue}
 use Rattle.mds_statements.specs.Statements.{Statement}
 use Rattle.mds_statements.specs.Statements.Statement.{HeaderOf, StreamOf, DetailsOf, DayOf, EventOf, PeriodOf}
+use Rattle.mds_statements.specs.declared.periods.PeriodKey.{PeriodKey}
+use Rattle.mds_world.specs.declared.facts.Head.{Head}
+use Rattle.mds_world.specs.declared.facts.Key.{Key}
+use Rattle.mds_world.specs.Facts.{PeriodContent}
+use Rattle.mds_world.specs.Facts.Fact.{HeadIs, VersionIs, PeriodIs}
 use Rattle.mds_world.specs.Lists.{Member}
+use Rattle.mds_world.specs.Sets.{◌∈◌}
 use Rattle.mds_world.specs.Stated.{facts_of, stated}
 use Rattle.mds_world.specs.World.{Agrees, World, union}
 use Rattle.mds_messages.specs.declared.request.Request.{Request}
@@ -104,3 +111,11 @@ PartsEndAsTheWhole =
     → Agrees (union old (facts_in whole))
     → IsImported answer × All IsImported (given answers) × (new ≡ other_new)
     × (came_in answer ≡ sum_by came_in answers)
+
+-- What agreeing meant when a day had one length: one length and one unit for each stream and day, under whatever updates. The
+-- rules on readings and accumulations are those of today.
+pub record AgreeByDay (w : World) : Type 0 where
+  pub one_length : (a b : Head) → HeadIs a ∈ w → HeadIs b ∈ w → a.stream ≡ b.stream → a.day ≡ b.day → a.length ≡ b.length
+  pub one_unit : (a b : Head) → HeadIs a ∈ w → HeadIs b ∈ w → a.stream ≡ b.stream → a.day ≡ b.day → a.unit ≡ b.unit
+  pub one_reading : (key : Key) (a b : ReadingValue) → VersionIs key a ∈ w → VersionIs key b ∈ w → a ≡ b
+  pub one_content : (key : PeriodKey) (a b : PeriodContent) → PeriodIs key a ∈ w → PeriodIs key b ∈ w → a ≡ b

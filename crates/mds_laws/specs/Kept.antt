@@ -36,10 +36,13 @@ LawStays =
     (old new : World) (requests : List Request) (answers : List Answer)
     → Run old requests answers new → IsLawful old → IsLawful new
 
--- Where both hold a version or an accumulation of one key, these are the same. So are heads of one day and jobs of one id.
+-- Where both hold a version or an accumulation of one key, these are the same. So are heads of one day under one update, and jobs
+-- of one id. Heads of one day have one unit under whatever updates.
 pub record AreUnaltered (old new : World) : Type 0 where
   pub versions : (key : Key) (a b : ReadingValue) → VersionIs key a ∈ old → VersionIs key b ∈ new → a ≡ b
-  pub heads : (a b : Head) → HeadIs a ∈ old → HeadIs b ∈ new → a.stream ≡ b.stream → a.day ≡ b.day → a ≡ b
+  pub heads : (a b : Head) → HeadIs a ∈ old → HeadIs b ∈ new → a.stream ≡ b.stream → a.day ≡ b.day → a.update ≡ b.update
+      → a ≡ b
+  pub units : (a b : Head) → HeadIs a ∈ old → HeadIs b ∈ new → a.stream ≡ b.stream → a.day ≡ b.day → a.unit ≡ b.unit
   pub periods : (key : PeriodKey) (a b : PeriodContent) → PeriodIs key a ∈ old → PeriodIs key b ∈ new → a ≡ b
   pub jobs : (id : List ℕ) (a b : JobContent) (m n : ℕ) → JobIs id a m ∈ old → JobIs id b n ∈ new → (a ≡ b) × (m ≡ n)
 

@@ -37,7 +37,7 @@ abbrev pub intervals_in : List Statement → ℕ
 intervals_in statements = sum_by (λ day. length day.readings) (days_of statements)
 
 -- A store without anything takes in an export of a lawful World, where it has an answer. It knows then just the days that were
--- asked for, each with the same head, the same current details and the same current readings.
+-- asked for, each with the same current length and unit, the same current details and the same current readings.
 abbrev pub ReturnsToAnEmptyStore : Type 0
 ReturnsToAnEmptyStore =
     (w same filled : World) (nmi : List ℕ) (suffixes : Vec (List ℕ) Global) (first last : ℕ) (header : Header)
@@ -50,8 +50,8 @@ ReturnsToAnEmptyStore =
     × ((stream : Stream) (day : ℕ) → IsAskedFor w nmi suffixes.items first last stream day
     → IsSameDay w filled stream day × HasSameDetails w filled stream day)
 
--- The store that it came from takes it in, where it has an answer. Each day has then the head, the current details and the current
--- readings that it had. What is added and what is known are together as many as its intervals.
+-- The store that it came from takes it in, where it has an answer. Each day has then the current length and unit, the current
+-- details and the current readings that it had. What is added and what is known are together as many as its intervals.
 abbrev pub ReturnsToItsStore : Type 0
 ReturnsToItsStore =
     (w same returned : World) (nmi : List ℕ) (suffixes : Vec (List ℕ) Global) (first last : ℕ) (header : Header)

@@ -1,6 +1,7 @@
 //! The laws. The functions do nothing.
 
-ghost use Rattle.mds_laws.specs.AnyOrder.{EachIsTakenIn, PartsEndAsTheWhole, PartsStateTheWhole, SameFactsEndAlike};
+ghost use Rattle.mds_world.specs.World.{Agrees, World};
+ghost use Rattle.mds_laws.specs.AnyOrder.{AgreeByDay, EachIsTakenIn, PartsEndAsTheWhole, PartsStateTheWhole, SameFactsEndAlike};
 ghost use Rattle.mds_laws.specs.Answered.{AnsweredAreAll, UnansweredStandAside};
 ghost use Rattle.mds_laws.specs.Determined.{AnswersAreDetermined, RunsAreDetermined};
 ghost use Rattle.mds_laws.specs.Exchange.{ChangePlaces, MayChangePlaces};
@@ -35,6 +36,12 @@ pub fn files_come_in_any_order()
     ensures alike { SameFactsEndAlike }
     ensures parts { PartsStateTheWhole }
     ensures split { PartsEndAsTheWhole }
+{}
+
+/// Files that agreed when a day had one length agree now. A day may have another length under another update. So more
+/// files agree, and none is shut out.
+pub fn one_length_a_day_agrees_as_before()
+    ensures { (w : World) → AgreeByDay w → Agrees w }
 {}
 
 /// A job, and a file that states nothing of the days that the job may look at, may change places. Where both are answered, both

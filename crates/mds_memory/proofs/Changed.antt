@@ -24,7 +24,7 @@ use Rattle.mds_world.proofs.Lists.{append_left, append_right, in_map, map_in, me
 use Rattle.mds_world.specs.Lists.{Member}
 use Rattle.mds_world.proofs.Members.{in_list, in_union, list_in, union_left, union_right}
 use Rattle.mds_world.specs.Sets.{◌∈◌}
-use Rattle.mds_world.specs.World.{IsLawful, IsOn, World, union}
+use Rattle.mds_world.specs.World.{IsLawful, IsOn, World, key_under, union}
 use Rattle.mds_keeper.specs.Books.{BookValue, IsDay, book_facts, book_world, head_facts, row_fact, row_head}
 use Rattle.mds_keeper.proofs.BookFacts.{from_book, head_in_book, head_of_book, member_head}
 use Rattle.mds_keeper.specs.Content.{day_versions, rows_of, version_at, version_fact, versions_of}
@@ -214,9 +214,9 @@ not_head key reading head e = cc
 not_row : (stream : Stream) (day : ℕ) (head : Head) (row : ℕ × Version) → HeadIs head ≡ row_fact stream day row → ⊥
 not_row stream day head row e = cc
 
--- What a day holds with one more head, that of the day, which agrees with what is known.
+-- What a day holds with one more head, that of the day, which has the unit of what is known.
 pub holds_head : (w : World) (more : List Fact) (head : Head) (old new : Rows)
-    → ((h : Head) → (HeadIs h ∈ w) ⊎ Member (HeadIs h) more → h.stream ≡ head.stream → h.day ≡ head.day → h ≡ head)
+    → ((h : Head) → (HeadIs h ∈ w) ⊎ Member (HeadIs h) more → h.stream ≡ head.stream → h.day ≡ head.day → h.unit ≡ head.unit)
     → new.unit ≡ Some head.unit → new.rows ≡ old.rows
     → Holds w more (record { stream = head.stream; day = head.day }) old
     → Holds w (more ++ HeadIs head ∷ []) (record { stream = head.stream; day = head.day }) new
@@ -224,7 +224,7 @@ holds_head w more head old new one e v h =
     let same : rows_of new.rows ≡ rows_of old.rows = ap rows_of v in
     record {
       heads = λ x on k. elim (known_before w more head (HeadIs x) k) [
-        | inl known ↦ e ∙ ap (λ (y : Head). Some y.unit) (sym (one x known on.0 on.1))
+        | inl known ↦ e ∙ ap Some (sym (one x known on.0 on.1))
         | inr s ↦ e ∙ ap Some (sym (unit_of_head x head s))
       ];
       versions = λ key reading on k. elim (known_before w more head (VersionIs key reading) k) [
@@ -281,14 +281,15 @@ closed_holds : (w : World) (more : List Fact) (closed : Pending) → AreChanged 
     → Member (place, rows) closed.entries → Holds w more place rows
 closed_holds w more closed a place rows m = a.each place rows (get_at closed place rows a.ordered m _ refl) tt
 
-length_of : (stream : Stream) (day : ℕ) (key : Key) (reading : ReadingValue) (row : ℕ × Version)
-    → VersionIs key reading ≡ row_fact stream day row → row.1.length ≡ key.length
-length_of stream day key reading row e =
+-- the row of a version has its update and its length
+under_one : (stream : Stream) (day : ℕ) (key : Key) (reading : ReadingValue) (row : ℕ × Version)
+    → VersionIs key reading ≡ row_fact stream day row → (row.1.update ≡ key.update) × (row.1.length ≡ key.length)
+under_one stream day key reading row e =
     let own : Key = key_at stream day row.1.length row.0 row.1.update in
     let same : own ≡ key = cc in
-    ap (λ (k : Key). k.length) same
+    (ap (λ (k : Key). k.update) same, ap (λ (k : Key). k.length) same)
 
--- in a lawful World each head has a version, which is a row, and each row has a head
+-- in a lawful World each head has a version of its update, which is a row, and each row has a head
 module _ (w : World) (more : List Fact) (place : StreamDay) (rows : Rows) (lawful : IsLawful (union w (set.from_list more)))
     (h : Holds w more place rows) where
   known_in : (f : Fact) → f ∈ union w (set.from_list more) → (f ∈ w) ⊎ Member f more
@@ -304,11 +305,12 @@ module _ (w : World) (more : List Fact) (place : StreamDay) (rows : Rows) (lawfu
   day_whole (HeadIs x) on k =
       let unit = h.heads x on (known_in (HeadIs x) k) in
       let v = lawful.closed.versioned x k in
-      let key : Key = key_at x.stream x.day x.length v.0 v.1 in
-      let r = in_map (row_fact place.stream place.day) (rows_of rows.rows) (VersionIs key v.2)
-      (h.versions key v.2 on (known_in (VersionIs key v.2) v.3)) in
-      let size = length_of place.stream place.day key v.2 r.0 r.2 in
-      subst (λ y. HeadIs y ∈ book_world (rows_book place rows)) (λ i. head_at (sym on.0 i) (sym on.1 i) (size i) x.unit)
+      let key : Key = key_under x v.0 in
+      let r = in_map (row_fact place.stream place.day) (rows_of rows.rows) (VersionIs key v.1)
+      (h.versions key v.1 on (known_in (VersionIs key v.1) v.2)) in
+      let under = under_one place.stream place.day key v.1 r.0 r.2 in
+      subst (λ y. HeadIs y ∈ book_world (rows_book place rows))
+      (λ i. head_at (sym on.0 i) (sym on.1 i) (under.0 i) (under.1 i) x.unit)
       (head_in_book (rows_book place rows) r.0 r.1 x.unit unit)
   day_whole (VersionIs key reading) on k =
       list_in (book_facts (rows_book place rows)) (VersionIs key reading)
@@ -383,7 +385,7 @@ day_holds w place rows d = record {
     | inl a ↦ elim (from_book (rows_book place rows) (VersionIs key reading) (d.whole (VersionIs key reading) on a)) [
       | inl m ↦
           let r = member_head place.stream place.day rows.unit (rows_of rows.rows) (VersionIs key reading) m in
-          absurd (not_head key reading (head_at place.stream place.day r.2.1.length r.0) r.4)
+          absurd (not_head key reading (head_at place.stream place.day r.2.1.update r.2.1.length r.0) r.4)
       | inr m ↦
           subst (λ f. Member f (map (row_fact place.stream place.day) (rows_of rows.rows))) (sym m.2)
           (map_in (row_fact place.stream place.day) (rows_of rows.rows) m.0 m.1)
@@ -552,8 +554,9 @@ head_put w heads days yielded rest n head closed hand new lawful split is at a p
     union_right w _ (HeadIs head) (list_in all (HeadIs head) (append_left (HeadIs head) (map HeadIs heads) _
     (map_in HeadIs heads head (taken_in heads (n + 1) head (subst (λ l. Member head l) (sym (take_next heads n head is))
     (append_right head (take n heads) (head ∷ []) (inl refl))))))) in
-    let one : (x : Head) → (HeadIs x ∈ w) ⊎ Member (HeadIs x) (front ++ rows) → x.stream ≡ head.stream → x.day ≡ head.day → x ≡ head =
-    λ x k s d. lawful.agrees.one_head x head (known (HeadIs x) k) here s d in
+    let one : (x : Head) → (HeadIs x ∈ w) ⊎ Member (HeadIs x) (front ++ rows) → x.stream ≡ head.stream → x.day ≡ head.day
+    → x.unit ≡ head.unit =
+    λ x k s d. lawful.agrees.one_unit x head (known (HeadIs x) k) here s d in
     let holds : Holds w ((front ++ rows) ++ HeadIs head ∷ []) place new.rows =
     holds_head w (front ++ rows) head hand.rows new.rows one h v (subst (λ k. Holds w (front ++ rows) k hand.rows) at a.hand) in
     let on : (f : Fact) → Member f (HeadIs head ∷ []) → IsOn hand.place.stream hand.place.day f = λ f m. elim m [

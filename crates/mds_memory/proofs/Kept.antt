@@ -13,7 +13,7 @@ use Rattle.mds_terms.specs.Event.{EventValue}
 use Rattle.mds_world.specs.declared.facts.Detail.{Detail}
 use Rattle.mds_world.specs.Current.{IsCurrentDetails, IsUpto}
 use Rattle.mds_world.specs.FactOrder.{exact, total}
-use Rattle.mds_world.specs.Facts.{Fact, JobContent, PeriodContent, key_at}
+use Rattle.mds_world.specs.Facts.{Fact, JobContent, PeriodContent}
 use Rattle.mds_world.specs.Facts.Fact.{HeadIs, VersionIs, DetailIs, EventIs, PeriodIs, HolidayIs, JobIs}
 use Rattle.mds_world.proofs.Lawful.{agrees_within}
 use Rattle.mds_world.proofs.Lists.{append_left, append_right, in_map, map_in, member_append}
@@ -21,9 +21,9 @@ use Rattle.mds_world.specs.Lists.{Apart, Member}
 use Rattle.mds_world.proofs.Members.{in_list, in_union, list_in, same_by, union_left, union_right}
 use Rattle.mds_world.proofs.Sets.{not_in_empty}
 use Rattle.mds_world.specs.Sets.{◌∈◌}
-use Rattle.mds_world.specs.World.{Agrees, IsKnownDay, IsLawful, IsOn, World, head_over, union}
+use Rattle.mds_world.specs.World.{Agrees, IsKnownDay, IsLawful, IsOn, World, head_over, key_under, union}
 use Rattle.mds_keeper.specs.Books.{BookValue, IsDay}
-use Rattle.mds_keeper.specs.Content.{AreNew, content, content_facts, detail_on, details_of, job_fact, period_fact, version_fact, versions_of}
+use Rattle.mds_keeper.specs.Content.{AreNew, content, content_facts, detail_on, details_of, heads_of, job_fact, period_fact, version_fact, versions_of}
 use Rattle.mds_keeper.specs.Queries.{AreDaysOf, AreDaysWithout, AreDetailsBetween, AreEventsOf, AreHolidays, ArePeriodsOf, IsContentOf, IsJobOf, IsLastDayOf}
 use Rattle.mds_memory.specs.Stored.{IsStored, days_world, id_cmp, jobs_world, key_cmp, note_fact, notes_world, periods_world, place_cmp, stored_world}
 use Rattle.mds_keeper.specs.declared.additions.Additions.{Additions}
@@ -386,7 +386,7 @@ last_of_all days meters notes jobs periods stream (Some last) is = record {
 }
 
 abbrev day_facts : Additions → List Fact
-day_facts more = map HeadIs more.heads.items ++ map version_fact (versions_of more.days.items)
+day_facts more = map HeadIs (heads_of more) ++ map version_fact (versions_of more.days.items)
 
 abbrev detail_facts : Additions → List Fact
 detail_facts more = map DetailIs (details_of more.details.items)
@@ -485,8 +485,7 @@ lawful_part w part sub back law = record {
     versioned = λ head x. let v = law.closed.versioned head (sub _ x) in (
       v.0,
       v.1,
-      v.2,
-      back head.stream head.day (VersionIs (key_at head.stream head.day head.length v.0 v.1) v.2) (refl, refl) v.3,
+      back head.stream head.day (VersionIs (key_under head v.0) v.1) (refl, refl) v.2,
     );
     detailed = λ detail x. let k = law.closed.detailed detail (sub _ x) in
         (k.0, back k.0.stream k.0.day (HeadIs k.0) (refl, refl) k.1, k.2, k.3);
@@ -496,7 +495,7 @@ lawful_part w part sub back law = record {
 -- the days will be lawful where all will be
 pub lawful_days : (days : Kept) (meters : Meters) (notes : BTreeSet Note) (jobs : Jobs) (periods : Periods) (more : Additions)
     → IsLawful (union (stored_world days meters notes jobs periods) (content more))
-    → IsLawful (union (days_world days) (set.from_list (map HeadIs more.heads.items ++ map version_fact (versions_of more.days.items))))
+    → IsLawful (union (days_world days) (set.from_list (map HeadIs (heads_of more) ++ map version_fact (versions_of more.days.items))))
 lawful_days days meters notes jobs periods more law =
     lawful_part (union (stored_world days meters notes jobs periods) (content more)) (union (days_world days) (set.from_list (day_facts more)))
     (λ f h. elim (in_union (days_world days) _ f h) [
@@ -635,7 +634,7 @@ notes_absent days meters notes jobs periods w more noted is new e note m h =
 -- all that is added is kept then
 pub committed : (days now : Kept) (meters told_now : Meters) (notes noted_now : BTreeSet Note) (jobs jobs_now : Jobs)
     (periods periods_now : Periods) (more : Additions) (told : List Detail) (noted : List Note)
-    → days_world now ≡ union (days_world days) (set.from_list (map HeadIs more.heads.items ++ map version_fact (versions_of more.days.items)))
+    → days_world now ≡ union (days_world days) (set.from_list (map HeadIs (heads_of more) ++ map version_fact (versions_of more.days.items)))
     → details_world told_now ≡ union (details_world meters) (set.from_list (map DetailIs told))
     → told ≡ details_of more.details.items
     → notes_world noted_now ≡ union (notes_world notes) (set.from_list (map note_fact noted))

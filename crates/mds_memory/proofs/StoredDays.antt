@@ -165,7 +165,8 @@ put_world old changed now left w e put o t change =
 pub nothing_lawful : IsLawful set.empty
 nothing_lawful = record {
   agrees = record {
-    one_head = λ a b x y i j. absurd (not_in_empty total exact (HeadIs a) x);
+    one_length = λ a b x y i j k. absurd (not_in_empty total exact (HeadIs a) x);
+    one_unit = λ a b x y i j. absurd (not_in_empty total exact (HeadIs a) x);
     one_reading = λ key a b x y. absurd (not_in_empty total exact (VersionIs key a) x);
     one_content = λ key a b x y. absurd (not_in_empty total exact (PeriodIs key a) x);
   };

@@ -204,7 +204,7 @@ pub head_there : (stream : Stream) (day : ℕ) (unit : Option MeasureUnit) (rows
     → (h : Head) × Member (HeadIs h) (head_facts stream day unit rows) × (h.stream ≡ stream)
 head_there stream day None rows e = cc
 head_there stream day (Some unit) [] e = cc
-head_there stream day (Some unit) (row ∷ rows) e = (head_at stream day row.1.length unit, inl refl, refl)
+head_there stream day (Some unit) (row ∷ rows) e = (head_at stream day row.1.update row.1.length unit, inl refl, refl)
 
 some_head : (stream : Stream) (day : ℕ) (unit : Option MeasureUnit) (rows : List (ℕ × Version)) (f : Fact)
     → Member f (head_facts stream day unit rows) → says_head unit rows ≡ true

@@ -15,7 +15,9 @@ ghost use Rattle.mds_memory.specs.Stored.{AreHeadStreams, AreOfTheirDays, days_w
 ghost use Rattle.mds_memory.specs.StoredDetails.{all_details, details_world};
 ghost use Rattle.mds_memory.specs.declared.stored_notes.Note.{Note as ANote};
 
-use crate::stored_days::{changed_days, day_of, days_of, has_head, last_day, make_room, put_days};
+use crate::stored_days::{
+    changed_days, day_of, days_of, has_head, heads_in, last_day, make_room, put_days,
+};
 use crate::stored_details::{
     MeterDays, MeterDetails, current_details, days_without, details_between, insert_details,
     meters_of,
@@ -154,6 +156,7 @@ impl Keeper for MemoryKeeper {
     // All that needs memory comes before the first change that shows, or is taken back.
     fn commit(&mut self, additions: Additions) -> Result<(), Unavailable> {
         let Additions {
+            new_days,
             heads,
             days,
             details,
@@ -164,7 +167,8 @@ impl Keeper for MemoryKeeper {
         } = additions;
         let meters = meters_of(self.alloc, details)?;
         let notes = notes_of(self.alloc, events, holidays)?;
-        let changed = changed_days(self.alloc, &self.days, heads, days)?;
+        let all_heads = heads_in(new_days, heads)?;
+        let changed = changed_days(self.alloc, &self.days, all_heads, days)?;
         make_room(self.alloc, &mut self.days, &changed)?;
         make_places(&mut self.jobs, &jobs)?;
         make_keys(&mut self.periods, &periods)?;

@@ -8,7 +8,6 @@ ghost use Rattle.mds_world.specs.Facts.{Fact};
 ghost use Rattle.mds_world.specs.Facts.Fact.{HeadIs};
 ghost use Rattle.mds_world.specs.World.{IsLawful, World, union};
 ghost use Rattle.mds_keeper.specs.Books.{IsDay, book_world};
-ghost use Rattle.mds_keeper.specs.BookRows.{unit_of};
 ghost use Rattle.mds_keeper.specs.Content.{rows_of, version_fact, versions_of};
 ghost use Rattle.mds_keeper.specs.Queries.{AreDaysOf, IsLastDayOf};
 ghost use Rattle.mds_memory.specs.Stored.{AreOfTheirDays, HasRoom, IsChange, days_world, is_headed, last_number, place_cmp};
@@ -16,7 +15,7 @@ ghost use Rattle.mds_memory.specs.StoredSteps.{AreBooks, AreChanged, AreLawfulDa
 
 use mds_keeper::{DayBook, DayVersions, VersionRows};
 use mds_quantity::Unit;
-use mds_terms::{Day, Length, Stream};
+use mds_terms::{Day, Stream};
 use mds_world::{Head, StreamDay};
 use std::alloc::{AllocError, Global};
 use std::collections::BTreeMap;
@@ -128,6 +127,16 @@ struct InHand {
     rows: Rows,
 }
 
+/// The heads of days that come new, and behind them those of further updates.
+pub(crate) fn heads_in(new_days: Vec<Head>, further: Vec<Head>) -> Result<Vec<Head>, AllocError>
+    ensures { IfOk result (λ heads. heads.items ≡ new_days.items ++ further.items) }
+{
+    let mut heads = new_days;
+    let mut further = further;
+    heads.append(&mut further)?;
+    Ok(heads)
+}
+
 /// The days that heads and versions change, each with what was kept of it and what is added.
 pub(crate) fn changed_days(
     alloc: Global,
@@ -144,7 +153,8 @@ pub(crate) fn changed_days(
     // What is added to a day mostly stands together, so the day in hand is kept out of the map.
     let mut closed: BTreeMap<StreamDay, Rows> = BTreeMap::new(alloc);
     let mut in_hand: Option<InHand> = None;
-    // How many heads are put. Those of new days mostly stand in the order of the versions.
+    // How many heads are put. They mostly stand in the order of the versions, unless some days are
+    // new and others are known.
     let mut put: usize = 0;
     for added in versions {
         let place = StreamDay {
@@ -298,17 +308,9 @@ fn kept_rows(
         });
     };
     Ok(Rows {
-        unit: unit_in(book.form()),
+        unit: book.unit(),
         rows: VersionRows::Each(book.copied_rows(alloc)?),
     })
-}
-
-/// The unit of a form.
-fn unit_in(form: Option<(Length, Unit)>) -> Option<Unit>
-    ensures { result ≡ unit_of form }
-{
-    let form = form?;
-    Some(form.1)
 }
 
 /// The books of days that were changed.

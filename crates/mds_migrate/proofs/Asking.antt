@@ -10,10 +10,13 @@ use Rattle.mds_tables.specs.Stores.{HoldsTablesOf, IsStore, versions_said}
 use Rattle.mds_tables.specs.Tables.{schema_1}
 use Rattle.mds_pack_rows.specs.DailyLayout.{daily_layout}
 use Rattle.mds_pack_rows.specs.DailyTables.{schema_3}
+use Rattle.mds_pack_rows.specs.FormLayout.{forms_layout}
+use Rattle.mds_pack_rows.specs.FormTables.{schema_4}
 use Rattle.mds_pack_rows.specs.PackTables.{schema_2}
 use Rattle.mds_pack_rows.specs.PacksLayout.{packs_layout}
 use Rattle.mds_pack_rows.proofs.TwoSchemas.{not_of}
 use Rattle.mds_pack_store.specs.Daily.{AreDaily, IsDailyStore}
+use Rattle.mds_pack_store.specs.Formed.{AreFormed, IsFormedStore}
 use Rattle.mds_pack_store.specs.Packed.{ArePacked, IsPackStore}
 use Rattle.mds_migrate.specs.declared.outcome.Migrated.{Migrated}
 use Rattle.mds_migrate.specs.declared.outcome.Migrated.TheVariants.{Done}
@@ -95,6 +98,15 @@ module _ (old mid : State) (kept : HasCleanDisk mid → KeepsCommit old mid) (on
         bare = it.bare;
       }
 
+  pub is_formed : HoldsTablesOf forms_layout old → (HasCleanDisk mid → AreFormed old.committed.trees)
+      → HasCleanDisk mid → IsTrue mid.is_open → IsFormedStore old.committed
+  is_formed held are clean is_open =
+      let it = are clean in
+      record {
+        store = record { schema = held (omega (arith, one.clean)) ((kept clean).was_open is_open); version = it.version };
+        bare = it.bare;
+      }
+
   -- what isn't so of what is committed isn't so of what is seen
   pub isnt_seen : (These : Trees → Type 0) → HasCleanDisk mid → (IsTrue old.is_open → old.now ≡ old.committed)
       → (These old.committed.trees → ⊥) → IsTrue mid.is_open → These old.now.trees → ⊥
@@ -103,26 +115,38 @@ module _ (old mid : State) (kept : HasCleanDisk mid → KeepsCommit old mid) (on
 
 -- ---- that it is none
 
-pub none_of_1 : (db : Database) → db.schema ≡ schema_1 → (versions_said db.trees ≡ pos 1 ∷ [] → ⊥)
-    → (IsStore db → ⊥) × (IsPackStore db → ⊥) × (IsDailyStore db → ⊥)
+-- a database of one schema, which isn't a store of it, is none of any
+abbrev IsNone : Database → Type 0
+IsNone db = (IsStore db → ⊥) × (IsPackStore db → ⊥) × (IsDailyStore db → ⊥) × (IsFormedStore db → ⊥)
+
+pub none_of_1 : (db : Database) → db.schema ≡ schema_1 → (versions_said db.trees ≡ pos 1 ∷ [] → ⊥) → IsNone db
 none_of_1 db has other = (
   (λ store. other store.version),
   (λ is. not_of packs_layout schema_1 db has (λ same. omega (arith, same)) is.store),
   (λ is. not_of daily_layout schema_1 db has (λ same. omega (arith, same)) is.store),
+  (λ is. not_of forms_layout schema_1 db has (λ same. omega (arith, same)) is.store),
 )
 
-pub none_of_2 : (db : Database) → db.schema ≡ schema_2 → (ArePacked db.trees → ⊥)
-    → (IsStore db → ⊥) × (IsPackStore db → ⊥) × (IsDailyStore db → ⊥)
+pub none_of_2 : (db : Database) → db.schema ≡ schema_2 → (ArePacked db.trees → ⊥) → IsNone db
 none_of_2 db has other = (
   (λ store. not_of rows_layout schema_2 db has (λ same. omega (arith, same)) store),
   (λ is. other (record { version = is.store.version; unversioned = is.unversioned })),
   (λ is. not_of daily_layout schema_2 db has (λ same. omega (arith, same)) is.store),
+  (λ is. not_of forms_layout schema_2 db has (λ same. omega (arith, same)) is.store),
 )
 
-pub none_of_3 : (db : Database) → db.schema ≡ schema_3 → (AreDaily db.trees → ⊥)
-    → (IsStore db → ⊥) × (IsPackStore db → ⊥) × (IsDailyStore db → ⊥)
+pub none_of_3 : (db : Database) → db.schema ≡ schema_3 → (AreDaily db.trees → ⊥) → IsNone db
 none_of_3 db has other = (
   (λ store. not_of rows_layout schema_3 db has (λ same. omega (arith, same)) store),
   (λ is. not_of packs_layout schema_3 db has (λ same. omega (arith, same)) is.store),
+  (λ is. other (record { version = is.store.version; bare = is.bare })),
+  (λ is. not_of forms_layout schema_3 db has (λ same. omega (arith, same)) is.store),
+)
+
+pub none_of_4 : (db : Database) → db.schema ≡ schema_4 → (AreFormed db.trees → ⊥) → IsNone db
+none_of_4 db has other = (
+  (λ store. not_of rows_layout schema_4 db has (λ same. omega (arith, same)) store),
+  (λ is. not_of packs_layout schema_4 db has (λ same. omega (arith, same)) is.store),
+  (λ is. not_of daily_layout schema_4 db has (λ same. omega (arith, same)) is.store),
   (λ is. other (record { version = is.store.version; bare = is.bare })),
 )

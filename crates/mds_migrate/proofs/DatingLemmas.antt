@@ -1,11 +1,10 @@
 -- Days that are given the greatest details of their streams.
-use Rattle.std.proofs.Common.{Err, Ok, OnOk, Result, ◌≡◌, ◌≤◌, ◌<◌, ◌+◌, ◌↔◌, inl, inr, suc, ℕ, List, [], ◌∷◌, ◌++◌, All, IsTrue, Option, Some, None, true, length, map, slice_index_or, take, refl, sym, ap, subst, ◌∙◌, arith}
+use Rattle.std.proofs.Common.{◌≡◌, ◌≤◌, ◌<◌, ◌+◌, ◌↔◌, inl, inr, suc, ℕ, List, [], ◌∷◌, ◌++◌, All, Option, Some, None, true, length, map, slice_index_or, take, refl, sym, ap, subst, ◌∙◌, arith}
 use Rattle.std.specs.Cmp.{IsTotalOrder, nat_cmp_total, on_total, then_total}
 use Rattle.std.specs.FinSet.{nat_cmp-IsAntisymmetric}
 use Rattle.std.specs.Ordering.{is_le, nat_cmp, ordering_then}
 use Rattle.std.specs.declared.cmp.Ordering.TheVariants.{Less, Equal, Greater}
 use Rattle.std.proofs.lemmas.List.{take_more}
-use Rattle.sqlite.specs.Effect.{Database}
 use Rattle.sqlite.specs.State.{HasCleanDisk, IsUnchanged, KeepsCommit, State}
 use Rattle.sqlite.specs.declared.types.Value.TheVariants.{Null}
 use Rattle.sqlite.proofs.InsideLemmas.{keeps_then}
@@ -28,10 +27,10 @@ use Rattle.mds_keeper.specs.Content.{detail_on}
 use Rattle.mds_keeper.specs.declared.additions.DetailDays.{DetailDays}
 use Rattle.mds_tables.specs.Cells.{stream_cells}
 use Rattle.mds_tables.specs.RowFacts.{head_fact, natural_at, stream_in}
-use Rattle.mds_tables.specs.Stores.{Gains, Selects}
+use Rattle.mds_tables.specs.Stores.{Selects}
 use Rattle.mds_tables.specs.Tables.{More, detail_tree, head_columns, head_tree, schema_with}
 use Rattle.mds_inserts.specs.Parts.{detail_part}
-use Rattle.mds_inserts.specs.Writing.{KeepsOthers, Puts, PutsThere}
+use Rattle.mds_inserts.specs.Writing.{PutsThere}
 use Rattle.mds_inserts.proofs.PutLemmas.{none_there, there_then}
 use Rattle.mds_selects.proofs.Listed.{on_stream, stream_on}
 use Rattle.mds_selects.proofs.MemberLemmas.{place_of}
@@ -44,6 +43,7 @@ use Rattle.mds_day_details.specs.Shown.{AreLatestFirst, IsDetailRow, shown_detai
 use Rattle.mds_migrate.specs.Dating.{AreGreatestOf, AreOfHeads, Dates, DatesDays, IsKnown, IsKnownOf, IsLatest, IsOfHead, IsOfKnownDay, Knows, SaysDetails, SaysFirst, ShowsDetailsOf, Stays, all_on, known_on, shown_columns}
 use Rattle.mds_migrate.specs.OldDetails.{IsGreatestOf, StreamDetail, pair_cmp, stream_detail}
 use Rattle.mds_migrate.specs.declared.dating.Latest.{Latest}
+use Rattle.mds_migrate.proofs.BehindQuery.{puts_since as since}
 use Rattle.mds_migrate.proofs.DatingOrder.{detail_keyed}
 
 -- ---- the greatest details of a stream
@@ -173,40 +173,8 @@ module _ (a b c : State) (later : doubt b.is_clean ≤ doubt c.is_clean) where
 
   -- after a query rows are put
   module _ (stays : Stays a b) where
-    puts_now : (items : List Detail) → HasCleanDisk c → IsTrue a.is_open → a.now.schema ≡ schema_3 → IsSound schema_3 a.now.trees
-        → PutsThere schema_3 detail_part b c items → Puts schema_3 detail_part a c items
-    puts_now items clean o has sound puts =
-        let early : HasCleanDisk b = omega (arith, clean, later) in
-        let now : b.now ≡ a.now = stays.now early o has in
-        let q = puts.puts clean (stays.goes_on.is_open early o) (ap (λ (d : Database). d.schema) now ∙ has)
-        (subst (λ (d : Database). IsSound schema_3 d.trees) (sym now) sound) in
-        record {
-          schema = q.schema;
-          rows = subst (λ (d : Database). Gains detail_part.tree (map detail_part.cells items) d.trees c.now.trees) now q.rows;
-          others = subst (λ (d : Database). KeepsOthers detail_part.tree d.trees c.now.trees schema_3.tables) now q.others;
-          committed = q.committed ∙ stays.committed early o has;
-          sound = q.sound;
-        }
-
     pub puts_since : (items : List Detail) → PutsThere schema_3 detail_part b c items → PutsThere schema_3 detail_part a c items
-    puts_since items puts = record {
-      was_open = λ clean o. stays.goes_on.was_open (omega (arith, clean, later)) (puts.was_open clean o);
-      is_open = λ clean o. puts.is_open clean (stays.goes_on.is_open (omega (arith, clean, later)) o);
-      inside = λ clean o. puts.inside clean (stays.goes_on.inside (omega (arith, clean, later)) o);
-      puts = λ clean o has sound. puts_now items clean o has sound puts;
-      said = puts.said;
-    }
-
-    there_now : IsThereDaily a c → IsThereDaily b c
-    there_now there =
-        let early : HasCleanDisk b = omega (arith, there.clean, later) in
-        let now : b.now ≡ a.now = stays.now early there.is_open there.schema in
-        record {
-          clean = there.clean;
-          is_open = stays.goes_on.is_open early there.is_open;
-          schema = ap (λ (d : Database). d.schema) now ∙ there.schema;
-          sound = subst (λ (d : Database). IsSound schema_3 d.trees) (sym now) there.sound;
-        }
+    puts_since = since schema_3 detail_part a b c later stays.goes_on (λ clean o has. (stays.now clean o has, stays.committed clean o has))
 
 -- ---- the day of a head
 
@@ -218,7 +186,7 @@ abbrev day_of : ℕ → Fact → ℕ
 day_of other (HeadIs head) = head.day
 day_of other _ = other
 
-one_member : {X : Type 0} (x y : X) → Member x (y ∷ []) → x ≡ y
+pub one_member : {X : Type 0} (x y : X) → Member x (y ∷ []) → x ≡ y
 one_member x y (inl is) = is
 one_member x y (inr none) = absurd none
 
@@ -394,8 +362,3 @@ dates_all a b c later heads finds z p there =
       puts = p.puts.puts there.clean there.is_open there.schema there.sound;
       are = of_all a.now.trees heads sel p.details (p.are there tt).0;
     }
-
--- what two facts of an answer give together
-pub on_both : {A E : Type 0} (r : Result A E) (P Q R : Type 0) → (P → Q → R) → OnOk r P → OnOk r Q → OnOk r R
-on_both (Ok x) P Q R f p q = f p q
-on_both (Err e) P Q R f p q = tt

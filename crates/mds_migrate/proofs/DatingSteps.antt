@@ -1,5 +1,5 @@
 -- The parts of the step to schema 3, one after another.
-use Rattle.std.proofs.Common.{◌≡◌, ◌≤◌, ◌↔◌, inl, inr, ℕ, ℤ, [], ◌∷◌, List, map, pos, IsTrue, sym, ap, subst, ◌∙◌, arith}
+use Rattle.std.proofs.Common.{◌≡◌, ◌≤◌, ◌↔◌, inl, inr, ℕ, ℤ, [], ◌∷◌, List, map, pos, IsTrue, refl, sym, ap, subst, ◌∙◌, arith}
 use Rattle.std.specs.List.{flat_map}
 use Rattle.sqlite.specs.State.{HasCleanDisk, KeepsCommit, State}
 use Rattle.sqlite.proofs.InsideLemmas.{keeps_then}
@@ -23,7 +23,7 @@ use Rattle.mds_tables.specs.Tables.{daydetail_tree, detail_tree, event_tree, hea
 use Rattle.mds_inserts.specs.Parts.{detail_part}
 use Rattle.mds_inserts.specs.Writing.{IsMore, KeepsOthers}
 use Rattle.mds_inserts.proofs.RowLemmas.{detail_bare, more, of, says_details}
-use Rattle.mds_selects.proofs.Named.{Names, of_event, of_head, of_holiday, of_job, of_period, of_version}
+use Rattle.mds_selects.proofs.Named.{Names, of_event, of_head_row, of_holiday, of_job, of_period, of_version}
 use Rattle.mds_pack_rows.specs.DailyLayout.{daily_layout, daydetails_behind, versions_packed, world_3}
 use Rattle.mds_pack_rows.specs.DailyPutting.{IsThereDaily, MakesDaydetail}
 use Rattle.mds_pack_rows.specs.DailyTables.{schema_3, tables_3}
@@ -37,6 +37,7 @@ use Rattle.mds_migrate.specs.Migrated.{HasDated, IsFor, TakesOn, dating}
 use Rattle.mds_migrate.specs.Migrating.{Clears, Raises}
 use Rattle.mds_migrate.specs.OldDetails.{Becomes, Comes}
 use Rattle.mds_migrate.proofs.DatingLemmas.{greatest_as}
+use Rattle.mds_migrate.proofs.Steps.{across}
 
 -- ---- what the tables become
 
@@ -51,13 +52,9 @@ record IsCarried (old new : Trees) (details : List Detail) : Type 0 where
   dated : IsMore (map detail_fact (new daydetail_tree)) [] (map DetailIs details)
   are : (detail : Detail) → Member detail details ↔ IsOfKnownDay old detail
 
--- what the same rows say
-across : {A C : Type 0} (P : List Row → Type 0) (xs ys : List Row) → A ↔ P xs → C ↔ P ys → xs ≡ ys → A ↔ C
-across P xs ys one two same = ((λ a. two.1 (subst P same (one.0 a))), (λ c. one.1 (subst P (sym same) (two.0 c))))
-
 -- the stream and the day of a row of a head
 abbrev head_in : Row → Head
-head_in row = head_at (stream_in row) (natural_at row 3) (natural_at row 4) (unit_named (text_at row 5))
+head_in row = head_at (stream_in row) (natural_at row 3) 0 (natural_at row 4) (unit_named (text_at row 5))
 
 head_is : (row : Row) (head : Head) → head_fact row ≡ HeadIs head → head_in row ≡ head
 head_is row head e = cc
@@ -88,7 +85,7 @@ module _ (old new : Trees) (details : List Detail) (c : IsCarried old new detail
   known_day x is = (
     (
       head_in is.head,
-      (of_head packs_layout old (head_in is.head)).1 (is.head, is.there, λ i. HeadIs (head_in is.head)),
+      (of_head_row packs_layout old refl (head_in is.head)).1 (is.head, is.there, λ i. HeadIs (head_in is.head)),
       sym is.stream,
       sym is.day,
     ),
@@ -98,7 +95,7 @@ module _ (old new : Trees) (details : List Detail) (c : IsCarried old new detail
   of_known : (x : Detail) → Comes old (DetailIs x) → IsOfKnownDay old x
   of_known x it =
       let day = it.0 in
-      let n = (of_head packs_layout old day.0).0 day.1 in
+      let n = (of_head_row packs_layout old refl day.0).0 day.1 in
       let same : head_in n.0 ≡ day.0 = head_is n.0 day.0 n.2 in
       record {
         head = n.0;
@@ -109,7 +106,7 @@ module _ (old new : Trees) (details : List Detail) (c : IsCarried old new detail
       }
 
   carried_becomes : Becomes old (world_3 new)
-  carried_becomes (HeadIs h) = across (λ rows. Names head_fact rows (HeadIs h)) _ _ (of_head daily_layout new h) (of_head packs_layout old h) c.heads
+  carried_becomes (HeadIs h) = across (λ rows. Names head_fact rows (HeadIs h)) _ _ (of_head_row daily_layout new refl h) (of_head_row packs_layout old refl h) c.heads
   carried_becomes (VersionIs k v) =
       let all = of_version daily_layout new k v in
       let packed = versions_packed new k v in

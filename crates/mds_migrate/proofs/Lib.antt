@@ -1,9 +1,14 @@
 pub mod Asking
+pub mod BehindQuery
+pub mod Chaining
 pub mod DatingLemmas
 pub mod DatingOrder
 pub mod DatingSteps
 pub mod DatingTexts
+pub mod FormingLemmas
+pub mod FormingSteps
 pub mod HeadLemmas
+pub mod LengthLemmas
 pub mod PackingLemmas
 pub mod PackingTexts
 pub mod StatementLemmas

@@ -17,7 +17,7 @@ use Rattle.mds_world.specs.Facts.{Fact, head_at}
 use Rattle.mds_world.specs.Facts.Fact.{DetailIs, EventIs, HeadIs, HolidayIs, JobIs, PeriodIs, VersionIs}
 use Rattle.mds_world.specs.Lists.{Member}
 use Rattle.mds_world.specs.Sets.{◌∈◌}
-use Rattle.mds_world.specs.World.{IsOn, head_over, union}
+use Rattle.mds_world.specs.World.{IsOn, union}
 use Rattle.mds_world.specs.declared.facts.Head.{Head}
 use Rattle.mds_world.specs.declared.facts.Key.{Key}
 use Rattle.mds_world.proofs.Lists.{append_left, append_right, in_map, map_in, member_append}
@@ -41,13 +41,14 @@ use Rattle.mds_pack_rows.specs.PacksLayout.{packs_over}
 use Rattle.mds_pack_rows.specs.Putting.{ChangesPacks, FindsThere, GoesOn, IsThere, PutsFacts}
 use Rattle.mds_pack_rows.proofs.PutLemmas.{as_rows, is_database, others_of, puts_none, puts_since, puts_then, there_after, there_before}
 use Rattle.mds_migrate.specs.Migrating.{IsLengthened, Packs}
-use Rattle.mds_migrate.specs.OldLengths.{erased}
+use Rattle.mds_migrate.specs.OldHeads.{updateless}
+use Rattle.mds_migrate.specs.OldLengths.{day_head, erased}
 use Rattle.mds_migrate.specs.Packing.{AreOfDays, IsUnder, PacksDays}
 
 -- ---- the versions of one day
 
 -- the head that a fact is
-abbrev head_of : Head → Fact → Head
+abbrev pub head_of : Head → Fact → Head
 head_of other (HeadIs head) = head
 head_of other _ = other
 
@@ -61,14 +62,18 @@ are_versions : (s : Stream) (day : ℕ) (vs : List (ℕ × Version)) (f : Fact) 
 are_versions s day vs f m = let v = in_map (row_fact s day) vs f m in subst IsVersion (sym v.2) tt
 
 module _ (shown : Row) (head : Head) (is : head_fact (Null ∷ shown) ≡ HeadIs head) where
+  -- it says no update
+  pub no_update : head_fact (Null ∷ shown) ≡ HeadIs (updateless head)
+  no_update = ap (λ f. HeadIs (updateless (head_of head f))) is
+
   -- a version under a head that is shown is of its day and its length
-  same_head : (key : Key) (unit : MeasureUnit) → head_fact (Null ∷ shown) ≡ HeadIs (head_over key unit) → head_over key unit ≡ head
+  same_head : (key : Key) (unit : MeasureUnit) → head_fact (Null ∷ shown) ≡ HeadIs (day_head key unit) → day_head key unit ≡ head
   same_head key unit over = ap (head_of head) (sym over ∙ is)
 
   -- and the other way round
   over_head : (key : Key) → key.stream ≡ head.stream → key.day ≡ head.day → key.length ≡ head.length
-      → head_fact (Null ∷ shown) ≡ HeadIs (head_over key head.unit)
-  over_head key stream day length = is ∙ sym (λ i. HeadIs (head_at (stream i) (day i) (length i) head.unit))
+      → head_fact (Null ∷ shown) ≡ HeadIs (day_head key head.unit)
+  over_head key stream day length = no_update ∙ sym (λ i. HeadIs (head_at (stream i) (day i) 0 (length i) head.unit))
 
   module _ (rest : Behind) (low : head.day < 2 ^ 63) (trees : Trees) (sound : IsSound (schema_with (packs_then rest.more)) trees)
       (rows : List Row) (sel : Selects version_tree (day_cells head.stream head.day) version_columns trees rows) (vs : List (ℕ × Version))
@@ -104,7 +109,7 @@ module _ (shown : Row) (head : Head) (is : head_fact (Null ∷ shown) ≡ HeadIs
           (λ p.
               let n = in_map version_fact (trees version_tree) (erased f) p.0 in
               let under : IsUnder shown f = elim p.1.1 [ inl e ↦ subst (λ h. IsUnder h f) e p.1.2 | inr z ↦ absurd z ] in
-              let same : head_over key under.0 ≡ head = same_head key under.0 under.1 in
+              let same : day_head key under.0 ≡ head = same_head key under.0 under.1 in
               let o : IsOn s day (erased f) = (ap (λ (h : Head). h.stream) same, ap (λ (h : Head). h.day) same) in
               (list key reading).0 (
                 tells version_fact version_tree (day_cells s day) version_columns trees rows sel (λ r. refl) (IsOn s day) on (erased f)
@@ -227,10 +232,10 @@ module _ (trees : Trees) (heads : List Row) (sel : Selects head_tree [] head_col
             let shown = it.1.0 in
             let under : IsUnder shown f = it.1.2 in
             let row = (sel shown).0 it.1.1 in
-            let is : head_fact row.0 ≡ HeadIs (head_over key under.0) = sym (ap (λ r. head_fact (Null ∷ r)) row.3) ∙ under.1 in
+            let is : head_fact row.0 ≡ HeadIs (day_head key under.0) = sym (ap (λ r. head_fact (Null ∷ r)) row.3) ∙ under.1 in
             (it.0, (under.0, subst (λ g. Member g (map head_fact (trees head_tree))) is (map_in head_fact (trees head_tree) row.0 row.1)))),
         (λ p.
-            let n = in_map head_fact (trees head_tree) (HeadIs (head_over key p.1.0)) p.1.1 in
+            let n = in_map head_fact (trees head_tree) (HeadIs (day_head key p.1.0)) p.1.1 in
             let shown = map (column n.0) head_columns in
             (are f).1 (p.0, (shown, (sel shown).1 (n.0, n.1, refl, refl), (p.1.0, sym n.2)))),
       )

@@ -8,18 +8,18 @@ use Rattle.sqlite.proofs.Callers.{IsPlain, command_of}
 use Rattle.sqlite_tied.specs.Compute.{everything}
 use Rattle.sqlite_value.specs.declared.keys.Key.{Key}
 use Rattle.mds_tables.specs.Tables.{More, head_columns, head_tree, schema_with, version_columns, version_tree}
+use Rattle.mds_selects.specs.Shown.{rising}
 use Rattle.mds_selects.proofs.SelectTexts.{columns_at, equals, from_one}
 use Rattle.mds_pack_rows.specs.PackTables.{packs_then}
-use Rattle.mds_store.proofs.ListTexts.{rising}
 
 abbrev pub select_heads : List ℕ
-select_heads = codes "SELECT nmi, suffix, day, length, unit FROM mds_head ORDER BY nmi, suffix"
+select_heads = codes "SELECT nmi, suffix, day, length, unit FROM mds_head ORDER BY nmi, suffix, day"
 
-abbrev pub by_stream : List (Term × Key)
-by_stream = (col 1 1, rising) ∷ (col 1 2, rising) ∷ []
+abbrev pub by_stream_day : List (Term × Key)
+by_stream_day = (col 1 1, rising) ∷ (col 1 2, rising) ∷ (col 1 3, rising) ∷ []
 
 abbrev pub heads_query : Query
-heads_query = from_one head_tree [] (columns_at head_columns) by_stream
+heads_query = from_one head_tree [] (columns_at head_columns) by_stream_day
 
 pub select_heads_is : (rest : More) → command_of (understood (schema_with (packs_then rest)) select_heads)
     ≡ Select (record { lets = []; body = heads_query }) (codes "nmi" ∷ codes "suffix" ∷ codes "day"

@@ -1,12 +1,13 @@
 -- What the texts of the statements that leave a schema behind mean, whatever tables stand behind mds_pack.
-use Rattle.std.proofs.Common.{◌≡◌, List, ℕ, [], ◌∷◌, codes, refl, false}
+use Rattle.std.proofs.Common.{◌≡◌, List, ℕ, pos, [], ◌∷◌, codes, refl, false}
 use Rattle.sqlite.specs.Command.TheVariants.{Delete, Select, Update}
 use Rattle.sqlite.specs.Listing.{reads_listing, understood}
 use Rattle.sqlite.specs.Query.{Query}
-use Rattle.sqlite.specs.Term.{Term, col}
+use Rattle.sqlite.specs.Term.{Term, col, lit}
+use Rattle.sqlite.specs.declared.types.Value.TheVariants.{Int}
 use Rattle.sqlite.proofs.Callers.{IsPlain, command_of}
 use Rattle.sqlite_tied.specs.Compute.{everything}
-use Rattle.mds_tables.specs.Tables.{More, detail_tree, schema_tree, schema_with, version_tree}
+use Rattle.mds_tables.specs.Tables.{More, detail_tree, head_tree, schema_tree, schema_with, version_tree}
 use Rattle.mds_selects.proofs.SelectTexts.{columns_at, equals, from_one}
 use Rattle.mds_pack_rows.specs.PackTables.{packs_then}
 
@@ -81,6 +82,30 @@ select_moments_is rest = refl
 pub select_moments_plain : (rest : More) → IsPlain (understood (schema_with (packs_then rest)) select_moments) × (reads_listing (schema_with (packs_then rest)) select_moments ≡ false)
 unfolding understood everything
 select_moments_plain rest = ((refl, refl), refl)
+
+-- ---- the lengths of mds_head are taken away
+
+-- the place of mds_head among the tables
+abbrev pub head_place : ℕ
+head_place = 1
+
+abbrev pub update_lengths : List ℕ
+update_lengths = codes "UPDATE mds_head SET length = 0"
+
+-- the rowid of the row that is changed, and then the row as it becomes
+abbrev pub bare_terms : List Term
+bare_terms = col 1 0 ∷ col 1 0 ∷ col 1 1 ∷ col 1 2 ∷ col 1 3 ∷ lit (Int (pos 0)) ∷ col 1 5 ∷ []
+
+abbrev pub lengths_query : Query
+lengths_query = from_one head_tree [] bare_terms []
+
+pub update_lengths_is : (rest : More) → command_of (understood (schema_with (packs_then rest)) update_lengths) ≡ Update head_place (record { lets = []; body = lengths_query })
+unfolding understood everything
+update_lengths_is rest = refl
+
+pub update_lengths_plain : (rest : More) → IsPlain (understood (schema_with (packs_then rest)) update_lengths)
+unfolding understood everything
+update_lengths_plain rest = (refl, refl)
 
 -- ---- the rowids of mds_schema
 

@@ -1,5 +1,5 @@
 -- The parts of the step to schema 2, one after another.
-use Rattle.std.proofs.Common.{◌≡◌, ◌≤◌, ◌↔◌, [], ◌∷◌, List, ℕ, ℤ, map, pos, Ok, Err, IsTrue, OnOk, Result, sym, ap, subst, ◌∙◌, arith}
+use Rattle.std.proofs.Common.{◌≡◌, ◌≤◌, ◌↔◌, [], ◌∷◌, List, ℕ, ℤ, map, pos, Ok, Err, IsTrue, OnOk, Result, refl, sym, ap, subst, ◌∙◌, arith}
 use Rattle.std.specs.List.{flat_map}
 use Rattle.sqlite.specs.State.{HasCleanDisk, KeepsCommit, State}
 use Rattle.sqlite.proofs.InsideLemmas.{keeps_then}
@@ -14,7 +14,6 @@ use Rattle.mds_world.specs.Facts.{Fact, head_at, key_at}
 use Rattle.mds_world.specs.Facts.Fact.{DetailIs, EventIs, HeadIs, HolidayIs, JobIs, PeriodIs, VersionIs}
 use Rattle.mds_world.specs.Lists.{Member}
 use Rattle.mds_world.specs.Sets.{◌∈◌}
-use Rattle.mds_world.specs.World.{head_over}
 use Rattle.mds_world.specs.declared.facts.Detail.{Detail}
 use Rattle.mds_world.specs.declared.facts.Key.{Key}
 use Rattle.mds_world.proofs.Lists.{in_map, map_in}
@@ -24,7 +23,7 @@ use Rattle.mds_tables.specs.RowFacts.{event_fact, head_fact, holiday_fact, int_a
 use Rattle.mds_tables.specs.Stores.{versions_said}
 use Rattle.mds_tables.specs.Tables.{detail_tree, event_tree, head_tree, holiday_tree, job_tree, no_more, period_tree, schema_1, schema_tree, version_tree}
 use Rattle.mds_inserts.specs.Writing.{KeepsOthers}
-use Rattle.mds_selects.proofs.Named.{Names, of_detail, of_event, of_head, of_holiday, of_job, of_period, of_version}
+use Rattle.mds_selects.proofs.Named.{Names, of_detail, of_event, of_head_row, of_holiday, of_job, of_period, of_version}
 use Rattle.mds_pack_rows.specs.PackFacts.{pack_facts, pack_versions}
 use Rattle.mds_pack_rows.specs.PackTables.{pack_tree, schema_2, tables_2}
 use Rattle.mds_pack_rows.specs.PacksLayout.{nothing_behind, packs_layout, world_2}
@@ -32,7 +31,7 @@ use Rattle.mds_pack_rows.specs.Putting.{GoesOn, IsThere, MakesPack}
 use Rattle.mds_pack_rows.proofs.PutLemmas.{others_of}
 use Rattle.mds_migrate.specs.Migrated.{HasPacked, IsFor, TakesOn, packing}
 use Rattle.mds_migrate.specs.Migrating.{Clears, IsLengthened, Packs, Raises}
-use Rattle.mds_migrate.specs.OldLengths.{CameOf}
+use Rattle.mds_migrate.specs.OldLengths.{CameOf, day_head}
 use Rattle.mds_migrate.proofs.HeadLemmas.{has_head}
 
 -- ---- what the tables become
@@ -46,8 +45,8 @@ record IsTakenOver (old new : Trees) : Type 0 where
   holidays : new holiday_tree ≡ old holiday_tree
   jobs : new job_tree ≡ old job_tree
 
--- what the same rows say
-across : {A C : Type 0} (P : List Row → Type 0) (xs ys : List Row) → A ↔ P xs → C ↔ P ys → xs ≡ ys → A ↔ C
+-- what the same rows, or facts, say
+pub across : {A C X : Type 0} (P : X → Type 0) (xs ys : X) → A ↔ P xs → C ↔ P ys → xs ≡ ys → A ↔ C
 across P xs ys one two same = ((λ a. two.1 (subst P same (one.0 a))), (λ c. one.1 (subst P (sym same) (two.0 c))))
 
 -- rows of mds_version say no details
@@ -70,17 +69,17 @@ day_of other _ = other
 
 module _ (old new : Trees) (t : IsTakenOver old new) where
   lengthened : (fact : Fact) → (fact ∈ world_2 new) ↔ CameOf (world_with rows_layout old) fact
-  lengthened (HeadIs h) = across (λ rows. Names head_fact rows (HeadIs h)) _ _ (of_head packs_layout new h) (of_head rows_layout old h) t.heads
+  lengthened (HeadIs h) = across (λ rows. Names head_fact rows (HeadIs h)) _ _ (of_head_row packs_layout new refl h) (of_head_row rows_layout old refl h) t.heads
   lengthened (VersionIs k v) =
       let all = of_version packs_layout new k v in
       let one = of_version rows_layout old (lengthless k) v in (
         (λ m.
             let it = (t.versions (VersionIs k v)).0 (all.0 m) in
-            let head = in_map head_fact (old head_tree) (HeadIs (head_over k it.1.0)) it.1.1 in
-            (one.1 it.0, (it.1.0, (of_head rows_layout old (head_over k it.1.0)).1 (head.0, head.1, sym head.2)))),
+            let head = in_map head_fact (old head_tree) (HeadIs (day_head k it.1.0)) it.1.1 in
+            (one.1 it.0, (it.1.0, (of_head_row rows_layout old refl (day_head k it.1.0)).1 (head.0, head.1, sym head.2)))),
         (λ c.
-            let head = (of_head rows_layout old (head_over k c.1.0)).0 c.1.1 in
-            let there : Member (HeadIs (head_over k c.1.0)) (map head_fact (old head_tree)) =
+            let head = (of_head_row rows_layout old refl (day_head k c.1.0)).0 c.1.1 in
+            let there : Member (HeadIs (day_head k c.1.0)) (map head_fact (old head_tree)) =
             subst (λ f. Member f (map head_fact (old head_tree))) head.2 (map_in head_fact (old head_tree) head.0 head.1) in
             all.1 ((t.versions (VersionIs k v)).1 (one.0 c.0, (c.1.0, there)))),
       )
@@ -113,11 +112,11 @@ module _ (old new : Trees) (t : IsTakenOver old new) where
         let none : key.length ≡ 0 = ap length_of said.2 in
         λ i. VersionIs (key_at key.stream key.day (none i) key.interval key.update) reading
 
-    over : head_fact head.0 ≡ HeadIs (head_over taken (unit_named (text_at head.0 5)))
+    over : head_fact head.0 ≡ HeadIs (day_head taken (unit_named (text_at head.0 5)))
     over =
         let stream : stream_in head.0 ≡ key.stream = sym (ap (stream_of key.stream) said.2 ∙ head.2) in
         let day : natural_at head.0 3 ≡ key.day = sym (ap (day_of key.day) said.2 ∙ head.3) in
-        λ i. HeadIs (head_at (stream i) (day i) minutes (unit_named (text_at head.0 5)))
+        λ i. HeadIs (head_at (stream i) (day i) 0 minutes (unit_named (text_at head.0 5)))
 
     kept : (length : ℕ) × (VersionIs (key_at key.stream key.day length key.interval key.update) reading ∈ world_2 new)
     kept = (
@@ -126,7 +125,7 @@ module _ (old new : Trees) (t : IsTakenOver old new) where
         subst (λ f. f ∈ world_with rows_layout old) bare was,
         (
           unit_named (text_at head.0 5),
-          (of_head rows_layout old (head_over taken (unit_named (text_at head.0 5)))).1 (head.0, head.1, over),
+          (of_head_row rows_layout old refl (day_head taken (unit_named (text_at head.0 5)))).1 (head.0, head.1, over),
         ),
       ),
     )
@@ -137,7 +136,7 @@ as_before : (old new : Trees) → new version_tree ≡ old version_tree → new 
 as_before old new versions heads (VersionIs k v) =
     let same : IsLengthened old (VersionIs k v) ≡ IsLengthened new (VersionIs k v) =
     λ i. Member (VersionIs (lengthless k) v) (map version_fact (sym versions i))
-    × ((unit : MeasureUnit) × Member (HeadIs (head_over k unit)) (map head_fact (sym heads i))) in
+    × ((unit : MeasureUnit) × Member (HeadIs (day_head k unit)) (map head_fact (sym heads i))) in
     ((λ l. subst (λ T. T) same l), (λ l. subst (λ T. T) (sym same) l))
 as_before old new versions heads (HeadIs h) = (λ l. l, λ l. l)
 as_before old new versions heads (DetailIs x) = (λ l. l, λ l. l)

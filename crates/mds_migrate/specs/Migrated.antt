@@ -1,26 +1,35 @@
--- What a step of a migration leaves (profile): from schema 1 to schema 2, or from schema 2 to schema 3.
+-- What a step of a migration leaves (profile): from schema 1 to schema 2, from there to schema 3, or from there to schema 4.
 use Rattle.std.specs.Prelude.{◌≡◌, ◌⊎◌, ◌↔◌, ℕ, [], ◌∷◌, pos, IsTrue}
+use Rattle.std.specs.List.{AllByRecursion}
 use Rattle.sqlite.specs.Effect.{Database}
 use Rattle.sqlite.specs.Schema.{Schema}
 use Rattle.sqlite.specs.State.{HasCleanDisk, KeepsCommit, State}
 use Rattle.sqlite_catalog.specs.Listing.{IsSound}
 use Rattle.sqlite_trees.specs.Tree.{Trees}
+use Rattle.sqlite_value.specs.Order.{Row, column}
+use Rattle.mds_quantity.specs.declared.unit.Unit.{Unit as MeasureUnit}
 use Rattle.mds_marks.specs.Reading.{ReadingValue}
 use Rattle.mds_world.specs.Facts.{Fact, key_at}
-use Rattle.mds_world.specs.Facts.Fact.{VersionIs}
+use Rattle.mds_world.specs.Facts.Fact.{HeadIs, VersionIs}
 use Rattle.mds_world.specs.Sets.{◌∈◌}
+use Rattle.mds_world.specs.World.{head_over}
 use Rattle.mds_world.specs.declared.facts.Key.{Key}
+use Rattle.mds_tables.specs.Cells.{number_cell}
 use Rattle.mds_tables.specs.Layouts.{rows_layout, world_with}
 use Rattle.mds_tables.specs.Stores.{AreOpen, IsStore, versions_said}
-use Rattle.mds_tables.specs.Tables.{detail_tree, schema_1, version_tree}
+use Rattle.mds_tables.specs.Tables.{detail_tree, head_tree, schema_1, version_tree}
 use Rattle.mds_pack_rows.specs.DailyLayout.{world_3}
 use Rattle.mds_pack_rows.specs.DailyTables.{schema_3}
+use Rattle.mds_pack_rows.specs.FormLayout.{world_4}
+use Rattle.mds_pack_rows.specs.FormTables.{schema_4}
 use Rattle.mds_pack_rows.specs.PackTables.{schema_2}
 use Rattle.mds_pack_rows.specs.PacksLayout.{world_2}
 use Rattle.mds_pack_store.specs.Daily.{IsDailyStore}
+use Rattle.mds_pack_store.specs.Formed.{IsFormedStore}
 use Rattle.mds_pack_store.specs.Packed.{IsPackStore}
 use Rattle.mds_migrate.specs.OldDetails.{Becomes}
-use Rattle.mds_migrate.specs.OldLengths.{CameOf}
+use Rattle.mds_migrate.specs.OldHeads.{IsFormedOf}
+use Rattle.mds_migrate.specs.OldLengths.{CameOf, day_head}
 use Rattle.mds_migrate.specs.declared.outcome.Migrated.{Migrated}
 use Rattle.mds_migrate.specs.declared.outcome.Migrated.TheVariants.{AlreadyCurrent, Done}
 use Rattle.mds_migrate.specs.declared.outcome.MigrateFault.{MigrateFault}
@@ -47,6 +56,19 @@ pub record HasDated (old new : Trees) : Type 0 where
   pub undated : new detail_tree ≡ []
   pub sound : IsSound schema_3 new
 
+-- The tables of schema 4 name the World that comes of the one that those of schema 3 named. mds_schema says 4, mds_head says days and
+-- units alone, and neither versions nor details of streams have rows of their own.
+pub record HasFormed (old new : Trees) : Type 0 where
+  pub becomes : (fact : Fact) → (fact ∈ world_4 new) ↔ IsFormedOf (world_3 old) fact
+  -- no form is lost: a version of the length of its day's head has a head of its own update
+  pub kept : (key : Key) (reading : ReadingValue) (unit : MeasureUnit) → VersionIs key reading ∈ world_3 old
+      → HeadIs (day_head key unit) ∈ world_3 old → HeadIs (head_over key unit) ∈ world_4 new
+  pub lengths : AllByRecursion (λ (row : Row). column row 4 ≡ number_cell 0) (new head_tree)
+  pub version : versions_said new ≡ pos 4 ∷ []
+  pub unversioned : new version_tree ≡ []
+  pub undated : new detail_tree ≡ []
+  pub sound : IsSound schema_4 new
+
 -- A step: from databases that are such stores, and have this schema, to another schema, and what becomes of their trees.
 pub record Step : Type 1 where
   pub From : Database → Type 0
@@ -60,6 +82,9 @@ packing = record { From = IsStore; under = schema_1; fits = λ db store. store.s
 
 abbrev pub dating : Step
 dating = record { From = IsPackStore; under = schema_2; fits = λ db is. is.store.schema; to = schema_3; Has = HasDated }
+
+abbrev pub forming : Step
+forming = record { From = IsDailyStore; under = schema_3; fits = λ db is. is.store.schema; to = schema_4; Has = HasFormed }
 
 module _ (step : Step) where
   -- while the disk is honest and the connection open, what is committed is a store that the step is for
@@ -103,30 +128,43 @@ module _ (step : Step) where
     pub was : step.From old.committed
     pub taken : step.Has old.committed.trees left
 
--- one of the two steps was done, as the store asked for it
+-- one of the three steps was done, as the store asked for it
 abbrev pub IsMigrated : State → State → Type 0
-IsMigrated old new = IsTaken packing old new ⊎ IsTaken dating old new
+IsMigrated old new = IsTaken packing old new ⊎ (IsTaken dating old new ⊎ IsTaken forming old new)
+
+-- two steps, one after the other
+abbrev pub Both : (Trees → Trees → Type 0) → (Trees → Trees → Type 0) → Trees → Trees → Type 0
+Both First Second old new = (between : Trees) × First old between × Second between new
 
 -- what one step makes of a store
 abbrev pub TakesOne : Database → Database → Type 0
-TakesOne old new = (IsPackStore old × HasDated old.trees new.trees) ⊎ (IsStore old × HasPacked old.trees new.trees)
+TakesOne old new =
+    (IsDailyStore old × HasFormed old.trees new.trees)
+    ⊎ ((IsPackStore old × HasDated old.trees new.trees) ⊎ (IsStore old × HasPacked old.trees new.trees))
 
--- What all steps make of a store: the days of one of schema 2 were given details, and one of schema 1 was packed before.
+-- what two steps make of one
+abbrev pub TakesTwo : Database → Database → Type 0
+TakesTwo old new =
+    (IsPackStore old × Both HasDated HasFormed old.trees new.trees) ⊎ (IsStore old × Both HasPacked HasDated old.trees new.trees)
+
+-- What all steps make of a store: the days of one of schema 3 were given heads of updates. Those of one of schema 2 were given details
+-- before, and those of one of schema 1 were packed before that.
 abbrev pub TakesSteps : Database → Database → Type 0
 TakesSteps old new =
-    (IsPackStore old × HasDated old.trees new.trees)
-    ⊎ (IsStore old × ((between : Trees) × HasPacked old.trees between × HasDated between new.trees))
+    (IsDailyStore old × HasFormed old.trees new.trees)
+    ⊎ ((IsPackStore old × Both HasDated HasFormed old.trees new.trees)
+    ⊎ (IsStore old × Both HasPacked (Both HasDated HasFormed) old.trees new.trees))
 
 abbrev pub LeavesMigrated : State → Trees → Type 0
-LeavesMigrated old left = LeavesTaken packing old left ⊎ LeavesTaken dating old left
+LeavesMigrated old left = LeavesTaken packing old left ⊎ (LeavesTaken dating old left ⊎ LeavesTaken forming old left)
 
 -- what a migration answers
 abbrev pub Answered : State → State → Migrated → Type 0
 Answered old new Done = IsMigrated old new
-Answered old new AlreadyCurrent = IsDailyStore old.committed × AreOpen old new × KeepsCommit old new
+Answered old new AlreadyCurrent = IsFormedStore old.committed × AreOpen old new × KeepsCommit old new
 
 -- Nothing was changed. U3 only where the database is a store of none of the schemas.
 abbrev pub IsRefused : State → State → MigrateFault → Type 0
 IsRefused old new OtherSchema =
-    KeepsCommit old new × (IsStore old.now → ⊥) × (IsPackStore old.now → ⊥) × (IsDailyStore old.now → ⊥)
+    KeepsCommit old new × (IsStore old.now → ⊥) × (IsPackStore old.now → ⊥) × (IsDailyStore old.now → ⊥) × (IsFormedStore old.now → ⊥)
 IsRefused old new Unavailable = KeepsCommit old new

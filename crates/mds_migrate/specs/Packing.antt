@@ -8,14 +8,13 @@ use Rattle.mds_quantity.specs.declared.unit.Unit.{Unit as MeasureUnit}
 use Rattle.mds_world.specs.Facts.{Fact}
 use Rattle.mds_world.specs.Facts.Fact.{HeadIs, VersionIs}
 use Rattle.mds_world.specs.Lists.{Member}
-use Rattle.mds_world.specs.World.{head_over}
 use Rattle.mds_tables.specs.RowFacts.{head_fact, versions_in}
 use Rattle.mds_pack_rows.specs.Putting.{IsThere, PutsFacts}
-use Rattle.mds_migrate.specs.OldLengths.{erased}
+use Rattle.mds_migrate.specs.OldLengths.{day_head, erased}
 
 -- the fact is a version of the day and of the length that a row of heads shows
 abbrev pub IsUnder : Row → Fact → Type 0
-IsUnder shown (VersionIs key reading) = (unit : MeasureUnit) × (head_fact (Null ∷ shown) ≡ HeadIs (head_over key unit))
+IsUnder shown (VersionIs key reading) = (unit : MeasureUnit) × (head_fact (Null ∷ shown) ≡ HeadIs (day_head key unit))
 IsUnder shown fact = ⊥
 
 -- these are the versions that mds_version says of the days that rows of heads show, each with the length of that head

@@ -2,6 +2,7 @@
 #![tactic(auto)]
 
 mod dating;
+mod forming;
 mod migrating;
 mod outcome;
 mod packing;

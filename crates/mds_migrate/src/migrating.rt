@@ -5,39 +5,47 @@ ghost use Rattle.sqlite.specs.Held.{state};
 ghost use Rattle.sqlite.specs.State.{HasCleanDisk, KeepsCommit, Survives};
 ghost use Rattle.mds_tables.specs.Tables.{schema_1};
 ghost use Rattle.mds_pack_rows.specs.DailyTables.{schema_3};
+ghost use Rattle.mds_pack_rows.specs.FormTables.{schema_4};
 ghost use Rattle.mds_pack_rows.specs.PackTables.{schema_2};
-ghost use Rattle.mds_pack_store.specs.Daily.{IsDailyStore};
-ghost use Rattle.mds_migrate.specs.Migrated.{Answered, IsRefused, LeavesMigrated, TakesOne, TakesSteps};
+ghost use Rattle.mds_pack_store.specs.Formed.{IsFormedStore};
+ghost use Rattle.mds_migrate.specs.Migrated.{Answered, IsRefused, LeavesMigrated, TakesOne, TakesSteps, TakesTwo};
 
 use crate::dating::Dating;
+use crate::forming::Forming;
 use crate::outcome::{MigrateFault, Migrated};
 use crate::packing::Packing;
 use crate::step::take_step;
+use mds_form_rows::has_schema_4;
 use mds_pack_rows::{has_schema_2, has_schema_3};
-use mds_pack_store::{are_daily, are_packed};
+use mds_pack_store::{are_daily, are_formed, are_packed};
 use mds_selects::is_version;
 use mds_tables::has_schema_1;
 use sqlite::{Alter, Connection};
 use std::alloc::Global;
 
-/// Takes a store to schema 3, one step after another. A step that is refused ends it, and those before it stand.
+/// Takes a store to schema 4, one step after another. A step that is refused ends it, and those before it stand.
 pub fn migrate_all<S: Alter>(
     alloc: Global,
     conn: &mut Connection<S>,
 ) -> Result<Migrated, MigrateFault>
-    ensures current { IfOk result (λ it. HasCleanDisk (state S.Store conn.new) → IsDailyStore (state S.Store conn.new).committed) }
+    ensures current { IfOk result (λ it. HasCleanDisk (state S.Store conn.new) → IsFormedStore (state S.Store conn.new).committed) }
     ensures same { IfOk result (λ it. it ≡ Migrated.AlreadyCurrent → HasCleanDisk (state S.Store conn.new)
-        → IsDailyStore (state S.Store conn.old).committed × KeepsCommit (state S.Store conn.old) (state S.Store conn.new)) }
+        → IsFormedStore (state S.Store conn.old).committed × KeepsCommit (state S.Store conn.old) (state S.Store conn.new)) }
     ensures taken { IfOk result (λ it. it ≡ Migrated.Done → HasCleanDisk (state S.Store conn.new)
         → TakesSteps (state S.Store conn.old).committed (state S.Store conn.new).committed) }
     ensures stopped { IfErr result (λ e. HasCleanDisk (state S.Store conn.new) → KeepsCommit (state S.Store conn.old) (state S.Store conn.new)
-        ⊎ (IsTrue (state S.Store conn.new).is_open → TakesOne (state S.Store conn.old).committed (state S.Store conn.new).committed)) }
+        ⊎ (IsTrue (state S.Store conn.new).is_open → TakesOne (state S.Store conn.old).committed (state S.Store conn.new).committed
+        ⊎ TakesTwo (state S.Store conn.old).committed (state S.Store conn.new).committed)) }
     ensures mode { conn.new.in_transaction ≡ conn.old.in_transaction }
 {
     match migrate(alloc, conn) {
-        // There are two steps at most.
         Ok(Migrated::Done) => match migrate(alloc, conn) {
-            Ok(_) => Ok(Migrated::Done),
+            // There are three steps at most.
+            Ok(Migrated::Done) => match migrate(alloc, conn) {
+                Ok(_) => Ok(Migrated::Done),
+                Err(fault) => Err(fault),
+            },
+            Ok(Migrated::AlreadyCurrent) => Ok(Migrated::Done),
             Err(fault) => Err(fault),
         },
         Ok(Migrated::AlreadyCurrent) => Ok(Migrated::AlreadyCurrent),
@@ -46,9 +54,10 @@ pub fn migrate_all<S: Alter>(
 }
 
 /// Takes a store one step further. From schema 1 it goes to packed days (schema 2), with all versions. From there it goes to details of
-/// days (schema 3): each known day has the details that its stream had. The step is whole, or nothing is changed. A crash leaves the store
-/// as it was, or that of the next schema. It holds all heads of days in memory, and of the versions those of one day at a time. A connection
-/// that is in a transaction stays as it is (U1).
+/// days (schema 3): each known day has the details that its stream had. From there it goes to heads of updates (schema 4): each update
+/// that has versions has a head, with its day's length and unit. The step is whole, or nothing is changed. A crash leaves the store as it
+/// was, or that of the next schema. It holds all heads of days in memory, and of the versions those of one day at a time. A connection that
+/// is in a transaction stays as it is (U1).
 pub fn migrate<S: Alter>(alloc: Global, conn: &mut Connection<S>) -> Result<Migrated, MigrateFault>
     ensures done { IfOk result (λ it. HasCleanDisk (state S.Store conn.new) → Answered (state S.Store conn.old) (state S.Store conn.new) it) }
     ensures err { IfErr result (λ e. HasCleanDisk (state S.Store conn.new) → IsRefused (state S.Store conn.old) (state S.Store conn.new) e) }
@@ -58,8 +67,11 @@ pub fn migrate<S: Alter>(alloc: Global, conn: &mut Connection<S>) -> Result<Migr
     if !conn.is_autocommit() {
         return Err(MigrateFault::Unavailable);
     }
-    if has_schema_3(conn.schema()) {
+    if has_schema_4(conn.schema()) {
         return if_current(conn);
+    }
+    if has_schema_3(conn.schema()) {
+        return if_daily(alloc, conn);
     }
     if has_schema_2(conn.schema()) {
         return if_packed(alloc, conn);
@@ -70,18 +82,35 @@ pub fn migrate<S: Alter>(alloc: Global, conn: &mut Connection<S>) -> Result<Migr
     if_first(alloc, conn)
 }
 
-/// What is answered where the tables are those of schema 3: it is current, or it is no store (U3).
+/// What is answered where the tables are those of schema 4: it is current, or it is no store (U3).
 fn if_current<S: Alter>(conn: &mut Connection<S>) -> Result<Migrated, MigrateFault>
+    requires mode { conn.old.in_transaction ≡ false }
+    requires settled { IsTrue (state S.Store conn.old).is_open → (state S.Store conn.old).now ≡ (state S.Store conn.old).committed }
+    requires schema { (state S.Store conn.old).now.schema ≡ schema_4 }
+    ensures done { IfOk result (λ it. HasCleanDisk (state S.Store conn.new) → Answered (state S.Store conn.old) (state S.Store conn.new) it) }
+    ensures err { IfErr result (λ e. HasCleanDisk (state S.Store conn.new) → IsRefused (state S.Store conn.old) (state S.Store conn.new) e) }
+    ensures mode { conn.new.in_transaction ≡ false }
+    ensures survives { Survives (state S.Store conn.old) (state S.Store conn.new) (λ _. ⊥) }
+{
+    match are_formed(conn) {
+        Ok(true) => Ok(Migrated::AlreadyCurrent),
+        Ok(false) => Err(MigrateFault::OtherSchema),
+        Err(_) => Err(MigrateFault::Unavailable),
+    }
+}
+
+/// What is answered where the tables are those of schema 3: its updates are given heads, or it is no store (U3).
+fn if_daily<S: Alter>(alloc: Global, conn: &mut Connection<S>) -> Result<Migrated, MigrateFault>
     requires mode { conn.old.in_transaction ≡ false }
     requires settled { IsTrue (state S.Store conn.old).is_open → (state S.Store conn.old).now ≡ (state S.Store conn.old).committed }
     requires schema { (state S.Store conn.old).now.schema ≡ schema_3 }
     ensures done { IfOk result (λ it. HasCleanDisk (state S.Store conn.new) → Answered (state S.Store conn.old) (state S.Store conn.new) it) }
     ensures err { IfErr result (λ e. HasCleanDisk (state S.Store conn.new) → IsRefused (state S.Store conn.old) (state S.Store conn.new) e) }
     ensures mode { conn.new.in_transaction ≡ false }
-    ensures survives { Survives (state S.Store conn.old) (state S.Store conn.new) (λ _. ⊥) }
+    ensures survives { Survives (state S.Store conn.old) (state S.Store conn.new) (LeavesMigrated (state S.Store conn.old)) }
 {
     match are_daily(conn) {
-        Ok(true) => Ok(Migrated::AlreadyCurrent),
+        Ok(true) => take_step::<Forming, S>(alloc, conn),
         Ok(false) => Err(MigrateFault::OtherSchema),
         Err(_) => Err(MigrateFault::Unavailable),
     }

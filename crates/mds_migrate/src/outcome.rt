@@ -5,7 +5,7 @@
 pub enum Migrated {
     /// The store is one of the next schema.
     Done,
-    /// It was one of schema 3.
+    /// It was one of schema 4.
     AlreadyCurrent,
 }
 

@@ -59,7 +59,7 @@ pub(crate) fn pack_days<S: Alter>(
     Ok(())
 }
 
-/// All heads.
+/// All heads, in the order of their days, stream by stream.
 pub(crate) fn all_heads<S: Alter>(tx: &mut Transaction<'_, S>) -> Result<Vec<Row>, Unavailable>
     ensures same_reference { tx.new.conn.ghost_name ≡ tx.old.conn.ghost_name }
     ensures ok { HasCleanDisk (state S.Store tx.new.conn.now)
@@ -71,7 +71,7 @@ pub(crate) fn all_heads<S: Alter>(tx: &mut Transaction<'_, S>) -> Result<Vec<Row
     ensures survives { Survives (state S.Store tx.old.conn.now) (state S.Store tx.new.conn.now) (λ _. ⊥) }
 {
     match tx.query_all(
-        "SELECT nmi, suffix, day, length, unit FROM mds_head ORDER BY nmi, suffix",
+        "SELECT nmi, suffix, day, length, unit FROM mds_head ORDER BY nmi, suffix, day",
         &[],
     ) {
         Ok(rows) => Ok(rows),
@@ -126,5 +126,5 @@ fn pack_day_of<S: Alter>(
     };
     // For the proof: a day's number is at most that of the last day.
     let _ = head.day.number();
-    put_day(alloc, tx, head.length, &added)
+    put_day(alloc, tx, &added)
 }

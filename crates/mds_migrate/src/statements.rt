@@ -7,7 +7,7 @@ ghost use Rattle.sqlite.specs.Values.{bound};
 ghost use Rattle.sqlite.specs.declared.types.Value.TheVariants.{Int};
 ghost use Rattle.mds_tables.specs.Stores.{versions_said};
 ghost use Rattle.mds_tables.specs.Tables.{detail_tree, version_tree};
-ghost use Rattle.mds_migrate.specs.Migrating.{Clears, Raises, RaisesRow};
+ghost use Rattle.mds_migrate.specs.Migrating.{Clears, ClearsLengths, Raises, RaisesRow};
 ghost use Rattle.mds_pack_rows.specs.Putting.{GoesOn, IsThere};
 
 use mds_keeper::Unavailable;
@@ -58,6 +58,21 @@ pub(crate) fn clear_details<S: Alter>(tx: &mut Transaction<'_, S>) -> Result<(),
         Ok(())
     } else {
         Err(Unavailable)
+    }
+}
+
+/// Lets each row of mds_head have the length 0.
+pub(crate) fn clear_lengths<S: Alter>(tx: &mut Transaction<'_, S>) -> Result<(), Unavailable>
+    ensures same_reference { tx.new.conn.ghost_name ≡ tx.old.conn.ghost_name }
+    ensures goes_on { OnOk result (GoesOn (state S.Store tx.old.conn.now) (state S.Store tx.new.conn.now)) }
+    ensures ok { OnOk result (IsThere (state S.Store tx.old.conn.now) (state S.Store tx.new.conn.now)
+        → ClearsLengths (state S.Store tx.old.conn.now) (state S.Store tx.new.conn.now)) }
+    ensures kept { HasCleanDisk (state S.Store tx.new.conn.now) → KeepsCommit (state S.Store tx.old.conn.now) (state S.Store tx.new.conn.now) }
+    ensures survives { Survives (state S.Store tx.old.conn.now) (state S.Store tx.new.conn.now) (λ _. ⊥) }
+{
+    match tx.execute("UPDATE mds_head SET length = 0", &[]) {
+        Ok(_) => Ok(()),
+        Err(_) => Err(Unavailable),
     }
 }
 

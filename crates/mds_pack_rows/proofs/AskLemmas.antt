@@ -1,6 +1,6 @@
 -- What a query does in a transaction, and finds, whatever tables stand behind mds_pack.
-use Rattle.std.proofs.Common.{◌≡◌, ◌⊎◌, inl, inr, ℕ, List, [], ◌∷◌, None, Some, IsTrue, codes, false, refl, sym, subst, ap, ◌∙◌}
-use Rattle.sqlite_value.specs.Order.{Row, column}
+use Rattle.std.proofs.Common.{◌≡◌, ◌⊎◌, inl, inr, ℕ, List, [], None, Some, IsTrue, codes, false, refl, subst, ◌∙◌}
+use Rattle.sqlite_value.specs.Order.{Row}
 use Rattle.sqlite_value.specs.declared.keys.Key.{Key}
 use Rattle.sqlite_sql.specs.Term.{Term}
 use Rattle.sqlite_trees.specs.Tree.{Trees}
@@ -17,9 +17,9 @@ use Rattle.sqlite_schema.specs.declared.schema.Column.{Column}
 use Rattle.sqlite_schema.specs.declared.schema.Constraint.TheVariants.{Datatype, NotNull}
 use Rattle.mds_names.specs.declared.stream.Stream.{Stream}
 use Rattle.mds_world.specs.Lists.{Member}
-use Rattle.mds_tables.specs.Cells.{day_cells, number_cell}
+use Rattle.mds_tables.specs.Cells.{day_cells}
 use Rattle.mds_tables.specs.Stores.{Selects, SelectsAll}
-use Rattle.mds_tables.specs.Tables.{More, head_tree, schema_with}
+use Rattle.mds_tables.specs.Tables.{More, schema_with}
 use Rattle.mds_selects.proofs.KeyLemmas.{tests}
 use Rattle.mds_selects.proofs.MemberLemmas.{selects, selects_all}
 use Rattle.mds_selects.proofs.QueryLemmas.{AsksFor, fails_same, kept, shown_same}
@@ -28,8 +28,8 @@ use Rattle.mds_selects.proofs.SelectTexts.{columns_at}
 use Rattle.mds_selects.proofs.TypedLemmas.{AreFor, AreTyped, alike, both}
 use Rattle.mds_selects.proofs.TypedRows.{HasKeyCells}
 use Rattle.mds_pack_rows.specs.PackCells.{key_cells}
-use Rattle.mds_pack_rows.specs.PackTables.{length_columns, pack_table, pack_tree, packs_then}
-use Rattle.mds_pack_rows.specs.Putting.{FindsThere, GoesOn, HasLength}
+use Rattle.mds_pack_rows.specs.PackTables.{pack_table, pack_tree, packs_then}
+use Rattle.mds_pack_rows.specs.Putting.{FindsThere, GoesOn}
 
 -- ---- how a query leaves the connection
 
@@ -116,16 +116,6 @@ key_for s day update = ((codes "nmi", refl), ((codes "suffix", refl), ((codes "d
 
 pub day_for : (s : Stream) (day : ℕ) → AreFor pack_table.columns (day_cells s day)
 day_for s day = ((codes "nmi", refl), ((codes "suffix", refl), ((codes "day", refl), tt)))
-
--- the one row that is shown of a day's heads says a length that a head of the day has
-pub finds_length : (s : Stream) (day length : ℕ) (old new : State) (rows : List Row) (row : Row) → rows ≡ row ∷ [] → column row 0 ≡ number_cell length
-    → FindsThere old new (λ trees. Selects head_tree (day_cells s day) length_columns trees rows) → FindsThere old new (HasLength s day length)
-finds_length s day length old new rows row alone is finds = record {
-  same = finds.same;
-  shows = λ rest has whole.
-      let it = (finds.shows rest has whole row).0 (subst (Member row) (sym alone) (inl refl)) in
-      (it.0, it.1, it.2, sym (ap (λ r. column r 0) it.3) ∙ is);
-}
 
 -- a row begins with a stream and a day
 pub pack_row : (rest : More) (db : Trees) → IsSound (schema_with (packs_then rest)) db → (row : Row) → Member row (db pack_tree) → HasKeyCells row

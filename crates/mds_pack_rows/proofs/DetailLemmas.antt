@@ -21,13 +21,14 @@ use Rattle.mds_tables.proofs.CallLemmas.{keeps_same, survives_more, survives_sam
 use Rattle.mds_tables.proofs.InsertLemmas.{cast_int}
 use Rattle.mds_tables.specs.Cells.{detail_cells}
 use Rattle.mds_tables.specs.RowFacts.{detail_fact}
+use Rattle.mds_tables.specs.Tables.{More, schema_with}
 use Rattle.mds_inserts.specs.Parts.{detail_part}
-use Rattle.mds_inserts.specs.Writing.{PutsThere}
 use Rattle.mds_inserts.proofs.Eights.{eight_got, flat, flat_more}
 use Rattle.mds_inserts.proofs.ManyLemmas.{AreFit, sources}
 use Rattle.mds_inserts.proofs.PutLemmas.{cast_optional, none_there, puts_there, there_then}
 use Rattle.mds_inserts.proofs.RowLemmas.{says_details}
-use Rattle.mds_pack_rows.specs.DailyTables.{daily, daydetail_table, schema_3}
+use Rattle.mds_pack_rows.specs.DailyPutting.{PutsDetails}
+use Rattle.mds_pack_rows.specs.DailyTables.{daily_then, daydetail_table}
 
 -- ---- a row
 
@@ -37,20 +38,20 @@ insert_daydetail = codes "INSERT INTO mds_daydetail (nmi, suffix, day, moment, c
 abbrev daydetail_terms : List Term
 daydetail_terms = lit Null ∷ col 0 0 ∷ col 0 1 ∷ col 0 2 ∷ col 0 3 ∷ col 0 4 ∷ col 0 5 ∷ col 0 6 ∷ col 0 7 ∷ col 0 8 ∷ []
 
-insert_daydetail_is : command_of (understood schema_3 insert_daydetail) ≡ Insert 9 (Values daydetail_terms 10)
+insert_daydetail_is : (rest : More) → command_of (understood (schema_with (daily_then rest)) insert_daydetail) ≡ Insert 9 (Values daydetail_terms 10)
 unfolding understood everything
-insert_daydetail_is = refl
+insert_daydetail_is rest = refl
 
-insert_daydetail_plain : IsPlain (understood schema_3 insert_daydetail)
+insert_daydetail_plain : (rest : More) → IsPlain (understood (schema_with (daily_then rest)) insert_daydetail)
 unfolding understood everything
-insert_daydetail_plain = (refl, refl)
+insert_daydetail_plain rest = (refl, refl)
 
 pub puts_daydetail : (old new : State) (d : Detail) (count : ℕ)
     → (HasCleanDisk new → ExecutesInside 0 insert_daydetail (detail_cells d) old new (Ok count))
-    → PutsThere schema_3 detail_part old new (d ∷ [])
-puts_daydetail old new d count runs =
-    puts_there daily daydetail_table 9 insert_daydetail daydetail_terms 10 refl insert_daydetail_is insert_daydetail_plain detail_cells DetailIs
-    detail_fact old new (d ∷ []) (detail_cells d) count refl (rw (cast_int, cast_int, cast_optional), tt) (says_details (d ∷ [])) runs
+    → PutsDetails old new (d ∷ [])
+puts_daydetail old new d count runs rest =
+    puts_there (daily_then rest) daydetail_table 9 insert_daydetail daydetail_terms 10 refl (insert_daydetail_is rest) (insert_daydetail_plain rest)
+    detail_cells DetailIs detail_fact old new (d ∷ []) (detail_cells d) count refl (rw (cast_int, cast_int, cast_optional), tt) (says_details (d ∷ [])) runs
 
 -- ---- eight rows
 
@@ -65,13 +66,13 @@ abbrev daydetails_terms : List Term
 daydetails_terms =
     row_terms 0 ++ (row_terms 9 ++ (row_terms 18 ++ (row_terms 27 ++ (row_terms 36 ++ (row_terms 45 ++ (row_terms 54 ++ row_terms 63))))))
 
-insert_daydetails_is : command_of (understood schema_3 insert_daydetails) ≡ Insert 9 (Values daydetails_terms 10)
+insert_daydetails_is : (rest : More) → command_of (understood (schema_with (daily_then rest)) insert_daydetails) ≡ Insert 9 (Values daydetails_terms 10)
 unfolding understood everything
-insert_daydetails_is = refl
+insert_daydetails_is rest = refl
 
-insert_daydetails_plain : IsPlain (understood schema_3 insert_daydetails)
+insert_daydetails_plain : (rest : More) → IsPlain (understood (schema_with (daily_then rest)) insert_daydetails)
 unfolding understood everything
-insert_daydetails_plain = (refl, refl)
+insert_daydetails_plain rest = (refl, refl)
 
 -- what the text puts are these details
 text_details : (details : List Detail) → length details ≡ 8
@@ -91,33 +92,33 @@ cells_on details (d ∷ ds) = ap (λ cells. detail_cells (detail_on details d) +
 
 pub puts_daydetails : (old new : State) (details : DetailDays) (days : List ℕ) (count : ℕ) → length days ≡ 8
     → (HasCleanDisk new → ExecutesInside 0 insert_daydetails (flat_map (λ day. detail_cells (detail_on details day)) days) old new (Ok count))
-    → PutsThere schema_3 detail_part old new (map (detail_on details) days)
-puts_daydetails old new details days count eight runs =
+    → PutsDetails old new (map (detail_on details) days)
+puts_daydetails old new details days count eight runs rest =
     let all = map (detail_on details) days in
     let many : length all ≡ 8 = length-map days (detail_on details) ∙ eight in
-    puts_there daily daydetail_table 9 insert_daydetails daydetails_terms 10 refl insert_daydetails_is insert_daydetails_plain detail_cells DetailIs
-    detail_fact old new all (flat_map detail_cells all) count (text_details all many) (fit_details all) (says_details all)
+    puts_there (daily_then rest) daydetail_table 9 insert_daydetails daydetails_terms 10 refl (insert_daydetails_is rest) (insert_daydetails_plain rest)
+    detail_cells DetailIs detail_fact old new all (flat_map detail_cells all) count (text_details all many) (fit_details all) (says_details all)
     (λ clean. rw (cells_on details days) (runs clean))
 
 -- ---- rows one after another
 
 -- what was done since a state, and which details are put
 pub record PutsSince (old new : State) (details : List Detail) : Type 0 where
-  pub puts : PutsThere schema_3 detail_part old new details
+  pub puts : PutsDetails old new details
   pub kept : HasCleanDisk new → KeepsCommit old new
   pub survives : Survives old new (λ _. ⊥)
 
 pub none_since : (s : State) → PutsSince s s []
-none_since s = record { puts = none_there schema_3 detail_part s; kept = λ _. keeps_same s; survives = survives_same s }
+none_since s = record { puts = λ rest. none_there (schema_with (daily_then rest)) detail_part s; kept = λ _. keeps_same s; survives = survives_same s }
 
 module _ (a b c : State) (survives : Survives b c (λ _. ⊥)) (kept : HasCleanDisk c → KeepsCommit b c) (xs : List Detail) (before : PutsSince a b xs) where
   pub kept_since : HasCleanDisk c → KeepsCommit a c
   kept_since clean = keeps_then a b c (before.kept (omega (arith, clean, survives.clean))) (kept clean)
 
-  pub more_since : (ys zs : List Detail) → xs ++ ys ≡ zs → PutsThere schema_3 detail_part b c ys → PutsSince a c zs
+  pub more_since : (ys zs : List Detail) → xs ++ ys ≡ zs → PutsDetails b c ys → PutsSince a c zs
   more_since ys zs are puts = record {
-    puts = subst (PutsThere schema_3 detail_part a c) are
-        (there_then schema_3 detail_part a b c xs ys survives.clean before.puts puts);
+    puts = subst (PutsDetails a c) are
+        (λ rest. there_then (schema_with (daily_then rest)) detail_part a b c xs ys survives.clean (before.puts rest) (puts rest));
     kept = kept_since;
     survives = survives_more a b c before.survives survives;
   }

@@ -1,11 +1,8 @@
 pub mod AskLemmas
 pub mod BodyLemmas
-pub mod CommitLemmas
-pub mod DayLemmas
 pub mod DetailLemmas
 pub mod EightLemmas
 pub mod LaidLemmas
-pub mod LayoutLemmas
 pub mod MakingTexts
 pub mod PackTexts
 pub mod PutLemmas

@@ -8,9 +8,9 @@ use Rattle.sqlite.specs.Term.{Term, col, lit}
 use Rattle.sqlite.specs.declared.types.Value.TheVariants.{Null}
 use Rattle.sqlite.proofs.Callers.{IsPlain, command_of}
 use Rattle.sqlite_tied.specs.Compute.{everything}
-use Rattle.mds_tables.specs.Tables.{More, head_tree, schema_with}
+use Rattle.mds_tables.specs.Tables.{More, schema_with}
 use Rattle.mds_selects.proofs.SelectTexts.{columns_at, equals, from_one}
-use Rattle.mds_pack_rows.specs.PackTables.{body_columns, length_columns, pack_tree, packs_then, update_columns}
+use Rattle.mds_pack_rows.specs.PackTables.{body_columns, pack_tree, packs_then, update_columns}
 
 -- the place of mds_pack among the tables
 abbrev pub pack_place : ℕ
@@ -70,23 +70,6 @@ select_body_is rest = refl
 pub select_body_plain : (rest : More) → IsPlain (understood (schema_with (packs_then rest)) select_body) × (reads_listing (schema_with (packs_then rest)) select_body ≡ false)
 unfolding understood everything
 select_body_plain rest = ((refl, refl), refl)
-
--- ---- the length of a day's intervals
-
-abbrev pub select_length : List ℕ
-select_length = codes "SELECT length FROM mds_head WHERE nmi = ?1 AND suffix = ?2 AND day = ?3"
-
-abbrev pub length_query : Query
-length_query = from_one head_tree (equals 1 0 ∷ equals 2 1 ∷ equals 3 2 ∷ []) (columns_at length_columns) []
-
-pub select_length_is : (rest : More) → command_of (understood (schema_with (packs_then rest)) select_length)
-    ≡ Select (record { lets = []; body = length_query }) (codes "length" ∷ [])
-unfolding understood everything
-select_length_is rest = refl
-
-pub select_length_plain : (rest : More) → IsPlain (understood (schema_with (packs_then rest)) select_length) × (reads_listing (schema_with (packs_then rest)) select_length ≡ false)
-unfolding understood everything
-select_length_plain rest = ((refl, refl), refl)
 
 -- ---- a body that is replaced
 

@@ -1,6 +1,7 @@
--- The layout of schema 3 (profile): mds_pack says all versions, and mds_daydetail all details of days.
+-- The layout of schema 3 (profile): mds_head says the heads, without an update. mds_pack says all versions, and mds_daydetail all
+-- details of days. A migration reads it.
 use Rattle.std.specs.Prelude.{◌≡◌, ◌↔◌, ◌==◌, ℕ, List, [], ◌∷◌, ◌++◌, length, map}
-use Rattle.std.proofs.Common.{inl, inr, refl, sym, subst, arith}
+use Rattle.std.proofs.Common.{inl, inr, refl, sym, ap, subst, arith}
 use Rattle.std.specs.List.{flat_map}
 use Rattle.sqlite_rules.specs.Action.{works}
 use Rattle.sqlite_schema.specs.declared.schema.Action.TheVariants.{NoAction}
@@ -14,9 +15,9 @@ use Rattle.mds_world.specs.Lists.{Member}
 use Rattle.mds_world.specs.World.{World}
 use Rattle.mds_world.specs.declared.facts.Key.{Key}
 use Rattle.mds_world.proofs.Lists.{append_left, member_append}
-use Rattle.mds_tables.specs.Layouts.{IsOwn, Layout, either, world_with}
-use Rattle.mds_tables.specs.RowFacts.{detail_fact}
-use Rattle.mds_tables.specs.Tables.{daydetail_tree}
+use Rattle.mds_tables.specs.Layouts.{IsOwn, Layout, either, only_head_rows, world_with}
+use Rattle.mds_tables.specs.RowFacts.{detail_fact, head_fact, heads_in}
+use Rattle.mds_tables.specs.Tables.{daydetail_tree, head_tree}
 use Rattle.mds_pack_rows.specs.PackFacts.{pack_facts, pack_versions}
 use Rattle.mds_pack_rows.specs.PackTables.{Behind, pack_tree}
 use Rattle.mds_pack_rows.specs.PacksLayout.{HasPacks, only_both, only_packs}
@@ -37,7 +38,13 @@ only_details [] fact m = absurd m
 only_details (row ∷ rows) fact (inl is) = subst IsOwn (sym is) tt
 only_details (row ∷ rows) fact (inr m) = only_details rows fact m
 
--- and so no version
+-- versions and details alone
+pub only_daily : (trees : Trees) (fact : Fact) → Member fact (daily_own trees) → IsOwn fact
+only_daily trees fact =
+    only_both (pack_versions trees) (day_details trees) fact
+    (only_packs (trees pack_tree) fact) (only_details (trees daydetail_tree) fact)
+
+-- no version is said by mds_daydetail
 pub no_version : (rows : List Row) (key : Key) (reading : ReadingValue) → Member (VersionIs key reading) (map detail_fact rows) → ⊥
 no_version [] key reading m = m
 no_version (row ∷ rows) key reading (inl is) = cc
@@ -67,9 +74,12 @@ abbrev pub daily_layout : Layout
 daily_layout = record {
   number = 3;
   more = daily;
+  heads = heads_in;
+  only_heads = λ trees. only_head_rows (trees head_tree);
+  no_heads = λ trees none _. ap (map head_fact) none;
+  steady_heads = λ old new same _. ap (map head_fact) same;
   own = daily_own;
-  only = λ trees fact. only_both (pack_versions trees) (day_details trees) fact
-      (only_packs (trees pack_tree) fact) (only_details (trees daydetail_tree) fact);
+  only = only_daily;
   silent = λ trees _ none i. flat_map pack_facts (none.0 i) ++ map detail_fact (none.1.0 i);
   steady = λ old new _ same i. flat_map pack_facts (same.0 i) ++ map detail_fact (same.1.0 i);
   idle = idle_daily;

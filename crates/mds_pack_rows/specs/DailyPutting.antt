@@ -1,15 +1,13 @@
 -- What statements on mds_daydetail do in a transaction (profile).
-use Rattle.std.specs.Prelude.{◌≡◌, [], map, IsTrue}
+use Rattle.std.specs.Prelude.{◌≡◌, List, [], IsTrue}
 use Rattle.sqlite.specs.State.{HasCleanDisk, State}
 use Rattle.sqlite_catalog.specs.Listing.{IsSound}
-use Rattle.mds_keeper.specs.Content.{version_fact}
-use Rattle.mds_tables.specs.Cells.{detail_cells}
-use Rattle.mds_tables.specs.Stores.{Gained, Gains}
-use Rattle.mds_tables.specs.Tables.{daydetail_tree}
-use Rattle.mds_inserts.specs.Writing.{Keeps}
-use Rattle.mds_pack_rows.specs.DailyTables.{schema_3}
+use Rattle.mds_world.specs.declared.facts.Detail.{Detail}
+use Rattle.mds_tables.specs.Tables.{More, daydetail_tree, schema_with}
+use Rattle.mds_inserts.specs.Parts.{detail_part}
+use Rattle.mds_inserts.specs.Writing.{Keeps, PutsThere}
+use Rattle.mds_pack_rows.specs.DailyTables.{daily_then, schema_3}
 use Rattle.mds_pack_rows.specs.PackTables.{tables_2}
-use Rattle.mds_pack_rows.specs.Putting.{NamesMore}
 
 -- The connection was open over the tables of schema 3, and the disk is honest up to the end.
 pub record IsThereDaily (old new : State) : Type 0 where
@@ -27,7 +25,6 @@ pub record MakesDaydetail (old new : State) : Type 0 where
   pub committed : new.committed ≡ old.committed
   pub sound : IsSound schema_3 new.now.trees
 
--- mds_pack has the versions that are added, and mds_daydetail a row for each of the details
-abbrev pub HasDaily : Gained
-HasDaily old new versions details =
-    NamesMore old new (map version_fact versions) × Gains daydetail_tree (map detail_cells details) old new
+-- these details have their rows in mds_daydetail, whatever tables stand behind it
+abbrev pub PutsDetails : State → State → List Detail → Type 0
+PutsDetails old new details = (rest : More) → PutsThere (schema_with (daily_then rest)) detail_part old new details

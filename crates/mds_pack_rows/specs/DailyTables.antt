@@ -3,7 +3,7 @@
 use Rattle.std.specs.Prelude.{ℕ, List, [], ◌∷◌, codes}
 use Rattle.sqlite.specs.Schema.{Schema}
 use Rattle.sqlite.specs.Table.{Table}
-use Rattle.mds_tables.specs.Tables.{More, daydetail_tree, key_index, number, schema_with, table_of, tables_with, text, to_head}
+use Rattle.mds_tables.specs.Tables.{More, daydetail_tree, key_index, no_more, number, schema_with, table_of, tables_with, text, to_head}
 use Rattle.mds_pack_rows.specs.PackTables.{packs_then}
 
 abbrev pub daydetail_key : List ℕ
@@ -15,16 +15,24 @@ daydetail_table = record (table_of (codes "mds_daydetail") daydetail_tree
     ∷ text (codes "register") ∷ text (codes "datastream") ∷ text (codes "meter") ∷ number (codes "next") ∷ [])
     daydetail_key) { references = to_head ∷ [] }
 
--- what stands behind mds_pack
-abbrev pub daydetails : More
-daydetails = record {
-  tables = daydetail_table ∷ [];
-  indexes = key_index (codes "sqlite_autoindex_mds_daydetail_1") daydetail_tree daydetail_key ∷ [];
+-- mds_daydetail and the index of its key, and then more
+abbrev pub daydetails_then : More → More
+daydetails_then rest = record {
+  tables = daydetail_table ∷ rest.tables;
+  indexes = key_index (codes "sqlite_autoindex_mds_daydetail_1") daydetail_tree daydetail_key ∷ rest.indexes;
 }
 
--- what stands behind the tables that every schema has
+-- what stands behind mds_pack
+abbrev pub daydetails : More
+daydetails = daydetails_then no_more
+
+-- what stands behind the tables that every schema has, with more behind mds_daydetail
+abbrev pub daily_then : More → More
+daily_then rest = packs_then (daydetails_then rest)
+
+-- with nothing there
 abbrev pub daily : More
-daily = packs_then daydetails
+daily = daily_then no_more
 
 abbrev pub tables_3 : List Table
 tables_3 = tables_with daily

@@ -1,13 +1,10 @@
 -- Rows of mds_pack that are still to be put, and the versions that they say (profile).
-use Rattle.std.specs.Prelude.{◌≡◌, ℕ, List, map}
+use Rattle.std.specs.Prelude.{◌≡◌, List, map}
 use Rattle.std.specs.FinSet as set
 use Rattle.std.specs.List.{flat_map}
 use Rattle.sqlite_value.specs.Order.{Row}
-use Rattle.mds_names.specs.declared.stream.Stream.{Stream}
 use Rattle.mds_world.specs.FactOrder.{fact_cmp}
 use Rattle.mds_world.specs.Facts.{Fact}
-use Rattle.mds_world.specs.Lists.{Member}
-use Rattle.mds_world.specs.declared.facts.Head.{Head}
 use Rattle.mds_keeper.specs.Content.{day_versions, version_fact, versions_of}
 use Rattle.mds_keeper.specs.declared.additions.DayVersions.{DayVersions}
 use Rattle.mds_pack_rows.specs.PackCells.{pack_cells}
@@ -30,11 +27,3 @@ SaysDay row day = set.from_list {R = fact_cmp} (said_by row) ≡ set.from_list (
 abbrev pub SayDays : List PackRow → List DayVersions → Type 0
 SayDays rows days =
     set.from_list {R = fact_cmp} (flat_map said_by rows) ≡ set.from_list (map version_fact (versions_of days))
-
--- one of these heads is that of the day, and says the length of its intervals
-pub record HasNewHead (heads : List Head) (stream : Stream) (day length : ℕ) : Type 0 where
-  pub head : Head
-  pub there : Member head heads
-  pub of : head.stream ≡ stream
-  pub on : head.day ≡ day
-  pub says : head.length ≡ length

@@ -4,6 +4,8 @@ pub mod DailyTables
 pub mod DayRows
 pub mod Eights
 pub mod FailureSteps
+pub mod FormLayout
+pub mod FormTables
 pub mod Laying
 pub mod PackCells
 pub mod PackFacts

@@ -26,10 +26,6 @@ body_columns = 0 ∷ 5 ∷ []
 abbrev pub update_columns : List ℕ
 update_columns = 4 ∷ 5 ∷ []
 
--- what a day's length is read from: that column of its head
-abbrev pub length_columns : List ℕ
-length_columns = 4 ∷ []
-
 abbrev pub pack_table : Table
 pack_table = record (table_of (codes "mds_pack") pack_tree
     (text (codes "nmi") ∷ text (codes "suffix") ∷ number (codes "day") ∷ number (codes "moment")

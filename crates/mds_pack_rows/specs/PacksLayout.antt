@@ -1,6 +1,6 @@
 -- Layouts with mds_pack (profile): it stands behind the tables that every schema has, and says all versions. That of schema 2 has
 -- nothing behind it.
-use Rattle.std.specs.Prelude.{◌≡◌, ◌↔◌, ◌==◌, ◌≤◌, ℕ, ◌+◌, List, [], ◌∷◌, ◌++◌, length, Option, Some, None, unwrap_or}
+use Rattle.std.specs.Prelude.{◌≡◌, ◌↔◌, ◌==◌, ◌≤◌, ℕ, ◌+◌, List, [], ◌∷◌, ◌++◌, length, map, Option, Some, None, unwrap_or}
 use Rattle.std.proofs.Common.{inl, inr, refl, sym, ap, subst, arith}
 use Rattle.std.specs.List.{AllByRecursion, flat_map}
 use Rattle.sqlite.specs.Table.{Table}
@@ -17,9 +17,9 @@ use Rattle.mds_world.specs.Facts.Fact.{VersionIs}
 use Rattle.mds_world.specs.Lists.{Member}
 use Rattle.mds_world.specs.World.{World}
 use Rattle.mds_world.specs.declared.facts.Key.{Key}
-use Rattle.mds_tables.specs.Layouts.{IsOwn, Layout, either, world_with}
-use Rattle.mds_tables.specs.RowFacts.{natural_at, stream_in, text_at}
-use Rattle.mds_tables.specs.Tables.{no_more, trees_taken}
+use Rattle.mds_tables.specs.Layouts.{IsOwn, Layout, either, only_head_rows, world_with}
+use Rattle.mds_tables.specs.RowFacts.{head_fact, heads_in, natural_at, stream_in, text_at}
+use Rattle.mds_tables.specs.Tables.{head_tree, no_more, trees_taken}
 use Rattle.mds_pack_rows.specs.PackFacts.{facts_from, minutes_of, pack_facts, pack_versions, readings_in}
 use Rattle.mds_pack_rows.specs.PackTables.{Behind, pack_tree, packs_then, schema_2, trees_packed}
 
@@ -67,11 +67,16 @@ pub indexes_behind : (indexes : List Index) → AllByRecursion (λ (index : Inde
 indexes_behind [] behind = tt
 indexes_behind (index ∷ indexes) behind = (omega (arith, behind.0), indexes_behind indexes behind.1)
 
--- the layout with these tables behind mds_pack, of which mds_schema says this number, and which says no details of days
+-- The layout with these tables behind mds_pack, of which mds_schema says this number. Its heads are rows of mds_head, and it says no
+-- details of days.
 abbrev pub packs_over : ℕ → Behind → Layout
 packs_over number rest = record {
   number = number;
   more = packs_then rest.more;
+  heads = heads_in;
+  only_heads = λ trees. only_head_rows (trees head_tree);
+  no_heads = λ trees none _. ap (map head_fact) none;
+  steady_heads = λ old new same _. ap (map head_fact) same;
   own = pack_versions;
   only = λ trees. only_packs (trees pack_tree);
   silent = λ trees _ none. ap (flat_map pack_facts) none.0;

@@ -15,9 +15,8 @@ use Rattle.mds_world.specs.Lists.{Member}
 use Rattle.mds_world.specs.World.{union}
 use Rattle.mds_keeper.specs.Books.{row_fact}
 use Rattle.mds_keeper.specs.declared.day_book.Version.{Version}
-use Rattle.mds_tables.specs.Cells.{day_cells, number_cell}
 use Rattle.mds_tables.specs.Stores.{Begins}
-use Rattle.mds_tables.specs.Tables.{More, head_tree, schema_with, tables_1}
+use Rattle.mds_tables.specs.Tables.{More, schema_with, tables_1}
 use Rattle.mds_inserts.specs.Writing.{IsMore, Keeps, KeepsOthers}
 use Rattle.mds_pack_rows.specs.PackCells.{key_cells, pack_cells}
 use Rattle.mds_pack_rows.specs.PackFacts.{pack_versions, readings_facts}
@@ -83,11 +82,6 @@ PutsBeside old new shown readings = GoesOn old new × (IsThere old new → Chang
     × ((s : Stream) (day update : ℕ) (row : Row) → Member row (old.now.trees pack_tree) → shown ≡ map (column row) body_columns
     → Begins (key_cells s day update) row
     → NamesMore old.now.trees new.now.trees (readings_facts s day update readings)))
-
--- a head of the day says the length of its intervals
-abbrev pub HasLength : Stream → ℕ → ℕ → Trees → Type 0
-HasLength s day length trees =
-    (row : Row) × Member row (trees head_tree) × Begins (day_cells s day) row × (column row 4 ≡ number_cell length)
 
 -- readings of one update say what these versions do
 abbrev pub SayRows : ℕ → List (Option ReadingValue) → List (ℕ × Version) → Type 0

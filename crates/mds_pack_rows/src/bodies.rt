@@ -17,8 +17,8 @@ use sqlite::Row;
 use sqlite::types::ValueRef;
 use std::alloc::{AllocError, Global};
 
-/// The body in a column.
-pub(crate) fn blob_at<'a>(row: &'a Row, at: usize) -> Option<&'a [u8]>
+/// The body in a column. `None` where it has another kind of value.
+pub fn blob_at<'a>(row: &'a Row, at: usize) -> Option<&'a [u8]>
     ensures { IfSome result (λ body. column row.now at ≡ Blob body.now) }
 {
     match row.get_ref(at) {
@@ -45,7 +45,7 @@ pub(crate) fn unpack(alloc: Global, body: &[u8]) -> Result<Option<Vec<Option<Rea
 
 /// Unpacks a body for a day with intervals of this length. `None` where these bytes are no body of such a day: a body
 /// that says another count of intervals isn't read.
-pub(crate) fn unpack_for(
+pub fn unpack_for(
     alloc: Global,
     length: Length,
     body: &[u8],
@@ -62,7 +62,7 @@ pub(crate) fn unpack_for(
 
 /// Unpacks a body for a whole day with intervals of this length, as its readings lie. `None` where these bytes are no body of
 /// such a day, or an interval has no reading.
-pub(crate) fn unpack_whole(
+pub fn unpack_whole(
     alloc: Global,
     length: Length,
     body: &[u8],

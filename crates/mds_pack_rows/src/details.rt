@@ -1,4 +1,4 @@
-//! Details of days, each a row of mds_daydetail.
+//! Details of days, each a row of mds_daydetail, whatever tables stand behind it.
 
 ghost use Rattle.std.specs.Prelude.{◌≡◌, [], ◌∷◌, OnOk, length, map};
 ghost use Rattle.std.specs.List.{flat_map};
@@ -7,9 +7,7 @@ ghost use Rattle.sqlite.specs.State.{HasCleanDisk, KeepsCommit, Survives};
 ghost use Rattle.sqlite.specs.Values.{bound};
 ghost use Rattle.mds_keeper.specs.Content.{detail_on, details_of, details_on};
 ghost use Rattle.mds_tables.specs.Cells.{detail_cells as cells_of};
-ghost use Rattle.mds_inserts.specs.Parts.{detail_part};
-ghost use Rattle.mds_inserts.specs.Writing.{PutsThere};
-ghost use Rattle.mds_pack_rows.specs.DailyTables.{schema_3};
+ghost use Rattle.mds_pack_rows.specs.DailyPutting.{PutsDetails};
 
 use mds_inserts::TOGETHER;
 use mds_keeper::{DetailDays, Unavailable};
@@ -24,7 +22,7 @@ pub fn put_details<S: Alter>(
     details: &[DetailDays],
 ) -> Result<(), Unavailable>
     ensures same_reference { tx.new.conn.ghost_name ≡ tx.old.conn.ghost_name }
-    ensures ok { OnOk result (PutsThere schema_3 detail_part (state S.Store tx.old.conn.now) (state S.Store tx.new.conn.now) (details_of details.now)) }
+    ensures ok { OnOk result (PutsDetails (state S.Store tx.old.conn.now) (state S.Store tx.new.conn.now) (details_of details.now)) }
     ensures kept { HasCleanDisk (state S.Store tx.new.conn.now) → KeepsCommit (state S.Store tx.old.conn.now) (state S.Store tx.new.conn.now) }
     ensures survives { Survives (state S.Store tx.old.conn.now) (state S.Store tx.new.conn.now) (λ _. ⊥) }
 {
@@ -37,7 +35,7 @@ pub fn put_details<S: Alter>(
 /// Puts details on each of their days. Eight days in turn go in by one statement.
 fn put_each<S: Alter>(tx: &mut Transaction<'_, S>, details: &DetailDays) -> Result<(), Unavailable>
     ensures same_reference { tx.new.conn.ghost_name ≡ tx.old.conn.ghost_name }
-    ensures ok { OnOk result (PutsThere schema_3 detail_part (state S.Store tx.old.conn.now) (state S.Store tx.new.conn.now) (details_on details.now)) }
+    ensures ok { OnOk result (PutsDetails (state S.Store tx.old.conn.now) (state S.Store tx.new.conn.now) (details_on details.now)) }
     ensures kept { HasCleanDisk (state S.Store tx.new.conn.now) → KeepsCommit (state S.Store tx.old.conn.now) (state S.Store tx.new.conn.now) }
     ensures survives { Survives (state S.Store tx.old.conn.now) (state S.Store tx.new.conn.now) (λ _. ⊥) }
 {
@@ -55,7 +53,7 @@ fn put_on_each<S: Alter>(
     days: &[Day],
 ) -> Result<(), Unavailable>
     ensures same_reference { tx.new.conn.ghost_name ≡ tx.old.conn.ghost_name }
-    ensures ok { OnOk result (PutsThere schema_3 detail_part (state S.Store tx.old.conn.now) (state S.Store tx.new.conn.now) (map (detail_on details.now) days.now)) }
+    ensures ok { OnOk result (PutsDetails (state S.Store tx.old.conn.now) (state S.Store tx.new.conn.now) (map (detail_on details.now) days.now)) }
     ensures kept { HasCleanDisk (state S.Store tx.new.conn.now) → KeepsCommit (state S.Store tx.old.conn.now) (state S.Store tx.new.conn.now) }
     ensures survives { Survives (state S.Store tx.old.conn.now) (state S.Store tx.new.conn.now) (λ _. ⊥) }
 {
@@ -72,7 +70,7 @@ fn put_on_eight<S: Alter>(
     days: &[Day; TOGETHER],
 ) -> Result<(), Unavailable>
     ensures same_reference { tx.new.conn.ghost_name ≡ tx.old.conn.ghost_name }
-    ensures ok { OnOk result (PutsThere schema_3 detail_part (state S.Store tx.old.conn.now) (state S.Store tx.new.conn.now) (map (detail_on details.now) days.now)) }
+    ensures ok { OnOk result (PutsDetails (state S.Store tx.old.conn.now) (state S.Store tx.new.conn.now) (map (detail_on details.now) days.now)) }
     ensures kept { HasCleanDisk (state S.Store tx.new.conn.now) → KeepsCommit (state S.Store tx.old.conn.now) (state S.Store tx.new.conn.now) }
     ensures survives { Survives (state S.Store tx.old.conn.now) (state S.Store tx.new.conn.now) (λ _. ⊥) }
 {
@@ -118,7 +116,7 @@ pub fn put_on<S: Alter>(
     day: Day,
 ) -> Result<(), Unavailable>
     ensures same_reference { tx.new.conn.ghost_name ≡ tx.old.conn.ghost_name }
-    ensures ok { OnOk result (PutsThere schema_3 detail_part (state S.Store tx.old.conn.now) (state S.Store tx.new.conn.now) (detail_on details.now day ∷ [])) }
+    ensures ok { OnOk result (PutsDetails (state S.Store tx.old.conn.now) (state S.Store tx.new.conn.now) (detail_on details.now day ∷ [])) }
     ensures kept { HasCleanDisk (state S.Store tx.new.conn.now) → KeepsCommit (state S.Store tx.old.conn.now) (state S.Store tx.new.conn.now) }
     ensures survives { Survives (state S.Store tx.old.conn.now) (state S.Store tx.new.conn.now) (λ _. ⊥) }
 {

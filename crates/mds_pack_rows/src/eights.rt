@@ -1,4 +1,4 @@
-//! Versions of days, where eight new days are put at once.
+//! Versions of days, where eight new rows are put at once.
 
 ghost use Rattle.std.specs.Prelude.{◌≡◌, [], IfOk, IfSome, IsTrue, OnOk, false, length as list_length, map};
 ghost use Rattle.sqlite.specs.Held.{state};
@@ -7,7 +7,7 @@ ghost use Rattle.std.specs.FinSet as set;
 ghost use Rattle.mds_world.specs.FactOrder.{fact_cmp};
 ghost use Rattle.mds_keeper.specs.Books.{row_fact};
 ghost use Rattle.mds_keeper.specs.Content.{version_fact, versions_of, whole_rows};
-ghost use Rattle.mds_pack_rows.specs.Eights.{HasNewHead, SayDays, SaysDay, said_by};
+ghost use Rattle.mds_pack_rows.specs.Eights.{SayDays, SaysDay, said_by};
 ghost use Rattle.mds_pack_rows.specs.Putting.{IsThere, PutsFacts};
 
 use crate::grouping::{has_some, put_each_day, spread};
@@ -22,14 +22,17 @@ use sqlite::{Alter, Transaction};
 use std::alloc::{AllocError, Global};
 use std::cmp::Ordering;
 
-/// Puts versions of days, each of which has its head. Those of a day and an update that lie together go into one row at once. It
-/// is unavailable where a version is kept already, is of another length than its day, or has an interval that the day doesn't have.
-/// Days are new whose heads are given: those that this transaction has put, by stream and day. Eight new days in turn go in by
-/// one statement.
+/// Puts versions of days, each of which has its row in mds_head. Those of a day and an update that lie together go into one row at
+/// once. It is unavailable where a version is kept already, or where one has an interval that its length doesn't have. So it is where
+/// those of one day and update have two lengths.
+///
+/// An update of a day is new where its head is given. It stands among the first heads of new days or those of further updates, both by
+/// stream and day. Eight days in turn that are new so go in by one statement.
 pub fn put_days<S: Alter>(
     alloc: Global,
     tx: &mut Transaction<'_, S>,
-    heads: &[Head],
+    new_days: &[Head],
+    further: &[Head],
     days: &[DayVersions],
 ) -> Result<(), Unavailable>
     ensures same_reference { tx.new.conn.ghost_name ≡ tx.old.conn.ghost_name }
@@ -39,7 +42,7 @@ pub fn put_days<S: Alter>(
 {
     let (eights, rest) = days.as_chunks::<TOGETHER>();
     for eight in eights {
-        put_eight(alloc, tx, heads, eight)?;
+        put_eight(alloc, tx, new_days, further, eight)?;
     }
     put_each_day(alloc, tx, rest)
 }
@@ -48,7 +51,8 @@ pub fn put_days<S: Alter>(
 fn put_eight<S: Alter>(
     alloc: Global,
     tx: &mut Transaction<'_, S>,
-    heads: &[Head],
+    new_days: &[Head],
+    further: &[Head],
     days: &[DayVersions; TOGETHER],
 ) -> Result<(), Unavailable>
     ensures same_reference { tx.new.conn.ghost_name ≡ tx.old.conn.ghost_name }
@@ -56,18 +60,19 @@ fn put_eight<S: Alter>(
     ensures kept { IsThere (state S.Store tx.old.conn.now) (state S.Store tx.new.conn.now) → KeepsCommit (state S.Store tx.old.conn.now) (state S.Store tx.new.conn.now) }
     ensures survives { Survives (state S.Store tx.old.conn.now) (state S.Store tx.new.conn.now) (λ _. ⊥) }
 {
-    if put_new_days(alloc, tx, heads, days)? {
+    if put_new_days(alloc, tx, new_days, further, days)? {
         return Ok(());
     }
     put_each_day(alloc, tx, days)
 }
 
-/// Puts versions of eight days by one statement, and tells whether it did. It puts nothing where one isn't a new day that is one
-/// row, or where the tables refuse a row.
+/// Puts versions of eight days by one statement, and tells whether it did. It puts nothing where those of one aren't a new row, or
+/// where the tables refuse a row.
 fn put_new_days<S: Alter>(
     alloc: Global,
     tx: &mut Transaction<'_, S>,
-    heads: &[Head],
+    new_days: &[Head],
+    further: &[Head],
     days: &[DayVersions; TOGETHER],
 ) -> Result<bool, Unavailable>
     ensures same_reference { tx.new.conn.ghost_name ≡ tx.old.conn.ghost_name }
@@ -76,16 +81,17 @@ fn put_new_days<S: Alter>(
     ensures kept { HasCleanDisk (state S.Store tx.new.conn.now) → KeepsCommit (state S.Store tx.old.conn.now) (state S.Store tx.new.conn.now) }
     ensures survives { Survives (state S.Store tx.old.conn.now) (state S.Store tx.new.conn.now) (λ _. ⊥) }
 {
-    let Some(rows) = pack_new_days(alloc, heads, days)? else {
+    let Some(rows) = pack_new_days(alloc, new_days, further, days)? else {
         return Ok(false);
     };
     insert_eight(tx, rows.as_slice())
 }
 
-/// The row of each day. `None` where one isn't a new day that is one row.
+/// The row of each day. `None` where the versions of one aren't a new row.
 fn pack_new_days(
     alloc: Global,
-    heads: &[Head],
+    new_days: &[Head],
+    further: &[Head],
     days: &[DayVersions],
 ) -> Result<Option<Vec<PackRow>>, AllocError>
     ensures len { IfOk result (λ o. IfSome o (λ rows. list_length rows.items ≡ list_length days.now)) }
@@ -93,7 +99,7 @@ fn pack_new_days(
 {
     let mut rows = Vec::with_capacity(alloc, days.len())?;
     for added in days {
-        let Some(row) = pack_new_day(alloc, heads, added)? else {
+        let Some(row) = pack_new_day(alloc, new_days, further, added)? else {
             return Ok(None);
         };
         rows.push(row)?;
@@ -101,45 +107,54 @@ fn pack_new_days(
     Ok(Some(rows))
 }
 
-/// The row of a day. `None` where the day isn't new, or where its versions aren't those of its length and one update, each at an
+/// The row of a day. `None` where its update isn't new, or where its versions aren't those of one length and one update, each at an
 /// interval of its own.
 fn pack_new_day(
     alloc: Global,
-    heads: &[Head],
+    new_days: &[Head],
+    further: &[Head],
     added: &DayVersions,
 ) -> Result<Option<PackRow>, AllocError>
     ensures { IfOk result (λ o. IfSome o (λ row. SaysDay row added.now)) }
 {
-    let Some(length) = new_length(heads, &added.stream, added.day) else {
-        return Ok(None);
-    };
     match &added.rows {
-        VersionRows::Each(rows) => {
-            pack_listed(alloc, length, &added.stream, added.day, rows.as_slice())
-        }
-        VersionRows::Whole(of_all, update, readings) => {
-            if *of_all != length {
+        VersionRows::Each(rows) => pack_listed(
+            alloc,
+            new_days,
+            further,
+            &added.stream,
+            added.day,
+            rows.as_slice(),
+        ),
+        VersionRows::Whole(length, update, readings) => {
+            if !is_new(new_days, further, &added.stream, added.day, *update) {
                 return Ok(None);
             }
-            pack_whole(alloc, length, &added.stream, added.day, *update, readings)
+            pack_whole(alloc, *length, &added.stream, added.day, *update, readings)
         }
     }
 }
 
-/// The row of versions of a new day. `None` where they aren't those of its length and one update, each at an interval of its own.
+/// The row of listed versions of a day. `None` where the update of the first isn't new. So it is where another one has another length
+/// or update, or an interval that one before it has.
 fn pack_listed(
     alloc: Global,
-    length: Length,
+    new_days: &[Head],
+    further: &[Head],
     stream: &Stream,
     day: Day,
     rows: &[(u16, Version)],
 ) -> Result<Option<PackRow>, AllocError>
     ensures { IfOk result (λ o. IfSome o (λ row. set.from_list {R = fact_cmp} (said_by row) ≡ set.from_list (map (row_fact stream.now day) rows.now))) }
 {
-    let Some(update) = first_update(rows) else {
+    let Some(first) = rows.first() else {
         return Ok(None);
     };
-    let Some(readings) = spread(alloc, length, update, rows)? else {
+    let update = first.1.update;
+    if !is_new(new_days, further, stream, day, update) {
+        return Ok(None);
+    }
+    let Some(readings) = spread(alloc, first.1.length, update, rows)? else {
         return Ok(None);
     };
     if !has_some(readings.as_slice()) {
@@ -154,8 +169,8 @@ fn pack_listed(
     }))
 }
 
-/// The row of a new day's readings, of all its intervals, of its length and under one update. They are packed as they lie. `None`
-/// where they are more or fewer than the day has intervals.
+/// The row of a day's readings, of all its intervals of a length and under one update. They are packed as they lie. `None` where they
+/// are more or fewer than the day has intervals.
 fn pack_whole(
     alloc: Global,
     length: Length,
@@ -178,29 +193,28 @@ fn pack_whole(
     }))
 }
 
-/// The update of the first version, if there is one.
-fn first_update(rows: &[(u16, Version)]) -> Option<Moment> {
-    match rows {
-        [first, ..] => Some(first.1.update),
-        [] => None,
-    }
+/// Whether an update of a day has its head among these.
+fn is_new(new_days: &[Head], further: &[Head], stream: &Stream, day: Day, update: Moment) -> bool {
+    has_head(new_days, stream, day, update) || has_head(further, stream, day, update)
 }
 
-/// The length that the head of a day says, if it is among these. They ascend by stream and day: in another order it may be
-/// missed.
-fn new_length(heads: &[Head], stream: &Stream, day: Day) -> Option<Length>
-    ensures { IfSome result (λ length. HasNewHead heads.now stream.now day length) }
-{
+/// Whether these heads have one of a day and an update. They ascend by stream and day: in another order it may be missed. Those of
+/// one day may stand in any order.
+fn has_head(heads: &[Head], stream: &Stream, day: Day, update: Moment) -> bool {
     let at = heads.partition_point(|head| is_before(head, stream, day));
-    let head = heads.get(at)?;
-    if head.stream == *stream && head.day == day {
-        Some(head.length)
-    } else {
-        None
+    let (_, behind) = heads.split_at(at);
+    for head in behind {
+        if head.stream != *stream || head.day != day {
+            return false;
+        }
+        if head.update == update {
+            return true;
+        }
     }
+    false
 }
 
-/// Whether a head comes before that of a day.
+/// Whether a head comes before those of a day.
 fn is_before(head: &Head, stream: &Stream, day: Day) -> bool {
     match head.stream.cmp(stream) {
         Ordering::Less => true,

@@ -9,7 +9,6 @@ ghost use Rattle.mds_keeper.specs.Content.{day_versions, version_fact, versions_
 ghost use Rattle.mds_pack_rows.specs.PackFacts.{minutes_of};
 ghost use Rattle.mds_pack_rows.specs.Putting.{IsThere, PutsFacts, SayMore, SayRows};
 
-use crate::heads::length_of_day;
 use crate::putting::put_readings;
 use mds_keeper::{DayVersions, Unavailable, Version, VersionRows};
 use mds_marks::Reading;
@@ -18,8 +17,7 @@ use mds_terms::{Day, Length, Moment, Stream};
 use sqlite::{Alter, Transaction};
 use std::alloc::{AllocError, Global};
 
-/// Puts versions of days day by day, each of which has its head. It is unavailable where a version is kept already, is of another
-/// length than its day, or has an interval that the day doesn't have.
+/// Puts versions of days day by day, as `put_day` does.
 pub(crate) fn put_each_day<S: Alter>(
     alloc: Global,
     tx: &mut Transaction<'_, S>,
@@ -31,32 +29,16 @@ pub(crate) fn put_each_day<S: Alter>(
     ensures survives { Survives (state S.Store tx.old.conn.now) (state S.Store tx.new.conn.now) (λ _. ⊥) }
 {
     for added in days {
-        put_known_day(alloc, tx, added)?;
+        put_day(alloc, tx, added)?;
     }
     Ok(())
 }
 
-/// Puts versions of a day that has its head.
-fn put_known_day<S: Alter>(
-    alloc: Global,
-    tx: &mut Transaction<'_, S>,
-    added: &DayVersions,
-) -> Result<(), Unavailable>
-    ensures same_reference { tx.new.conn.ghost_name ≡ tx.old.conn.ghost_name }
-    ensures ok { OnOk result (PutsFacts (state S.Store tx.old.conn.now) (state S.Store tx.new.conn.now) (map version_fact (day_versions added.now))) }
-    ensures kept { IsThere (state S.Store tx.old.conn.now) (state S.Store tx.new.conn.now) → KeepsCommit (state S.Store tx.old.conn.now) (state S.Store tx.new.conn.now) }
-    ensures survives { Survives (state S.Store tx.old.conn.now) (state S.Store tx.new.conn.now) (λ _. ⊥) }
-{
-    let length = length_of_day(tx, &added.stream, added.day)?;
-    put_day(alloc, tx, length, added)
-}
-
-/// Puts versions of a day with intervals of this length. Those of one update that lie together go into its row at once. It is
-/// unavailable where a version is kept already, is of another length, or has an interval that the day doesn't have.
+/// Puts versions of a day. Those of one update that lie together go into its row at once. It is unavailable where a version is kept
+/// already, or where one has an interval that its length doesn't have. So it is where those of one update have two lengths.
 pub fn put_day<S: Alter>(
     alloc: Global,
     tx: &mut Transaction<'_, S>,
-    length: Length,
     added: &DayVersions,
 ) -> Result<(), Unavailable>
     ensures same_reference { tx.new.conn.ghost_name ≡ tx.old.conn.ghost_name }
@@ -66,22 +48,17 @@ pub fn put_day<S: Alter>(
 {
     match &added.rows {
         VersionRows::Each(rows) => {
-            put_listed(alloc, tx, length, &added.stream, added.day, rows.as_slice())
+            put_listed(alloc, tx, &added.stream, added.day, rows.as_slice())
         }
-        VersionRows::Whole(of_all, update, readings) => {
-            if *of_all != length {
-                return Err(Unavailable);
-            }
-            put_whole(
-                alloc,
-                tx,
-                length,
-                &added.stream,
-                added.day,
-                *update,
-                readings,
-            )
-        }
+        VersionRows::Whole(length, update, readings) => put_whole(
+            alloc,
+            tx,
+            *length,
+            &added.stream,
+            added.day,
+            *update,
+            readings,
+        ),
     }
 }
 
@@ -89,7 +66,6 @@ pub fn put_day<S: Alter>(
 fn put_listed<S: Alter>(
     alloc: Global,
     tx: &mut Transaction<'_, S>,
-    length: Length,
     stream: &Stream,
     day: Day,
     rows: &[(u16, Version)],
@@ -102,6 +78,7 @@ fn put_listed<S: Alter>(
     let mut left = rows;
     while let [first, ..] = left {
         let update = first.1.update;
+        let length = first.1.length;
         let end = end_of_run(left);
         let (run, rest) = left.split_at(end);
         put_run(alloc, tx, length, stream, day, update, run)?;
@@ -160,7 +137,7 @@ fn end_of_run(rows: &[(u16, Version)]) -> usize
     rows.len()
 }
 
-/// Puts versions of one update, which are of this length.
+/// Puts versions of one update. It is unavailable where one isn't of this length.
 fn put_run<S: Alter>(
     alloc: Global,
     tx: &mut Transaction<'_, S>,
@@ -185,7 +162,7 @@ fn put_run<S: Alter>(
 }
 
 /// Whether an interval has a reading.
-pub(crate) fn has_some(readings: &[Option<Reading>]) -> bool
+pub fn has_some(readings: &[Option<Reading>]) -> bool
     ensures { result ≡ list_any (λ reading. is_some reading) readings.now }
 {
     match readings {

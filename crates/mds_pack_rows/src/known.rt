@@ -107,8 +107,8 @@ fn is_daydetail_index(index: &Index) -> bool
     )
 }
 
-/// Whether these are the tables of schema 2, and behind them that of the details of days.
-fn are_daily_tables(tables: &[Table]) -> bool
+/// Whether these are the tables of schema 3: those of schema 2, and behind them that of the details of days.
+pub fn are_daily_tables(tables: &[Table]) -> bool
     ensures { IsTrue result ↔ (tables.now ≡ tables_3) }
 {
     match tables {
@@ -118,7 +118,7 @@ fn are_daily_tables(tables: &[Table]) -> bool
 }
 
 /// Whether these are the indexes of their keys.
-fn are_daily_indexes(indexes: &[Index]) -> bool
+pub fn are_daily_indexes(indexes: &[Index]) -> bool
     ensures { IsTrue result ↔ (indexes.now ≡ indexes_with daily) }
 {
     match indexes {

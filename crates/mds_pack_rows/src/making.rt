@@ -1,19 +1,17 @@
-//! Makes the tables of schema 3, and those that a migration makes.
+//! Makes the tables that a migration makes.
 
-ghost use Rattle.std.specs.Prelude.{◌≡◌, false, IfErr, IsTrue, OnErr, OnOk};
+ghost use Rattle.std.specs.Prelude.{◌≡◌, IfErr, IsTrue, OnOk};
 ghost use Rattle.sqlite.specs.Held.{state};
 ghost use Rattle.sqlite.specs.State.{HasCleanDisk, KeepsCommit, Survives};
 ghost use Rattle.mds_tables.specs.Causes.{HasFailed};
-ghost use Rattle.mds_tables.specs.Making.{CommitsMadeOf, HasMadeOf, IsMadeOf, LeavesMadeOf, MakesThere};
-ghost use Rattle.mds_tables.specs.Tables.{no_schema, schema_1};
-ghost use Rattle.mds_pack_rows.specs.DailyLayout.{daily_layout};
+ghost use Rattle.mds_tables.specs.Making.{MakesThere};
+ghost use Rattle.mds_tables.specs.Tables.{schema_1};
 ghost use Rattle.mds_pack_rows.specs.DailyPutting.{MakesDaydetail};
 ghost use Rattle.mds_pack_rows.specs.DailyTables.{schema_3};
 ghost use Rattle.mds_pack_rows.specs.PackTables.{schema_2};
 ghost use Rattle.mds_pack_rows.specs.Putting.{MakesPack};
 
-use mds_tables::{make_empty, ready, say_version};
-use sqlite::{Alter, Connection, Error, Transaction};
+use sqlite::{Alter, Error, Transaction};
 
 /// Makes mds_pack, without a row, behind the tables of schema 1.
 pub fn make_pack<S: Alter>(tx: &mut Transaction<'_, S>) -> Result<(), Error>
@@ -51,53 +49,4 @@ pub fn make_daydetail<S: Alter>(tx: &mut Transaction<'_, S>) -> Result<(), Error
         &[],
     )?;
     Ok(())
-}
-
-/// Makes all of the tables, without a row.
-fn make_each<S: Alter>(tx: &mut Transaction<'_, S>) -> Result<(), Error>
-    ensures same_reference { tx.new.conn.ghost_name ≡ tx.old.conn.ghost_name }
-    ensures ok { OnOk result (MakesThere no_schema schema_3 (state S.Store tx.old.conn.now) (state S.Store tx.new.conn.now)) }
-    ensures cause { HasCleanDisk (state S.Store tx.new.conn.now) → IsTrue (state S.Store tx.old.conn.now).is_open
-        → IsTrue (state S.Store tx.old.conn.now).in_transaction → (state S.Store tx.old.conn.now).now.schema ≡ no_schema
-        → IfErr result (HasFailed (state S.Store tx.old.conn.now) (state S.Store tx.new.conn.now)) }
-    ensures kept { HasCleanDisk (state S.Store tx.new.conn.now) → KeepsCommit (state S.Store tx.old.conn.now) (state S.Store tx.new.conn.now) }
-    ensures survives { Survives (state S.Store tx.old.conn.now) (state S.Store tx.new.conn.now) (λ _. ⊥) }
-{
-    make_empty(tx)?;
-    make_pack(tx)?;
-    make_daydetail(tx)
-}
-
-/// Makes the tables, and says that the schema is 3, in a transaction of its own.
-fn make_all<S: Alter>(conn: &mut Connection<S>) -> Result<(), Error>
-    requires { conn.old.in_transaction ≡ false }
-    ensures ok { HasCleanDisk (state S.Store conn.new) → OnOk result (CommitsMadeOf daily_layout (state S.Store conn.old) (state S.Store conn.new)) }
-    ensures err { HasCleanDisk (state S.Store conn.new) → OnErr result (KeepsCommit (state S.Store conn.old) (state S.Store conn.new)) }
-    ensures cause { HasCleanDisk (state S.Store conn.new) → IsTrue (state S.Store conn.old).is_open
-        → (state S.Store conn.old).now.schema ≡ no_schema
-        → IfErr result (HasFailed (state S.Store conn.old) (state S.Store conn.new)) }
-    ensures mode { conn.new.in_transaction ≡ false }
-    ensures survives { Survives (state S.Store conn.old) (state S.Store conn.new) (HasMadeOf daily_layout (state S.Store conn.old)) }
-{
-    let mut tx = conn.transaction();
-    make_each(&mut tx)?;
-    say_version(&mut tx, 3)?;
-    tx.commit()
-}
-
-/// Makes the tables of schema 3 in a database that has none, and says in them that it is 3. It does all of that in one
-/// transaction. A crash leaves what was there, or all of it.
-pub fn make_tables<S: Alter>(conn: &mut Connection<S>) -> Result<(), Error>
-    requires { conn.old.in_transaction ≡ false }
-    ensures ok { HasCleanDisk (state S.Store conn.new) → OnOk result (IsMadeOf daily_layout (state S.Store conn.old) (state S.Store conn.new)) }
-    ensures err { HasCleanDisk (state S.Store conn.new) → OnErr result (KeepsCommit (state S.Store conn.old) (state S.Store conn.new)) }
-    // No rule of the database is against these tables. So it is the store that fails, or the limit of steps.
-    ensures cause { HasCleanDisk (state S.Store conn.new)
-        → (IsTrue (state S.Store conn.old).is_open → (state S.Store conn.old).committed.schema ≡ no_schema)
-        → IfErr result (HasFailed (state S.Store conn.old) (state S.Store conn.new)) }
-    ensures mode { conn.new.in_transaction ≡ false }
-    ensures survives { Survives (state S.Store conn.old) (state S.Store conn.new) (LeavesMadeOf daily_layout (state S.Store conn.old)) }
-{
-    ready(conn)?;
-    make_all(conn)
 }

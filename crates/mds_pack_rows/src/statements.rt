@@ -7,22 +7,20 @@ ghost use Rattle.sqlite.specs.State.{HasCleanDisk, KeepsCommit, Survives};
 ghost use Rattle.sqlite.specs.Values.{bound};
 ghost use Rattle.sqlite.specs.declared.types.Value.TheVariants.{Blob, Int};
 ghost use Rattle.mds_tables.specs.Cells.{day_cells as day_columns};
-ghost use Rattle.mds_tables.specs.Queries.{QueriesOf};
 ghost use Rattle.mds_tables.specs.Stores.{Selects};
-ghost use Rattle.mds_tables.specs.Tables.{More, head_tree, schema_with};
-ghost use Rattle.mds_pack_rows.specs.DailyLayout.{daily_layout};
+ghost use Rattle.mds_tables.specs.Tables.{More, schema_with};
 ghost use Rattle.mds_pack_rows.specs.Eights.{columns_of, said_by};
 ghost use Rattle.mds_pack_rows.specs.FailureSteps.{is_store_error};
 ghost use Rattle.mds_pack_rows.specs.PackCells as row;
 ghost use Rattle.mds_pack_rows.specs.PackFacts.{body_facts};
-ghost use Rattle.mds_pack_rows.specs.PackTables.{body_columns, length_columns, pack_tree, packs_then, update_columns};
+ghost use Rattle.mds_pack_rows.specs.PackTables.{body_columns, pack_tree, packs_then, update_columns};
 ghost use Rattle.mds_pack_rows.specs.Putting.{FindsThere, GoesOn, PutsBody, PutsFacts};
 
 use mds_keeper::Unavailable;
 use mds_tables::day_cells;
 use mds_terms::{Day, Moment, Stream};
 use sqlite::types::ValueRef;
-use sqlite::{Alter, Connection, Error, ErrorCode, Row, Transaction};
+use sqlite::{Alter, Error, ErrorCode, Row, Transaction};
 
 /// The columns that name a day and an update.
 fn key_cells<'a>(stream: &'a Stream, day: Day, update: Moment) -> [ValueRef<'a>; 4]
@@ -98,36 +96,22 @@ fn body_cells<'a>(id: i64, body: &'a [u8]) -> [ValueRef<'a>; 2]
     [ValueRef::Int(id), ValueRef::Blob(body)]
 }
 
-/// The updates and the bodies of a day.
-pub(crate) fn day_rows<S: Alter>(
-    conn: &mut Connection<S>,
-    stream: &Stream,
-    day: Day,
-) -> Result<Vec<Row>, Error>
-    ensures { QueriesOf daily_layout (state S.Store conn.old) (state S.Store conn.new) result (Selects pack_tree (day_columns stream.now day) update_columns) }
-{
-    conn.query_all(
-        "SELECT moment, body FROM mds_pack WHERE nmi = ?1 AND suffix = ?2 AND day = ?3",
-        &day_cells(stream, day),
-    )
-}
-
-/// The length of a day's intervals, of each head of it.
-pub(crate) fn length_rows<S: Alter>(
+/// The updates and the bodies of a day, whatever tables stand behind mds_pack.
+pub fn packs_of_day<S: Alter>(
     tx: &mut Transaction<'_, S>,
     stream: &Stream,
     day: Day,
 ) -> Result<Vec<Row>, Unavailable>
     ensures same_reference { tx.new.conn.ghost_name ≡ tx.old.conn.ghost_name }
     ensures ok { HasCleanDisk (state S.Store tx.new.conn.now)
-        → IfOk result (λ rows. FindsThere (state S.Store tx.old.conn.now) (state S.Store tx.new.conn.now) (λ trees. Selects head_tree (day_columns stream.now day) length_columns trees rows.items)) }
+        → IfOk result (λ rows. FindsThere (state S.Store tx.old.conn.now) (state S.Store tx.new.conn.now) (λ trees. Selects pack_tree (day_columns stream.now day) update_columns trees rows.items)) }
     ensures goes_on { OnOk result (GoesOn (state S.Store tx.old.conn.now) (state S.Store tx.new.conn.now)) }
     ensures kept { HasCleanDisk (state S.Store tx.new.conn.now) → (rest : More) → (state S.Store tx.old.conn.now).now.schema ≡ schema_with (packs_then rest)
         → KeepsCommit (state S.Store tx.old.conn.now) (state S.Store tx.new.conn.now) }
     ensures survives { Survives (state S.Store tx.old.conn.now) (state S.Store tx.new.conn.now) (λ _. ⊥) }
 {
     match tx.query_all(
-        "SELECT length FROM mds_head WHERE nmi = ?1 AND suffix = ?2 AND day = ?3",
+        "SELECT moment, body FROM mds_pack WHERE nmi = ?1 AND suffix = ?2 AND day = ?3",
         &day_cells(stream, day),
     ) {
         Ok(rows) => Ok(rows),

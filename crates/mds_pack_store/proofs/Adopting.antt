@@ -17,9 +17,10 @@ use Rattle.mds_tables.specs.Layouts.{Layout}
 use Rattle.mds_tables.specs.Tables.{version_tree}
 use Rattle.mds_tables.proofs.CallLemmas.{survives_more}
 use Rattle.mds_tables.proofs.CauseLemmas.{failed_since}
-use Rattle.mds_pack_rows.specs.DailyLayout.{daily_layout}
+use Rattle.mds_pack_rows.specs.FormLayout.{forms_layout}
 use Rattle.mds_store.proofs.Adopting.{is_adopted}
-use Rattle.mds_pack_store.specs.Daily.{AreBare, AreDaily, IsDailyAdopted, IsDailyStore}
+use Rattle.mds_pack_store.specs.Daily.{AreBare, AreDaily, IsDailyStore}
+use Rattle.mds_pack_store.specs.Formed.{AreFormed, IsFormedAdopted, IsFormedStore}
 use Rattle.mds_pack_store.specs.Packed.{ArePacked, IsPackStore}
 
 -- ---- that a table has no row
@@ -125,6 +126,9 @@ packed trees says empty = record { version = says; unversioned = empty }
 pub daily : (trees : Trees) → versions_said trees ≡ pos 3 ∷ [] → AreBare trees → AreDaily trees
 daily trees says bare = record { version = says; bare = bare }
 
+pub formed : (trees : Trees) → versions_said trees ≡ pos 4 ∷ [] → AreBare trees → AreFormed trees
+formed trees says bare = record { version = says; bare = bare }
+
 -- ---- that it is one, or none
 
 module _ (layout : Layout) (old new : State) (held : HoldsTablesOf layout old) (kept : HasCleanDisk new → KeepsCommit old new) where
@@ -135,16 +139,19 @@ module _ (layout : Layout) (old new : State) (held : HoldsTablesOf layout old) (
       let same = settled ((kept clean).was_open is_open) in
       other (subst (λ (db : Database). AreThese db.trees) same these)
 
--- a store of schema 2 has these tables, and so has one of schema 3
+-- a store of schema 2 has these tables, and so has one of schema 3 or 4
 pub of_pack : (db : Database) → IsPackStore db → ArePacked db.trees
 of_pack db is = record { version = is.store.version; unversioned = is.unversioned }
 
 pub of_daily : (db : Database) → IsDailyStore db → AreDaily db.trees
 of_daily db is = record { version = is.store.version; bare = is.bare }
 
-pub is_daily_adopted : (old new : State) → HoldsTablesOf daily_layout old → Survives old new (λ _. ⊥) → (HasCleanDisk new → KeepsCommit old new)
-    → HasCleanDisk new → AreOpen old new → AreDaily old.committed.trees → IsDailyAdopted old new
-is_daily_adopted old new held survives kept clean are_open are = record {
-  adopted = is_adopted daily_layout old new held survives kept clean are_open are.version;
+pub of_formed : (db : Database) → IsFormedStore db → AreFormed db.trees
+of_formed db is = record { version = is.store.version; bare = is.bare }
+
+pub is_formed_adopted : (old new : State) → HoldsTablesOf forms_layout old → Survives old new (λ _. ⊥) → (HasCleanDisk new → KeepsCommit old new)
+    → HasCleanDisk new → AreOpen old new → AreFormed old.committed.trees → IsFormedAdopted old new
+is_formed_adopted old new held survives kept clean are_open are = record {
+  adopted = is_adopted forms_layout old new held survives kept clean are_open are.version;
   bare = are.bare;
 }

@@ -1,3 +1,2 @@
 pub mod Adopting
-pub mod RangeLemmas
-pub mod RangeTexts
+pub mod RowTexts

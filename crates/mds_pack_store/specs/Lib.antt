@@ -1,3 +1,4 @@
 pub mod Daily
-pub mod PackRanges
+pub mod Formed
 pub mod Packed
+pub mod Shown

@@ -3,10 +3,9 @@
 
 mod laws;
 mod pack_keeper;
-mod ranges;
 mod rows;
 mod starting;
 
 pub use laws::a_keeper_is_its_tables;
 pub use pack_keeper::PackKeeper;
-pub use starting::{adopt, are_daily, are_packed, create};
+pub use starting::{adopt, are_daily, are_formed, are_packed, create};

@@ -8,29 +8,9 @@ ghost use Rattle.mds_tables.specs.Queries.{QueriesOf};
 ghost use Rattle.mds_tables.specs.Stores.{SelectsAll};
 ghost use Rattle.mds_tables.specs.Layouts.{Layout};
 ghost use Rattle.mds_tables.specs.Tables.{detail_tree, schema_with, version_tree};
-ghost use Rattle.mds_pack_rows.specs.DailyLayout.{daily_layout};
-ghost use Rattle.mds_pack_rows.specs.PackTables.{pack_tree};
-ghost use Rattle.mds_store.specs.Ranges.{SelectsRange};
-ghost use Rattle.mds_pack_store.specs.PackRanges.{detail_moment, range_columns, version_slot};
+ghost use Rattle.mds_pack_store.specs.Shown.{detail_moment, version_slot};
 
-use mds_tables::range_cells;
-use mds_terms::{Day, Stream};
 use sqlite::{Alter, Connection, Error, Row};
-
-/// The updates, the bodies and the days of a range of days, by day.
-pub(crate) fn pack_range_rows<S: Alter>(
-    conn: &mut Connection<S>,
-    stream: &Stream,
-    first: Day,
-    last: Day,
-) -> Result<Vec<Row>, Error>
-    ensures { QueriesOf daily_layout (state S.Store conn.old) (state S.Store conn.new) result (SelectsRange pack_tree stream.now first last range_columns) }
-{
-    conn.query_all(
-        "SELECT moment, body, day FROM mds_pack WHERE nmi = ?1 AND suffix = ?2 AND day >= ?3 AND day <= ?4 ORDER BY day",
-        &range_cells(stream, first, last),
-    )
-}
 
 /// The interval of each row of mds_version, whatever tables stand behind those that every schema has.
 pub(crate) fn slot_rows<S: Alter>(conn: &mut Connection<S>) -> Result<Vec<Row>, Error>

@@ -11,15 +11,19 @@ ghost use Rattle.mds_tables.specs.Layouts.{Layout};
 ghost use Rattle.mds_tables.specs.Stores.{HoldsTablesOf};
 ghost use Rattle.mds_tables.specs.Tables.{detail_tree, no_schema, schema_1, version_tree};
 ghost use Rattle.mds_pack_rows.specs.DailyLayout.{daily_layout};
+ghost use Rattle.mds_pack_rows.specs.DailyTables.{schema_3};
+ghost use Rattle.mds_pack_rows.specs.FormLayout.{forms_layout};
 ghost use Rattle.mds_pack_rows.specs.PackTables.{schema_2};
 ghost use Rattle.mds_pack_rows.specs.PacksLayout.{packs_layout};
 ghost use Rattle.mds_store.specs.Starting.{IsCreated, IsRefused};
-ghost use Rattle.mds_pack_store.specs.Daily.{AreBare, AreDaily, IsDailyAdopted, IsDailyStore, IsEarlierStore};
+ghost use Rattle.mds_pack_store.specs.Daily.{AreBare, AreDaily};
+ghost use Rattle.mds_pack_store.specs.Formed.{AreFormed, IsEarlierStore, IsFormedAdopted, IsFormedStore};
 ghost use Rattle.mds_pack_store.specs.Packed.{ArePacked};
 
 use crate::pack_keeper::PackKeeper;
 use crate::rows::{detail_rows, slot_rows};
-use mds_pack_rows::{has_schema_2, has_schema_3, make_tables};
+use mds_form_rows::{has_schema_4, make_tables};
+use mds_pack_rows::{has_schema_2, has_schema_3};
 use mds_selects::is_version;
 use mds_store::{StoreFault, is_empty};
 use mds_tables::{has_schema_1, ready};
@@ -35,7 +39,7 @@ pub fn create<S: Alter>(
     conn: Connection<S>,
 ) -> Result<PackKeeper<S>, (StoreFault, Connection<S>)>
     ensures ok { IfOk result (λ keeper. HasCleanDisk (state S.Store keeper.conn)
-        → IsCreated daily_layout (state S.Store conn) (state S.Store keeper.conn)) }
+        → IsCreated forms_layout (state S.Store conn) (state S.Store keeper.conn)) }
     ensures err { IfErr result (λ e. HasCleanDisk (state S.Store e.1)
         → IsRefused ((state S.Store conn).now.schema ≡ no_schema) ⊥ (state S.Store conn) (state S.Store e.1) e.0) }
     ensures busy { conn.in_transaction ≡ true
@@ -43,8 +47,8 @@ pub fn create<S: Alter>(
     ensures limit { MatchResult result (λ keeper. keeper.conn.step_limit ≡ conn.step_limit) (λ e. e.1.step_limit ≡ conn.step_limit) }
     ensures mode { IfErr result (λ e. e.1.in_transaction ≡ conn.in_transaction) }
     ensures survives { MatchResult result
-        (λ keeper. Survives (state S.Store conn) (state S.Store keeper.conn) (LeavesMadeOf daily_layout (state S.Store conn)))
-        (λ e. Survives (state S.Store conn) (state S.Store e.1) (LeavesMadeOf daily_layout (state S.Store conn))) }
+        (λ keeper. Survives (state S.Store conn) (state S.Store keeper.conn) (LeavesMadeOf forms_layout (state S.Store conn)))
+        (λ e. Survives (state S.Store conn) (state S.Store e.1) (LeavesMadeOf forms_layout (state S.Store conn))) }
 {
     let mut conn = conn;
     if !conn.is_autocommit() {
@@ -59,7 +63,7 @@ pub fn create<S: Alter>(
     }
 }
 
-/// Takes a database that is a store of schema 3. It keeps the World that its rows name, whoever wrote them. One that has rows in
+/// Takes a database that is a store of schema 4. It keeps the World that its rows name, whoever wrote them. One that has rows in
 /// mds_version or mds_detail isn't taken, since they would stand there unseen (U3). A store of an earlier schema is to be migrated
 /// first (U2). On a refusal the connection comes back, and nothing was changed. One that was in a transaction comes back as it was,
 /// and any other is in none. It is unavailable only where the store failed or the limit of steps was reached, and tells that error
@@ -69,9 +73,9 @@ pub fn adopt<S: Alter>(
     conn: Connection<S>,
 ) -> Result<PackKeeper<S>, (StoreFault, Connection<S>)>
     ensures ok { IfOk result (λ keeper. HasCleanDisk (state S.Store keeper.conn)
-        → IsDailyAdopted (state S.Store conn) (state S.Store keeper.conn)) }
+        → IsFormedAdopted (state S.Store conn) (state S.Store keeper.conn)) }
     ensures err { IfErr result (λ e. HasCleanDisk (state S.Store e.1)
-        → IsRefused (IsDailyStore (state S.Store conn).now) (IsEarlierStore (state S.Store conn).now) (state S.Store conn) (state S.Store e.1) e.0) }
+        → IsRefused (IsFormedStore (state S.Store conn).now) (IsEarlierStore (state S.Store conn).now) (state S.Store conn) (state S.Store e.1) e.0) }
     ensures busy { conn.in_transaction ≡ true
         → MatchResult result (λ keeper. ⊥) (λ e. (e.0 ≡ StoreFault.InTransaction) × (e.1 ≡ conn)) }
     ensures limit { MatchResult result (λ keeper. keeper.conn.step_limit ≡ conn.step_limit) (λ e. e.1.step_limit ≡ conn.step_limit) }
@@ -90,14 +94,33 @@ pub fn adopt<S: Alter>(
     if has_schema_2(conn.schema()) {
         return Err(refusal_of_second(conn));
     }
-    if !has_schema_3(conn.schema()) {
+    if has_schema_3(conn.schema()) {
+        return Err(refusal_of_third(conn));
+    }
+    if !has_schema_4(conn.schema()) {
         return Err((StoreFault::OtherSchema, conn));
     }
-    match are_daily(&mut conn) {
+    match are_formed(&mut conn) {
         Ok(true) => Ok(PackKeeper::over(alloc, conn)),
         Ok(false) => Err((StoreFault::OtherSchema, conn)),
         Err(error) => Err((StoreFault::Unavailable(error), conn)),
     }
+}
+
+/// Whether mds_schema says 4 and nothing else, and neither a version nor details of a stream have a row of their own. An error is
+/// the library's: the store failed with a cause, or the limit of steps was reached.
+pub fn are_formed<S: Alter>(conn: &mut Connection<S>) -> Result<bool, Error>
+    requires { conn.old.in_transaction ≡ false }
+    ensures answers { Answers (HoldsTablesOf forms_layout) (state S.Store conn.old) (state S.Store conn.new) result
+        (λ trees are. MatchBool are (AreFormed trees) (AreFormed trees → ⊥)) }
+    ensures cause { HasCleanDisk (state S.Store conn.new) → HoldsTablesOf forms_layout (state S.Store conn.old)
+        → IfErr result (HasFailed (state S.Store conn.old) (state S.Store conn.new)) }
+{
+    let says_4 = is_version(conn, 4)?;
+    if !says_4 {
+        return Ok(false);
+    }
+    are_bare(conn)
 }
 
 /// Whether mds_schema says 3 and nothing else, and neither a version nor details of a stream have a row of their own. An error is
@@ -187,7 +210,7 @@ fn refusal_of_first<S: Alter>(conn: Connection<S>) -> (StoreFault, Connection<S>
     requires settled { IsTrue (state S.Store conn).is_open → (state S.Store conn).now ≡ (state S.Store conn).committed }
     requires schema { (state S.Store conn).now.schema ≡ schema_1 }
     ensures err { HasCleanDisk (state S.Store result.1)
-        → IsRefused (IsDailyStore (state S.Store conn).now) (IsEarlierStore (state S.Store conn).now) (state S.Store conn) (state S.Store result.1) result.0 }
+        → IsRefused (IsFormedStore (state S.Store conn).now) (IsEarlierStore (state S.Store conn).now) (state S.Store conn) (state S.Store result.1) result.0 }
     ensures limit { result.1.step_limit ≡ conn.step_limit }
     ensures mode { result.1.in_transaction ≡ false }
     ensures survives { Survives (state S.Store conn) (state S.Store result.1) (λ _. ⊥) }
@@ -206,13 +229,32 @@ fn refusal_of_second<S: Alter>(conn: Connection<S>) -> (StoreFault, Connection<S
     requires settled { IsTrue (state S.Store conn).is_open → (state S.Store conn).now ≡ (state S.Store conn).committed }
     requires schema { (state S.Store conn).now.schema ≡ schema_2 }
     ensures err { HasCleanDisk (state S.Store result.1)
-        → IsRefused (IsDailyStore (state S.Store conn).now) (IsEarlierStore (state S.Store conn).now) (state S.Store conn) (state S.Store result.1) result.0 }
+        → IsRefused (IsFormedStore (state S.Store conn).now) (IsEarlierStore (state S.Store conn).now) (state S.Store conn) (state S.Store result.1) result.0 }
     ensures limit { result.1.step_limit ≡ conn.step_limit }
     ensures mode { result.1.in_transaction ≡ false }
     ensures survives { Survives (state S.Store conn) (state S.Store result.1) (λ _. ⊥) }
 {
     let mut conn = conn;
     match are_packed(&mut conn) {
+        Ok(true) => (StoreFault::EarlierSchema, conn),
+        Ok(false) => (StoreFault::OtherSchema, conn),
+        Err(error) => (StoreFault::Unavailable(error), conn),
+    }
+}
+
+/// The same of one with the tables of schema 3.
+fn refusal_of_third<S: Alter>(conn: Connection<S>) -> (StoreFault, Connection<S>)
+    requires mode { conn.in_transaction ≡ false }
+    requires settled { IsTrue (state S.Store conn).is_open → (state S.Store conn).now ≡ (state S.Store conn).committed }
+    requires schema { (state S.Store conn).now.schema ≡ schema_3 }
+    ensures err { HasCleanDisk (state S.Store result.1)
+        → IsRefused (IsFormedStore (state S.Store conn).now) (IsEarlierStore (state S.Store conn).now) (state S.Store conn) (state S.Store result.1) result.0 }
+    ensures limit { result.1.step_limit ≡ conn.step_limit }
+    ensures mode { result.1.in_transaction ≡ false }
+    ensures survives { Survives (state S.Store conn) (state S.Store result.1) (λ _. ⊥) }
+{
+    let mut conn = conn;
+    match are_daily(&mut conn) {
         Ok(true) => (StoreFault::EarlierSchema, conn),
         Ok(false) => (StoreFault::OtherSchema, conn),
         Err(error) => (StoreFault::Unavailable(error), conn),

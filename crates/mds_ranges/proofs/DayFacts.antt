@@ -1,5 +1,6 @@
 -- What a day's book says of its World: its current readings, its latest update and its form.
-use Rattle.std.proofs.Common.{◌≡◌, ℕ, ◌+◌, List, [], ◌∷◌, ◌++◌, length, get_or, Some, refl, sym, ap, ◌∙◌, subst, inl, inr, arith}
+use Rattle.std.proofs.Common.{◌≡◌, ℕ, ◌+◌, List, [], ◌∷◌, ◌++◌, length, get_or, Option, Some, refl, sym, ap, ◌∙◌, subst, inl, inr, arith}
+use Rattle.std.specs.Prelude.{IfOk, Result, Ok, Err}
 use Rattle.std.proofs.lemmas.Bool.{cases_lt}
 use Rattle.std.proofs.lemmas.List.{get_or_append_left, length-append}
 use Rattle.std.proofs.lemmas.Option.{get_or_from_slice_get, slice_get-get_or, slice_get_within}
@@ -9,11 +10,13 @@ use Rattle.mds_quantity.specs.declared.unit.Unit.{Unit as MeasureUnit}
 use Rattle.mds_names.specs.declared.stream.Stream.{Stream}
 use Rattle.mds_marks.specs.Reading.{ReadingValue}
 use Rattle.mds_world.specs.Current.{IsCurrentDetails, IsDayReading, IsFormOf, IsLatest}
-use Rattle.mds_world.specs.Facts.{head_at}
 use Rattle.mds_world.specs.Facts.Fact.{HeadIs}
 use Rattle.mds_world.specs.World.{IsCurrent, IsKnownDay, World}
 use Rattle.mds_keeper.specs.Books.{BookValue, IsDay, book_world}
+use Rattle.mds_keeper.specs.LentVersions.{reading_of}
+use Rattle.mds_keeper.specs.declared.lent_version.LentVersion.{LentVersion}
 use Rattle.mds_statements.specs.declared.selected.SelectedDay.{SelectedDay}
+use Rattle.mds_registers.proofs.BookReadings.{form_in}
 use Rattle.mds_ranges.specs.Readings.{AreReadings}
 use Rattle.mds_ranges.specs.Selections.{IsSelectedDay}
 
@@ -21,11 +24,6 @@ use Rattle.mds_ranges.specs.Selections.{IsSelectedDay}
 pub unknown_here : (w : World) (book : BookValue) → IsDay w book → (IsKnownDay (book_world book) book.stream book.day → ⊥)
     → IsKnownDay w book.stream book.day → ⊥
 unknown_here w book day none known = none (known.0, day.whole (HeadIs known.0) (known.2, known.3) known.1, known.2, known.3)
-
--- a book with a form is of a known day
-pub known_here : (book : BookValue) (form : ℕ × MeasureUnit) → IsFormOf (book_world book) book.stream book.day form.0 form.1
-    → IsKnownDay (book_world book) book.stream book.day
-known_here book form some = (head_at book.stream book.day form.0 form.1, some, refl, refl)
 
 -- what is current in the book is current in the World, and the other way
 current_in : (w : World) (book : BookValue) (minutes i u : ℕ) (r : ReadingValue) → IsDay w book
@@ -48,6 +46,16 @@ latest_in w book minutes u day latest = record {
   held = (latest.held.0, latest.held.1, current_in w book minutes latest.held.0 u latest.held.1 day latest.held.2);
   greatest = λ i other r current. latest.greatest i other r (current_out w book minutes i other r day current);
 }
+
+-- a copy of the version that a book lends is the reading that it shows
+pub copy_shows : {E : Type 0} (book : BookValue) (i : ℕ) (lent : Option LentVersion) (version : LentVersion) (copy : Result ReadingValue E)
+    → lent ≡ Some version → IfOk copy (λ c. c ≡ record { mark = version.mark.now; value = version.value })
+    → IsDayReading (book_world book) book.stream book.day i (reading_of lent)
+    → IfOk copy (IsDayReading (book_world book) book.stream book.day i)
+copy_shows book i lent version (Ok c) same e is =
+    let shown = λ (r : ReadingValue). IsDayReading (book_world book) book.stream book.day i r in
+    subst shown (sym e) (subst (λ o. shown (reading_of o)) same is)
+copy_shows book i lent version (Err x) same e is = tt
 
 -- one more reading
 pub readings_more : (w : World) (s : Stream) (d i : ℕ) (xs ys : List ReadingValue) (r : ReadingValue)
@@ -79,7 +87,8 @@ pub selected_of : (w : World) (book : BookValue) (day : SelectedDay) → IsDay w
     → IsLatest (book_world book) book.stream book.day minutes day.update)
     → AreReadings w book.stream book.day (count_of day.length) day.readings.items → IsSelectedDay w book.stream day
 selected_of w book day is at some details latest readings = record {
-  form = subst (λ n. IsFormOf w book.stream n day.length day.unit) (sym at) (is.only _ some);
+  form = subst (λ n. IsFormOf w book.stream n day.length day.unit) (sym at)
+      (form_in w book day.length day.unit is some);
   details = subst (λ n. IsCurrentDetails w book.stream n day.details) (sym at) details;
   update = subst (λ n. IsLatest w book.stream n day.length day.update) (sym at) (latest_in w book day.length day.update is
       (latest day.length day.unit some));

@@ -12,6 +12,7 @@ use Rattle.mds_keeper.specs.Books.{BookValue, IsDay}
 use Rattle.mds_keeper.specs.Queries.{AreDaysOf}
 use Rattle.mds_keeper.proofs.BookPlaces.{member_at}
 use Rattle.mds_registers.specs.Stretches.{AreGaps, IsFinal, IsGap}
+use Rattle.mds_registers.proofs.BookReadings.{known_by_count}
 use Rattle.mds_registers.specs.declared.stretches.Final.{Final}
 use Rattle.mds_registers.specs.declared.stretches.Gap.{Gap}
 use Rattle.mds_registers.specs.declared.writing.FinalRow.{FinalRow}
@@ -205,7 +206,7 @@ GapsOnWay w s first last end books rows =
 -- a gap of a day that isn't known is the whole day
 gap_unknown : (w : World) (s : Stream) (row : GapRow) → (IsKnownDay w s row.day → ⊥) → IsGapRow w s row
     → row ≡ whole_day row.day
-gap_unknown w s row unknown (inl (count, has, is)) = absurd (unknown (has.0, has.1, has.2, has.3))
+gap_unknown w s row unknown (inl (count, has, is)) = absurd (unknown (known_by_count w s row.day count has))
 gap_unknown w s row unknown (inr (none, f, l)) = λ i. record { day = row.day; gap = record { first = f i; last = l i } }
 
 whole_is : (w : World) (s : Stream) (row : GapRow) → (IsKnownDay w s row.day → ⊥) → row ≡ whole_day row.day
@@ -324,7 +325,7 @@ FinalsFollow = Follows (λ (row : FinalRow). row.day) (λ row. row.stretch.first
 
 -- a day with a final is known
 known_final : (w : World) (s : Stream) (row : FinalRow) → IsFinalRow w s row → IsKnownDay w s row.day
-known_final w s row is = let has = is.1 in (has.0, has.1, has.2, has.3)
+known_final w s row is = known_by_count w s row.day is.0 is.1
 
 pub finals_on : (w : World) (s : Stream) (first last : ℕ) (book : BookValue) (books : List BookValue)
     (xs zs : List FinalRow) → FinalsOnWay w s first last (book ∷ books) xs → AddsFinals book xs zs

@@ -29,8 +29,8 @@ pub record AreDistinct (suffixes distinct : List (List ℕ)) : Type 0 where
   pub each : (suffix : List ℕ) → Member suffix distinct ↔ Member suffix suffixes
   pub ascending : Ascend distinct
 
--- A known day, with the length and the unit of its head, its current details, the greatest update among its current readings,
--- and these: the reading of each interval.
+-- A known day, with its current length and its unit, its current details, the greatest update among its current readings, and
+-- these: the reading of each interval of that length.
 pub record IsSelectedDay (w : World) (stream : Stream) (day : SelectedDay) : Type 0 where
   pub form : IsFormOf w stream day.date day.length day.unit
   pub details : IsCurrentDetails w stream day.date day.details

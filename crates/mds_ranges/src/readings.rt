@@ -11,8 +11,8 @@ use mds_keeper::DayBook;
 use mds_terms::{Length, Mark, Reading};
 use std::alloc::{AllocError, Global};
 
-/// The current readings of a day with intervals of this length: one for each interval of the day, in their order. Each is
-/// a copy of the interval's reading of the greatest update; where it has none, bare N, which is quality N without a value.
+/// The current readings of a day whose current length is this: one for each interval of the day, in their order. Each is a copy of
+/// the interval's reading of that length with the greatest update. Where it has none it is bare N, quality N without a value.
 pub fn current_readings(
     alloc: Global,
     book: &DayBook,

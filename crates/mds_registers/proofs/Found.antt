@@ -11,7 +11,7 @@ use Rattle.mds_registers.specs.Stretches.{AreFinals, AreGaps, HasIntervals, IsFi
 use Rattle.mds_registers.specs.StretchesSteps.{TakesInFinal, TakesInNull}
 use Rattle.mds_registers.specs.declared.stretches.Final.{Final}
 use Rattle.mds_registers.specs.declared.stretches.Gap.{Gap}
-use Rattle.mds_registers.proofs.BookReadings.{count_is, has_intervals, is_unknown, one_mark}
+use Rattle.mds_registers.proofs.BookReadings.{count_is, has_intervals, is_unknown, known_by_count, one_mark}
 use Rattle.mds_registers.proofs.Tiles.{Tiles, are_all, are_stretches, ascending, begins, goes_on, none_more}
 
 -- what holds holds after an error
@@ -117,7 +117,7 @@ gaps_are w book form n gaps is lawful some count t =
               let e : x.0 ≡ n = count_is w book form x.0 is lawful some x.1 ∙ sym count in
               let stretch = subst (λ k. IsStretch (IsNull w book.stream book.day) k gap.first gap.last) e x.2 in
               are_all gap_first gap_last N alike same 1 n gaps gap (omega arith) stretch.from_one stretch t
-          | inr x ↦ absurd (x.0 (has.0, has.1, has.2, has.3))
+          | inr x ↦ absurd (x.0 (known_by_count w book.stream book.day (count_of form.0) has))
         ]),
       );
       ascending = ascending gap_first gap_last N 1 n gaps t;
@@ -163,7 +163,7 @@ unknown_gaps w book none gaps is no_form empty are =
           | inr z ↦ absurd z
         ]),
         (λ is_gap. elim is_gap [
-          | inl x ↦ let has = x.1 in absurd (unknown (has.0, has.1, has.2, has.3))
+          | inl x ↦ absurd (unknown (known_by_count w book.stream book.day x.0 x.1))
           | inr x ↦ inl (same_gap 0 gap (record { first = 0; last = 0 }) x.1 x.2)
         ]),
       );
@@ -176,6 +176,6 @@ pub unknown_finals : (w : World) (book : BookValue) (finals : List Final) → Is
 unknown_finals w book finals is none e =
     let unknown = is_unknown w book is none in
     subst (AreFinals w book.stream book.day) (sym e) (record {
-      each = λ f. ((λ m. absurd m), (λ x. let has = x.1 in absurd (unknown (has.0, has.1, has.2, has.3))));
+      each = λ f. ((λ m. absurd m), (λ x. absurd (unknown (known_by_count w book.stream book.day x.0 x.1))));
       ascending = λ i j d a b. absurd (omega arith);
     })

@@ -1,18 +1,16 @@
 -- The gaps and the finals of a day (profile): the longest runs of neighbouring intervals whose current readings are null, or
--- final under one mark. Intervals count from 1.
+-- final under one mark. Intervals are those of the day's current length, and count from 1.
 use Rattle.std.specs.Prelude.{◌≡◌, ◌↔◌, ◌⊎◌, ◌+◌, ◌-◌, ◌<◌, ◌≤◌, ℕ, List}
 use Rattle.std.specs.List.{AllPairs}
 use Rattle.mds_calendar.specs.Length.{count_of}
+use Rattle.mds_quantity.specs.declared.unit.Unit.{Unit as MeasureUnit}
 use Rattle.mds_names.specs.declared.stream.Stream.{Stream}
 use Rattle.mds_marks.specs.Quality.{final, null}
 use Rattle.mds_marks.specs.Reading.{ReadingValue}
 use Rattle.mds_marks.specs.declared.mark.Mark.{Mark}
-use Rattle.mds_world.specs.Current.{IsDayReading}
-use Rattle.mds_world.specs.Facts.Fact.{HeadIs}
+use Rattle.mds_world.specs.Current.{IsDayReading, IsFormOf}
 use Rattle.mds_world.specs.Lists.{Member}
-use Rattle.mds_world.specs.Sets.{◌∈◌}
 use Rattle.mds_world.specs.World.{IsKnownDay, World}
-use Rattle.mds_world.specs.declared.facts.Head.{Head}
 use Rattle.mds_registers.specs.declared.stretches.Final.{Final}
 use Rattle.mds_registers.specs.declared.stretches.Gap.{Gap}
 
@@ -37,10 +35,10 @@ IsFinalWith w stream day mark interval =
     (reading : ReadingValue) × IsDayReading w stream day interval reading × (reading.mark.quality.flag ≡ final)
     × (reading.mark ≡ mark)
 
--- the day is known, and has so many intervals
+-- the day is known, and has so many intervals of its current length
 abbrev pub HasIntervals : World → Stream → ℕ → ℕ → Type 0
 HasIntervals w stream day count =
-    (head : Head) × (HeadIs head ∈ w) × (head.stream ≡ stream) × (head.day ≡ day) × (count_of head.length ≡ count)
+    (length : ℕ) × (unit : MeasureUnit) × IsFormOf w stream day length unit × (count_of length ≡ count)
 
 -- A gap: a stretch of null readings, and 0 to 0 where the day isn't known.
 abbrev pub IsGap : World → Stream → ℕ → Gap → Type 0

@@ -41,7 +41,7 @@ pub fn gaps(alloc: Global, book: &DayBook) -> Result<Vec<Gap>, AllocError>
         → OnErr result (LacksReading w book.now.stream book.now.day) }
 {
     let mut gaps = Vec::new(alloc);
-    // For the proof: a day has one form.
+    // For the proof: a day has one current form.
     book.is_lawful();
     let Some(form) = book.form() else {
         gaps.push(WHOLE_DAY)?;

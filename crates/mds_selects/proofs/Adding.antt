@@ -5,24 +5,18 @@ use Rattle.std.proofs.lemmas.List.{take_more, take_all}
 use Rattle.std.specs.BTreeMap.{is_at}
 use Rattle.std.specs.BTreeSet.{BTreeSet, contains}
 use Rattle.std.specs.Cmp.{IsTotalOrder, Equal-is, tied_itself}
-use Rattle.std.specs.Cmp.Lexicographic.{slice_cmp}
 use Rattle.std.specs.FinSet.{IsAntisymmetric}
-use Rattle.std.specs.Ordering.{nat_cmp}
-use Rattle.std.proofs.lemmas.Map.Lookups.{exact_bytes, exact_pairs}
 use Rattle.std.specs.List.{AllByRecursion, AllPairs, list_any}
 use Rattle.std.specs.List.Sorted.{IsStrictlySortedBy}
 use Rattle.std.specs.declared.cmp.Ordering.{Ordering}
 use Rattle.std.specs.declared.cmp.Ordering.TheVariants.{Less, Equal}
-use Rattle.sqlite_value.specs.Order.{Row, bytes}
-use Rattle.mds_names.specs.declared.stream.Stream.{Stream}
+use Rattle.sqlite_value.specs.Order.{Row}
 use Rattle.mds_terms.specs.Event.{EventValue}
 use Rattle.mds_world.specs.Facts.Fact.{EventIs}
 use Rattle.mds_world.proofs.Lists.{append_left, append_right, member_append}
 use Rattle.mds_world.specs.Lists.{Apart, Member}
 use Rattle.mds_world.proofs.Sets.{or_left, or_right, split_or}
-use Rattle.mds_keeper.specs.Queries.{stream_cmp}
-use Rattle.mds_selects.specs.Added.{AreAdded, IsAdded, SaysEvent, SaysStream}
-use Rattle.mds_selects.specs.Shown.{AreStreamsIn}
+use Rattle.mds_selects.specs.Added.{AreAdded, IsAdded, SaysEvent}
 
 -- what stands at a place of a list is one of it
 pub member_at : {K : Type 0} (ks : List K) (i : ℕ) (d : K) → i < length ks → Member (slice_index_or ks i d) ks
@@ -107,18 +101,7 @@ module _ {K : Type 0} {R : K → K → Ordering} (o : IsTotalOrder R) (e : IsAnt
     ]),
   )
 
-pub stream_exact : IsAntisymmetric stream_cmp
-stream_exact a b e =
-    let p = exact_pairs (slice_cmp nat_cmp) (slice_cmp nat_cmp) exact_bytes exact_bytes (a.nmi, a.suffix) (b.nmi, b.suffix) e in
-    λ i. record { nmi = (p i).0; suffix = (p i).1 }
-
--- a row says one stream, and one event
-pub one_stream : (row : Row) (a b : Stream) → SaysStream row a → SaysStream row b → a ≡ b
-one_stream row a b p q =
-    let nmi : a.nmi ≡ b.nmi = ap bytes (sym p.0 ∙ q.0) in
-    let suffix : a.suffix ≡ b.suffix = ap bytes (sym p.1 ∙ q.1) in
-    λ i. record { nmi = nmi i; suffix = suffix i }
-
+-- a row says one event
 pub one_event : (row : Row) (a b : EventValue) → SaysEvent row a → SaysEvent row b → a ≡ b
 one_event row a b p q = let same : EventIs a ≡ EventIs b = sym p ∙ q in cc
 
@@ -192,17 +175,3 @@ module _ {K : Type 0} (Says : Row → K → Type 0) where
       | inr r ↦ (b q).1 (inr r)
     ]),
   )
-
-pub streams_in : (heads periods : List Row) (streams : List Stream)
-    → ((q : Stream) → Member q streams ↔ (IsSaid SaysStream heads q ⊎ IsSaid SaysStream periods q))
-    → AreStreamsIn heads periods streams
-streams_in heads periods streams all q = (
-  (λ m. elim ((all q).0 m) [
-    | inl t ↦ inl (t.0, t.1, t.2.0, t.2.1)
-    | inr t ↦ inr (t.0, t.1, t.2.0, t.2.1)
-  ]),
-  (λ p. elim p [
-    | inl t ↦ (all q).1 (inl (t.0, t.1, (t.2, t.3)))
-    | inr t ↦ (all q).1 (inr (t.0, t.1, (t.2, t.3)))
-  ]),
-)

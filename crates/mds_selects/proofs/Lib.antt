@@ -2,7 +2,6 @@ pub mod Adding
 pub mod Asked
 pub mod FirstLemmas
 pub mod KeyLemmas
-pub mod LastDay
 pub mod Listed
 pub mod MemberLemmas
 pub mod Named

@@ -1,38 +1,32 @@
 -- What rows that a query shows say of a World.
-use Rattle.std.specs.Prelude.{◌≡◌, ◌≢◌, ◌↔◌, ◌<◌, ◌^◌, ◌+◌, ℕ, List, [], ◌∷◌, ◌++◌, length, map, slice_index_or, take, Option, Some, None, refl}
+use Rattle.std.specs.Prelude.{◌≡◌, ◌≢◌, ◌↔◌, ◌<◌, ◌^◌, ◌+◌, ℕ, List, [], ◌∷◌, ◌++◌, length, map, slice_index_or, take, Some, refl}
 use Rattle.std.proofs.Common.{sym, ap, subst, inl, inr, ◌∙◌, arith}
 use Rattle.std.proofs.lemmas.List.{take_more}
-use Rattle.std.specs.List.{AllPairs}
-use Rattle.std.specs.declared.cmp.Ordering.TheVariants.{Less}
 use Rattle.sqlite.specs.declared.types.Value.TheVariants.{Int, Null, Text}
 use Rattle.sqlite_catalog.specs.Listing.{IsSound}
 use Rattle.sqlite_rules.specs.Edit.{id_in}
 use Rattle.sqlite_trees.specs.Tree.{Trees}
 use Rattle.sqlite_value.specs.Order.{Row, bytes, column}
-use Rattle.mds_quantity.specs.declared.unit.Unit.{Unit as MeasureUnit}
 use Rattle.mds_names.specs.declared.stream.Stream.{Stream}
 use Rattle.mds_terms.specs.Event.{EventValue}
 use Rattle.mds_marks.specs.Reading.{ReadingValue}
-use Rattle.mds_world.specs.declared.facts.Head.{Head}
 use Rattle.mds_world.specs.declared.facts.Key.{Key}
-use Rattle.mds_world.specs.Facts.{Fact, PeriodContent, head_at, key_at}
-use Rattle.mds_statements.specs.declared.periods.PeriodKey.{PeriodKey}
+use Rattle.mds_world.specs.Facts.{Fact, key_at}
 use Rattle.mds_world.specs.Facts.Fact.{DetailIs, EventIs, HeadIs, HolidayIs, JobIs, PeriodIs, VersionIs}
 use Rattle.mds_world.specs.Lists.{Apart, Member}
 use Rattle.mds_world.specs.Sets.{◌∈◌}
 use Rattle.mds_world.specs.World.{IsEventOf, IsOn}
 use Rattle.mds_keeper.specs.Books.{row_fact}
-use Rattle.mds_keeper.specs.Queries.{AreEventsOf, AreKnownStreams, stream_cmp}
+use Rattle.mds_keeper.specs.Queries.{AreEventsOf}
 use Rattle.mds_keeper.specs.declared.day_book.Version.{Version}
 use Rattle.mds_tables.specs.Cells as cells
 use Rattle.mds_tables.specs.Layouts.{Layout, world_with}
-use Rattle.mds_tables.specs.RowFacts.{event_fact, head_fact, int_at, lengthless, letter_in, natural, natural_at, optional, optional_at, period_fact, stream_in, text_at, unit_named, version_fact}
+use Rattle.mds_tables.specs.RowFacts.{event_fact, head_fact, int_at, lengthless, letter_in, natural, natural_at, optional, optional_at, stream_in, text_at, version_fact}
 use Rattle.mds_tables.specs.Stores.{Begins, Selects}
 use Rattle.mds_tables.specs.Tables.{schema_with}
-use Rattle.mds_selects.specs.Found.{IsHeadOf}
-use Rattle.mds_selects.specs.Shown.{AreEventsIn, AreStreamsIn, AreVersionsIn, IsOnlyHead, SaysVersion, ShowsStream}
-use Rattle.mds_selects.proofs.Named.{Names, of_event, of_head, of_period}
-use Rattle.mds_selects.proofs.TypedRows.{HasKeyCells, begins_at, begins_by, event_row, head_row, period_row, small, small_letter, small_option, letter_back, optional_back, some_cell, version_row}
+use Rattle.mds_selects.specs.Shown.{AreEventsIn, AreVersionsIn, SaysVersion}
+use Rattle.mds_selects.proofs.Named.{Names, of_event}
+use Rattle.mds_selects.proofs.TypedRows.{HasKeyCells, begins_at, begins_by, event_row, head_row, small, small_letter, small_option, letter_back, optional_back, some_cell, version_row}
 
 -- ---- rows that begin with a stream and a day
 
@@ -144,39 +138,6 @@ module _ (layout : Layout) (s : Stream) (day : ℕ) (low : day < 2 ^ 63) (trees 
   pub version_on : (r : Row) → Member r (trees 4) → Begins (cells.day_cells s day) r ↔ IsOn s day (version_fact r)
   version_on r m = ((λ b. on_day s day r b), (λ o. day_on s day r low (version_row layout.more trees sound r m) o.0 o.1))
 
-  -- the head of a day
-  pub finds_head : (rows : List Row) → Selects 2 (cells.day_cells s day) (1 ∷ 2 ∷ 3 ∷ 4 ∷ 5 ∷ []) trees rows
-      → (form : Option (ℕ × MeasureUnit)) → IsOnlyHead rows form → IsHeadOf (world_with layout trees) s day form
-  finds_head rows sel None none head = (
-    (λ p.
-        let t = tells head_fact 2 _ (1 ∷ 2 ∷ 3 ∷ 4 ∷ 5 ∷ []) trees rows sel (λ r. refl) (IsOn s day) head_on (HeadIs head)
-        ((of_head layout trees head).0 p.0) (p.1, p.2) in
-        absurd (subst (Member t.0) none t.1)),
-    (λ m. absurd m),
-  )
-  finds_head rows sel (Some form) one head =
-      let t = told head_fact 2 _ (1 ∷ 2 ∷ 3 ∷ 4 ∷ 5 ∷ []) trees rows sel (λ r. refl) (IsOn s day) head_on (HeadIs one.0)
-      (one.1, subst (Member one.1) (sym one.2) (inl refl), one.3) in
-      let on : (one.0.stream ≡ s) × (one.0.day ≡ day) = t.1 in
-      let same : one.0 ≡ head_at s day form.0 form.1 =
-      λ i. head_at (on.0 i) (on.1 i) (one.4 i) (one.5 i) in (
-        (λ p.
-            let u = tells head_fact 2 _ (1 ∷ 2 ∷ 3 ∷ 4 ∷ 5 ∷ []) trees rows sel (λ r. refl) (IsOn s day) head_on (HeadIs head)
-            ((of_head layout trees head).0 p.0) (p.1, p.2) in
-            let here : Member u.0 (one.1 ∷ []) = subst (Member u.0) one.2 u.1 in
-            elim here [
-              | inl e ↦ inl (sym u.2 ∙ ap (λ r. head_fact (Null ∷ r)) e ∙ one.3 ∙ ap HeadIs same)
-              | inr z ↦ absurd z
-            ]),
-        (λ m. elim m [
-          | inl e ↦
-              let is : HeadIs one.0 ≡ HeadIs head = ap HeadIs same ∙ sym e in
-              let o : IsOn s day (HeadIs head) = subst (IsOn s day) is t.1 in
-              (subst (λ f. f ∈ world_with layout trees) is ((of_head layout trees one.0).1 t.0), o.0, o.1)
-          | inr z ↦ absurd z
-        ]),
-      )
-
   abbrev key_in : ℕ × Version → Key
   key_in v = key_at s day v.1.length v.0 v.1.update
 
@@ -260,32 +221,8 @@ event_at r = record {
   reading = text_at r 7;
 }
 
-abbrev pub head_in : Row → Head
-head_in r = head_at (stream_in r) (natural_at r 3) (natural_at r 4) (unit_named (text_at r 5))
-
 event_is : (r : Row) (v : EventValue) → event_fact r ≡ EventIs v → event_at r ≡ v
 event_is r v e = cc
-
-pub head_is : (r : Row) (h : Head) → head_fact r ≡ HeadIs h → head_in r ≡ h
-head_is r h e = cc
-
--- the stream of a period's fact
-abbrev stream_of : Stream → Fact → Stream
-stream_of none (HeadIs head) = none
-stream_of none (VersionIs key reading) = none
-stream_of none (DetailIs detail) = none
-stream_of none (EventIs event) = none
-stream_of none (PeriodIs key content) = key.stream
-stream_of none (HolidayIs date) = none
-stream_of none (JobIs id content count) = none
-
-period_is : (r : Row) (k : PeriodKey) (c : PeriodContent) → period_fact r ≡ PeriodIs k c → stream_in r ≡ k.stream
-period_is r k c e = ap (stream_of k.stream) e
-
--- the fact of a period's row
-period_at : (r : Row) → (key : PeriodKey) × (content : PeriodContent) × (period_fact r ≡ PeriodIs key content)
-    × (key.stream ≡ stream_in r)
-period_at r = (_, _, refl, refl)
 
 pub any_shown : (rows : List Row) (r : Row) → Member r rows → rows ≢ []
 any_shown [] r m = absurd m
@@ -363,73 +300,3 @@ module _ (layout : Layout) (trees : Trees) (sound : IsSound (schema_with layout.
           any_shown rows (column n.0 1 ∷ [])
           ((sel (column n.0 1 ∷ [])).1 (n.0, n.1, (event_begins n.0 n.1).1 n.2, refl))),
     )
-
-  -- ---- streams
-
-  -- a row that is shown as its stream
-  names_stream : (r shown : Row) (s : Stream) → shown ≡ column r 1 ∷ column r 2 ∷ [] → column shown 0 ≡ Text s.nmi
-      → column shown 1 ≡ Text s.suffix → stream_in r ≡ s
-  names_stream r shown s is nmi suffix =
-      let one : text_at r 1 ≡ s.nmi = ap (λ x. bytes (column x 0)) (sym is) ∙ ap bytes nmi in
-      let two : text_at r 2 ≡ s.suffix = ap (λ x. bytes (column x 1)) (sym is) ∙ ap bytes suffix in
-      λ i. record { nmi = one i; suffix = two i }
-
-  module _ (rows : List Row) (s : Stream) where
-    pub head_streams : Selects 2 [] (1 ∷ 2 ∷ []) trees rows
-        → ShowsStream rows s ↔ ((head : Head) × (HeadIs head ∈ world_with layout trees) × (head.stream ≡ s))
-    head_streams sel = (
-      (λ t.
-          let f = (sel t.0).0 t.1 in
-          (head_in f.0, (of_head layout trees (head_in f.0)).1 (f.0, f.1, refl), names_stream f.0 t.0 s f.3 t.2 t.3)),
-      (λ p.
-          let n = (of_head layout trees p.0).0 p.1 in
-          let same = head_is n.0 p.0 n.2 in
-          let on : stream_in n.0 ≡ s = ap (λ (x : Head). x.stream) same ∙ p.2 in
-          let it = head_row layout.more trees sound n.0 n.1 in (
-            column n.0 1 ∷ column n.0 2 ∷ [],
-            (sel (column n.0 1 ∷ column n.0 2 ∷ [])).1 (n.0, n.1, refl, refl),
-            it.nmi ∙ ap (λ (x : Stream). Text x.nmi) on,
-            it.suffix ∙ ap (λ (x : Stream). Text x.suffix) on,
-          )),
-    )
-
-    pub period_streams : Selects 10 [] (1 ∷ 2 ∷ []) trees rows
-        → ShowsStream rows s
-        ↔ ((key : PeriodKey) × (content : PeriodContent) × (PeriodIs key content ∈ world_with layout trees) × (key.stream ≡ s))
-    period_streams sel = (
-      (λ t.
-          let f = (sel t.0).0 t.1 in
-          let p = period_at f.0 in (
-            p.0,
-            p.1,
-            (of_period layout trees p.0 p.1).1 (f.0, f.1, p.2),
-            p.3 ∙ names_stream f.0 t.0 s f.3 t.2 t.3,
-          )),
-      (λ p.
-          let n = (of_period layout trees p.0 p.1).0 p.2 in
-          let on : stream_in n.0 ≡ s = period_is n.0 p.0 p.1 n.2 ∙ p.3 in
-          let it = period_row layout.more trees sound n.0 n.1 in (
-            column n.0 1 ∷ column n.0 2 ∷ [],
-            (sel (column n.0 1 ∷ column n.0 2 ∷ [])).1 (n.0, n.1, refl, refl),
-            it.nmi ∙ ap (λ (x : Stream). Text x.nmi) on,
-            it.suffix ∙ ap (λ (x : Stream). Text x.suffix) on,
-          )),
-    )
-
-  -- the known streams
-  pub finds_streams : (heads periods : List Row) → Selects 2 [] (1 ∷ 2 ∷ []) trees heads → Selects 10 [] (1 ∷ 2 ∷ []) trees periods
-      → (streams : List Stream) → AreStreamsIn heads periods streams
-      → AllPairs (λ a b. stream_cmp a b ≡ Less) streams → AreKnownStreams (world_with layout trees) streams
-  finds_streams heads periods of_heads of_periods streams are up = record {
-    each = λ s. (
-      (λ m. elim ((are s).0 m) [
-        | inl h ↦ inl ((head_streams heads s of_heads).0 h)
-        | inr p ↦ inr ((period_streams periods s of_periods).0 p)
-      ]),
-      (λ k. elim k [
-        | inl h ↦ (are s).1 (inl ((head_streams heads s of_heads).1 h))
-        | inr p ↦ (are s).1 (inr ((period_streams periods s of_periods).1 p))
-      ]),
-    );
-    ascending = up;
-  }

@@ -19,7 +19,6 @@ use Rattle.sqlite_trees.specs.Tree.{Trees}
 use Rattle.sqlite_value.specs.declared.keys.Key.{Key}
 use Rattle.mds_tables.specs.Tables.{More, schema_with}
 use Rattle.mds_tables.proofs.CauseLemmas.{IsWhole}
-use Rattle.mds_selects.specs.Shown.{falling, rising}
 
 none_of : {X : Type 0} (xs : List X) → ¬ Any (λ x. ⊥) xs
 none_of xs any = any.4
@@ -82,46 +81,6 @@ select_version_cut more limit trees e (inr (inl (_, inl none))) = absurd none
 select_version_cut more limit trees e (inr (inl (_, inr any))) = absurd (none_of (trees 0) any)
 select_version_cut more limit trees e (inr (inr cut)) = cut
 
-abbrev pub select_head : List ℕ
-select_head = codes "SELECT nmi, suffix, day, length, unit FROM mds_head WHERE nmi = ?1 AND suffix = ?2 AND day = ?3"
-
-abbrev pub head_query : Query
-head_query = from_one 2 (equals 1 0 ∷ equals 2 1 ∷ equals 3 2 ∷ []) (columns_at (1 ∷ 2 ∷ 3 ∷ 4 ∷ 5 ∷ [])) ([])
-
-pub select_head_is : (more : More) → command_of (understood (schema_with more) select_head)
-    ≡ Select (record { lets = []; body = head_query }) (codes "nmi" ∷ codes "suffix" ∷ codes "day"
-    ∷ codes "length" ∷ codes "unit" ∷ [])
-unfolding understood everything
-select_head_is more = refl
-
-pub select_head_plain : (more : More) → IsPlain (understood (schema_with more) select_head) × (reads_listing (schema_with more) select_head ≡ false)
-unfolding understood everything
-select_head_plain more = ((refl, refl), refl)
-
-abbrev pub select_first_day : List ℕ
-select_first_day = codes "SELECT day FROM mds_head WHERE nmi = ?1 AND suffix = ?2 ORDER BY day LIMIT 1"
-
-pub select_first_day_is : (more : More) → command_of (understood (schema_with more) select_first_day)
-    ≡ Select (record { lets = []; body = first_by rising 2 3 }) (codes "day" ∷ [])
-unfolding understood everything
-select_first_day_is more = refl
-
-pub select_first_day_plain : (more : More) → IsPlain (understood (schema_with more) select_first_day) × (reads_listing (schema_with more) select_first_day ≡ false)
-unfolding understood everything
-select_first_day_plain more = ((refl, refl), refl)
-
-abbrev pub select_last_day : List ℕ
-select_last_day = codes "SELECT day FROM mds_head WHERE nmi = ?1 AND suffix = ?2 ORDER BY day DESC LIMIT 1"
-
-pub select_last_day_is : (more : More) → command_of (understood (schema_with more) select_last_day)
-    ≡ Select (record { lets = []; body = first_by falling 2 3 }) (codes "day" ∷ [])
-unfolding understood everything
-select_last_day_is more = refl
-
-pub select_last_day_plain : (more : More) → IsPlain (understood (schema_with more) select_last_day) × (reads_listing (schema_with more) select_last_day ≡ false)
-unfolding understood everything
-select_last_day_plain more = ((refl, refl), refl)
-
 abbrev pub select_events : List ℕ
 select_events = codes "SELECT nmi, suffix, day, trans, ticket, moment, reading FROM mds_event WHERE nmi = ?1 AND suffix = ?2 AND day = ?3"
 
@@ -154,33 +113,3 @@ select_event_is more = refl
 pub select_event_plain : (more : More) → IsPlain (understood (schema_with more) select_event) × (reads_listing (schema_with more) select_event ≡ false)
 unfolding understood everything
 select_event_plain more = ((refl, refl), refl)
-
-abbrev pub select_head_streams : List ℕ
-select_head_streams = codes "SELECT nmi, suffix FROM mds_head"
-
-abbrev pub head_streams_query : Query
-head_streams_query = from_one 2 ([]) (columns_at (1 ∷ 2 ∷ [])) ([])
-
-pub select_head_streams_is : (more : More) → command_of (understood (schema_with more) select_head_streams)
-    ≡ Select (record { lets = []; body = head_streams_query }) (codes "nmi" ∷ codes "suffix" ∷ [])
-unfolding understood everything
-select_head_streams_is more = refl
-
-pub select_head_streams_plain : (more : More) → IsPlain (understood (schema_with more) select_head_streams) × (reads_listing (schema_with more) select_head_streams ≡ false)
-unfolding understood everything
-select_head_streams_plain more = ((refl, refl), refl)
-
-abbrev pub select_period_streams : List ℕ
-select_period_streams = codes "SELECT nmi, suffix FROM mds_period"
-
-abbrev pub period_streams_query : Query
-period_streams_query = from_one 10 ([]) (columns_at (1 ∷ 2 ∷ [])) ([])
-
-pub select_period_streams_is : (more : More) → command_of (understood (schema_with more) select_period_streams)
-    ≡ Select (record { lets = []; body = period_streams_query }) (codes "nmi" ∷ codes "suffix" ∷ [])
-unfolding understood everything
-select_period_streams_is more = refl
-
-pub select_period_streams_plain : (more : More) → IsPlain (understood (schema_with more) select_period_streams) × (reads_listing (schema_with more) select_period_streams ≡ false)
-unfolding understood everything
-select_period_streams_plain more = ((refl, refl), refl)

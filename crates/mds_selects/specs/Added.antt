@@ -1,8 +1,7 @@
 -- What rows add to what was found.
 use Rattle.std.specs.Prelude.{◌≡◌, ◌↔◌, ◌⊎◌, List, ◌∷◌}
-use Rattle.sqlite.specs.declared.types.Value.TheVariants.{Null, Text}
-use Rattle.sqlite_value.specs.Order.{Row, column}
-use Rattle.mds_names.specs.declared.stream.Stream.{Stream}
+use Rattle.sqlite.specs.declared.types.Value.TheVariants.{Null}
+use Rattle.sqlite_value.specs.Order.{Row}
 use Rattle.mds_terms.specs.Event.{EventValue}
 use Rattle.mds_world.specs.Facts.Fact.{EventIs}
 use Rattle.mds_world.specs.Lists.{Member}
@@ -11,10 +10,6 @@ use Rattle.mds_tables.specs.RowFacts.{event_fact}
 -- the row is the event
 abbrev pub SaysEvent : Row → EventValue → Type 0
 SaysEvent row event = event_fact (Null ∷ row) ≡ EventIs event
-
--- the row begins with the stream
-abbrev pub SaysStream : Row → Stream → Type 0
-SaysStream row stream = (column row 0 ≡ Text stream.nmi) × (column row 1 ≡ Text stream.suffix)
 
 module _ {K : Type 0} (Says : Row → K → Type 0) where
   -- what one row says is added

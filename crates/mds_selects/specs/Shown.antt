@@ -1,25 +1,22 @@
 -- What rows that queries show say. A row that is shown has all columns of its table, and no rowid before them.
-use Rattle.std.specs.Prelude.{◌≡◌, ◌↔◌, ◌⊎◌, ℕ, ℤ, List, [], ◌∷◌, false, true, Option, Some, None, ◌==◌, if◌then◌else◌}
+use Rattle.std.specs.Prelude.{◌≡◌, ◌↔◌, ℕ, ℤ, List, [], ◌∷◌, false, true, Option, Some, None, ◌==◌, if◌then◌else◌}
 use Rattle.std.specs.Ordering.{is_lt}
-use Rattle.sqlite.specs.declared.types.Value.TheVariants.{Null, Text}
+use Rattle.sqlite.specs.declared.types.Value.TheVariants.{Null}
 use Rattle.sqlite_trees.specs.Tree.{Trees}
 use Rattle.sqlite_value.specs.Keys.{by_key}
 use Rattle.sqlite_value.specs.Order.{Row, column}
 use Rattle.sqlite_value.specs.declared.keys.Collation.TheVariants.{Binary}
 use Rattle.sqlite_value.specs.declared.keys.Key.{Key as SortKey}
-use Rattle.mds_quantity.specs.declared.unit.Unit.{Unit as MeasureUnit}
-use Rattle.mds_names.specs.declared.stream.Stream.{Stream}
 use Rattle.mds_marks.specs.Quality.{QualityValue, null}
 use Rattle.mds_marks.specs.Reading.{ReadingValue}
 use Rattle.mds_terms.specs.Event.{EventValue}
-use Rattle.mds_world.specs.declared.facts.Head.{Head}
 use Rattle.mds_world.specs.declared.facts.Key.{Key}
 use Rattle.mds_world.specs.Facts.{key_at}
-use Rattle.mds_world.specs.Facts.Fact.{EventIs, HeadIs, VersionIs}
+use Rattle.mds_world.specs.Facts.Fact.{EventIs, VersionIs}
 use Rattle.mds_world.specs.Lists.{Member}
 use Rattle.mds_keeper.specs.declared.day_book.Version.{Version}
 use Rattle.mds_tables.specs.Cells.{number_cell}
-use Rattle.mds_tables.specs.RowFacts.{event_fact, head_fact, int_at, lengthless, natural_at, optional_at, quality_named, reading_in, stream_in, text_at, version_fact}
+use Rattle.mds_tables.specs.RowFacts.{event_fact, int_at, lengthless, natural_at, optional_at, quality_named, reading_in, stream_in, text_at, version_fact}
 use Rattle.mds_tables.specs.Stores.{Begins}
 
 -- where a version of a length stands
@@ -36,13 +33,6 @@ shown_reading row =
 abbrev pub amount_in : QualityValue → ℤ → Option ℤ
 amount_in quality amount = if quality.flag == null then None else Some amount
 
--- the head that a row is
-abbrev pub IsOnlyHead : List Row → Option (ℕ × MeasureUnit) → Type 0
-IsOnlyHead rows None = rows ≡ []
-IsOnlyHead rows (Some form) =
-    (head : Head) × (row : Row) × (rows ≡ row ∷ []) × (head_fact (Null ∷ row) ≡ HeadIs head)
-    × (head.length ≡ form.0) × (head.unit ≡ form.1)
-
 -- the version of an interval says what the row does, and is of a length, which the row doesn't say
 abbrev pub SaysVersion : ℕ → Row → ℕ × Version → Type 0
 SaysVersion minutes row version =
@@ -55,10 +45,6 @@ AreVersionsIn minutes [] [] = Unit {0}
 AreVersionsIn minutes (row ∷ rows) (version ∷ versions) = SaysVersion minutes row version × AreVersionsIn minutes rows versions
 AreVersionsIn minutes [] (version ∷ versions) = ⊥
 AreVersionsIn minutes (row ∷ rows) [] = ⊥
-
--- the column of mds_head that has the day
-abbrev pub head_day : ℕ
-head_day = 3
 
 -- the two orders of a column
 abbrev pub rising : SortKey
@@ -85,13 +71,3 @@ abbrev pub AreEventsIn : List Row → List EventValue → Type 0
 AreEventsIn rows events =
     (event : EventValue) → Member event events
     ↔ ((row : Row) × Member row rows × (event_fact (Null ∷ row) ≡ EventIs event))
-
--- one of the rows begins with the stream
-abbrev pub ShowsStream : List Row → Stream → Type 0
-ShowsStream rows stream =
-    (row : Row) × Member row rows × (column row 0 ≡ Text stream.nmi) × (column row 1 ≡ Text stream.suffix)
-
--- the streams of rows of heads and of periods, in any order
-abbrev pub AreStreamsIn : List Row → List Row → List Stream → Type 0
-AreStreamsIn heads periods streams =
-    (stream : Stream) → Member stream streams ↔ (ShowsStream heads stream ⊎ ShowsStream periods stream)

@@ -31,7 +31,7 @@ pub record BeginsWith (row : Row) (s : Stream) : Type 0 where
   pub nmi : column row 0 ≡ Text s.nmi
   pub suffix : column row 1 ≡ Text s.suffix
 
--- a row is that of a head
+-- a row is that of a head in schemas 1 to 3
 pub record IsRowOfHead (row : Row) (head : Head) : Type 0 where
   pub cells : row ≡ head_cells head
   pub stream : IsStream head.stream

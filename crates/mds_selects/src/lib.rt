@@ -5,7 +5,7 @@ mod querying;
 mod rows;
 mod terms;
 
-pub use querying::{
-    all_versions, events_of, has_event, head_of, in_order, is_version, last_day, put, streams,
+pub use querying::{all_versions, events_of, has_event, in_order, is_version, put};
+pub use terms::{
+    day_at, head_in, int_at, length_at, moment_at, str_at, stream_in, text_at, unit_at,
 };
-pub use terms::{day_at, head_in, int_at, moment_at, str_at, stream_in, text_at};

@@ -1,8 +1,8 @@
 //! What is asked of a store, found by queries. A store that can't answer is unavailable (U1). So is one that holds a row that it
 //! didn't write.
 
-ghost use Rattle.std.specs.Prelude.{◌≡◌, ◌≢◌, ◌⊎◌, ◌<◌, ◌^◌, ◌↔◌, ℕ, List, [], ◌∷◌, false, length as list_length, All, IfErr, IfOk, IsOkAnd, IsTrue, OnErr, OnOk, Option, Some};
-ghost use Rattle.std.specs.Bool.{MatchBool, OnFalse};
+ghost use Rattle.std.specs.Prelude.{◌≡◌, ◌≢◌, ◌⊎◌, ◌<◌, ◌^◌, ◌↔◌, ℕ, [], ◌∷◌, false, length as list_length, All, IfErr, IfOk, IsTrue, OnErr, OnOk, Option, Some};
+ghost use Rattle.std.specs.Bool.{MatchBool};
 ghost use Rattle.std.specs.FinSet.{IsAntisymmetric};
 ghost use Rattle.std.specs.List.{AllPairs};
 ghost use Rattle.std.specs.declared.cmp.Ordering.TheVariants.{Less};
@@ -12,28 +12,21 @@ ghost use Rattle.sqlite.specs.State.{HasCleanDisk};
 ghost use Rattle.mds_world.specs.Facts.Fact.{EventIs};
 ghost use Rattle.mds_world.specs.Lists.{Apart, Member};
 ghost use Rattle.mds_world.specs.Sets.{◌∈◌};
-ghost use Rattle.mds_keeper.specs.Queries.{AreEventsOf, AreKnownStreams, IsLastDayOf, stream_cmp};
-ghost use Rattle.mds_tables.specs.Cells.{number_cell};
+ghost use Rattle.mds_keeper.specs.Queries.{AreEventsOf};
 ghost use Rattle.mds_tables.specs.Causes.{HasFailed};
 ghost use Rattle.mds_tables.specs.Layouts.{Layout, world_with};
 ghost use Rattle.mds_tables.specs.Queries.{Answers};
 ghost use Rattle.mds_tables.specs.Stores.{HoldsOf, HoldsTablesOf, versions_said};
-ghost use Rattle.mds_selects.specs.Found.{IsHeadOf};
-ghost use Rattle.mds_selects.specs.Shown.{AreEventsIn, AreStreamsIn, AreVersionsIn, IsOnlyHead, SaysDay, SaysVersion};
-ghost use Rattle.sqlite_value.specs.Order.{Row as RowValue, column};
+ghost use Rattle.mds_selects.specs.Shown.{AreEventsIn, AreVersionsIn, SaysVersion};
+ghost use Rattle.sqlite_value.specs.Order.{column};
 ghost use Rattle.mds_marks.specs.Reading.{ReadingValue};
-ghost use Rattle.mds_world.specs.declared.facts.Head.{Head as HeadValue};
 ghost use Rattle.mds_world.specs.declared.facts.Key.{Key as KeyValue};
-ghost use Rattle.mds_selects.specs.Written.{IsDay, IsRowOfHead, IsRowOfVersion};
-ghost use Rattle.mds_selects.specs.Added.{AreAdded, IsAdded, SaysEvent, SaysStream};
+ghost use Rattle.mds_selects.specs.Written.{IsRowOfVersion};
+ghost use Rattle.mds_selects.specs.Added.{AreAdded, IsAdded, SaysEvent};
 
-use crate::rows::{
-    event_rows, first_day_rows, head_rows, head_stream_rows, last_day_rows, period_stream_rows,
-    same_event_rows, version_numbers,
-};
-use crate::terms::{day_at, event_at, head_in, int_at, stream_in, version_in};
+use crate::rows::{event_rows, same_event_rows, version_numbers};
+use crate::terms::{event_at, int_at, version_in};
 use mds_keeper::{Unavailable, Version};
-use mds_quantity::Unit;
 use mds_tables::{letter_of, ready};
 use mds_terms::{Day, Event, Length, Moment, Stream, TransCode};
 use sqlite::{Alter, Connection, Error, Row};
@@ -71,42 +64,6 @@ fn is_number(row: &Row, number: i64) -> bool
     row.column_count() == 1 && int_at(row, 0) == Some(number)
 }
 
-/// The length and unit of a day, where it is known.
-pub fn head_of<S: Alter>(
-    conn: &mut Connection<S>,
-    stream: &Stream,
-    day: Day,
-) -> Result<Option<(Length, Unit)>, Unavailable>
-    requires { conn.old.in_transaction ≡ false }
-    ensures { (layout : Layout) → Answers (HoldsOf layout) (state S.Store conn.old) (state S.Store conn.new) result
-        (λ trees. IsHeadOf (world_with layout trees) stream.now day) }
-{
-    let Ok(_) = ready(conn) else {
-        return Err(Unavailable);
-    };
-    let Ok(rows) = head_rows(conn, stream, day) else {
-        return Err(Unavailable);
-    };
-    // For the proof: a day's number is at most that of the last day.
-    let _ = day.number();
-    only_head(&rows)
-}
-
-/// The length and unit of the one head among rows.
-fn only_head(rows: &[Row]) -> Result<Option<(Length, Unit)>, Unavailable>
-    ensures ok { IfOk result (IsOnlyHead rows.now) }
-    ensures err { OnErr result ((rows.now ≢ []) × ((row : RowValue) (head : HeadValue) → rows.now ≡ row ∷ [] → ¬ IsRowOfHead row head)) }
-{
-    match rows {
-        [] => Ok(None),
-        [row] => match head_in(row) {
-            Some(head) => Ok(Some((head.length, head.unit))),
-            None => Err(Unavailable),
-        },
-        _ => Err(Unavailable),
-    }
-}
-
 /// The versions of rows of schema 1, each with its interval. The rows say no length: this one is that of their intervals.
 pub fn all_versions(
     alloc: Global,
@@ -141,53 +98,6 @@ fn version_at(alloc: Global, length: Length, row: &Row) -> Result<(u16, Version)
         reading,
     };
     Ok((key.interval, version))
-}
-
-/// The last known day of a stream. `None` where it has none.
-pub fn last_day<S: Alter>(
-    conn: &mut Connection<S>,
-    stream: &Stream,
-) -> Result<Option<Day>, Unavailable>
-    requires { conn.old.in_transaction ≡ false }
-    ensures { (layout : Layout) → Answers (HoldsOf layout) (state S.Store conn.old) (state S.Store conn.new) result
-        (λ trees. IsLastDayOf (world_with layout trees) stream.now) }
-{
-    let Ok(_) = ready(conn) else {
-        return Err(Unavailable);
-    };
-    let Ok(first) = first_day_rows(conn, stream) else {
-        return Err(Unavailable);
-    };
-    let Ok(last) = last_day_rows(conn, stream) else {
-        return Err(Unavailable);
-    };
-    last_of(&first, &last)
-}
-
-/// The day that the row of the last one says. Where the row of the first one says a day too, no day of the stream is below 0.
-fn last_of(first: &[Row], last: &[Row]) -> Result<Option<Day>, Unavailable>
-    ensures first { IfOk result (λ _. (day : Option ℕ) × SaysDay first.now day) }
-    ensures last { IfOk result (SaysDay last.now) }
-{
-    let Ok(_) = first_day(first) else {
-        return Err(Unavailable);
-    };
-    first_day(last)
-}
-
-/// The day of the first row. `None` where there is no row.
-fn first_day(rows: &[Row]) -> Result<Option<Day>, Unavailable>
-    ensures ok { IfOk result (SaysDay rows.now) }
-    ensures err { OnErr result ((row : RowValue) × (later : List RowValue) × (rows.now ≡ row ∷ later)
-        × ((day : ℕ) → IsDay day → column row 0 ≢ number_cell day)) }
-{
-    match rows {
-        [first, ..] => match day_at(first, 0) {
-            Some(day) => Ok(Some(day)),
-            None => Err(Unavailable),
-        },
-        [] => Ok(None),
-    }
 }
 
 /// The events of a day, each once.
@@ -324,56 +234,4 @@ fn is_small_letter(code: Option<TransCode>)
         // For the proof: the letter is an ASCII one.
         let _ = code.letter();
     }
-}
-
-/// The known streams, in the order of their bytes, each once.
-pub fn streams<S: Alter>(
-    alloc: Global,
-    conn: &mut Connection<S>,
-) -> Result<Vec<Stream>, Unavailable>
-    requires { conn.old.in_transaction ≡ false }
-    ensures { (layout : Layout) → Answers (HoldsOf layout) (state S.Store conn.old) (state S.Store conn.new) result
-        (λ trees streams. AreKnownStreams (world_with layout trees) streams.items) }
-{
-    let Ok(_) = ready(conn) else {
-        return Err(Unavailable);
-    };
-    let Ok(heads) = head_stream_rows(conn) else {
-        return Err(Unavailable);
-    };
-    let Ok(periods) = period_stream_rows(conn) else {
-        return Err(Unavailable);
-    };
-    all_streams(alloc, &heads, &periods)
-}
-
-/// The streams of two lists of rows, ascending, each once.
-fn all_streams(alloc: Global, heads: &[Row], periods: &[Row]) -> Result<Vec<Stream>, Unavailable>
-    ensures each { IfOk result (λ streams. AreStreamsIn heads.now periods.now streams.items) }
-    ensures ascending { IfOk result (λ streams. AllPairs (λ a b. stream_cmp a b ≡ Less) streams.items) }
-{
-    let mut found = BTreeSet::new(alloc);
-    add_streams(&mut found, heads)?;
-    add_streams(&mut found, periods)?;
-    in_order(alloc, found)
-}
-
-/// Adds the streams of rows.
-fn add_streams(found: &mut BTreeSet<Stream>, rows: &[Row]) -> Result<(), Unavailable>
-    ensures { OnOk result (AreAdded SaysStream found.old.keys rows.now found.new.keys) }
-{
-    for i in 0..rows.len() {
-        add_stream(found, &rows[i])?;
-    }
-    Ok(())
-}
-
-/// Adds the stream of a row.
-fn add_stream(found: &mut BTreeSet<Stream>, row: &Row) -> Result<(), Unavailable>
-    ensures { OnOk result (IsAdded SaysStream found.old.keys row.now found.new.keys) }
-{
-    let Some(stream) = stream_in(row) else {
-        return Err(Unavailable);
-    };
-    put(found, stream)
 }

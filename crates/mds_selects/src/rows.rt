@@ -8,10 +8,9 @@ ghost use Rattle.mds_tables.specs.Cells as row;
 ghost use Rattle.mds_tables.specs.Layouts.{Layout};
 ghost use Rattle.mds_tables.specs.Queries.{QueriesOf};
 ghost use Rattle.mds_tables.specs.Stores.{Selects, SelectsAll};
-ghost use Rattle.mds_tables.specs.Tables.{event_columns, event_nmi, event_tree, head_columns, head_tree, period_tree, schema_tree, schema_version, schema_with, stream_columns};
-ghost use Rattle.mds_selects.specs.Shown.{SelectsFirst, falling, head_day, rising};
+ghost use Rattle.mds_tables.specs.Tables.{event_columns, event_nmi, event_tree, schema_tree, schema_version, schema_with};
 
-use mds_tables::{day_cells, event_cells, stream_cells};
+use mds_tables::{day_cells, event_cells};
 use mds_terms::{Day, Event, Stream};
 use sqlite::{Alter, Connection, Error, Row};
 
@@ -22,46 +21,6 @@ pub(crate) fn version_numbers<S: Alter>(conn: &mut Connection<S>) -> Result<Vec<
         → IfErr result (HasFailed (state S.Store conn.old) (state S.Store conn.new)) }
 {
     conn.query_all("SELECT version FROM mds_schema", &[])
-}
-
-/// The head of a day.
-pub(crate) fn head_rows<S: Alter>(
-    conn: &mut Connection<S>,
-    stream: &Stream,
-    day: Day,
-) -> Result<Vec<Row>, Error>
-    ensures { (layout : Layout) → QueriesOf layout (state S.Store conn.old) (state S.Store conn.new) result (Selects head_tree (row.day_cells stream.now day) head_columns) }
-{
-    conn.query_all(
-        "SELECT nmi, suffix, day, length, unit FROM mds_head WHERE nmi = ?1 AND suffix = ?2 AND day = ?3",
-        &day_cells(stream, day),
-    )
-}
-
-/// The first day among the heads of a stream.
-pub(crate) fn first_day_rows<S: Alter>(
-    conn: &mut Connection<S>,
-    stream: &Stream,
-) -> Result<Vec<Row>, Error>
-    ensures { (layout : Layout) → QueriesOf layout (state S.Store conn.old) (state S.Store conn.new) result (SelectsFirst rising head_tree (row.stream_cells stream.now) head_day) }
-{
-    conn.query_all(
-        "SELECT day FROM mds_head WHERE nmi = ?1 AND suffix = ?2 ORDER BY day LIMIT 1",
-        &stream_cells(stream),
-    )
-}
-
-/// The last day among the heads of a stream.
-pub(crate) fn last_day_rows<S: Alter>(
-    conn: &mut Connection<S>,
-    stream: &Stream,
-) -> Result<Vec<Row>, Error>
-    ensures { (layout : Layout) → QueriesOf layout (state S.Store conn.old) (state S.Store conn.new) result (SelectsFirst falling head_tree (row.stream_cells stream.now) head_day) }
-{
-    conn.query_all(
-        "SELECT day FROM mds_head WHERE nmi = ?1 AND suffix = ?2 ORDER BY day DESC LIMIT 1",
-        &stream_cells(stream),
-    )
 }
 
 /// The events of a day.
@@ -95,18 +54,4 @@ pub(crate) fn same_event_rows<S: Alter>(
         "SELECT nmi FROM mds_event WHERE nmi = ?1 AND suffix = ?2 AND day = ?3 AND trans = ?4 AND ticket = ?5 AND moment = ?6 AND reading = ?7",
         &event_cells(event, nmi, suffix, letter),
     )
-}
-
-/// The streams of all heads.
-pub(crate) fn head_stream_rows<S: Alter>(conn: &mut Connection<S>) -> Result<Vec<Row>, Error>
-    ensures { (layout : Layout) → QueriesOf layout (state S.Store conn.old) (state S.Store conn.new) result (Selects head_tree [] stream_columns) }
-{
-    conn.query_all("SELECT nmi, suffix FROM mds_head", &[])
-}
-
-/// The streams of all periods.
-pub(crate) fn period_stream_rows<S: Alter>(conn: &mut Connection<S>) -> Result<Vec<Row>, Error>
-    ensures { (layout : Layout) → QueriesOf layout (state S.Store conn.old) (state S.Store conn.new) result (Selects period_tree [] stream_columns) }
-{
-    conn.query_all("SELECT nmi, suffix FROM mds_period", &[])
 }

@@ -101,7 +101,7 @@ pub fn moment_at(row: &Row, at: usize) -> Option<Moment>
 }
 
 /// The length of intervals in a column.
-fn length_at(row: &Row, at: usize) -> Option<Length>
+pub fn length_at(row: &Row, at: usize) -> Option<Length>
     ensures some { IfSome result (λ length. column row.now at ≡ Int (pos length)) }
     ensures none { IfNone result ((length : ℕ) → IsTrue (is_length length) → column row.now at ≢ number_cell length) }
 {
@@ -109,7 +109,7 @@ fn length_at(row: &Row, at: usize) -> Option<Length>
 }
 
 /// The unit in a column.
-fn unit_at(row: &Row, at: usize) -> Option<Unit>
+pub fn unit_at(row: &Row, at: usize) -> Option<Unit>
     ensures some { IfSome result (λ unit. unit_named (bytes_in row.now at) ≡ unit) }
     ensures none { IfNone result ((unit : UnitValue) → column row.now at ≢ Text (unit_text unit)) }
 {
@@ -118,7 +118,7 @@ fn unit_at(row: &Row, at: usize) -> Option<Unit>
     Unit::read(text_at(row, at)?)
 }
 
-/// The head that a row is.
+/// The head that a row of mds_head is in schemas 1 to 3. These say no update: it stands as that of 0 seconds.
 pub fn head_in(row: &Row) -> Option<Head>
     ensures some { IfSome result (λ head. head_fact (Null ∷ row.now) ≡ HeadIs head) }
     ensures none { IfNone result ((head : HeadValue) → ¬ IsRowOfHead row.now head) }
@@ -126,6 +126,7 @@ pub fn head_in(row: &Row) -> Option<Head>
     Some(Head {
         stream: stream_in(row)?,
         day: day_at(row, 2)?,
+        update: Moment::from_seconds(0)?,
         length: length_at(row, 3)?,
         unit: unit_at(row, 4)?,
     })

@@ -1,5 +1,5 @@
 -- What a question and a commit do to a connection, as a keeper's calls.
-use Rattle.std.specs.Prelude.{◌≡◌, Ok, Err, IfOk, IsTrue, OnErr, OnOk, Result}
+use Rattle.std.specs.Prelude.{◌≡◌, Ok, Err, IsTrue, OnErr, OnOk, Result}
 use Rattle.std.specs.Result.{is_ok}
 use Rattle.std.proofs.Common.{◌∙◌, ap, arith, inl, inr, subst, sym}
 use Rattle.std.proofs.lemmas.Result.{on_err_weaker, on_ok_weaker}
@@ -10,10 +10,9 @@ use Rattle.mds_world.specs.World.{World}
 use Rattle.mds_keeper.specs.Content.{content}
 use Rattle.mds_keeper.specs.Kept.{Adds, Asks, Stays}
 use Rattle.mds_keeper.specs.declared.additions.Additions.{Additions}
-use Rattle.mds_keeper.proofs.Asked.{stays_on}
 use Rattle.mds_tables.specs.Layouts.{Layout, world_with}
 use Rattle.mds_tables.specs.Queries.{Answers}
-use Rattle.mds_tables.specs.Stores.{CommitsOf, Gained, HoldsOf, IsStoreOf, LeavesAddedOf, world_kept}
+use Rattle.mds_tables.specs.Stores.{CommitsOf, Gained, HoldsOf, IsStoreOf, LeavesAddedOf}
 use Rattle.mds_store.specs.KeptRows.{kept_in}
 
 module _ (layout : Layout) {A E : Type 0} {old new : State} {r : Result A E} {Tells : Trees → A → Type 0} (holds : HoldsOf layout old)
@@ -48,43 +47,6 @@ asked layout {new = new} {r = r} Tells holds answered = record {
   opens = λ clean. on_ok_weaker r (λ are. (clean, are.is_open)) (answered.open clean holds);
   tells = λ sound. answered.found sound.0 holds;
 }
-
--- one that isn't given says nothing
-pub unasked : (layout : Layout) {A B E F : Type 0} {old new : State} {e : E} {Tells : Trees → A → Type 0} {Shows : World → B → Type 0}
-    → HoldsOf layout old → Answers {A = A} (HoldsOf layout) old new (Err e) Tells → (f : F)
-    → Asks {A = B} (kept_in layout old) (kept_in layout new) (Err f) Shows
-unasked layout holds answered f = record { stays = stays layout holds answered; opens = λ clean. tt; tells = λ sound. tt }
-
--- nor does one that isn't given after another was
-pub unasked_then : (layout : Layout) {A B C E F G : Type 0} {old mid new : State} {x : A} {e : F} {Tells : Trees → A → Type 0}
-    {Says : Trees → B → Type 0} {Shows : World → C → Type 0} → HoldsOf layout old → Answers {E = E} (HoldsOf layout) old mid (Ok x) Tells
-    → Answers {A = B} (HoldsOf layout) mid new (Err e) Says → (g : G) → Asks {A = C} (kept_in layout old) (kept_in layout new) (Err g) Shows
-unasked_then layout holds first second g = record {
-  stays = stays_on (stays layout holds first) (stays layout (holds_on layout holds first) second);
-  opens = λ clean. tt;
-  tells = λ sound. tt;
-}
-
-on_ok : {A E P : Type 0} (r : Result A E) → P → OnOk r P
-on_ok (Ok x) p = p
-on_ok (Err e) p = tt
-
--- what is made of the answers of two questions
-pub asked_both : (layout : Layout) {A B C E F G : Type 0} {old mid new : State} (Tells : World → A → Type 0) (Says : World → B → Type 0)
-    {Shows : World → C → Type 0} (x : A) (y : B) (r : Result C G) → HoldsOf layout old
-    → Answers {E = E} (HoldsOf layout) old mid (Ok x) (λ trees. Tells (world_with layout trees))
-    → Answers {E = F} (HoldsOf layout) mid new (Ok y) (λ trees. Says (world_with layout trees))
-    → ((w : World) → Tells w x → Says w y → IfOk r (Shows w)) → Asks (kept_in layout old) (kept_in layout new) r Shows
-asked_both layout {old = old} Tells Says x y r holds first second made =
-    let one = asked layout Tells holds first in
-    let other = asked layout Says (holds_on layout holds first) second in
-    record {
-      stays = stays_on one.stays other.stays;
-      opens = λ clean. on_ok r (other.opens clean);
-      tells = λ sound.
-          let before = other.stays.before sound in
-          made (world_kept layout old) (one.tells before) (subst (λ w. Says w y) (one.stays.same before) (other.tells sound));
-    }
 
 -- where one result is of a kind with another, it is known of both
 as_ok : {A B E F : Type 0} (P : Type 0) (r : Result A E) (s : Result B F) → is_ok s ≡ is_ok r → OnOk r P → OnOk s P

@@ -1,10 +1,7 @@
 pub mod Adopting
 pub mod Ascending
-pub mod BookLemmas
-pub mod Days
 pub mod Keeping
 pub mod ListTexts
 pub mod Listed
 pub mod PeriodLemmas
-pub mod RangeLemmas
 pub mod RowsFound

@@ -4,10 +4,8 @@ use Rattle.sqlite.specs.Collation.TheVariants.{Binary}
 use Rattle.sqlite.specs.Command.TheVariants.{Select}
 use Rattle.sqlite.specs.Listing.{reads_listing, understood}
 use Rattle.sqlite.specs.Query.{Query}
-use Rattle.sqlite.specs.Term.{Term, col, op2}
+use Rattle.sqlite.specs.Term.{col}
 use Rattle.sqlite.proofs.Callers.{IsPlain, command_of}
-use Rattle.sqlite_sql.specs.declared.ops.BinaryOp.TheVariants.{Compare}
-use Rattle.sqlite_sql.specs.declared.ops.CompareOp.TheVariants.{Ge, Le}
 use Rattle.sqlite_tied.specs.Compute.{everything}
 use Rattle.sqlite_value.specs.declared.keys.Key.{Key}
 use Rattle.mds_tables.specs.Tables.{More, schema_with}
@@ -78,29 +76,3 @@ select_content_is more = refl
 pub select_content_plain : (more : More) → IsPlain (understood (schema_with more) select_content) × (reads_listing (schema_with more) select_content ≡ false)
 unfolding understood everything
 select_content_plain more = ((refl, refl), refl)
-
--- a column is at least, and at most, the parameter
-abbrev pub at_least : ℕ → ℕ → Term
-at_least at param = op2 (Compare Ge Binary) (col 1 at) (col 0 param)
-
-abbrev pub at_most : ℕ → ℕ → Term
-at_most at param = op2 (Compare Le Binary) (col 1 at) (col 0 param)
-
--- a stream, and a range of days
-abbrev pub range_tests : List Term
-range_tests = equals 1 0 ∷ equals 2 1 ∷ at_least 3 2 ∷ at_most 3 3 ∷ []
-
-abbrev pub select_heads : List ℕ
-select_heads = codes "SELECT nmi, suffix, day, length, unit FROM mds_head WHERE nmi = ?1 AND suffix = ?2 AND day >= ?3 AND day <= ?4 ORDER BY day"
-
-abbrev pub heads_query : Query
-heads_query = from_one 2 range_tests (columns_at (1 ∷ 2 ∷ 3 ∷ 4 ∷ 5 ∷ [])) ((col 1 3, rising) ∷ [])
-
-pub select_heads_is : (more : More) → command_of (understood (schema_with more) select_heads)
-    ≡ Select (record { lets = []; body = heads_query }) (codes "nmi" ∷ codes "suffix" ∷ codes "day" ∷ codes "length" ∷ codes "unit" ∷ [])
-unfolding understood everything
-select_heads_is more = refl
-
-pub select_heads_plain : (more : More) → IsPlain (understood (schema_with more) select_heads) × (reads_listing (schema_with more) select_heads ≡ false)
-unfolding understood everything
-select_heads_plain more = ((refl, refl), refl)

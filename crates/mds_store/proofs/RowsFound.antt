@@ -1,31 +1,22 @@
 -- What queries whose answers are in an order find.
-use Rattle.std.specs.Prelude.{◌≡◌, ℕ, List, [], ◌∷◌, false, codes, refl, IfOk, Result}
-use Rattle.sqlite.specs.Listing.{reads_listing, understood}
-use Rattle.sqlite.specs.Program.{overlay}
+use Rattle.std.specs.Prelude.{ℕ, List, [], ◌∷◌, codes, refl, IfOk, Result}
 use Rattle.sqlite.specs.State.{Shown, State}
 use Rattle.sqlite.specs.Term.{Term, col}
 use Rattle.sqlite.specs.declared.error.Error.{Error}
-use Rattle.sqlite.proofs.Callers.{IsPlain}
-use Rattle.sqlite_catalog.specs.Listing.{IsSound}
-use Rattle.sqlite_trees.specs.Tree.{Trees}
 use Rattle.sqlite_value.specs.Order.{Row}
 use Rattle.sqlite_value.specs.declared.keys.Key.{Key}
 use Rattle.mds_names.specs.declared.stream.Stream.{Stream}
 use Rattle.mds_statements.specs.declared.periods.PeriodKey.{PeriodKey}
-use Rattle.mds_world.specs.Lists.{Member}
-use Rattle.mds_tables.specs.Cells.{period_key_cells, range_cells, stream_cells}
+use Rattle.mds_tables.specs.Cells.{period_key_cells, stream_cells}
 use Rattle.mds_tables.specs.Layouts.{Layout}
 use Rattle.mds_tables.specs.Stores.{FindsOf, Selects}
-use Rattle.mds_tables.specs.Tables.{period_table, schema_with}
+use Rattle.mds_tables.specs.Tables.{period_table}
 use Rattle.mds_selects.proofs.KeyLemmas.{tests}
-use Rattle.mds_selects.proofs.MemberLemmas.{selects, selects_by}
-use Rattle.mds_selects.proofs.QueryLemmas.{AsksFor, finds, period_typed}
+use Rattle.mds_selects.proofs.MemberLemmas.{selects}
+use Rattle.mds_selects.proofs.QueryLemmas.{finds, period_typed}
 use Rattle.mds_selects.proofs.SelectTexts.{columns_at}
 use Rattle.mds_selects.proofs.TypedLemmas.{AreFor}
-use Rattle.mds_selects.proofs.TypedRows.{HasKeyCells}
-use Rattle.mds_store.specs.Ranges.{IsInRange, SelectsRange}
-use Rattle.mds_store.proofs.ListTexts.{range_tests, rising, select_periods, select_periods_is, select_periods_plain}
-use Rattle.mds_store.proofs.RangeLemmas.{chosen, passing}
+use Rattle.mds_store.proofs.ListTexts.{rising, select_periods, select_periods_is, select_periods_plain}
 
 periods_for : (s : Stream) → AreFor period_table.columns (stream_cells s)
 periods_for s = ((codes "nmi", refl), ((codes "suffix", refl), tt))
@@ -49,18 +40,3 @@ finds_period_rows layout s old new items r h =
     (λ rows trees. Selects 10 (stream_cells s) period_columns trees rows)
     (λ db sound rows p.
     selects 10 period_columns by_key db (stream_cells s) period_table.columns (periods_for s) (period_typed layout.more db sound) rows p) r h
-
-module _ (layout : Layout) (sql : List ℕ) (plain : IsPlain (understood (schema_with layout.more) sql) × (reads_listing (schema_with layout.more) sql ≡ false)) (tree : ℕ)
-    (places : List ℕ) (order : List (Term × Key)) (names : List (List ℕ))
-    (is : AsksFor layout.more sql tree range_tests (columns_at places) order names) (low : (db : Trees) → overlay db [] tree ≡ db tree)
-    (keyed : (db : Trees) → IsSound (schema_with layout.more) db → (row : Row) → Member row (db tree) → HasKeyCells row) where
-  pub finds_range : {V : Type 0} (s : Stream) (first last : ℕ) (old new : State) (items : V → List Row) (r : Result V Error)
-      → IfOk r (λ v. Shown sql (range_cells s first last) old new (items v))
-      → IfOk r (λ v. FindsOf layout old new (λ trees. SelectsRange tree s first last places trees (items v)))
-  finds_range s first last old new items r h =
-      finds layout sql plain tree range_tests (columns_at places) order names is low old new (range_cells s first last) items
-      (λ rows trees. SelectsRange tree s first last places trees rows)
-      (λ db sound rows p x.
-      selects_by tree range_tests places order db (range_cells s first last) (IsInRange s first last)
-      (λ row m. chosen s first last row (keyed db sound row m)) (λ row m. passing s first last row (keyed db sound row m))
-      rows p x) r h

@@ -1,6 +1,5 @@
 pub mod KeptRows
 pub mod Periods
 pub mod Props
-pub mod Ranges
 pub mod Said
 pub mod Starting

@@ -7,13 +7,12 @@ ghost use Rattle.mds_tables.specs.Cells as row;
 ghost use Rattle.mds_tables.specs.Layouts.{Layout};
 ghost use Rattle.mds_tables.specs.Queries.{QueriesOf};
 ghost use Rattle.mds_tables.specs.Stores.{Selects};
-ghost use Rattle.mds_tables.specs.Tables.{head_columns, head_tree, holiday_day, holiday_tree, job_body, job_total, job_tree, period_body, period_columns, period_tree};
-ghost use Rattle.mds_store.specs.Ranges.{SelectsRange};
+ghost use Rattle.mds_tables.specs.Tables.{holiday_day, holiday_tree, job_body, job_total, job_tree, period_body, period_columns, period_tree};
 
 use mds_jobs::JobId;
 use mds_statements::PeriodKey;
-use mds_tables::{id_cells, period_key_cells, range_cells, stream_cells};
-use mds_terms::{Day, Stream};
+use mds_tables::{id_cells, period_key_cells, stream_cells};
+use mds_terms::Stream;
 use sqlite::{Alter, Connection, Error, Row};
 
 /// All holidays.
@@ -56,20 +55,5 @@ pub(crate) fn content_rows<S: Alter>(
     conn.query_all(
         "SELECT body FROM mds_period WHERE nmi = ?1 AND suffix = ?2 AND register = ?3 AND start = ?4 AND finish = ?5 AND moment = ?6",
         &period_key_cells(key),
-    )
-}
-
-/// The heads of a range of days, by day.
-pub fn head_range_rows<S: Alter>(
-    conn: &mut Connection<S>,
-    stream: &Stream,
-    first: Day,
-    last: Day,
-) -> Result<Vec<Row>, Error>
-    ensures { (layout : Layout) → QueriesOf layout (state S.Store conn.old) (state S.Store conn.new) result (SelectsRange head_tree stream.now first last head_columns) }
-{
-    conn.query_all(
-        "SELECT nmi, suffix, day, length, unit FROM mds_head WHERE nmi = ?1 AND suffix = ?2 AND day >= ?3 AND day <= ?4 ORDER BY day",
-        &range_cells(stream, first, last),
     )
 }

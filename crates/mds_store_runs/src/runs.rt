@@ -6,7 +6,7 @@ ghost use Rattle.sqlite.specs.State.{HasCleanDisk};
 ghost use Rattle.sqlite_trees.specs.Tree.{Trees};
 ghost use Rattle.mds_world.specs.World.{IsLawful, World};
 ghost use Rattle.mds_tables.specs.Stores.{world_kept};
-ghost use Rattle.mds_pack_rows.specs.DailyLayout.{daily_layout, world_3};
+ghost use Rattle.mds_pack_rows.specs.FormLayout.{forms_layout, world_4};
 ghost use Rattle.mds_service.specs.Crashes.{MayLeave};
 ghost use Rattle.mds_service.specs.Machine.{Run};
 
@@ -25,12 +25,12 @@ pub fn run_packs<S: Alter>(
     // World that the tables named to a lawful one. The tables name the latter where the connection is still open. An
     // open after a crash may find tables that name it, or it with one more whole request whose answer was Unavailable.
     ensures run { IfOk result (λ answers. HasCleanDisk (state S.Store keeper.new.conn)
-        → IsTrue (state S.Store keeper.old.conn).is_open → IsLawful (world_kept daily_layout (state S.Store keeper.old.conn))
+        → IsTrue (state S.Store keeper.old.conn).is_open → IsLawful (world_kept forms_layout (state S.Store keeper.old.conn))
         → (w : World) × IsLawful w
-        × Run (world_kept daily_layout (state S.Store keeper.old.conn)) requests.now answers.items w
-        × (IsTrue (state S.Store keeper.new.conn).is_open → world_kept daily_layout (state S.Store keeper.new.conn) ≡ w)
+        × Run (world_kept forms_layout (state S.Store keeper.old.conn)) requests.now answers.items w
+        × (IsTrue (state S.Store keeper.new.conn).is_open → world_kept forms_layout (state S.Store keeper.new.conn) ≡ w)
         × ((trees : Trees) → (state S.Store keeper.new.conn).may_leave trees
-        → MayLeave w requests.now answers.items (world_3 trees))) }
+        → MayLeave w requests.now answers.items (world_4 trees))) }
 {
     run(alloc, keeper, requests)
 }

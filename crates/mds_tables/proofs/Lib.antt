@@ -7,6 +7,7 @@ pub mod FactLemmas
 pub mod InsertLemmas
 pub mod KnownLemmas
 pub mod MadeLemmas
+pub mod Named
 pub mod OpenTexts
 pub mod SayLemmas
 pub mod SayRefusals

@@ -18,7 +18,7 @@ use Rattle.sqlite_catalog.specs.Listing.{IsSound}
 use Rattle.sqlite_schema.specs.declared.schema.Keys.TheVariants.{Enforced}
 use Rattle.mds_tables.specs.Making.{KeepsNothingOf, SaysVersionOf}
 use Rattle.mds_tables.specs.Layouts.{Layout, world_with}
-use Rattle.mds_tables.specs.RowFacts.{event_fact, head_fact, holiday_fact, int_at, job_fact, period_fact}
+use Rattle.mds_tables.specs.RowFacts.{event_fact, holiday_fact, int_at, job_fact, period_fact}
 use Rattle.mds_tables.specs.Tables.{schema_table, schema_with, tables_with, trees_taken}
 use Rattle.mds_tables.proofs.InsertLemmas.{Adds, adds, cast_int, stored}
 use Rattle.mds_tables.proofs.OpenTexts.{insert_schema, insert_schema_is, insert_schema_plain, schema_terms}
@@ -61,9 +61,10 @@ module _ (layout : Layout) where
   -- tables without rows name no fact
   names_none : (trees : Trees) → AllByRecursion (λ (t : Table). trees t.tree ≡ []) others → world_with layout trees ≡ set.empty
   names_none trees none =
+      let heads = layout.no_heads trees none.0 none.1.1.1.1.1.1.1 in
       let own = layout.silent trees none.1.0 none.1.1.1.1.1.1.1 in
       λ i. set.from_list
-      (map head_fact (none.0 i) ++ own i ++ map event_fact (none.1.1.1.0 i) ++ map period_fact (none.1.1.1.1.0 i)
+      (heads i ++ own i ++ map event_fact (none.1.1.1.0 i) ++ map period_fact (none.1.1.1.1.0 i)
       ++ map holiday_fact (none.1.1.1.1.1.0 i) ++ map job_fact (none.1.1.1.1.1.1.0 i))
 
   -- the rows that it puts, and that the database is sound

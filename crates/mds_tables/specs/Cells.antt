@@ -30,9 +30,20 @@ day_cells s day = Text s.nmi ∷ Text s.suffix ∷ number_cell day ∷ []
 abbrev pub range_cells : Stream → ℕ → ℕ → Row
 range_cells s first last = Text s.nmi ∷ Text s.suffix ∷ number_cell first ∷ number_cell last ∷ []
 
+-- a row of mds_head in schemas 1 to 3, which says no update
 abbrev pub head_cells : Head → Row
 head_cells h =
     Text h.stream.nmi ∷ Text h.stream.suffix ∷ number_cell h.day ∷ number_cell h.length ∷ Text (unit_text h.unit) ∷ []
+
+-- a row of mds_head in schema 4, which says a day and its unit: its length column is 0
+abbrev pub unit_cells : Head → Row
+unit_cells h =
+    Text h.stream.nmi ∷ Text h.stream.suffix ∷ number_cell h.day ∷ number_cell 0 ∷ Text (unit_text h.unit) ∷ []
+
+-- a row of mds_form, which says a head but for its unit
+abbrev pub form_cells : Head → Row
+form_cells h =
+    Text h.stream.nmi ∷ Text h.stream.suffix ∷ number_cell h.day ∷ number_cell h.update ∷ number_cell h.length ∷ []
 
 -- The length has no column. A reading of quality N has the amount 0.
 abbrev pub version_cells : Key → ReadingValue → Row

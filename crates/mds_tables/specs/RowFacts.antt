@@ -44,9 +44,10 @@ optional_at row at = optional (int_at row at)
 abbrev pub stream_in : Row → Stream
 stream_in row = record { nmi = text_at row 1; suffix = text_at row 2 }
 
+-- Schemas 1 to 3 say no update of a head: it stands here as 0.
 abbrev pub head_fact : Row → Fact
 head_fact row =
-    HeadIs (head_at (stream_in row) (natural_at row 3) (natural_at row 4) (unit_named (text_at row 5)))
+    HeadIs (head_at (stream_in row) (natural_at row 3) 0 (natural_at row 4) (unit_named (text_at row 5)))
 
 -- The quality of a text. A text that is none, which the store never writes, is taken as bare N.
 abbrev pub quality_named : List ℕ → QualityValue
@@ -121,11 +122,16 @@ holiday_fact row = HolidayIs (natural_at row 1)
 abbrev pub job_fact : Row → Fact
 job_fact row = JobIs (text_at row 1) (job_in (parts_of (text_at row 2))) (natural_at row 3)
 
--- The facts of the rows of each table, one table after the other. How versions and details of days are said is the schema's own.
-abbrev pub facts_with : (Trees → List Fact) → Trees → List Fact
-facts_with own trees =
-    map head_fact (trees head_tree) ++ own trees ++ map event_fact (trees event_tree) ++ map period_fact (trees period_tree)
+-- The facts of the rows of each table, one table after the other. How heads are said, and versions and details of days, is the
+-- schema's own.
+abbrev pub facts_with : (Trees → List Fact) → (Trees → List Fact) → Trees → List Fact
+facts_with heads own trees =
+    heads trees ++ own trees ++ map event_fact (trees event_tree) ++ map period_fact (trees period_tree)
     ++ map holiday_fact (trees holiday_tree) ++ map job_fact (trees job_tree)
+
+-- those of rows that say a head each
+abbrev pub heads_in : Trees → List Fact
+heads_in trees = map head_fact (trees head_tree)
 
 -- those of rows that say a version each
 abbrev pub versions_in : Trees → List Fact

@@ -6,22 +6,19 @@ use Rattle.sqlite.specs.State.{HasCleanDisk, IsRolledBack, IsUnchanged, State}
 use Rattle.sqlite_catalog.specs.Listing.{IsSound}
 use Rattle.sqlite_trees.specs.Tree.{Trees}
 use Rattle.sqlite_value.specs.Order.{Row, column}
-use Rattle.mds_marks.specs.Reading.{ReadingValue}
 use Rattle.mds_world.specs.Lists.{Member}
 use Rattle.mds_world.specs.World.{World, union}
-use Rattle.mds_world.specs.declared.facts.Detail.{Detail}
-use Rattle.mds_world.specs.declared.facts.Key.{Key}
-use Rattle.mds_keeper.specs.Content.{content, details_of, versions_of}
+use Rattle.mds_keeper.specs.Content.{content}
 use Rattle.mds_keeper.specs.declared.additions.Additions.{Additions}
 use Rattle.mds_jobs.specs.Bodies.{IsJobBody}
 use Rattle.mds_jobs.specs.Jobs.{content_of}
 use Rattle.mds_jobs.specs.declared.job.Job.{Job}
 use Rattle.mds_statements.specs.Bodies.{IsPeriodBody}
 use Rattle.mds_statements.specs.declared.periods.Period.{Period}
-use Rattle.mds_tables.specs.Cells.{event_cells, head_cells, holiday_cells, job_cells, period_cells}
+use Rattle.mds_tables.specs.Cells.{event_cells, holiday_cells, job_cells, period_cells}
 use Rattle.mds_tables.specs.Layouts.{Layout, rows_layout, world_with}
 use Rattle.mds_tables.specs.RowFacts.{int_at}
-use Rattle.mds_tables.specs.Tables.{detail_tree, event_tree, head_tree, holiday_tree, job_tree, period_tree, schema_tree, schema_version, schema_with}
+use Rattle.mds_tables.specs.Tables.{detail_tree, event_tree, holiday_tree, job_tree, period_tree, schema_tree, schema_version, schema_with}
 
 -- what mds_schema says
 abbrev pub versions_said : Trees → List ℤ
@@ -79,15 +76,14 @@ AreRowsOf IsRow (thing ∷ things) (row ∷ rows) = IsRow thing row × AreRowsOf
 AreRowsOf IsRow [] (row ∷ rows) = ⊥
 AreRowsOf IsRow (thing ∷ things) [] = ⊥
 
--- What became of the rows of versions and of details of days once these are added, which each layout says by itself.
+-- What became of the rows of heads, versions and details of days once these additions are added, which each layout says by itself.
 abbrev pub Gained : Type 1
-Gained = Trees → Trees → List (Key × ReadingValue) → List Detail → Type 0
+Gained = Trees → Trees → Additions → Type 0
 
 -- Each table has the rows of its facts among the additions, column by column, beside those that were there, and no other.
 pub record AddsOf (HasOwn : Gained) (old new : Trees) (additions : Additions) : Type 0 where
   pub schema : new schema_tree ≡ old schema_tree
-  pub heads : Gains head_tree (map head_cells additions.heads.items) old new
-  pub own : HasOwn old new (versions_of additions.days.items) (details_of additions.details.items)
+  pub own : HasOwn old new additions
   pub undated : new detail_tree ≡ old detail_tree
   pub events : Gains event_tree (map event_cells additions.events.items) old new
   pub periods : (rows : List Row) × AreRowsOf IsPeriodRow additions.periods.items rows × Gains period_tree rows old new

@@ -45,6 +45,10 @@ trees_taken = 16
 abbrev pub daydetail_tree : ℕ
 daydetail_tree = 18
 
+-- That of mds_form, which schema 4 has behind that.
+abbrev pub form_tree : ℕ
+form_tree = 20
+
 -- a column of a type, NOT NULL and of a STRICT table
 abbrev pub needed : List ℕ → Kind → Column
 needed name kind =

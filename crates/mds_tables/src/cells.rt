@@ -46,16 +46,29 @@ pub fn range_cells<'a>(stream: &'a Stream, first: Day, last: Day) -> [ValueRef<'
     ]
 }
 
-/// The columns of a head.
-pub fn head_cells<'a>(head: &'a Head) -> [ValueRef<'a>; 5]
-    ensures { bound result ≡ row.head_cells head.now }
+/// The columns of a day in mds_head: it and its unit.
+pub fn unit_cells<'a>(head: &'a Head) -> [ValueRef<'a>; 5]
+    ensures { bound result ≡ row.unit_cells head.now }
 {
     [
         ValueRef::Text(head.stream.nmi.text().as_bytes()),
         ValueRef::Text(head.stream.suffix.text().as_bytes()),
         ValueRef::Int(head.day.number()),
-        ValueRef::Int(head.length.minutes()),
+        ValueRef::Int(0),
         ValueRef::Text(head.unit.text().as_bytes()),
+    ]
+}
+
+/// The columns of a head in mds_form: its day, its update and its length.
+pub fn form_cells<'a>(head: &'a Head) -> [ValueRef<'a>; 5]
+    ensures { bound result ≡ row.form_cells head.now }
+{
+    [
+        ValueRef::Text(head.stream.nmi.text().as_bytes()),
+        ValueRef::Text(head.stream.suffix.text().as_bytes()),
+        ValueRef::Int(head.day.number()),
+        ValueRef::Int(head.update.seconds()),
+        ValueRef::Int(head.length.minutes()),
     ]
 }
 

@@ -55,14 +55,15 @@ fn plan_of(alloc: Global, seconds: i64) -> Option<Result<Additions, Stop>> {
     Some(book.plan(alloc, &claims))
 }
 
-/// What they add, as a text: how many heads, days and rows there are, and the row at place 50. Where they are refused, it says
-/// why.
+/// What they add, as a text: how many heads of new days, further heads, days and rows there are, and the row at place 50. Where they
+/// are refused, it says why.
 fn told(alloc: Global, seconds: i64) -> Option<String> {
     let added = match plan_of(alloc, seconds)? {
         Ok(added) => added,
         Err(Stop::Refused(refusal)) => return format!(in alloc; "{refusal}").ok(),
         Err(Stop::Memory) => return None,
     };
+    let new_days = added.new_days.len();
     let heads = added.heads.len();
     let days = added.days.len();
     let mut rows = Vec::new(alloc);
@@ -71,7 +72,8 @@ fn told(alloc: Global, seconds: i64) -> Option<String> {
     }
     let (interval, version) = rows.get(50)?;
     let mut text = format!(in alloc;
-        "{} {} {} {interval} {} ",
+        "{} {} {} {} {interval} {} ",
+        new_days,
         heads,
         days,
         rows.len(),
@@ -85,7 +87,7 @@ fn told(alloc: Global, seconds: i64) -> Option<String> {
 #[test]
 fn claims_are_planned(rt: HostRuntime) {
     let added = told(rt.alloc(), 20);
-    assert!(rt; added.as_deref() == Some("1 2 96 3 20 A,,,2"));
+    assert!(rt; added.as_deref() == Some("1 1 2 96 3 20 A,,,2"));
     let refused = told(rt.alloc(), 10);
     assert!(rt; refused.as_deref() == Some("M3 line 9 interval 3"));
 }

@@ -13,7 +13,7 @@ use sqlite::{Alter, Connection};
 use std::io;
 use std::io::Write;
 
-/// The steps: a store (schema 3) is made or taken, or a text of SQL is run. Any other is a migration.
+/// The steps: a store (schema 4) is made or taken, or a text of SQL is run. Any other is a migration.
 const CREATE: u8 = b'c';
 
 const ADOPT: u8 = b'a';

@@ -10,7 +10,7 @@ use clap::{Arg, ArgAction, Command, value_parser};
 use std::alloc::{AllocError, Global};
 
 /// The version of the program, and that of the schema of its stores.
-const VERSION: &str = "0.9.0 (stores of schema 3)";
+const VERSION: &str = "0.9.0 (stores of schema 4)";
 
 /// The kinds of files, by their names.
 const KINDS: [&str; 2] = ["nem12", "nem13"];

@@ -98,7 +98,7 @@ impl Name {
                 "Checks a file, and prints what each of its days or accumulations comes to"
             }
             Name::Init => "Makes a store in a new file",
-            Name::Migrate => "Takes a store of an earlier schema to schema 3",
+            Name::Migrate => "Takes a store of an earlier schema to schema 4",
             Name::Import => "Adds what files state to a store",
             Name::Substitute => {
                 "Fills in readings of a day by a substitution job, and keeps the job"

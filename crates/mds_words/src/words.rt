@@ -31,7 +31,7 @@ pub enum Words<'a> {
         store: &'a str,
         has_sums: bool,
     },
-    /// The store of an earlier schema in the file of a name is taken to schema 3.
+    /// The store of an earlier schema in the file of a name is taken to schema 4.
     Migrate {
         store: &'a str,
     },

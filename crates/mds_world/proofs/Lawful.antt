@@ -6,17 +6,18 @@ use Rattle.mds_marks.specs.Reading.{ReadingValue}
 use Rattle.mds_world.specs.declared.facts.Detail.{Detail}
 use Rattle.mds_world.specs.declared.facts.Head.{Head}
 use Rattle.mds_world.specs.declared.facts.Key.{Key}
-use Rattle.mds_world.specs.Facts.{Fact, JobContent, key_at}
+use Rattle.mds_world.specs.Facts.{Fact, JobContent}
 use Rattle.mds_world.specs.Facts.Fact.{HeadIs, VersionIs, DetailIs, PeriodIs, JobIs}
 use Rattle.mds_world.proofs.Members.{in_union, union_left, union_right}
 use Rattle.mds_world.specs.Sets.{◌∈◌}
-use Rattle.mds_world.specs.World.{Agrees, HasHead, HasVersion, IsClosed, IsKnownDay, IsLawful, World, head_over, union}
+use Rattle.mds_world.specs.World.{Agrees, HasHead, HasVersion, IsClosed, IsKnownDay, IsLawful, World, head_over, key_under, union}
 
 -- Each rule is of two facts. So a World agrees where any two of its facts lie in one that does.
 pub pairs_agree : (w : World)
     → ((f g : Fact) → f ∈ w → g ∈ w → (v : World) × Agrees v × (f ∈ v) × (g ∈ v)) → Agrees w
 pairs_agree w both = record {
-  one_head = λ a b h k. let v = both (HeadIs a) (HeadIs b) h k in v.1.one_head a b v.2 v.3;
+  one_length = λ a b h k. let v = both (HeadIs a) (HeadIs b) h k in v.1.one_length a b v.2 v.3;
+  one_unit = λ a b h k. let v = both (HeadIs a) (HeadIs b) h k in v.1.one_unit a b v.2 v.3;
   one_reading = λ key a b h k. let v = both (VersionIs key a) (VersionIs key b) h k in v.1.one_reading key a b v.2 v.3;
   one_content = λ key a b h k. let v = both (PeriodIs key a) (PeriodIs key b) h k in v.1.one_content key a b v.2 v.3;
 }
@@ -29,8 +30,7 @@ pub wider_head : (w v : World) → ((f : Fact) → f ∈ w → f ∈ v) → (key
 wider_head w v more key h = (h.0, more (HeadIs (head_over key h.0)) h.1, h.2, h.3)
 
 pub wider_version : (w v : World) → ((f : Fact) → f ∈ w → f ∈ v) → (head : Head) → HasVersion w head → HasVersion v head
-wider_version w v more head h =
-    (h.0, h.1, h.2, more (VersionIs (key_at head.stream head.day head.length h.0 h.1) h.2) h.3)
+wider_version w v more head h = (h.0, h.1, more (VersionIs (key_under head h.0) h.1) h.2)
 
 pub wider_day : (w v : World) → ((f : Fact) → f ∈ w → f ∈ v) → (stream : Stream) (day : ℕ) → IsKnownDay w stream day
     → IsKnownDay v stream day

@@ -1,4 +1,5 @@
 pub mod Details
+pub mod Forms
 pub mod Greatest
 pub mod Lawful
 pub mod Lists

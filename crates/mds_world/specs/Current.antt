@@ -9,7 +9,8 @@ use Rattle.mds_marks.specs.Mark.{bare_null}
 use Rattle.mds_marks.specs.Reading.{ReadingValue}
 use Rattle.mds_terms.specs.Details.{DetailsValue, details_cmp}
 use Rattle.mds_world.specs.declared.facts.Detail.{Detail}
-use Rattle.mds_world.specs.Facts.{head_at, key_at}
+use Rattle.mds_world.specs.declared.facts.Head.{Head}
+use Rattle.mds_world.specs.Facts.{key_at}
 use Rattle.mds_world.specs.Facts.Fact.{DetailIs, HeadIs, VersionIs}
 use Rattle.mds_world.specs.Sets.{◌∈◌}
 use Rattle.mds_world.specs.World.{IsCurrent, IsKnownDay, World}
@@ -32,11 +33,21 @@ IsReading w stream day length interval reading =
     ((update : ℕ) × IsCurrent w stream day length interval update reading)
     ⊎ (HasNoVersion w stream day length interval × (reading ≡ no_reading))
 
--- The form of a known day: the length of its intervals, and its unit.
-abbrev pub IsFormOf : World → Stream → ℕ → ℕ → MeasureUnit → Type 0
-IsFormOf w stream day length unit = HeadIs (head_at stream day length unit) ∈ w
+-- the head is of the day
+abbrev pub IsHeadOf : World → Stream → ℕ → Head → Type 0
+IsHeadOf w stream day head = (HeadIs head ∈ w) × (head.stream ≡ stream) × (head.day ≡ day)
 
--- The reading that a day shows of an interval: that of the day's length, and bare N where the day isn't known.
+-- The head of a day with the greatest update, which decides its form.
+pub record IsForm (w : World) (stream : Stream) (day : ℕ) (head : Head) : Type 0 where
+  pub held : IsHeadOf w stream day head
+  pub greatest : (other : Head) → IsHeadOf w stream day other → other.update ≤ head.update
+
+-- The current form of a known day: the length of its intervals, and its unit.
+abbrev pub IsFormOf : World → Stream → ℕ → ℕ → MeasureUnit → Type 0
+IsFormOf w stream day length unit =
+    (head : Head) × IsForm w stream day head × (head.length ≡ length) × (head.unit ≡ unit)
+
+-- The reading that a day shows of an interval: that of the day's current length, and bare N where the day isn't known.
 abbrev pub IsDayReading : World → Stream → ℕ → ℕ → ReadingValue → Type 0
 IsDayReading w stream day interval reading =
     ((length : ℕ) × (unit : MeasureUnit) × IsFormOf w stream day length unit × IsReading w stream day length interval reading)

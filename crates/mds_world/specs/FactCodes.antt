@@ -155,12 +155,12 @@ coded_event =
 
 coded_head : Coded Head
 coded_head =
-    code_by _ (coded× coded_stream (coded× coded_ℕ (coded× coded_ℕ coded_measure)))
-    (λ h. (h.stream, (h.day, (h.length, h.unit))))
-    (λ p. head_at p.0 p.1.0 p.1.1.0 p.1.1.1)
+    code_by _ (coded× coded_stream (coded× coded_ℕ (coded× coded_ℕ (coded× coded_ℕ coded_measure))))
+    (λ h. (h.stream, (h.day, (h.update, (h.length, h.unit)))))
+    (λ p. head_at p.0 p.1.0 p.1.1.0 p.1.1.1.0 p.1.1.1.1)
     (λ _. refl)
 
-coded_key : Coded Key
+pub coded_key : Coded Key
 coded_key =
     code_by _ (coded× coded_stream (coded× coded_ℕ (coded× coded_ℕ (coded× coded_ℕ coded_ℕ))))
     (λ k. (k.stream, (k.day, (k.length, (k.interval, k.update)))))

@@ -17,9 +17,10 @@ abbrev pub key_at : Stream → ℕ → ℕ → ℕ → ℕ → Key
 key_at stream day length interval update =
     record { stream = stream; day = day; length = length; interval = interval; update = update }
 
--- the head of a day of a stream, with the length of its intervals and its unit
-abbrev pub head_at : Stream → ℕ → ℕ → MeasureUnit → Head
-head_at stream day length unit = record { stream = stream; day = day; length = length; unit = unit }
+-- the head of a day of a stream under an update, with the length of its intervals there and its unit
+abbrev pub head_at : Stream → ℕ → ℕ → ℕ → MeasureUnit → Head
+head_at stream day update length unit =
+    record { stream = stream; day = day; update = update; length = length; unit = unit }
 
 -- the details of a day of a stream, under the moment of a header
 abbrev pub detail_at : Stream → ℕ → ℕ → DetailsValue → Detail
@@ -39,7 +40,7 @@ pub record JobContent : Type 0 where
   pub text : List ℕ
   pub update : ℕ
 
--- A fact that a World may hold: the head of a day, a version of a reading, or a meter's details. Or it is an event, an
+-- A fact that a World may hold: the head of a day under an update, a version of a reading, or a meter's details. Or it is an event, an
 -- accumulation, a holiday, or a substitution job with the count of what it made.
 pub data Fact : Type 0 where
   HeadIs : Head → Fact

@@ -19,10 +19,10 @@ versions_from stream day length update interval (reading ∷ rest) =
     VersionIs (key_at stream day length interval update) reading
     ∷ versions_from stream day length update (interval + 1) rest
 
--- the head of a day, and a version of each interval from 1 on under one update
+-- the head of a day under an update, and a version of each interval from 1 on under it
 abbrev pub day_facts : Stream → ℕ → ℕ → MeasureUnit → ℕ → List ReadingValue → List Fact
 day_facts stream day length unit update readings =
-    HeadIs (head_at stream day length unit)
+    HeadIs (head_at stream day update length unit)
     ∷ versions_from stream day length update 1 readings
 
 -- A header and a 200 state no fact of their own: what they say stands in what they govern.

@@ -24,26 +24,31 @@ World = FinSet fact_cmp
 abbrev pub union : World → World → World
 union a b = set.union a b
 
--- One head for each stream and day, one reading for each stream, day, length, interval and update, one content for each period.
+-- One length for each stream, day and update, one unit for each stream and day, one reading for each stream, day, length,
+-- interval and update, one content for each period.
 pub record Agrees (w : World) : Type 0 where
-  pub one_head : (a b : Head) → HeadIs a ∈ w → HeadIs b ∈ w → a.stream ≡ b.stream → a.day ≡ b.day → a ≡ b
+  pub one_length : (a b : Head) → HeadIs a ∈ w → HeadIs b ∈ w → a.stream ≡ b.stream → a.day ≡ b.day → a.update ≡ b.update
+      → a.length ≡ b.length
+  pub one_unit : (a b : Head) → HeadIs a ∈ w → HeadIs b ∈ w → a.stream ≡ b.stream → a.day ≡ b.day → a.unit ≡ b.unit
   pub one_reading : (key : Key) (a b : ReadingValue) → VersionIs key a ∈ w → VersionIs key b ∈ w → a ≡ b
   pub one_content : (key : PeriodKey) (a b : PeriodContent) → PeriodIs key a ∈ w → PeriodIs key b ∈ w → a ≡ b
 
--- the head that a version is under: of its day and its length, with a unit
+-- the head that a version is under: of its day, its update and its length, with a unit
 abbrev pub head_over : Key → MeasureUnit → Head
-head_over key unit = head_at key.stream key.day key.length unit
+head_over key unit = head_at key.stream key.day key.update key.length unit
+
+-- where a version of an interval stands that is under a head
+abbrev pub key_under : Head → ℕ → Key
+key_under head interval = key_at head.stream head.day head.length interval head.update
 
 -- a version's head is there, and its interval is one of that head's
 abbrev pub HasHead : World → Key → Type 0
 HasHead w key =
     (unit : MeasureUnit) × (HeadIs (head_over key unit) ∈ w) × (1 ≤ key.interval) × (key.interval ≤ count_of key.length)
 
--- a head has a version of its day and its length
+-- a head has a version under it
 abbrev pub HasVersion : World → Head → Type 0
-HasVersion w head =
-    (interval : ℕ) × (update : ℕ) × (reading : ReadingValue)
-    × (VersionIs (key_at head.stream head.day head.length interval update) reading ∈ w)
+HasVersion w head = (interval : ℕ) × (reading : ReadingValue) × (VersionIs (key_under head interval) reading ∈ w)
 
 -- A known day has a head.
 abbrev pub IsKnownDay : World → Stream → ℕ → Type 0
@@ -68,7 +73,7 @@ pub record IsCurrent (w : World) (stream : Stream) (day length interval update :
       → VersionIs (key_at stream day length interval other) of_other ∈ w
       → other ≤ update
 
--- the fact is the head, or a version, of a day
+-- the fact is a head, or a version, of a day
 abbrev pub IsOn : Stream → ℕ → Fact → Type 0
 IsOn stream day (HeadIs head) = (head.stream ≡ stream) × (head.day ≡ day)
 IsOn stream day (VersionIs key reading) = (key.stream ≡ stream) × (key.day ≡ day)

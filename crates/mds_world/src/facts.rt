@@ -55,11 +55,12 @@ impl Ord for StreamDay {
     }
 }
 
-/// The head of a known day: the length of its intervals, and its unit.
+/// The head of a known day under an update: the length that its intervals have there, and the unit of the day.
 #[derive(Clone, Copy)]
 pub struct Head {
     pub stream: Stream,
     pub day: Day,
+    pub update: Moment,
     pub length: Length,
     pub unit: Unit,
 }

@@ -1,16 +1,17 @@
 //! Laws of the World. The functions do nothing.
 
-ghost use Rattle.std.specs.Prelude.{◌≡◌, ◌↔◌, ◌+◌, ◌++◌, ℕ, List};
+ghost use Rattle.std.specs.Prelude.{◌≡◌, ◌↔◌, ◌⊎◌, ◌+◌, ◌++◌, ℕ, List};
 ghost use Rattle.mds_names.specs.declared.stream.Stream.{Stream};
 ghost use Rattle.mds_marks.specs.Reading.{ReadingValue};
 ghost use Rattle.mds_terms.specs.Details.{DetailsValue};
 ghost use Rattle.mds_statements.specs.Statements.{Statement};
-ghost use Rattle.mds_world.specs.Current.{DetailsComeFrom, HasSameDetails, IsCurrentDetails, IsNearestDetails};
+ghost use Rattle.mds_world.specs.Current.{DetailsComeFrom, HasSameDetails, IsCurrentDetails, IsDayReading, IsForm, IsLatest, IsNearestDetails};
 ghost use Rattle.mds_world.specs.declared.facts.Detail.{Detail as DetailValue};
+ghost use Rattle.mds_world.specs.declared.facts.Head.{Head as HeadValue};
 ghost use Rattle.mds_world.specs.Facts.{Fact};
 ghost use Rattle.mds_world.specs.Facts.Fact.{DetailIs};
 ghost use Rattle.mds_world.specs.Sets.{◌∈◌};
-ghost use Rattle.mds_world.specs.World.{World, Agrees, IsCurrent, union};
+ghost use Rattle.mds_world.specs.World.{World, Agrees, IsCurrent, IsKnownDay, IsLawful, union};
 ghost use Rattle.mds_world.specs.Counts.{counted, added_by, known_by};
 ghost use Rattle.mds_world.specs.Stated.{stated};
 
@@ -42,6 +43,21 @@ pub fn one_current()
         (reading another : ReadingValue) → Agrees w
         → IsCurrent w stream day length interval update reading
         → IsCurrent w stream day length interval other another → (update ≡ other) × (reading ≡ another) }
+{}
+
+/// A known day has one head that decides its form, and its update is the greatest among the day's current readings. Each interval
+/// has one reading that the day shows.
+pub fn one_form()
+    ensures some { (w : World) (stream : Stream) (day : ℕ)
+        → ((head : HeadValue) × IsForm w stream day head) ⊎ (IsKnownDay w stream day → ⊥) }
+    ensures one { (w : World) (stream : Stream) (day : ℕ) (a b : HeadValue) → Agrees w → IsForm w stream day a
+        → IsForm w stream day b → a ≡ b }
+    ensures latest { (w : World) (stream : Stream) (day : ℕ) (head : HeadValue) → IsLawful w → IsForm w stream day head
+        → IsLatest w stream day head.length head.update }
+    ensures read { (w : World) (stream : Stream) (day interval : ℕ)
+        → (r : ReadingValue) × IsDayReading w stream day interval r }
+    ensures once { (w : World) (stream : Stream) (day interval : ℕ) (r q : ReadingValue) → Agrees w
+        → IsDayReading w stream day interval r → IsDayReading w stream day interval q → r ≡ q }
 {}
 
 /// A part of a World that agrees agrees as well.

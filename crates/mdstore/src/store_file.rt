@@ -53,7 +53,7 @@ pub(crate) fn in_store<T: Task + Drop>(rt: &HostRuntime, path: &str, task: T) ->
     in_file(rt, path, Adopt { task })
 }
 
-/// Takes the store of a path, which isn't made where there is none, to schema 3. A store of that is left as it is.
+/// Takes the store of a path, which isn't made where there is none, to schema 4. A store of that is left as it is.
 pub(crate) fn migrate_store(rt: &HostRuntime, path: &str) -> Outcome {
     in_file(rt, path, Migrate)
 }
@@ -127,7 +127,7 @@ impl<T: Task + Drop> DatabaseTask for Adopt<T> {
     }
 }
 
-/// To take the store that it is to schema 3.
+/// To take the store that it is to schema 4.
 #[derive(Drop)]
 struct Migrate;
 

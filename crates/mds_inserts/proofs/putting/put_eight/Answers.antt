@@ -3,7 +3,7 @@ use Rattle.std.proofs.lemmas.Result.{err_from_is_err_and}
 use Rattle.std.specs.List.{flat_map}
 use Rattle.sqlite.specs.Held.{state}
 use Rattle.sqlite.specs.Values.{bound}
-use Rattle.mds_tables.specs.Cells.{head_cells}
+use Rattle.mds_tables.specs.Cells.{unit_cells}
 use Rattle.mds_tables.proofs.CallLemmas.{still}
 use Rattle.mds_inserts.proofs.ChangeLemmas.{rows_fail, rows_put}
 use Rattle.mds_inserts.proofs.HeadLemmas.{fails_heads, puts_heads, takes_heads}
@@ -15,7 +15,7 @@ eight_cells-cells-requires g c = c.type_inv.heads
 pub returns-in_err-execute-clause-puts : goal.returns-in_err-execute-clause-puts
 returns-in_err-execute-clause-puts g c more =
     let p = err_from_is_err_and c.from_residual.result c.from_residual.ensures.1 in
-    let given : bound c.as_flattened.result.now ≡ flat_map head_cells c.args.heads.now =
+    let given : bound c.as_flattened.result.now ≡ flat_map unit_cells c.args.heads.now =
     ap bound c.as_flattened.ensures.value ∙ c.eight_cells-cells.ensures in
     rw (p.1, p.2)
     (rows_fail _ _ c.execute.result (λ over. ap (state g.S.Store) (c.execute.ensures.ended over).1) c.execute.ensures.runs c.execute.ensures.survives
@@ -24,7 +24,7 @@ returns-in_err-execute-clause-puts g c more =
 
 pub returns-clause-puts : goal.returns-clause-puts
 returns-clause-puts g c more =
-    let given : bound c.as_flattened.result.now ≡ flat_map head_cells c.args.heads.now =
+    let given : bound c.as_flattened.result.now ≡ flat_map unit_cells c.args.heads.now =
     ap bound c.as_flattened.ensures.value ∙ c.eight_cells-cells.ensures in
     rows_put _ _ c.execute.result (λ over. ap (state g.S.Store) (c.execute.ensures.ended over).1) c.execute.ensures.runs c.execute.ensures.survives
     (puts_heads more _ _ c.args.heads.now c.type_inv.heads c.in_ok-execute.field-0 c.units_read_back.ensures

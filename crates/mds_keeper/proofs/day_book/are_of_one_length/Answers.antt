@@ -1,19 +1,10 @@
 use Rattle.std.proofs.Common.{◌≡◌, ◌∙◌, ℕ, arith, rules, sym}
 use Rattle.mds_keeper.specs.declared.day_book.Version.{Version}
-use Rattle.mds_keeper.proofs.Rows.{all_more, all_so, row_member}
+use Rattle.mds_keeper.proofs.Rows.{all_more, all_so}
 use Rattle.mds_keeper.proofs.day_book.are_of_one_length.Goals as goal
 
 pub loop-row-init : goal.loop-row-init
 loop-row-init c = λ k row below is. absurd (omega arith)
-
-pub returns-then-ne : goal.returns-then-ne
-returns-then-ne c = (
-  c.row-item.result,
-  c.first-item.result,
-  row_member _ _ _ c.loop-row-test.true c.row-item.is,
-  row_member _ 0 _ (omega (arith, c.in-len1-up.len_at_least)) c.first-item.is,
-  search (rules, c.if-ne.true, c.ne.ensures),
-)
 
 pub loop-row-preserved : goal.loop-row-preserved
 loop-row-preserved c =
@@ -21,7 +12,7 @@ loop-row-preserved c =
     (search (rules, c.if-ne.false, c.ne.ensures)) c.loop-row.invariant
 
 pub returns : goal.returns
-returns c = λ a b m n.
+returns c = λ told a b m n e.
     let all = all_so (λ (row : ℕ × Version). row.1.length ≡ c.first-item.result.1.length) c.args.rows.now c.loop-row.row-index
     c.loop-row-test.false c.loop-row.invariant in
     all a m ∙ sym (all b n)

@@ -1,11 +1,16 @@
-use Rattle.std.proofs.Common.{arith, refl}
-use Rattle.mds_keeper.proofs.BookFacts.{fits_row}
-use Rattle.mds_keeper.proofs.BooksMade.{form_of_rows}
-use Rattle.mds_keeper.proofs.Rows.{row_member}
+use Rattle.std.proofs.Common.{sym, ◌∙◌}
+use Rattle.mds_keeper.proofs.BooksMade.{form_of_length, some_length}
 use Rattle.mds_keeper.proofs.day_book.form_of.Goals as goal
+
+pub returns-in_err-length-clause-form : goal.returns-in_err-length-clause-form
+returns-in_err-length-clause-form c =
+    absurd (some_length c.args.rows.now c.in_ok-update.update (sym c.in_ok-update.was ∙ c.greatest_update.ensures) c.in_err-length.ensures)
+
+pub returns-in_err-length-clause-unit : goal.returns-in_err-length-clause-unit
+returns-in_err-length-clause-unit c =
+    absurd (some_length c.args.rows.now c.in_ok-update.update (sym c.in_ok-update.was ∙ c.greatest_update.ensures) c.in_err-length.ensures)
 
 pub returns-clause-form : goal.returns-clause-form
 returns-clause-form c =
-    let m = row_member c.args.rows.now 0 c.first-item.result (omega (arith, c.in-len1-up.len_at_least)) c.first-item.is in
-    let fits = fits_row c.args.unit c.args.rows.now c.requires c.first-item.result m in
-    form_of_rows c.args.rows.now c.first-item.result m (c.first-item.result.1.length, fits.0) fits.2 refl
+    form_of_length c.args.rows.now c.in_ok-update.update (sym c.in_ok-update.was ∙ c.greatest_update.ensures)
+    (c.in_ok-length.length, c.in_ok-unit.unit) c.in_ok-length.ensures

@@ -1,5 +1,4 @@
-use Rattle.std.proofs.Common.{◌≢◌, ℕ, arith, refl, rules, subst, sym}
-use Rattle.mds_world.specs.Lists.{Member}
+use Rattle.std.proofs.Common.{◌≢◌, ℕ, arith, refl, rules}
 use Rattle.mds_keeper.specs.declared.day_book.Version.{Version}
 use Rattle.mds_keeper.proofs.Rows.{all_more, all_so, row_member}
 use Rattle.mds_keeper.proofs.day_book.length_in.Goals as goal
@@ -8,9 +7,9 @@ pub loop-row-init : goal.loop-row-init
 loop-row-init c = λ k row below is. absurd (omega arith)
 
 pub returns-then-eq : goal.returns-then-eq
-returns-then-eq c = λ book is. (
+returns-then-eq c = (
   c.row-item.result,
-  subst (Member c.row-item.result) (sym is) (row_member _ _ _ c.loop-row-test.true c.row-item.is),
+  row_member _ _ _ c.loop-row-test.true c.row-item.is,
   search (rules, c.if-eq.true, c.eq.ensures),
   refl,
 )
@@ -21,6 +20,6 @@ loop-row-preserved c =
     (search (rules, c.if-eq.false, c.eq.ensures)) c.loop-row.invariant
 
 pub returns : goal.returns
-returns c = λ book is row m.
+returns c =
     all_so (λ (row : ℕ × Version). row.1.update ≢ c.args.update) c.args.rows.now c.loop-row.row-index c.loop-row-test.false
-    c.loop-row.invariant row (subst (Member row) is m)
+    c.loop-row.invariant

@@ -1,4 +1,4 @@
-use Rattle.std.proofs.Common.{◌∙◌, refl, sym}
+use Rattle.std.proofs.Common.{refl, sym}
 use Rattle.mds_memory.proofs.Changed.{holds_kept, holds_none}
 use Rattle.mds_memory.proofs.stored_days.kept_rows.Goals as goal
 
@@ -9,4 +9,4 @@ returns-in_default c =
 pub returns : goal.returns
 returns c =
     holds_kept c.args.days.now c.args.place.now c.in-Some.book.now _ c.requires (sym c.in-Some.ensures.value)
-    (c.unit_in.ensures ∙ c.form.ensures.unit) c.in_ok-copied_rows.ensures
+    c.unit.ensures c.in_ok-copied_rows.ensures

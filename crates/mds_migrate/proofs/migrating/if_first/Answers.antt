@@ -73,7 +73,7 @@ returns-in-Ok-false-clause-err g c clean =
     let other : ¬ (versions_said old.committed.trees ≡ pos 1 ∷ []) = let it = asked.found clean held in search rules in
     let none = none_of_1 old.now c.requires.schema
     (isnt_seen old new (λ clean. asked.kept clean held) (asked.survives held) (λ trees. versions_said trees ≡ pos 1 ∷ []) clean c.requires.settled other (asked.open clean held).is_open) in
-    (asked.kept clean held, none.0, none.1, none.2)
+    (asked.kept clean held, none.0, none.1, none.2, none.3)
 
 pub returns-in-Ok-false-clause-mode : goal.returns-in-Ok-false-clause-mode
 returns-in-Ok-false-clause-mode g c = (c.is_version.ensures.answers rows_layout).mode

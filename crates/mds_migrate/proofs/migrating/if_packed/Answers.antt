@@ -1,4 +1,4 @@
-use Rattle.std.proofs.Common.{IsTrue, inr, rules}
+use Rattle.std.proofs.Common.{IsTrue, inl, inr, rules}
 use Rattle.sqlite.specs.Held.{state}
 use Rattle.sqlite.specs.State.{HasCleanDisk, KeepsCommit}
 use Rattle.mds_tables.specs.Stores.{HoldsTablesOf}
@@ -39,7 +39,7 @@ returns-in-Ok-true-clause-done g c =
     let kept : HasCleanDisk mid → KeepsCommit old mid = λ clean. asked.kept clean (held g at) in
     let one = asked.survives (held g at) in
     let still = holds_still dating old mid kept one (store g at) in
-    answered_since dating old mid kept one (store g at) new (λ it. inr it) (c.take_step.ensures.survives still) c.take_step.result c.take_step.ensures.done
+    answered_since dating old mid kept one (store g at) new (λ it. inr (inl it)) (c.take_step.ensures.survives still) c.take_step.result c.take_step.ensures.done
 
 pub returns-in-Ok-true-clause-err : goal.returns-in-Ok-true-clause-err
 returns-in-Ok-true-clause-err g c =
@@ -63,7 +63,7 @@ returns-in-Ok-true-clause-survives g c =
     let kept : HasCleanDisk mid → KeepsCommit old mid = λ clean. asked.kept clean (held g at) in
     let one = asked.survives (held g at) in
     let still = holds_still dating old mid kept one (store g at) in
-    leaves_since dating old mid kept one (store g at) (LeavesMigrated old) (λ left it. inr it) new (c.take_step.ensures.survives still)
+    leaves_since dating old mid kept one (store g at) (LeavesMigrated old) (λ left it. inr (inl it)) new (c.take_step.ensures.survives still)
 
 pub returns-in-Ok-false-clause-err : goal.returns-in-Ok-false-clause-err
 returns-in-Ok-false-clause-err g c clean =
@@ -74,7 +74,7 @@ returns-in-Ok-false-clause-err g c clean =
     let other : ¬ ArePacked old.committed.trees = let it = asked.found clean held in search rules in
     let none = none_of_2 old.now c.requires.schema
     (isnt_seen old new (λ clean. asked.kept clean held) (asked.survives held) ArePacked clean c.requires.settled other (asked.open clean held).is_open) in
-    (asked.kept clean held, none.0, none.1, none.2)
+    (asked.kept clean held, none.0, none.1, none.2, none.3)
 
 pub returns-in-Ok-false-clause-mode : goal.returns-in-Ok-false-clause-mode
 returns-in-Ok-false-clause-mode g c = c.are_packed.ensures.answers.mode

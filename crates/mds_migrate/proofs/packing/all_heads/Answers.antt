@@ -4,12 +4,12 @@ use Rattle.mds_tables.specs.Tables.{head_columns, head_table, head_tree, schema_
 use Rattle.mds_selects.proofs.QueryLemmas.{head_typed}
 use Rattle.mds_pack_rows.specs.PackTables.{packs_then}
 use Rattle.mds_pack_rows.proofs.AskLemmas.{fails_kept, finds_there, shown_kept, shown_on}
-use Rattle.mds_migrate.proofs.PackingTexts.{by_stream, select_heads, select_heads_is, select_heads_plain}
+use Rattle.mds_migrate.proofs.PackingTexts.{by_stream_day, select_heads, select_heads_is, select_heads_plain}
 use Rattle.mds_migrate.proofs.packing.all_heads.Goals as goal
 
 pub returns-in-Ok-clause-ok : goal.returns-in-Ok-clause-ok
 returns-in-Ok-clause-ok g c clean =
-    finds_there select_heads head_tree head_columns _ select_heads_plain (λ db. refl) by_stream [] select_heads_is
+    finds_there select_heads head_tree head_columns _ select_heads_plain (λ db. refl) by_stream_day [] select_heads_is
     head_table.columns tt (λ rest. head_typed (packs_then rest))
     (state g.S.Store c.args.tx.now.conn.now) (state g.S.Store c.query_all.new.self.conn.now) c.in-Ok.rows.items
     (rw c.in-Ok.is at (c.query_all.ensures.ok clean))

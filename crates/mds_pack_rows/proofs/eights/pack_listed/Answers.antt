@@ -9,7 +9,7 @@ use Rattle.mds_pack_rows.proofs.eights.pack_listed.Goals as goal
 pub returns : goal.returns
 returns c =
     let rows = c.args.rows.now in
-    let update = c.in-Some.update in
+    let update = c.in-Some.first.now.1.update in
     let readings = c.in-Some-2.readings.items in
     let body = c.in_ok-body.body.items in
     let some : IsTrue (any_held readings) = search rules in

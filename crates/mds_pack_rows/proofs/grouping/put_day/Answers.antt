@@ -1,6 +1,6 @@
-use Rattle.std.proofs.Common.{◌≡◌, ap, rules, sym, ◌∙◌}
+use Rattle.std.proofs.Common.{ap, sym, ◌∙◌}
 use Rattle.sqlite.specs.Held.{state}
-use Rattle.mds_keeper.specs.Content.{rows_of, whole_rows}
+use Rattle.mds_keeper.specs.Content.{rows_of}
 use Rattle.mds_pack_rows.proofs.PutLemmas.{puts_rows}
 use Rattle.mds_pack_rows.proofs.grouping.put_day.Goals as goal
 
@@ -9,8 +9,7 @@ returns-in-Each-clause-ok g c =
     puts_rows c.put_listed.result (state g.S.Store c.args.tx.now.conn.now) (state g.S.Store c.put_listed.new.tx.conn.now) c.args.added.now
     c.as_slice.result.now (ap rows_of c.in-Each.is ∙ sym c.as_slice.ensures.value) c.put_listed.ensures.ok
 
-pub returns-else-ne-clause-ok : goal.returns-else-ne-clause-ok
-returns-else-ne-clause-ok g c =
-    let same : c.in-Whole.of_all ≡ c.args.length = search rules in
+pub returns-in-Whole-clause-ok : goal.returns-in-Whole-clause-ok
+returns-in-Whole-clause-ok g c =
     puts_rows c.put_whole.result (state g.S.Store c.args.tx.now.conn.now) (state g.S.Store c.put_whole.new.tx.conn.now) c.args.added.now
-    _ (ap rows_of c.in-Whole.is ∙ ap (λ minutes. whole_rows minutes c.in-Whole.update 1 c.in-Whole.readings) same) c.put_whole.ensures.ok
+    _ (ap rows_of c.in-Whole.is) c.put_whole.ensures.ok

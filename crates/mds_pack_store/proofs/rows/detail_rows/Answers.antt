@@ -3,8 +3,8 @@ use Rattle.sqlite.specs.Held.{state}
 use Rattle.mds_tables.specs.Tables.{detail_tree}
 use Rattle.mds_selects.proofs.QueryCauses.{why}
 use Rattle.mds_selects.proofs.QueryLemmas.{finds_every, queried}
-use Rattle.mds_pack_store.specs.PackRanges.{detail_moment}
-use Rattle.mds_pack_store.proofs.RangeTexts.{select_moments, select_moments_cut, select_moments_is, select_moments_plain, select_moments_whole}
+use Rattle.mds_pack_store.specs.Shown.{detail_moment}
+use Rattle.mds_pack_store.proofs.RowTexts.{select_moments, select_moments_cut, select_moments_is, select_moments_plain, select_moments_whole}
 use Rattle.mds_pack_store.proofs.rows.detail_rows.Goals as goal
 
 pub returns-clause-asked : goal.returns-clause-asked

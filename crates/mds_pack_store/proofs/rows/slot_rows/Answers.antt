@@ -3,8 +3,8 @@ use Rattle.sqlite.specs.Held.{state}
 use Rattle.mds_tables.specs.Tables.{version_tree}
 use Rattle.mds_selects.proofs.QueryCauses.{why}
 use Rattle.mds_selects.proofs.QueryLemmas.{finds_every, queried}
-use Rattle.mds_pack_store.specs.PackRanges.{version_slot}
-use Rattle.mds_pack_store.proofs.RangeTexts.{select_slots, select_slots_cut, select_slots_is, select_slots_plain, select_slots_whole}
+use Rattle.mds_pack_store.specs.Shown.{version_slot}
+use Rattle.mds_pack_store.proofs.RowTexts.{select_slots, select_slots_cut, select_slots_is, select_slots_plain, select_slots_whole}
 use Rattle.mds_pack_store.proofs.rows.slot_rows.Goals as goal
 
 pub returns-clause-asked : goal.returns-clause-asked

@@ -4,7 +4,7 @@ use Rattle.sqlite.specs.Held.{state}
 use Rattle.mds_tables.proofs.CauseLemmas.{store_fails}
 use Rattle.mds_selects.proofs.Asked.{and_then, answers, steady, unanswered, why_failed}
 use Rattle.mds_tables.specs.Tables.{version_tree}
-use Rattle.mds_pack_store.specs.PackRanges.{version_slot}
+use Rattle.mds_pack_store.specs.Shown.{version_slot}
 use Rattle.mds_pack_store.proofs.Adopting.{shows_none}
 use Rattle.mds_pack_store.proofs.starting.is_unversioned.Goals as goal
 

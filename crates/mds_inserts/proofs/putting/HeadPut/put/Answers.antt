@@ -12,11 +12,11 @@ returns-in_err-execute-clause-puts g c more =
     rw (p.1, p.2)
     (rows_fail _ _ c.execute.result (λ over. ap (state g.S.Store) (c.execute.ensures.ended over).1) c.execute.ensures.runs c.execute.ensures.survives
     (λ clean inside has. fails_head more _ _ c.args.self.now _ has
-    (rw (c.head_cells-cells.ensures) at (c.in_err-execute.ensures.runs clean inside))))
+    (rw (c.unit_cells-cells.ensures) at (c.in_err-execute.ensures.runs clean inside))))
 
 pub returns-clause-puts : goal.returns-clause-puts
 returns-clause-puts g c more =
     rows_put _ _ c.execute.result (λ over. ap (state g.S.Store) (c.execute.ensures.ended over).1) c.execute.ensures.runs c.execute.ensures.survives
     (puts_head more _ _ c.args.self.now c.in_ok-execute.field-0 (c.units_read_back.ensures _)
-    (λ clean. rw (c.head_cells-cells.ensures) at (c.in_ok-execute.ensures.runs clean (still _ _ _ _ c.execute.ensures.ended c.in_ok-execute.was))))
-    (λ clean has. takes_head more _ _ c.args.self.now c.in_ok-execute.field-0 has (rw (c.head_cells-cells.ensures) at (c.in_ok-execute.ensures.runs clean (still _ _ _ _ c.execute.ensures.ended c.in_ok-execute.was))))
+    (λ clean. rw (c.unit_cells-cells.ensures) at (c.in_ok-execute.ensures.runs clean (still _ _ _ _ c.execute.ensures.ended c.in_ok-execute.was))))
+    (λ clean has. takes_head more _ _ c.args.self.now c.in_ok-execute.field-0 has (rw (c.unit_cells-cells.ensures) at (c.in_ok-execute.ensures.runs clean (still _ _ _ _ c.execute.ensures.ended c.in_ok-execute.was))))

@@ -12,7 +12,7 @@ of_rows c = record {
 
 of_whole : (c : After-lent_at) → IsCurrentOf c.args.self.now c.in_ok-length.length c.args.interval c.lent_at.result
 of_whole c =
-    current_of_whole c.args.self.now _ _ _ (sym c.in-Whole.ensures.value) c.is_lawful.ensures c.in_ok-length.length c.in_ok-length.field-0-1 c.in_ok-length.ensures.some
+    current_of_whole c.args.self.now _ _ _ (sym c.in-Whole.ensures.value) c.in_ok-length.length c.in_ok-length.field-0-1 c.in_ok-length.ensures.some
     c.args.interval _ (c.lent_at.ensures c.args.self.now (sym c.in-Whole.ensures.value))
 
 pub returns-in-Each-clause-some : goal.returns-in-Each-clause-some

@@ -1,9 +1,11 @@
-use Rattle.std.proofs.Common.{rules, sym}
+use Rattle.std.proofs.Common.{rules, subst, sym}
+use Rattle.mds_keeper.specs.BookRows.{IsLengthIn}
 use Rattle.mds_keeper.proofs.WholeDays.{none_under, one_under}
 use Rattle.mds_keeper.proofs.day_book.DayBook.length_under.Goals as goal
 
 pub returns-in-Each : goal.returns-in-Each
-returns-in-Each c = c.length_in.ensures c.args.self.now (sym c.in-Each.ensures.value)
+returns-in-Each c =
+    subst (λ rows. IsLengthIn rows c.args.update c.length_in.result) c.in-Each.ensures.value c.length_in.ensures
 
 pub returns-then-eq : goal.returns-then-eq
 returns-then-eq c =

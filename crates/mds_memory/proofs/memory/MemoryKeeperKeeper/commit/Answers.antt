@@ -1,8 +1,8 @@
 use Rattle.std.proofs.Common.{◌≡◌, ◌++◌, ◌∙◌, ap, map, subst, sym}
 use Rattle.std.specs.FinSet as set
 use Rattle.mds_world.specs.Facts.Fact.{HeadIs}
-use Rattle.mds_world.specs.World.{Agrees, IsLawful, union}
-use Rattle.mds_keeper.specs.Content.{content, job_fact, period_fact, version_fact, versions_of}
+use Rattle.mds_world.specs.World.{Agrees, IsLawful, World, union}
+use Rattle.mds_keeper.specs.Content.{content, heads_of, job_fact, period_fact, version_fact, versions_of}
 use Rattle.mds_memory.specs.Stored.{IsChange, days_world, stored_world}
 use Rattle.mds_memory.specs.StoredDetails.{all_details}
 use Rattle.mds_memory.proofs.Kept.{committed, details_absent, details_apart, lawful_days, lawful_jobs, notes_absent, notes_apart, periods_agree}
@@ -12,8 +12,9 @@ use Rattle.mds_memory.proofs.memory.MemoryKeeperKeeper.commit.Goals.{After-drop-
 
 pub changed_days-requires-clause-lawful : goal.changed_days-requires-clause-lawful
 changed_days-requires-clause-lawful c =
-    lawful_days c.self.inside.days c.self.inside.details c.self.inside.notes c.self.inside.jobs c.self.inside.periods c.args.additions
-    (rw c.self.view_is (c.requires.lawful tt (rw c.self.view_is at c.self.invariant.lawful)))
+    rw c.in_ok-all_heads.ensures
+    (lawful_days c.self.inside.days c.self.inside.details c.self.inside.notes c.self.inside.jobs c.self.inside.periods c.args.additions
+    (rw c.self.view_is (c.requires.lawful tt (rw c.self.view_is at c.self.invariant.lawful))))
 
 pub insert_both-requires-clause-details : goal.insert_both-requires-clause-details
 insert_both-requires-clause-details c =
@@ -49,14 +50,15 @@ made : (c : After-drop-meters-2)
     → stored_world c.put_days.new.days c.insert_both.new.details c.insert_both.new.notes c.put_jobs.new.jobs c.put_periods.new.periods
     ≡ union (stored_world c.self.inside.days c.self.inside.details c.self.inside.notes c.self.inside.jobs c.self.inside.periods) (content c.args.additions)
 made c =
-    let change = c.in_ok-changed.ensures in
-    let here : IsChange (days_world c.make_room.new.days) (set.from_list (map HeadIs c.args.additions.heads.items ++ map version_fact (versions_of c.args.additions.days.items))) c.in_ok-changed.changed =
-    subst (λ w. IsChange w (set.from_list (map HeadIs c.args.additions.heads.items ++ map version_fact (versions_of c.args.additions.days.items))) c.in_ok-changed.changed)
-    (sym c.make_room.ensures.same) change.1 in
+    let more : World = set.from_list (map HeadIs (heads_of c.args.additions) ++ map version_fact (versions_of c.args.additions.days.items)) in
+    let change : IsChange (days_world c.self.inside.days) more c.in_ok-changed.changed =
+    rw c.in_ok-all_heads.ensures at c.in_ok-changed.ensures.1 in
+    let here : IsChange (days_world c.make_room.new.days) more c.in_ok-changed.changed =
+    subst (λ w. IsChange w more c.in_ok-changed.changed) (sym c.make_room.ensures.same) change in
     committed c.self.inside.days c.put_days.new.days c.self.inside.details c.insert_both.new.details c.self.inside.notes c.insert_both.new.notes c.self.inside.jobs c.put_jobs.new.jobs c.self.inside.periods c.put_periods.new.periods c.args.additions
     (all_details c.in_ok-meters.meters.items) c.in_ok-notes.notes.items
     (c.put_days.ensures.put _ here
-    ∙ ap (λ w. union w (set.from_list (map HeadIs c.args.additions.heads.items ++ map version_fact (versions_of c.args.additions.days.items)))) c.make_room.ensures.same)
+    ∙ ap (λ w. union w more) c.make_room.ensures.same)
     (rw c.deref-3.ensures.value at c.in_ok-insert_both.ensures.ok_details)
     c.in_ok-meters.ensures
     (rw c.deref-4.ensures.value at c.in_ok-insert_both.ensures.ok_notes)

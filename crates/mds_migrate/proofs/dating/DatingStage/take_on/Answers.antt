@@ -1,6 +1,6 @@
 use Rattle.sqlite.specs.Held.{state}
 use Rattle.mds_pack_rows.specs.Putting.{GoesOn}
-use Rattle.mds_migrate.proofs.DatingLemmas.{on_both}
+use Rattle.mds_migrate.proofs.Steps.{on_both}
 use Rattle.mds_migrate.proofs.DatingSteps.{keeps_four, keeps_three, takes_on}
 use Rattle.mds_migrate.proofs.dating.DatingStage.take_on.Goals as goal
 

@@ -1,0 +1,17 @@
+pub mod BookLemmas
+pub mod CommitLemmas
+pub mod CutLemmas
+pub mod DayLemmas
+pub mod FormLemmas
+pub mod FormNamed
+pub mod FormTexts
+pub mod InOrder
+pub mod KeepLemmas
+pub mod MakingText
+pub mod OwnLemmas
+pub mod PutLemmas
+pub mod RangeLemmas
+pub mod ReferenceLemmas
+pub mod StreamLemmas
+pub mod UnitAsking
+pub mod UnitLemmas

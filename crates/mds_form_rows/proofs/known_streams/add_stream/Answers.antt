@@ -1,0 +1,12 @@
+use Rattle.std.proofs.lemmas.Result.{on_ok_weaker}
+use Rattle.mds_selects.proofs.Adding.{adds_one}
+use Rattle.mds_form_rows.specs.StreamRows.{SaysStream}
+use Rattle.mds_form_rows.proofs.StreamLemmas.{one_stream, stream_exact}
+use Rattle.mds_form_rows.proofs.known_streams.add_stream.Goals as goal
+
+pub returns : goal.returns
+returns c =
+    on_ok_weaker c.put.result
+    (λ h. adds_one SaysStream c.args.found.now.keys c.put.new.found.keys c.args.row.now c.in-Some.stream h c.in-Some.ensures.some
+    (λ q s. one_stream c.args.row.now q c.in-Some.stream s c.in-Some.ensures.some))
+    (c.put.ensures stream_exact)

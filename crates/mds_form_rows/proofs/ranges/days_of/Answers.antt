@@ -1,0 +1,22 @@
+use Rattle.std.proofs.Common.{map, arith}
+use Rattle.sqlite.specs.Held.{state}
+use Rattle.mds_selects.proofs.Asked.{and_then, answers, steady, tables_held, with_both}
+use Rattle.mds_pack_rows.specs.FormLayout.{forms_layout}
+use Rattle.mds_form_rows.specs.Cuts.{AreCut, DaysAscend, day_unit}
+use Rattle.mds_form_rows.proofs.CutLemmas.{are_days}
+use Rattle.mds_form_rows.proofs.ranges.days_of.Goals as goal
+
+pub returns : goal.returns
+returns g c =
+    let heads = c.in-Ok-head_range_rows.heads.items in
+    let forms = c.in-Ok-form_range_rows.forms.items in
+    let packs = c.in-Ok-pack_range_rows.packs.items in
+    let ready = steady forms_layout c.in-Ok.ensures.ok c.ready.ensures.survives c.ready.ensures.mode in
+    let asked = and_then (and_then (and_then ready c.in-Ok-head_range_rows.ensures) c.in-Ok-form_range_rows.ensures) c.in-Ok-pack_range_rows.ensures in
+    answers (tables_held forms_layout (state g.S.Store c.args.conn.now)) asked c.all_books.result
+    (λ known. with_both c.all_books.result (λ books. AreCut c.args.stream.now (map day_unit heads) forms packs books.items)
+    (λ _. DaysAscend (map day_unit heads)) _
+    (λ books. are_days c.args.stream.now c.args.first c.args.last (omega (arith, c.number.ensures.last)) _ known.0.0.0 heads forms packs
+    known.0.0.1 known.0.1 known.1 books.items)
+    (rw (c.deref.ensures.value, c.deref-2.ensures.value, c.deref-3.ensures.value) at c.all_books.ensures.each)
+    (rw c.deref.ensures.value at c.all_books.ensures.ascending))

@@ -1,0 +1,29 @@
+use Rattle.std.proofs.Common.{IsTrue, [], ◌∷◌, arith, rules, subst, take}
+use Rattle.std.proofs.lemmas.Result.{err_from_is_err_and}
+use Rattle.mds_inserts.proofs.PutLemmas.{one_more}
+use Rattle.mds_form_rows.specs.FormPutting.{SayUnits}
+use Rattle.mds_form_rows.proofs.UnitAsking.{asked_no, asked_none, asked_so, asked_then, like_itself, say_both, say_like}
+use Rattle.mds_form_rows.proofs.units.have_each.Goals as goal
+
+pub returns-in_err-is_its-clause-asks : goal.returns-in_err-is_its-clause-asks
+returns-in_err-is_its-clause-asks g c =
+    let p = err_from_is_err_and c.from_residual.result c.from_residual.ensures.1 in
+    rw (p.1, p.2) (asked_none _ (asked_then c.loop-head.invariant.asked (λ _ trees _ says. says) c.in_err-is_its.ensures.asks))
+
+pub returns-then-not-is_its-clause-asks : goal.returns-then-not-is_its-clause-asks
+returns-then-not-is_its-clause-asks g c =
+    asked_no (asked_then c.loop-head.invariant.asked (λ _ trees _ says. says) c.in_ok-is_its.ensures.asks) _
+
+pub loop-head-preserved : goal.loop-head-preserved
+loop-head-preserved g c =
+    let heads = c.args.heads.now in
+    let at = c.loop-head.head-index in
+    let head = c.head-item.result in
+    let is_its : IsTrue c.in_ok-is_its.is_its = search rules in
+    record {
+      same = search rules;
+      asked = asked_then c.loop-head.invariant.asked
+          (λ _ trees before here. subst (λ hs. SayUnits hs trees) (one_more heads at head (omega arith) c.head-item.is)
+          (say_both (take at heads) (head ∷ []) trees before here))
+          (asked_so c.in_ok-is_its.ensures.asks tt (λ trees says. say_like head head.day (head ∷ []) (like_itself head) trees (says is_its)));
+    }

@@ -1,0 +1,66 @@
+-- What statements on mds_form do in a transaction, and what a commit of schema 4 leaves (profile).
+use Rattle.std.specs.Prelude.{◌≡◌, List, [], map, IsTrue}
+use Rattle.sqlite.specs.State.{HasCleanDisk, State}
+use Rattle.sqlite_catalog.specs.Listing.{IsSound}
+use Rattle.sqlite_trees.specs.Tree.{Trees}
+use Rattle.sqlite_value.specs.Order.{Row}
+use Rattle.mds_world.specs.Facts.{head_at}
+use Rattle.mds_world.specs.Facts.Fact.{HeadIs}
+use Rattle.mds_world.specs.Lists.{Member}
+use Rattle.mds_world.specs.declared.facts.Head.{Head}
+use Rattle.mds_world.specs.declared.facts.StreamDay.{StreamDay}
+use Rattle.mds_keeper.specs.Content.{details_of, heads_of, version_fact, versions_of}
+use Rattle.mds_tables.specs.Cells.{detail_cells, form_cells, unit_cells}
+use Rattle.mds_tables.specs.RowFacts.{text_at, unit_named}
+use Rattle.mds_tables.specs.Stores.{Gained, Gains}
+use Rattle.mds_tables.specs.Tables.{daydetail_tree, form_tree, head_tree}
+use Rattle.mds_inserts.specs.Parts.{Part}
+use Rattle.mds_inserts.specs.Writing.{Keeps}
+use Rattle.mds_pack_rows.specs.DailyTables.{tables_3}
+use Rattle.mds_pack_rows.specs.FormLayout.{day_in, form_fact}
+use Rattle.mds_pack_rows.specs.FormTables.{schema_4}
+use Rattle.mds_pack_rows.specs.Putting.{NamesMore}
+
+-- The connection was open over the tables of schema 4, and the disk is honest up to the end.
+pub record IsThereFormed (old new : State) : Type 0 where
+  pub clean : HasCleanDisk new
+  pub is_open : IsTrue old.is_open
+  pub schema : old.now.schema ≡ schema_4
+  pub sound : IsSound schema_4 old.now.trees
+
+-- mds_form stands behind the tables of schema 3, which are as they were, and has no row. Nothing is committed.
+pub record MakesForm (old new : State) : Type 0 where
+  pub is_open : IsTrue new.is_open
+  pub schema : new.now.schema ≡ schema_4
+  pub others : Keeps old.now.trees new.now.trees tables_3
+  pub none : new.now.trees form_tree ≡ []
+  pub committed : new.committed ≡ old.committed
+  pub sound : IsSound schema_4 new.now.trees
+
+-- A head, kept as a row of mds_form. The row doesn't say its unit: in its place stands that of no text.
+abbrev pub form_part : Part Head
+form_part = record {
+  place = 10;
+  tree = form_tree;
+  cells = form_cells;
+  fact = λ h. HeadIs (head_at h.stream h.day h.update h.length (unit_named []));
+  read = form_fact [];
+}
+
+-- the day of a head
+abbrev pub day_of : Head → StreamDay
+day_of head = record { stream = head.stream; day = head.day }
+
+-- Each row of mds_head on the day of one of these heads says its unit.
+abbrev pub SayUnits : List Head → Trees → Type 0
+SayUnits heads trees =
+    (head : Head) → Member head heads → (row : Row) → Member row (trees head_tree) → day_in row ≡ day_of head → unit_named (text_at row 5) ≡ head.unit
+
+-- mds_head has a row for each new day, mds_form one for each head, mds_pack says the versions, and mds_daydetail has a row for the
+-- details of each day: all of these beside what was there.
+abbrev pub HasFormed : Gained
+HasFormed old new additions =
+    Gains head_tree (map unit_cells additions.new_days.items) old new
+    × Gains form_tree (map form_cells (heads_of additions)) old new
+    × NamesMore old new (map version_fact (versions_of additions.days.items))
+    × Gains daydetail_tree (map detail_cells (details_of additions.details.items)) old new

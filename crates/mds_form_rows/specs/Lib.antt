@@ -1,0 +1,7 @@
+pub mod Committing
+pub mod Cuts
+pub mod FormPutting
+pub mod FormRows
+pub mod Ranges
+pub mod StreamRows
+pub mod Units

@@ -1,0 +1,168 @@
+//! The book of a day, from its rows of mds_form and of mds_pack: both have one of each update, in the same order. Rows that aren't
+//! so are unavailable.
+
+ghost use Rattle.std.specs.Prelude.{◌≡◌, ◌<◌, ◌^◌, ◌++◌, ◌∷◌, [], ℕ, length as list_length, map, IfOk, IfSome, OnOk};
+ghost use Rattle.mds_names.specs.declared.stream.Stream.{Stream as StreamValue};
+ghost use Rattle.mds_keeper.specs.Books.{row_fact};
+ghost use Rattle.mds_keeper.specs.Content.{rows_of};
+ghost use Rattle.mds_tables.specs.RowFacts.{natural_at};
+ghost use Rattle.mds_pack_rows.specs.PackFacts.{facts_from, minutes_of, readings_facts};
+ghost use Rattle.mds_form_rows.specs.FormRows.{AddsRow, AreUnder, IsBookOf};
+
+use mds_keeper::{DayBook, Unavailable, Version, VersionRows};
+use mds_marks::Reading;
+use mds_pack_rows::{blob_at, has_some, unpack_for, unpack_whole};
+use mds_quantity::Unit;
+use mds_selects::{length_at, moment_at};
+use mds_terms::{Day, Length, Moment, Stream};
+use sqlite::Row;
+use std::alloc::Global;
+
+/// The book of a day with this unit. Each row of mds_form says a head of it, and each row of mds_pack the versions under one.
+pub(crate) fn book_of(
+    alloc: Global,
+    stream: &Stream,
+    day: Day,
+    unit: Unit,
+    forms: &[Row],
+    packs: &[Row],
+) -> Result<DayBook, Unavailable>
+    ensures { IfOk result (IsBookOf stream.now day unit forms.now packs.now) }
+{
+    let versions = versions_in(alloc, forms, packs)?;
+    let book = DayBook::of_rows(alloc, *stream, day, Some(unit), versions)?;
+    match book {
+        Some(book) => Ok(book),
+        None => Err(Unavailable),
+    }
+}
+
+/// The versions that rows of a day hold. Those of a whole day under one update stay as they lie.
+fn versions_in(alloc: Global, forms: &[Row], packs: &[Row]) -> Result<VersionRows, Unavailable>
+    ensures { IfOk result (λ versions. AreUnder forms.now packs.now (rows_of versions)) }
+{
+    match whole_in(alloc, forms, packs)? {
+        Some(versions) => Ok(versions),
+        None => Ok(VersionRows::Each(each_in(alloc, forms, packs)?)),
+    }
+}
+
+/// The versions of an update that is alone and has a reading of each interval, as they lie. `None` where there is no such update.
+fn whole_in(alloc: Global, forms: &[Row], packs: &[Row]) -> Result<Option<VersionRows>, Unavailable>
+    ensures { IfOk result (λ o. IfSome o (λ versions. AreUnder forms.now packs.now (rows_of versions))) }
+{
+    let [form] = forms else {
+        return Ok(None);
+    };
+    let [pack] = packs else {
+        return Ok(None);
+    };
+    let Some(head) = head_in(form, pack) else {
+        return Ok(None);
+    };
+    let (update, length) = head;
+    let Some(body) = blob_at(pack, 1) else {
+        return Ok(None);
+    };
+    let Some(readings) = unpack_whole(alloc, length, body)? else {
+        return Ok(None);
+    };
+    // For the proof: so many intervals of this length are a day, so it has one.
+    let _ = length.count();
+    Ok(Some(VersionRows::Whole(length, update, readings)))
+}
+
+/// The versions that rows of a day hold, one by one.
+fn each_in(alloc: Global, forms: &[Row], packs: &[Row]) -> Result<Vec<(u16, Version)>, Unavailable>
+    ensures { IfOk result (λ versions. AreUnder forms.now packs.now versions.items) }
+{
+    if forms.len() != packs.len() {
+        return Err(Unavailable);
+    }
+    let mut versions = Vec::new(alloc);
+    for i in 0..packs.len() {
+        add_row(alloc, &forms[i], &packs[i], &mut versions)?;
+    }
+    Ok(versions)
+}
+
+/// Adds the versions of an update. Unavailable where the rows aren't of one, or the body has no reading of this length.
+fn add_row(
+    alloc: Global,
+    form: &Row,
+    pack: &Row,
+    versions: &mut Vec<(u16, Version)>,
+) -> Result<(), Unavailable>
+    ensures { OnOk result (AddsRow form.now pack.now versions.old.items versions.new.items) }
+{
+    let Some(head) = head_in(form, pack) else {
+        return Err(Unavailable);
+    };
+    let (update, length) = head;
+    let Some(body) = blob_at(pack, 1) else {
+        return Err(Unavailable);
+    };
+    let Some(readings) = unpack_for(alloc, length, body)? else {
+        return Err(Unavailable);
+    };
+    if !has_some(readings.as_slice()) {
+        return Err(Unavailable);
+    }
+    add_held(length, update, readings, versions)
+}
+
+/// The update and the length that a row of mds_form says. `None` where the row of mds_pack is of another update.
+fn head_in(form: &Row, pack: &Row) -> Option<(Moment, Length)>
+    ensures update { IfSome result (λ head. natural_at form.now 0 ≡ head.0) }
+    ensures length { IfSome result (λ head. natural_at form.now 1 ≡ head.1) }
+    ensures pack { IfSome result (λ head. natural_at pack.now 0 ≡ head.0) }
+{
+    let update = moment_at(form, 0)?;
+    let length = length_at(form, 1)?;
+    let of_pack = moment_at(pack, 0)?;
+    if of_pack == update {
+        Some((update, length))
+    } else {
+        None
+    }
+}
+
+/// Adds a version of a length for each reading.
+fn add_held(
+    length: Length,
+    update: Moment,
+    readings: Vec<Option<Reading>>,
+    versions: &mut Vec<(u16, Version)>,
+) -> Result<(), Unavailable>
+    requires few { list_length readings.items < 2 ^ 16 }
+    requires len { minutes_of (list_length readings.items) ≡ length }
+    ensures { OnOk result ((s : StreamValue) (day : ℕ) → map (row_fact s day) versions.new.items ≡ map (row_fact s day) versions.old.items ++ readings_facts s day update readings.items) }
+{
+    let mut interval: u16 = 0;
+    for reading in readings {
+        interval += 1;
+        add_one(interval, length, update, reading, versions)?;
+    }
+    Ok(())
+}
+
+/// Adds the version of an interval of a length, if it has a reading.
+fn add_one(
+    interval: u16,
+    length: Length,
+    update: Moment,
+    reading: Option<Reading>,
+    versions: &mut Vec<(u16, Version)>,
+) -> Result<(), Unavailable>
+    ensures { OnOk result ((s : StreamValue) (day : ℕ) → map (row_fact s day) versions.new.items ≡ map (row_fact s day) versions.old.items ++ facts_from s day length update interval (reading ∷ [])) }
+{
+    if let Some(reading) = reading {
+        let version = Version {
+            update,
+            length,
+            reading,
+        };
+        versions.push((interval, version))?;
+    }
+    Ok(())
+}

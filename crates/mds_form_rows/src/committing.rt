@@ -1,0 +1,150 @@
+//! A commit of additions to a store of schema 4.
+
+ghost use Rattle.std.specs.Prelude.{◌≡◌, false, OnErr, OnOk};
+ghost use Rattle.sqlite.specs.Held.{state};
+ghost use Rattle.sqlite.specs.State.{HasCleanDisk, KeepsCommit, Survives};
+ghost use Rattle.mds_keeper.specs.Content.{heads_of};
+ghost use Rattle.mds_tables.specs.Stores.{AreRowsOf, CommitsOf, HoldsOf, LeavesAddedOf};
+ghost use Rattle.mds_inserts.specs.MadeRows.{IsRowOfJob, IsRowOfPeriod};
+ghost use Rattle.mds_inserts.specs.Writing.{LeavesWrittenOf, PutsAllOf, PutsOwnThere, PutsThere, WritesOf};
+ghost use Rattle.mds_pack_rows.specs.FormLayout.{forms_layout};
+ghost use Rattle.mds_pack_rows.specs.FormTables.{schema_4};
+ghost use Rattle.mds_form_rows.specs.Committing.{PutsDaysThere};
+ghost use Rattle.mds_form_rows.specs.FormPutting.{HasFormed, IsThereFormed, form_part};
+
+use crate::putting::put_forms;
+use crate::units::have_units;
+use mds_inserts::{JobRow, PeriodRow, put_heads, put_rest};
+use mds_keeper::{Additions, Unavailable};
+use mds_pack_rows::{put_days, put_details};
+use mds_tables::ready;
+use sqlite::{Alter, Connection, Transaction};
+use std::alloc::Global;
+
+/// Puts the rows of new days, and tests that mds_head says the unit of each head that is added. So the heads that it had keep their
+/// units.
+fn put_new_days<S: Alter>(
+    tx: &mut Transaction<'_, S>,
+    additions: &Additions,
+) -> Result<(), Unavailable>
+    ensures same_reference { tx.new.conn.ghost_name ≡ tx.old.conn.ghost_name }
+    ensures ok { OnOk result (PutsDaysThere (state S.Store tx.old.conn.now) (state S.Store tx.new.conn.now) additions.now) }
+    ensures kept { IsThereFormed (state S.Store tx.old.conn.now) (state S.Store tx.new.conn.now) → KeepsCommit (state S.Store tx.old.conn.now) (state S.Store tx.new.conn.now) }
+    ensures survives { Survives (state S.Store tx.old.conn.now) (state S.Store tx.new.conn.now) (λ _. ⊥) }
+{
+    let Ok(_) = put_heads(tx, &additions.new_days) else {
+        return Err(Unavailable);
+    };
+    have_units(tx, &additions.new_days)?;
+    have_units(tx, &additions.heads)
+}
+
+/// Puts a row for each head. Its versions are there already, since the row refers to theirs.
+fn put_all_forms<S: Alter>(
+    tx: &mut Transaction<'_, S>,
+    additions: &Additions,
+) -> Result<(), Unavailable>
+    ensures same_reference { tx.new.conn.ghost_name ≡ tx.old.conn.ghost_name }
+    ensures ok { OnOk result (PutsThere schema_4 form_part (state S.Store tx.old.conn.now) (state S.Store tx.new.conn.now) (heads_of additions.now)) }
+    ensures kept { HasCleanDisk (state S.Store tx.new.conn.now) → KeepsCommit (state S.Store tx.old.conn.now) (state S.Store tx.new.conn.now) }
+    ensures survives { Survives (state S.Store tx.old.conn.now) (state S.Store tx.new.conn.now) (λ _. ⊥) }
+{
+    put_forms(tx, &additions.new_days)?;
+    put_forms(tx, &additions.heads)
+}
+
+/// Puts heads, versions and details of days: first new days, since rows of mds_pack and mds_daydetail refer to them.
+fn put_own<S: Alter>(
+    alloc: Global,
+    tx: &mut Transaction<'_, S>,
+    additions: &Additions,
+) -> Result<(), Unavailable>
+    ensures same_reference { tx.new.conn.ghost_name ≡ tx.old.conn.ghost_name }
+    ensures ok { OnOk result (PutsOwnThere forms_layout HasFormed (state S.Store tx.old.conn.now) (state S.Store tx.new.conn.now) additions.now) }
+    ensures kept { IsThereFormed (state S.Store tx.old.conn.now) (state S.Store tx.new.conn.now) → KeepsCommit (state S.Store tx.old.conn.now) (state S.Store tx.new.conn.now) }
+    ensures survives { Survives (state S.Store tx.old.conn.now) (state S.Store tx.new.conn.now) (λ _. ⊥) }
+{
+    put_new_days(tx, additions)?;
+    put_days(
+        alloc,
+        tx,
+        &additions.new_days,
+        &additions.heads,
+        &additions.days,
+    )?;
+    put_all_forms(tx, additions)?;
+    put_details(tx, &additions.details)
+}
+
+/// Puts all of them.
+fn put_all<S: Alter>(
+    alloc: Global,
+    tx: &mut Transaction<'_, S>,
+    additions: &Additions,
+    periods: &[PeriodRow],
+    jobs: &[JobRow],
+) -> Result<(), Unavailable>
+    requires periods { AreRowsOf IsRowOfPeriod additions.now.periods.items periods.now }
+    requires jobs { AreRowsOf IsRowOfJob additions.now.jobs.items jobs.now }
+    ensures same_reference { tx.new.conn.ghost_name ≡ tx.old.conn.ghost_name }
+    ensures ok { OnOk result (PutsAllOf forms_layout HasFormed (state S.Store tx.old.conn.now) (state S.Store tx.new.conn.now) additions.now) }
+    ensures kept { IsThereFormed (state S.Store tx.old.conn.now) (state S.Store tx.new.conn.now) → KeepsCommit (state S.Store tx.old.conn.now) (state S.Store tx.new.conn.now) }
+    ensures survives { Survives (state S.Store tx.old.conn.now) (state S.Store tx.new.conn.now) (λ _. ⊥) }
+{
+    put_own(alloc, tx, additions)?;
+    match put_rest(tx, additions, periods, jobs) {
+        Ok(()) => Ok(()),
+        Err(_) => Err(Unavailable),
+    }
+}
+
+/// Puts all of them in a transaction of its own.
+fn write<S: Alter>(
+    alloc: Global,
+    conn: &mut Connection<S>,
+    additions: &Additions,
+    periods: &[PeriodRow],
+    jobs: &[JobRow],
+) -> Result<(), Unavailable>
+    requires mode { conn.old.in_transaction ≡ false }
+    requires periods { AreRowsOf IsRowOfPeriod additions.now.periods.items periods.now }
+    requires jobs { AreRowsOf IsRowOfJob additions.now.jobs.items jobs.now }
+    ensures ok { HasCleanDisk (state S.Store conn.new) → OnOk result (WritesOf forms_layout HasFormed (state S.Store conn.old) (state S.Store conn.new) additions.now) }
+    ensures err { IsThereFormed (state S.Store conn.old) (state S.Store conn.new) → OnErr result (KeepsCommit (state S.Store conn.old) (state S.Store conn.new)) }
+    ensures mode { conn.new.in_transaction ≡ false }
+    ensures survives { Survives (state S.Store conn.old) (state S.Store conn.new) (LeavesWrittenOf forms_layout HasFormed (state S.Store conn.old) additions.now) }
+{
+    let mut tx = conn.transaction();
+    put_all(alloc, &mut tx, additions, periods, jobs)?;
+    match tx.commit() {
+        Ok(()) => Ok(()),
+        Err(_) => Err(Unavailable),
+    }
+}
+
+/// Commits additions to the World that a store of schema 4 keeps: all of them, or nothing. A crash leaves what was kept, or that
+/// with all of them. For accumulations and jobs the rows are given (`period_rows`, `job_rows` of `mds_inserts`). It is unavailable,
+/// too, where mds_head says another unit of the day of a head.
+pub fn commit<S: Alter>(
+    alloc: Global,
+    conn: &mut Connection<S>,
+    additions: &Additions,
+    periods: &[PeriodRow],
+    jobs: &[JobRow],
+) -> Result<(), Unavailable>
+    requires mode { conn.old.in_transaction ≡ false }
+    requires periods { AreRowsOf IsRowOfPeriod additions.now.periods.items periods.now }
+    requires jobs { AreRowsOf IsRowOfJob additions.now.jobs.items jobs.now }
+    ensures ok { HasCleanDisk (state S.Store conn.new) → HoldsOf forms_layout (state S.Store conn.old)
+        → OnOk result (CommitsOf forms_layout HasFormed (state S.Store conn.old) (state S.Store conn.new) additions.now) }
+    ensures err { HasCleanDisk (state S.Store conn.new) → HoldsOf forms_layout (state S.Store conn.old)
+        → OnErr result (KeepsCommit (state S.Store conn.old) (state S.Store conn.new)) }
+    ensures mode { conn.new.in_transaction ≡ false }
+    ensures survives { HoldsOf forms_layout (state S.Store conn.old)
+        → Survives (state S.Store conn.old) (state S.Store conn.new) (LeavesAddedOf forms_layout HasFormed (state S.Store conn.old) additions.now) }
+{
+    let Ok(_) = ready(conn) else {
+        return Err(Unavailable);
+    };
+    write(alloc, conn, additions, periods, jobs)
+}

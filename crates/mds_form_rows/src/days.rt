@@ -1,0 +1,100 @@
+//! A day, asked of a store. A store that can't answer is unavailable (U1). So is one that holds a row that it didn't write.
+
+ghost use Rattle.std.specs.Prelude.{◌≡◌, ◌∷◌, [], false, IfOk, IfSome};
+ghost use Rattle.sqlite.specs.Held.{state};
+ghost use Rattle.sqlite_value.specs.Order.{Row as RowValue};
+ghost use Rattle.mds_quantity.specs.declared.unit.Unit.{Unit as MeasureUnit};
+ghost use Rattle.mds_keeper.specs.Books.{IsDay};
+ghost use Rattle.mds_tables.specs.Queries.{Answers};
+ghost use Rattle.mds_tables.specs.RowFacts.{text_at, unit_named};
+ghost use Rattle.mds_tables.specs.Stores.{HoldsOf};
+ghost use Rattle.mds_pack_rows.specs.FormLayout.{forms_layout, world_4};
+ghost use Rattle.mds_form_rows.specs.FormRows.{IsBookOf};
+
+use crate::books::book_of;
+use crate::statements::{form_rows, pack_rows, unit_rows};
+use mds_keeper::{DayBook, Unavailable};
+use mds_quantity::Unit;
+use mds_selects::unit_at;
+use mds_tables::ready;
+use mds_terms::{Day, Stream};
+use sqlite::{Alter, Connection, Row};
+use std::alloc::Global;
+
+/// A day of a stream with all its heads and versions. It is known where mds_form has a row of it.
+pub fn day_of<S: Alter>(
+    alloc: Global,
+    conn: &mut Connection<S>,
+    stream: &Stream,
+    day: Day,
+) -> Result<DayBook, Unavailable>
+    requires { conn.old.in_transaction ≡ false }
+    ensures book { Answers (HoldsOf forms_layout) (state S.Store conn.old) (state S.Store conn.new) result
+        (λ trees book. IsDay (world_4 trees) book) }
+    ensures of_day { IfOk result (λ book. (book.stream ≡ stream.now) × (book.day ≡ day)) }
+{
+    let Ok(_) = ready(conn) else {
+        return Err(Unavailable);
+    };
+    let Ok(forms) = form_rows(conn, stream, day) else {
+        return Err(Unavailable);
+    };
+    let Ok(packs) = pack_rows(conn, stream, day) else {
+        return Err(Unavailable);
+    };
+    // For the proof: a day's number is at most that of the last day.
+    let _ = day.number();
+    if forms.is_empty() {
+        return unknown_day(alloc, stream, day, &packs);
+    }
+    let Ok(units) = unit_rows(conn, stream, day) else {
+        return Err(Unavailable);
+    };
+    known_day(alloc, stream, day, &units, &forms, &packs)
+}
+
+/// The book of a day without a head. Unavailable where it has a row of mds_pack.
+fn unknown_day(
+    alloc: Global,
+    stream: &Stream,
+    day: Day,
+    packs: &[Row],
+) -> Result<DayBook, Unavailable>
+    ensures { IfOk result (λ book. (unit : MeasureUnit) → IsBookOf stream.now day unit [] packs.now book) }
+{
+    if !packs.is_empty() {
+        return Err(Unavailable);
+    }
+    match DayBook::new(*stream, day, None, Vec::new(alloc)) {
+        Some(book) => Ok(book),
+        None => Err(Unavailable),
+    }
+}
+
+/// The book of a day with heads, whose unit the one row of mds_head says.
+fn known_day(
+    alloc: Global,
+    stream: &Stream,
+    day: Day,
+    units: &[Row],
+    forms: &[Row],
+    packs: &[Row],
+) -> Result<DayBook, Unavailable>
+    ensures { IfOk result (λ book. (row : RowValue) × (units.now ≡ row ∷ [])
+        × IsBookOf stream.now day (unit_named (text_at row 0)) forms.now packs.now book) }
+{
+    let Some(unit) = only_unit(units) else {
+        return Err(Unavailable);
+    };
+    book_of(alloc, stream, day, unit, forms, packs)
+}
+
+/// The unit of the only row.
+fn only_unit(rows: &[Row]) -> Option<Unit>
+    ensures { IfSome result (λ unit. (row : RowValue) × (rows.now ≡ row ∷ []) × (unit_named (text_at row 0) ≡ unit)) }
+{
+    let [row] = rows else {
+        return None;
+    };
+    unit_at(row, 0)
+}

@@ -1,0 +1,27 @@
+use Rattle.std.proofs.Common.{subst, arith}
+use Rattle.sqlite.specs.Held.{state}
+use Rattle.mds_pack_rows.specs.FormLayout.{forms_behind}
+use Rattle.mds_pack_rows.proofs.PutLemmas.{if_ok}
+use Rattle.mds_migrate.specs.Forming.{PutsForms}
+use Rattle.mds_migrate.proofs.FormingLemmas.{forms_day, kept_since}
+use Rattle.mds_migrate.proofs.forming.form_day.Goals as goal
+
+pub returns-clause-ok : goal.returns-clause-ok
+returns-clause-ok g c =
+    let a = state g.S.Store c.args.tx.now.conn.now in
+    let b = state g.S.Store c.packs_of_day.new.tx.conn.now in
+    let d = state g.S.Store c.form_each.new.tx.conn.now in
+    if_ok c.form_each.result _ _
+    (λ puts.
+    forms_day a b d c.form_each.ensures.survives.clean c.in_ok-packs.ensures.goes_on c.args.row.now c.in-Some.head c.in-Some.ensures.some
+    (omega (arith, c.number.ensures.last)) c.in_ok-packs.packs.items c.in_ok-packs.ensures.ok
+    (subst (PutsForms b d c.in-Some.head) c.as_slice.ensures.value puts))
+    c.form_each.ensures.ok
+
+pub returns-in_err-packs-clause-kept : goal.returns-in_err-packs-clause-kept
+returns-in_err-packs-clause-kept g c there = c.packs_of_day.ensures.kept there.clean forms_behind.more there.schema
+
+pub returns-clause-kept : goal.returns-clause-kept
+returns-clause-kept g c =
+    kept_since (state g.S.Store c.args.tx.now.conn.now) (state g.S.Store c.packs_of_day.new.tx.conn.now) (state g.S.Store c.form_each.new.tx.conn.now)
+    c.form_each.ensures.survives.clean (λ clean there. c.packs_of_day.ensures.kept clean forms_behind.more there.schema) c.form_each.ensures.kept

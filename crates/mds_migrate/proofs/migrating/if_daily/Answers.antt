@@ -1,0 +1,100 @@
+use Rattle.std.proofs.Common.{IsTrue, inr, rules}
+use Rattle.sqlite.specs.Held.{state}
+use Rattle.sqlite.specs.State.{HasCleanDisk, KeepsCommit}
+use Rattle.mds_tables.specs.Stores.{HoldsTablesOf}
+use Rattle.mds_pack_rows.specs.DailyLayout.{daily_layout}
+use Rattle.mds_pack_rows.proofs.TwoSchemas.{tables_seen}
+use Rattle.mds_pack_store.specs.Daily.{AreDaily, IsDailyStore}
+use Rattle.mds_migrate.specs.Migrated.{LeavesMigrated, forming}
+use Rattle.mds_migrate.proofs.Asking.{answered_since, holds_still, is_daily, isnt_seen, leaves_since, none_of_3, refused_since}
+use Rattle.mds_migrate.proofs.Taking.{leaves_none}
+use Rattle.mds_migrate.proofs.migrating.if_daily.Given.{Over}
+use Rattle.mds_migrate.proofs.migrating.if_daily.Goals as goal
+use Rattle.mds_migrate.proofs.migrating.if_daily.Goals.{In-Ok-true}
+
+-- the tables are those of the schema
+held : (g : Over) (c : In-Ok-true g) → HoldsTablesOf daily_layout (state g.S.Store c.args.conn.now)
+held g c = tables_seen daily_layout (state g.S.Store c.args.conn.now) c.requires.settled c.requires.schema
+
+-- and it is a store
+store : (g : Over) (c : In-Ok-true g) → HasCleanDisk (state g.S.Store c.are_daily.new.conn) → IsTrue (state g.S.Store c.are_daily.new.conn).is_open
+    → IsDailyStore (state g.S.Store c.args.conn.now).committed
+store g c =
+    let old = state g.S.Store c.args.conn.now in
+    let mid = state g.S.Store c.are_daily.new.conn in
+    let asked = c.in-Ok-true.ensures.answers in
+    is_daily old mid (λ clean. asked.kept clean (held g c)) (asked.survives (held g c)) (held g c)
+    (λ clean. let it = asked.found clean (held g c) in search rules)
+
+pub take_step-requires : goal.take_step-requires
+take_step-requires g c = record { mode = c.are_daily.ensures.answers.mode }
+
+pub returns-in-Ok-true-clause-done : goal.returns-in-Ok-true-clause-done
+returns-in-Ok-true-clause-done g c =
+    let old = state g.S.Store c.args.conn.now in
+    let mid = state g.S.Store c.are_daily.new.conn in
+    let new = state g.S.Store c.take_step.new.conn in
+    let asked = c.are_daily.ensures.answers in
+    let at = (goal.at.returns-in-Ok-true-clause-done g c).In-Ok-true in
+    let kept : HasCleanDisk mid → KeepsCommit old mid = λ clean. asked.kept clean (held g at) in
+    let one = asked.survives (held g at) in
+    let still = holds_still forming old mid kept one (store g at) in
+    answered_since forming old mid kept one (store g at) new (λ it. inr (inr it)) (c.take_step.ensures.survives still) c.take_step.result c.take_step.ensures.done
+
+pub returns-in-Ok-true-clause-err : goal.returns-in-Ok-true-clause-err
+returns-in-Ok-true-clause-err g c =
+    let old = state g.S.Store c.args.conn.now in
+    let mid = state g.S.Store c.are_daily.new.conn in
+    let new = state g.S.Store c.take_step.new.conn in
+    let asked = c.are_daily.ensures.answers in
+    let at = (goal.at.returns-in-Ok-true-clause-err g c).In-Ok-true in
+    let kept : HasCleanDisk mid → KeepsCommit old mid = λ clean. asked.kept clean (held g at) in
+    let one = asked.survives (held g at) in
+    let still = holds_still forming old mid kept one (store g at) in
+    refused_since forming old mid kept one (store g at) new (c.take_step.ensures.survives still) c.take_step.result c.take_step.ensures.err
+
+pub returns-in-Ok-true-clause-survives : goal.returns-in-Ok-true-clause-survives
+returns-in-Ok-true-clause-survives g c =
+    let old = state g.S.Store c.args.conn.now in
+    let mid = state g.S.Store c.are_daily.new.conn in
+    let new = state g.S.Store c.take_step.new.conn in
+    let asked = c.are_daily.ensures.answers in
+    let at = (goal.at.returns-in-Ok-true-clause-survives g c).In-Ok-true in
+    let kept : HasCleanDisk mid → KeepsCommit old mid = λ clean. asked.kept clean (held g at) in
+    let one = asked.survives (held g at) in
+    let still = holds_still forming old mid kept one (store g at) in
+    leaves_since forming old mid kept one (store g at) (LeavesMigrated old) (λ left it. inr (inr it)) new (c.take_step.ensures.survives still)
+
+pub returns-in-Ok-false-clause-err : goal.returns-in-Ok-false-clause-err
+returns-in-Ok-false-clause-err g c clean =
+    let old = state g.S.Store c.args.conn.now in
+    let new = state g.S.Store c.are_daily.new.conn in
+    let asked = c.in-Ok-false.ensures.answers in
+    let held = tables_seen daily_layout old c.requires.settled c.requires.schema in
+    let other : ¬ AreDaily old.committed.trees = let it = asked.found clean held in search rules in
+    let none = none_of_3 old.now c.requires.schema
+    (isnt_seen old new (λ clean. asked.kept clean held) (asked.survives held) AreDaily clean c.requires.settled other (asked.open clean held).is_open) in
+    (asked.kept clean held, none.0, none.1, none.2, none.3)
+
+pub returns-in-Ok-false-clause-mode : goal.returns-in-Ok-false-clause-mode
+returns-in-Ok-false-clause-mode g c = c.are_daily.ensures.answers.mode
+
+pub returns-in-Ok-false-clause-survives : goal.returns-in-Ok-false-clause-survives
+returns-in-Ok-false-clause-survives g c =
+    let old = state g.S.Store c.args.conn.now in
+    leaves_none old (state g.S.Store c.are_daily.new.conn) (LeavesMigrated old)
+    (c.are_daily.ensures.answers.survives (tables_seen daily_layout old c.requires.settled c.requires.schema))
+
+pub returns-in-Err-clause-err : goal.returns-in-Err-clause-err
+returns-in-Err-clause-err g c clean =
+    c.are_daily.ensures.answers.kept clean
+    (tables_seen daily_layout (state g.S.Store c.args.conn.now) c.requires.settled c.requires.schema)
+
+pub returns-in-Err-clause-mode : goal.returns-in-Err-clause-mode
+returns-in-Err-clause-mode g c = c.are_daily.ensures.answers.mode
+
+pub returns-in-Err-clause-survives : goal.returns-in-Err-clause-survives
+returns-in-Err-clause-survives g c =
+    let old = state g.S.Store c.args.conn.now in
+    leaves_none old (state g.S.Store c.are_daily.new.conn) (LeavesMigrated old)
+    (c.are_daily.ensures.answers.survives (tables_seen daily_layout old c.requires.settled c.requires.schema))

@@ -1,0 +1,29 @@
+use Rattle.std.proofs.Common.{subst, arith}
+use Rattle.sqlite.specs.Held.{state}
+use Rattle.mds_migrate.specs.Migrated.{Answered}
+use Rattle.mds_migrate.proofs.Chaining.{stopped_behind_two, taken_all}
+use Rattle.mds_migrate.proofs.migrating.migrate_all.Goals as goal
+
+pub returns-in-Ok-clause-taken : goal.returns-in-Ok-clause-taken
+returns-in-Ok-clause-taken g c done clean =
+    let a = state g.S.Store c.args.conn.now in
+    let b = state g.S.Store c.migrate.new.conn in
+    let mid = state g.S.Store c.migrate-in-Ok-Done.new.conn in
+    let new = state g.S.Store c.migrate-in-Ok-Done-migrate.new.conn in
+    let one = c.migrate-in-Ok-Done.ensures.survives.clean in
+    let two = c.migrate-in-Ok-Done-migrate.ensures.survives.clean in
+    taken_all a b mid new (subst (Answered a b) c.in-Ok-Done.field-0-is (c.in-Ok-Done.ensures.done (omega (arith, clean, one, two))))
+    (subst (Answered b mid) c.in-Ok-Done-migrate.field-0-is (c.in-Ok-Done-migrate.ensures.done (omega (arith, clean, two))))
+    c.in-Ok.field-0 (c.in-Ok.ensures.done clean)
+
+pub returns-in-Err-migrate-2-clause-stopped : goal.returns-in-Err-migrate-2-clause-stopped
+returns-in-Err-migrate-2-clause-stopped g c clean =
+    let a = state g.S.Store c.args.conn.now in
+    let b = state g.S.Store c.migrate.new.conn in
+    let mid = state g.S.Store c.migrate-in-Ok-Done.new.conn in
+    let new = state g.S.Store c.migrate-in-Ok-Done-migrate.new.conn in
+    let one = c.migrate-in-Ok-Done.ensures.survives.clean in
+    let two = c.migrate-in-Ok-Done-migrate.ensures.survives.clean in
+    stopped_behind_two a b mid new (subst (Answered a b) c.in-Ok-Done.field-0-is (c.in-Ok-Done.ensures.done (omega (arith, clean, one, two))))
+    (subst (Answered b mid) c.in-Ok-Done-migrate.field-0-is (c.in-Ok-Done-migrate.ensures.done (omega (arith, clean, two))))
+    c.in-Err-migrate-2.fault (c.in-Err-migrate-2.ensures.err clean)

@@ -1,0 +1,163 @@
+//! The step from schema 3 to schema 4: each update of a day that has a version gets a head of its own.
+
+ghost use Rattle.std.specs.Prelude.{◌≡◌, ◌∷◌, [], IfOk, IsTrue, OnOk};
+ghost use Rattle.std.specs.List.{AllPairs};
+ghost use Rattle.sqlite.specs.Held.{state};
+ghost use Rattle.sqlite.specs.State.{HasCleanDisk, KeepsCommit, Survives};
+ghost use Rattle.mds_pack_rows.specs.Putting.{GoesOn};
+ghost use Rattle.mds_form_rows.specs.FormPutting.{IsThereFormed};
+ghost use Rattle.mds_migrate.specs.Forming.{Forms, FormsDays, IsBefore, PutsForms, SaysForm, form_of};
+ghost use Rattle.mds_migrate.specs.Migrated.{forming};
+
+use crate::packing::all_heads;
+use crate::statements::{clear_lengths, raise_version};
+use crate::step::Stage;
+use mds_form_rows::{make_form, put_form};
+use mds_keeper::{Head, StreamDay, Unavailable};
+use mds_pack_rows::{blob_at, has_some, packs_of_day, unpack_for};
+use mds_selects::{head_in, moment_at};
+use sqlite::{Alter, Row, Transaction};
+use std::alloc::Global;
+
+/// From a head of each day to one of each update of it.
+pub(crate) struct Forming;
+
+impl Stage for Forming {
+    ghost step = { forming };
+
+    fn take_on<S: Alter>(alloc: Global, tx: &mut Transaction<'_, S>) -> Result<(), Unavailable> {
+        let Ok(_) = make_form(tx) else {
+            return Err(Unavailable);
+        };
+        form_days(alloc, tx)?;
+        clear_lengths(tx)?;
+        raise_version(tx, 4)
+    }
+}
+
+/// Puts the heads of all days. It is unavailable where there is a row that the store didn't write. Such are two heads of a day, and a
+/// body that isn't one of its day's length with a reading.
+fn form_days<S: Alter>(alloc: Global, tx: &mut Transaction<'_, S>) -> Result<(), Unavailable>
+    ensures same_reference { tx.new.conn.ghost_name ≡ tx.old.conn.ghost_name }
+    ensures goes_on { OnOk result (GoesOn (state S.Store tx.old.conn.now) (state S.Store tx.new.conn.now)) }
+    ensures ok { OnOk result (IsThereFormed (state S.Store tx.old.conn.now) (state S.Store tx.new.conn.now)
+        → Forms (state S.Store tx.old.conn.now) (state S.Store tx.new.conn.now)) }
+    ensures kept { IsThereFormed (state S.Store tx.old.conn.now) (state S.Store tx.new.conn.now)
+        → KeepsCommit (state S.Store tx.old.conn.now) (state S.Store tx.new.conn.now) }
+    ensures survives { Survives (state S.Store tx.old.conn.now) (state S.Store tx.new.conn.now) (λ _. ⊥) }
+{
+    let days = all_heads(tx)?;
+    let are_sorted = are_in_order(days.as_slice());
+    if !are_sorted {
+        return Err(Unavailable);
+    }
+    for row in days.as_slice() {
+        form_day(alloc, tx, row)?;
+    }
+    Ok(())
+}
+
+/// Whether a row of a head shows an earlier day than another one, by stream and then by day.
+fn is_before(a: &Row, b: &Row) -> bool
+    ensures { IsTrue result → IsBefore a.now b.now }
+{
+    let Some(a) = head_in(a) else {
+        return false;
+    };
+    let Some(b) = head_in(b) else {
+        return false;
+    };
+    let a = StreamDay {
+        stream: a.stream,
+        day: a.day,
+    };
+    let b = StreamDay {
+        stream: b.stream,
+        day: b.day,
+    };
+    a.cmp(&b).is_lt()
+}
+
+/// Whether rows of heads show their days in order, each once.
+fn are_in_order(rows: &[Row]) -> bool
+    ensures { IsTrue result → AllPairs IsBefore rows.now }
+{
+    for k in 1..rows.len() {
+        let is_next = is_before(&rows[k - 1], &rows[k]);
+        if !is_next {
+            return false;
+        }
+    }
+    true
+}
+
+/// Puts the heads of the day of which a head is shown.
+fn form_day<S: Alter>(
+    alloc: Global,
+    tx: &mut Transaction<'_, S>,
+    row: &Row,
+) -> Result<(), Unavailable>
+    ensures same_reference { tx.new.conn.ghost_name ≡ tx.old.conn.ghost_name }
+    ensures ok { OnOk result (FormsDays (state S.Store tx.old.conn.now) (state S.Store tx.new.conn.now) (row.now ∷ [])) }
+    ensures kept { IsThereFormed (state S.Store tx.old.conn.now) (state S.Store tx.new.conn.now)
+        → KeepsCommit (state S.Store tx.old.conn.now) (state S.Store tx.new.conn.now) }
+    ensures survives { Survives (state S.Store tx.old.conn.now) (state S.Store tx.new.conn.now) (λ _. ⊥) }
+{
+    let Some(head) = head_in(row) else {
+        return Err(Unavailable);
+    };
+    let packs = packs_of_day(tx, &head.stream, head.day)?;
+    // For the proof: a day's number is at most that of the last day.
+    let _ = head.day.number();
+    form_each(alloc, tx, &head, packs.as_slice())
+}
+
+/// Puts a head of a day for each row of mds_pack, which are shown of it.
+fn form_each<S: Alter>(
+    alloc: Global,
+    tx: &mut Transaction<'_, S>,
+    head: &Head,
+    packs: &[Row],
+) -> Result<(), Unavailable>
+    ensures same_reference { tx.new.conn.ghost_name ≡ tx.old.conn.ghost_name }
+    ensures ok { OnOk result (PutsForms (state S.Store tx.old.conn.now) (state S.Store tx.new.conn.now) head.now packs.now) }
+    ensures kept { HasCleanDisk (state S.Store tx.new.conn.now) → KeepsCommit (state S.Store tx.old.conn.now) (state S.Store tx.new.conn.now) }
+    ensures survives { Survives (state S.Store tx.old.conn.now) (state S.Store tx.new.conn.now) (λ _. ⊥) }
+{
+    for pack in packs {
+        let form = form_in(alloc, head, pack)?;
+        put_form(tx, &form)?;
+    }
+    Ok(())
+}
+
+/// The head of a day under the update that a row of mds_pack shows. It is unavailable where the body isn't one of a day of that length,
+/// or has no reading.
+fn form_in(alloc: Global, head: &Head, pack: &Row) -> Result<Head, Unavailable>
+    ensures is { IfOk result (λ form. form ≡ form_of head.now pack.now) }
+    ensures says { OnOk result (SaysForm head.now pack.now) }
+{
+    let Some(update) = moment_at(pack, 0) else {
+        return Err(Unavailable);
+    };
+    let Some(body) = blob_at(pack, 1) else {
+        return Err(Unavailable);
+    };
+    let Ok(unpacked) = unpack_for(alloc, head.length, body) else {
+        return Err(Unavailable);
+    };
+    let Some(readings) = unpacked else {
+        return Err(Unavailable);
+    };
+    let has_reading = has_some(readings.as_slice());
+    if !has_reading {
+        return Err(Unavailable);
+    }
+    Ok(Head {
+        stream: head.stream,
+        day: head.day,
+        update,
+        length: head.length,
+        unit: head.unit,
+    })
+}

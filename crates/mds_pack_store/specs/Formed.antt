@@ -1,0 +1,29 @@
+-- What makes a database with the tables of schema 4 a store (profile).
+use Rattle.std.specs.Prelude.{◌≡◌, ◌⊎◌, [], ◌∷◌, pos}
+use Rattle.sqlite.specs.Effect.{Database}
+use Rattle.sqlite.specs.State.{State}
+use Rattle.sqlite_trees.specs.Tree.{Trees}
+use Rattle.mds_tables.specs.Stores.{IsStore, IsStoreOf, versions_said}
+use Rattle.mds_pack_rows.specs.FormLayout.{forms_layout}
+use Rattle.mds_store.specs.Starting.{IsAdopted}
+use Rattle.mds_pack_store.specs.Daily.{AreBare, IsDailyStore}
+use Rattle.mds_pack_store.specs.Packed.{IsPackStore}
+
+-- mds_schema says 4, and neither a version nor details of a stream have a row of their own
+pub record AreFormed (trees : Trees) : Type 0 where
+  pub version : versions_said trees ≡ pos 4 ∷ []
+  pub bare : AreBare trees
+
+-- such a store
+pub record IsFormedStore (db : Database) : Type 0 where
+  pub store : IsStoreOf forms_layout db
+  pub bare : AreBare db.trees
+
+-- a store of an earlier schema, which is to be migrated first
+abbrev pub IsEarlierStore : Database → Type 0
+IsEarlierStore db = IsStore db ⊎ (IsPackStore db ⊎ IsDailyStore db)
+
+-- The database was one, and keeps what it kept.
+pub record IsFormedAdopted (old new : State) : Type 0 where
+  pub adopted : IsAdopted forms_layout old new
+  pub bare : AreBare old.committed.trees
