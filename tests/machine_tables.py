@@ -1,5 +1,6 @@
 """The tables of the World that the machine of machine.py keeps, by "The tables" of docs/FORMATS.md."""
 
+import collections
 import contextlib
 import datetime
 import sqlite3
@@ -55,3 +56,18 @@ def tables_in(store):
     with contextlib.closing(sqlite3.connect(store)) as database:
         names = [name for name, in database.execute("SELECT name FROM sqlite_master WHERE type = 'table'")]
         return {name: sorted(database.execute(f"SELECT * FROM {name}")) for name in names}
+
+
+def fill(store, tables):
+    """Puts these rows into the tables of a new store."""
+    with contextlib.closing(sqlite3.connect(store)) as database, database:
+        for table, rows in tables.items():
+            database.execute(f"DELETE FROM {table}")
+            for row in rows:
+                database.execute(f"INSERT INTO {table} VALUES ({', '.join('?' for _ in row)})", row)
+
+
+def rows_of_one(one, other):
+    """The rows that only one of two has, each with its table."""
+    one, other = (collections.Counter((table, row) for table, rows in tables.items() for row in [None, *rows]) for tables in (one, other))
+    return sorted((one - other) + (other - one), key=repr)
