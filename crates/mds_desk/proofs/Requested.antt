@@ -16,7 +16,7 @@ left_of_one : (request : Request) (before : Type 0) (w v : World) (answer : Answ
     → MayLeave v (request ∷ []) (answer ∷ []) left ⊎ ((v ≡ w) × before)
     → LeavesBy before w v (λ u. Step u request) answer left
 left_of_one request before w v answer left step (inl (inl is)) = inl is
-left_of_one request before w v answer left step (inl (inr (inl cut))) =
+left_of_one request before w v answer left step (inl (inr (inl (cut, behind)))) =
     let same : v ≡ w = idle w request v (subst (λ a. Step w request a v) cut.0 step) in
     inr (inr (subst (λ x. IsCut x request answer left) same cut))
 left_of_one request before w v answer left step (inl (inr (inr none))) = absurd none

@@ -414,14 +414,15 @@ The store couldn't be opened, made, read or written. What it has is as it was be
 all of the request where the disk failed.
 
 Usual causes: another process has it, as `mdstore serve`, another command or `sqlite3`; a wrong path.
-Or the file is damaged, or no database. Or another program wrote to a store with sums. Or the disk is
+Or the file is damaged, or no database. Or another program wrote to a store with sums. Or a killed
+`sqlite3` left its journal beside the file, or a hard link gave the file a second name. Or the disk is
 full, or memory or the right to write is wanting.
 
 Example: `mdstore streams --store week.db` while `mdstore serve --store week.db` runs.
 
-What to do: end the other process, look at the path, the rights and the disk, and try again. Make a
-new store by `mdstore init`. Take a damaged one back from a backup: `docs/USE.md`, "Backups". There
-"Sums" tells what to do with a store with sums.
+What to do: end the other process, look at the path, the rights and the disk, and try again. A `serve`
+whose disk failed has to be started again. Make a new store by `mdstore init`. Take a damaged one back
+from a backup: `docs/USE.md`, "Backups". There "Sums" tells what to do with a store with sums.
 
 ## U2: The store is of an earlier schema
 
@@ -440,8 +441,8 @@ mend the cause and call it again. It wants room on the disk for a second copy of
 ## U3: The database is no store of this schema
 
 The file is a database of something else, or a store of a newer schema, or something was added to it.
-For `init` it isn't empty, or, with `--sums`, it was made without sums. `mdstore --version` tells the
-schema.
+For `init` it isn't empty, or a log lies there without its file. With `--sums` it may also be one that
+was made without sums. `mdstore --version` tells the schema.
 
 Usual causes: a wrong path; `init` of a store that is there; a file of no bytes, which only `init`
 takes. Or another program made an index, a view or a table in it, or rows in `mds_version` or

@@ -1,6 +1,5 @@
 -- The versions of a day, from its rows of mds_form and of mds_pack, and the heads that they are under.
 use Rattle.std.proofs.Common.{◌≡◌, ◌<◌, ◌*◌, inl, inr, suc, zero, ℕ, ◌+◌, List, [], ◌∷◌, ◌++◌, length, map, slice_index_or, take, true, Option, Some, None, append_assoc, refl, sym, ap, subst, ◌∙◌, arith}
-use Rattle.std.proofs.Math.Nat.{div-zero}
 use Rattle.std.proofs.lemmas.Grind.{flat_map-append}
 use Rattle.std.proofs.lemmas.List.{append-nil, length-map, map-append, take_more}
 use Rattle.std.specs.Prelude.{is_some}
@@ -161,7 +160,7 @@ some_minutes count (suc minutes) day = omega arith
 -- a day whose intervals have a length has one
 has_reading : (minutes : ℕ) → 0 < minutes → (readings : List ReadingValue) → minutes_of (length readings) ≡ minutes
     → list_any (λ reading. is_some reading) (map (λ reading. Some reading) readings) ≡ true
-has_reading minutes low [] many = absurd (let none : minutes_of 0 ≡ 0 = div-zero 1440 in omega (arith, low, many, none))
+has_reading minutes low [] many = absurd (omega (arith, low, many))
 has_reading minutes low (r ∷ readings) many = refl
 
 -- rows that are alone, of a body with a reading of each interval

@@ -163,20 +163,23 @@ module _ (a b c d e : State) (additions : Additions) where
         others = (
           s.0 (λ i. omega arith) ∙ r.0 (λ i. omega arith) ∙ q.0 (λ i. omega arith) ∙ p.0 (λ i. omega arith),
           (
-            s.1.1.1.0 (λ i. omega arith) ∙ r.1.1.1.0 (λ i. omega arith) ∙ q.1.1.1.0 (λ i. omega arith) ∙ p.1.1.1.0 (λ i. omega arith),
+            s.1.1.0 (λ i. omega arith) ∙ r.1.1.0 (λ i. omega arith) ∙ q.1.1.0 (λ i. omega arith) ∙ p.1.1.0 (λ i. omega arith),
             (
-              s.1.1.1.1.0 (λ i. omega arith) ∙ r.1.1.1.1.0 (λ i. omega arith) ∙ q.1.1.1.1.0 (λ i. omega arith)
-                  ∙ p.1.1.1.1.0 (λ i. omega arith),
+              s.1.1.1.0 (λ i. omega arith) ∙ r.1.1.1.0 (λ i. omega arith) ∙ q.1.1.1.0 (λ i. omega arith) ∙ p.1.1.1.0 (λ i. omega arith),
               (
-                s.1.1.1.1.1.0 (λ i. omega arith) ∙ r.1.1.1.1.1.0 (λ i. omega arith) ∙ q.1.1.1.1.1.0 (λ i. omega arith)
-                    ∙ p.1.1.1.1.1.0 (λ i. omega arith),
+                s.1.1.1.1.0 (λ i. omega arith) ∙ r.1.1.1.1.0 (λ i. omega arith) ∙ q.1.1.1.1.0 (λ i. omega arith)
+                    ∙ p.1.1.1.1.0 (λ i. omega arith),
                 (
-                  s.1.1.1.1.1.1.0 (λ i. omega arith) ∙ r.1.1.1.1.1.1.0 (λ i. omega arith) ∙ q.1.1.1.1.1.1.0 (λ i. omega arith)
-                      ∙ p.1.1.1.1.1.1.0 (λ i. omega arith),
+                  s.1.1.1.1.1.0 (λ i. omega arith) ∙ r.1.1.1.1.1.0 (λ i. omega arith) ∙ q.1.1.1.1.1.0 (λ i. omega arith)
+                      ∙ p.1.1.1.1.1.0 (λ i. omega arith),
                   (
-                    s.1.1.1.1.1.1.1.0 (λ i. omega arith) ∙ r.1.1.1.1.1.1.1.0 (λ i. omega arith) ∙ q.1.1.1.1.1.1.1.0 (λ i. omega arith)
-                        ∙ p.1.1.1.1.1.1.1.0 (λ i. omega arith),
-                    tt,
+                    s.1.1.1.1.1.1.0 (λ i. omega arith) ∙ r.1.1.1.1.1.1.0 (λ i. omega arith) ∙ q.1.1.1.1.1.1.0 (λ i. omega arith)
+                        ∙ p.1.1.1.1.1.1.0 (λ i. omega arith),
+                    (
+                      s.1.1.1.1.1.1.1.0 (λ i. omega arith) ∙ r.1.1.1.1.1.1.1.0 (λ i. omega arith) ∙ q.1.1.1.1.1.1.1.0 (λ i. omega arith)
+                          ∙ p.1.1.1.1.1.1.1.0 (λ i. omega arith),
+                      tt,
+                    ),
                   ),
                 ),
               ),

@@ -65,10 +65,7 @@ fn unknown_day(
     if !packs.is_empty() {
         return Err(Unavailable);
     }
-    match DayBook::new(*stream, day, None, Vec::new(alloc)) {
-        Some(book) => Ok(book),
-        None => Err(Unavailable),
-    }
+    Ok(DayBook::unknown(alloc, *stream, day))
 }
 
 /// The book of a day with heads, whose unit the one row of mds_head says.

@@ -18,9 +18,12 @@ use mds_terms::{Day, Stream};
 use mds_world::Head;
 use sqlite::{Alter, Row, Transaction};
 
+/// Heads of one stream are asked for at once where fewer than so many days lie between them: each row of these days is read.
+const MOST_APART: i64 = 64;
+
 /// Unavailable unless each row of mds_head on the day of one of these heads says the head's unit.
 ///
-/// Heads of a stream lie together, by day. So eight in turn are asked for at once where they have one unit.
+/// Heads of a stream lie together, by day. So eight in turn are asked for at once where they have one unit and are near each other.
 pub(crate) fn have_units<S: Alter>(
     tx: &mut Transaction<'_, S>,
     heads: &[Head],
@@ -45,7 +48,7 @@ fn have_eight<S: Alter>(
 {
     let first = &heads[0];
     let last = heads[7].day;
-    if !are_like(heads, first, last) {
+    if last.number() >= first.day.number() + MOST_APART || !are_like(heads, first, last) {
         return have_each(tx, heads);
     }
     if has_only(tx, first, last)? {

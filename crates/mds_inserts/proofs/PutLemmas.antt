@@ -428,10 +428,10 @@ module _ (layout : Layout) (HasOwn : Gained) (steady : IsSteady layout.more HasO
     versions_kept = q.others.1.1.0 (before_rest 4 (omega arith))
 
     gains_periods : Gains 10 (map period_part.cells periods) a.now.trees c.now.trees
-    gains_periods = kept_gains 10 _ a.now.trees b.now.trees c.now.trees p.others.1.1.1.0 q.accumulated
+    gains_periods = kept_gains 10 _ a.now.trees b.now.trees c.now.trees p.others.1.1.1.1.0 q.accumulated
 
     gains_jobs : Gains 14 (map job_part.cells jobs) a.now.trees c.now.trees
-    gains_jobs = kept_gains 14 _ a.now.trees b.now.trees c.now.trees p.others.1.1.1.1.1.0 q.planned
+    gains_jobs = kept_gains 14 _ a.now.trees b.now.trees c.now.trees p.others.1.1.1.1.1.1.0 q.planned
 
     -- Each table has the rows of its part, and no other.
     all_added : AddsOf HasOwn a.now.trees c.now.trees added
@@ -442,10 +442,11 @@ module _ (layout : Layout) (HasOwn : Gained) (steady : IsSteady layout.more HasO
         record {
           schema = q.others.0 (before_rest 0 (omega arith)) ∙ p.others.0;
           own = steady one one two last added refl refl (same_tables one layout.more.tables) p.rows heads_kept versions_kept rest_kept;
-          undated = q.others.1.1.1.0 (before_rest 6 (omega arith)) ∙ p.others.1.0;
-          events = kept_gains 8 _ one two last p.others.1.1.0 q.events;
+          unfilled = versions_kept ∙ p.others.1.0;
+          undated = q.others.1.1.1.0 (before_rest 6 (omega arith)) ∙ p.others.1.1.0;
+          events = kept_gains 8 _ one two last p.others.1.1.1.0 q.events;
           periods = (map period_part.cells periods, period_rows_are added.periods.items periods of_periods, gains_periods);
-          holidays = kept_gains 12 _ one two last p.others.1.1.1.1.0 q.holidays;
+          holidays = kept_gains 12 _ one two last p.others.1.1.1.1.1.0 q.holidays;
           jobs = (map job_part.cells jobs, job_rows_are added.jobs.items jobs of_jobs, gains_jobs);
         }
 

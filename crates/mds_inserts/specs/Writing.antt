@@ -17,7 +17,7 @@ use Rattle.mds_keeper.specs.Content as content
 use Rattle.mds_keeper.specs.declared.additions.Additions.{Additions}
 use Rattle.mds_tables.specs.Layouts.{Layout, world_with}
 use Rattle.mds_tables.specs.Stores.{AddsOf, Gained, Gains}
-use Rattle.mds_tables.specs.Tables.{More, detail_table, event_table, head_tree, holiday_table, job_table, period_table, schema_table, schema_with, version_tree}
+use Rattle.mds_tables.specs.Tables.{More, detail_table, event_table, head_tree, holiday_table, job_table, period_table, schema_table, schema_with, version_table, version_tree}
 use Rattle.mds_inserts.specs.declared.jobs.JobRow.{JobRow}
 use Rattle.mds_inserts.specs.declared.periods.PeriodRow.{PeriodRow}
 use Rattle.mds_inserts.specs.Parts.{Part, Says, event_part, holiday_part, job_part, period_part}
@@ -82,9 +82,9 @@ module _ (under : Schema) (old new : State) (additions : Additions) (periods : L
 abbrev pub IsMore : List Fact → List Fact → List Fact → Type 0
 IsMore more some facts = set.from_list {R = fact_cmp} more ≡ union (set.from_list some) (set.from_list facts)
 
--- the tables that every schema has, but those of heads and of versions
+-- the tables that every schema has, but that of heads
 abbrev pub other_tables : List Table
-other_tables = schema_table ∷ detail_table ∷ event_table ∷ period_table ∷ holiday_table ∷ job_table ∷ []
+other_tables = schema_table ∷ version_table ∷ detail_table ∷ event_table ∷ period_table ∷ holiday_table ∷ job_table ∷ []
 
 module _ (layout : Layout) (HasOwn : Gained) (old new : State) (additions : Additions) where
   -- the same of heads, versions and details, in any layout: they are in its tables, and these say them beside those that they said

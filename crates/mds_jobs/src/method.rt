@@ -1,6 +1,6 @@
 //! The method of a substitution job.
 
-ghost use Rattle.std.specs.Prelude.{◌≡◌, MatchOption};
+ghost use Rattle.std.specs.Prelude.{◌≡◌, ◌↔◌, IsTrue, MatchOption};
 ghost use Rattle.mds_world.specs.Lists.{Member};
 ghost use Rattle.mds_jobs.specs.Jobs.{method_code, methods};
 
@@ -18,6 +18,13 @@ pub enum Method {
 }
 
 impl Method {
+    ghost use Rattle.mds_jobs.specs.declared.method.Method.{Method as AMethod};
+
+    /// A law: `==` says whether two methods are the same.
+    pub fn one_equality()
+        ensures { (a b : AMethod) → IsTrue (⟦<Method as PartialEq>⟧.eq a b) ↔ (a ≡ b) }
+    {}
+
     /// The method of a code. `None` where a job may not have it.
     pub fn of_code(code: u8) -> Option<Method>
         ensures { MatchOption result (Member code methods → ⊥) (λ method. code ≡ method_code method) }

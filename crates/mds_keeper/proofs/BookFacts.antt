@@ -15,7 +15,7 @@ use Rattle.mds_world.proofs.Lists.{member_append, append_left, append_right, in_
 use Rattle.mds_world.specs.Lists.{Member}
 use Rattle.mds_world.proofs.Members.{in_list, list_in, same_by}
 use Rattle.mds_world.specs.Sets.{◌∈◌}
-use Rattle.mds_world.specs.World.{IsLawful, IsOn, World, head_over, key_under}
+use Rattle.mds_world.specs.World.{IsKnownDay, IsLawful, IsOn, World, head_over, key_under}
 use Rattle.mds_keeper.specs.BookRows.{AreWithin, Fits, IsFormOfRows, Misfits, OneEach, OneLength}
 use Rattle.mds_keeper.specs.Books.{BookValue, IsDay, book_facts, book_world, head_facts, row_fact, row_head}
 use Rattle.mds_keeper.specs.declared.day_book.Version.{Version}
@@ -178,6 +178,13 @@ head_of_row book lawful row m =
     let h = lawful.closed.headed _ _ (row_in_book book row m) in
     let k = head_of_book book _ h.1 in
     (h.0, k.2, h.2, h.3)
+
+-- a day that has a row is known
+pub row_known : (book : BookValue) → IsLawful (book_world book) → (row : ℕ × Version) → Member row book.rows
+    → IsKnownDay (book_world book) book.stream book.day
+row_known book lawful row m =
+    let h = head_of_row book lawful row m in
+    (head_at book.stream book.day row.1.update row.1.length h.0, head_in_book book row m h.0 h.1, refl, refl)
 
 -- the rows of one update of a lawful book are of one length
 pub one_minutes : (book : BookValue) → IsLawful (book_world book) → OneLength book.rows

@@ -17,7 +17,7 @@ use Rattle.mds_world.specs.Sets.{◌∈◌}
 use Rattle.mds_quantity.specs.declared.unit.Unit.{Unit as MeasureUnit}
 use Rattle.mds_world.specs.World.{IsCurrent, IsKnownDay, IsLawful, World}
 use Rattle.mds_keeper.specs.Books.{BookValue, book_world}
-use Rattle.mds_keeper.proofs.BookFacts.{form_in_book, head_in_book, head_of_book, head_of_row, row_in_book, row_of_book}
+use Rattle.mds_keeper.proofs.BookFacts.{form_in_book, head_in_book, head_of_book, head_of_row, row_in_book, row_known, row_of_book}
 use Rattle.mds_keeper.proofs.Rows.{member_get, row_found, same_some}
 use Rattle.std.proofs.lemmas.Option.{get_or_from_slice_get, slice_get_within}
 use Rattle.mds_keeper.proofs.BookPlaces.{before_end, member_at, no_row, place_of}
@@ -79,6 +79,16 @@ latest_is book lawful (Some update) e = λ minutes unit form.
     subst (λ u. IsLatest (book_world book) book.stream book.day minutes u) same
     (subst (λ n. IsLatest (book_world book) book.stream book.day n form.0.update) form.2
     (form_is_latest (book_world book) book.stream book.day form.0 lawful form.1))
+
+-- an update is that of a row
+pub latest_known : (book : BookValue) → IsLawful (book_world book) → (result : Option ℕ)
+    → result ≡ reduce max (map (λ (row : ℕ × Version). row.1.update) book.rows)
+    → IfSome result (λ _. IsKnownDay (book_world book) book.stream book.day)
+latest_known book lawful None e = tt
+latest_known book lawful (Some update) e =
+    let update_of : ℕ × Version → ℕ = λ row. row.1.update in
+    let r = in_map update_of book.rows update (greatest_of (map update_of book.rows) update e).0 in
+    row_known book lawful r.0 r.1
 
 none_of : (xs : List ℕ) → None ≡ reduce max xs → (x : ℕ) → Member x xs → ⊥
 none_of [] e x m = m

@@ -12,5 +12,6 @@ pub mod RowsByUpdate
 pub mod RowsMoved
 pub mod Settled
 pub mod Taken
+pub mod Unknown
 pub mod Walks
 pub mod WholeDays

@@ -18,7 +18,7 @@ use Rattle.mds_world.proofs.Members.{same_by, in_union, union_left, union_right,
 use Rattle.mds_world.proofs.Sets.{decided, difference_in, in_difference, in_retain, list_append, retain_in, union_empty}
 use Rattle.mds_world.specs.Sets.{◌∈◌}
 use Rattle.mds_world.specs.Stated.{day_facts}
-use Rattle.mds_world.specs.World.{Agrees, IsLawful, World, union}
+use Rattle.mds_world.specs.World.{Agrees, IsKnownDay, IsLawful, World, union}
 use Rattle.mds_keeper.specs.Books.{BookValue, book_world}
 use Rattle.mds_keeper.specs.Content.{content, content_facts, details_of, heads_of, job_fact, period_fact, version_fact, versions_of}
 use Rattle.mds_keeper.specs.DayMerges.{AreAscending, DayMergeValue, IfRefused, IsPlan, Settles}
@@ -210,6 +210,7 @@ nil_map f (x ∷ xs) e = cc
 
 added_facts : (d : DayMergeValue) (old new : Additions) (counts : MergeCounts) (s : Settles d old new counts) → content_facts old ≡ []
     → (content_facts new ≡ map HeadIs (s.first ++ s.further) ++ map version_fact s.versions) × (versions_of new.days.items ≡ s.versions)
+    × (new.new_days.items ≡ s.first) × (new.heads.items ≡ s.further)
 added_facts d old new counts s e =
     let H = map HeadIs (heads_of old) in
     let V = map version_fact (versions_of old.days.items) in
@@ -245,6 +246,8 @@ added_facts d old new counts s e =
           ++ map HolidayIs (z i) ++ map job_fact (w i))
           ∙ append-nil ((((N ++ []) ++ []) ++ []) ++ []) ∙ append-nil (((N ++ []) ++ []) ++ []) ∙ append-nil ((N ++ []) ++ []) ∙ append-nil (N ++ []) ∙ append-nil N,
       v,
+      n,
+      h,
     )
 
 apart_tail : (xs ys : List Fact) → Apart (xs ++ ys) → Apart ys
@@ -253,7 +256,7 @@ apart_tail (x ∷ xs) ys a = apart_tail xs ys a.1
 
 pub planned : (b : BookValue) (claims : List Claim) (i : ℕ) (d : DayMergeValue) → IsPlanning b claims i d → length claims ≤ i → i ≤ length claims
     → (old new : Additions) (settled : MergeCounts) → content_facts old ≡ [] → Settles d old new settled
-    → IsPlan (book_world b) (claims_world b.stream b.day claims) new
+    → IsPlan b (claims_world b.stream b.day claims) new
 planned b claims i d is low high old new settled none s = record {
   agrees = subst (λ w. Agrees (union (book_world b) w)) all is.agrees;
   whole = ap (union (book_world b)) added ∙ rest_in ∙ ap (union (book_world b)) all;
@@ -264,9 +267,14 @@ planned b claims i d is low high old new settled none s = record {
   counted = ap length facts.1 ∙ sym (length-map s.versions version_fact)
       ∙ sym (len_list (map version_fact s.versions) (apart_tail (map HeadIs (s.first ++ s.further)) (map version_fact s.versions) s.apart))
       ∙ ap set.len counts ∙ ap (λ w. set.len (set.difference (countable w) (countable (book_world b)))) all;
+  one_first = subst (λ l. length l ≤ 1) (sym facts.2) s.one_first;
+  known_day = λ known. facts.2 ∙ s.known_day (subst (λ x. IsKnownDay (book_world x) x.stream x.day) (sym is.book) known);
+  new_day = λ unknown none.
+      facts.3 ∙ s.new_day (λ known. unknown (subst (λ x. IsKnownDay (book_world x) x.stream x.day) is.book known)) (sym facts.2 ∙ none);
 }
   where
     facts : (content_facts new ≡ map HeadIs (s.first ++ s.further) ++ map version_fact s.versions) × (versions_of new.days.items ≡ s.versions)
+        × (new.new_days.items ≡ s.first) × (new.heads.items ≡ s.further)
     facts = added_facts d old new settled s none
 
     all : d.said ≡ claims_world b.stream b.day claims

@@ -9,7 +9,7 @@ use Rattle.mds_world.specs.Current.{HasNoVersion, IsFormOf, IsLatest}
 use Rattle.mds_world.specs.Facts.Fact.{VersionIs}
 use Rattle.mds_world.specs.Lists.{Member}
 use Rattle.mds_world.specs.Sets.{◌∈◌}
-use Rattle.mds_world.specs.World.{IsCurrent}
+use Rattle.mds_world.specs.World.{IsCurrent, IsKnownDay, IsLawful}
 use Rattle.mds_keeper.specs.Books.{BookValue, book_world}
 use Rattle.mds_calendar.specs.Length.{count_of}
 use Rattle.mds_keeper.specs.BookRows.{AreVersionsOf, Fits, HasIntervalOf, IsBefore, IsFormOfRows}
@@ -20,7 +20,7 @@ use Rattle.mds_keeper.specs.KeptRows.{AreWhole}
 use Rattle.mds_keeper.specs.LentVersions.{IsUnder, lent_reading}
 use Rattle.mds_keeper.specs.declared.day_book.Version.{Version}
 use Rattle.mds_keeper.specs.declared.lent_version.LentVersion.{LentVersion}
-use Rattle.mds_keeper.proofs.BookFacts.{head_of_book, row_in_book, row_of_book}
+use Rattle.mds_keeper.proofs.BookFacts.{head_of_book, row_in_book, row_known, row_of_book}
 use Rattle.mds_keeper.proofs.BookReads.{IsCurrentOf}
 use Rattle.mds_keeper.proofs.Rows.{get_below, same_some}
 
@@ -219,6 +219,16 @@ module _ (b : BookValue) (minutes update : ℕ) (rs : List ReadingValue) (is : b
       first : (xs : List ReadingValue) → 0 < length xs → (r : ReadingValue) × (slice_get xs 0 ≡ Some r)
       first [] h = absurd (omega arith)
       first (x ∷ xs) h = (x, refl)
+
+  -- its day is known
+  pub known_whole : AreWhole (Some (minutes, length rs)) → IsLawful (book_world b) → IsKnownDay (book_world b) b.stream b.day
+  known_whole whole lawful = at_first rs whole.1 is
+    where
+      at_first : (xs : List ReadingValue) → 0 < length xs → b.rows ≡ whole_rows minutes update 1 xs
+          → IsKnownDay (book_world b) b.stream b.day
+      at_first [] h e = absurd (omega arith)
+      at_first (x ∷ xs) h e =
+          row_known b lawful (row_of minutes 1 update x) (subst (Member (row_of minutes 1 update x)) (sym e) (inl refl))
 
   -- the versions of an interval are one or none
   pub no_versions : (interval : ℕ) (rows : List (ℕ × Version)) → rows ≡ []

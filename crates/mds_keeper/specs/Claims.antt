@@ -46,8 +46,8 @@ SuitsKnown known one = (other : _) → known ≡ Some other → other ≡ one
 abbrev pub IsOther : {T : Type 0} → Option T → T → Type 0
 IsOther known one = (other : _) × (known ≡ Some other) × (other ≢ one)
 
--- The rule that a length and a unit break beside the length that is known, of an update or of a day, and the day's unit: on the length
--- before the unit.
+-- The rule that a length and a unit break, beside the length that is known under the update and the day's unit: on the length before
+-- the unit.
 abbrev pub BreaksHead : Option ℕ → Option MeasureUnit → ℕ → MeasureUnit → RefusalCode → Type 0
 BreaksHead known of_day length unit LengthConflict = IsOther known length
 BreaksHead known of_day length unit UnitConflict = SuitsKnown known length × IsOther of_day unit

@@ -32,12 +32,16 @@ IfRefused Memory P = Unit {0}
 abbrev pub AreAscending : List Claim → Type 0
 AreAscending claims = AllPairs (λ a b. a.line < b.line) claims
 
--- What is added of what claims say: all agrees, the union is the same with the additions, and these are new.
-pub record IsPlan (w said : World) (additions : Additions) : Type 0 where
-  pub agrees : Agrees (union w said)
-  pub whole : union w (content additions) ≡ union w said
-  pub new : AreNew w additions
-  pub counted : length (versions_of additions.days.items) ≡ set.len (set.difference (countable said) (countable w))
+-- What is added to a book of what claims say: all agrees, the union is the same with the additions, and these are new. Of a day that
+-- isn't known one head stands apart, as that of a new day.
+pub record IsPlan (book : BookValue) (said : World) (additions : Additions) : Type 0 where
+  pub agrees : Agrees (union (book_world book) said)
+  pub whole : union (book_world book) (content additions) ≡ union (book_world book) said
+  pub new : AreNew (book_world book) additions
+  pub counted : length (versions_of additions.days.items) ≡ set.len (set.difference (countable said) (countable (book_world book)))
+  pub one_first : length additions.new_days.items ≤ 1
+  pub known_day : IsKnownDay (book_world book) book.stream book.day → additions.new_days.items ≡ []
+  pub new_day : (IsKnownDay (book_world book) book.stream book.day → ⊥) → additions.new_days.items ≡ [] → additions.heads.items ≡ []
 
 -- What a merge puts behind additions: heads and versions, each once, that are just what is claimed and isn't in the
 -- book. Of a day that isn't known one head comes first, behind those of new days. It tells how many versions these are, and how many of

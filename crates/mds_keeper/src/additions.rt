@@ -132,7 +132,7 @@ pub struct DetailDays {
     pub days: Vec<Day>,
 }
 
-/// What a change adds to each set that a World has.
+/// What a change adds to a World, by the kinds of its facts.
 #[derive(Drop)]
 pub struct Additions {
     /// The first head of each day that isn't known yet.

@@ -2,6 +2,7 @@
 
 ghost use Rattle.std.specs.Prelude.{◌≡◌, ◌≢◌, ◌↔◌, ◌<◌, ◌≤◌, ◌⊎◌, ℕ, [], length, max, map, IfSome, IfNone, IfOk, IsTrue, OnErr, Some};
 ghost use Rattle.std.specs.Bool.{MatchBool};
+ghost use Rattle.std.specs.FinSet as set;
 ghost use Rattle.std.specs.List.{AllPairs, reduce};
 ghost use Rattle.mds_calendar.specs.Length.{count_of};
 ghost use Rattle.mds_quantity.specs.declared.unit.Unit.{Unit as MeasureUnit};
@@ -95,6 +96,17 @@ impl DayBook {
             form,
             rows: BookRows::Own(rows),
         })
+    }
+
+    /// The book of a day of which nothing is known.
+    pub fn unknown(alloc: Global, stream: Stream, day: Day) -> DayBook
+        ensures of_day { (result.stream ≡ stream) × (result.day ≡ day) }
+        ensures empty { book_world result ≡ set.empty }
+    {
+        let Some(book) = DayBook::new(stream, day, None, Vec::new(alloc)) else {
+            unreachable!();
+        };
+        book
     }
 
     /// The same day of versions that come in either form. Those that are one of each interval of their length are kept as they
@@ -253,6 +265,7 @@ impl DayBook {
         ensures some { IfSome result (λ update. (minutes : ℕ) (unit : MeasureUnit)
             → IsFormOf (book_world self.now) self.now.stream self.now.day minutes unit
             → IsLatest (book_world self.now) self.now.stream self.now.day minutes update) }
+        ensures known { IfSome result (λ _. IsKnownDay (book_world self.now) self.now.stream self.now.day) }
         ensures none { IfNone result (IsKnownDay (book_world self.now) self.now.stream self.now.day → ⊥) }
     {
         // For the proof: what a book says is a lawful World.
@@ -482,7 +495,7 @@ fn in_order(mut rows: Vec<(u16, Version)>) -> Option<Vec<(u16, Version)>>
     ensures some { IfSome result (λ sorted. AllPairs IsBefore sorted.items × SameMembers rows.items sorted.items) }
     ensures none { IfNone result (TwoReadings rows.items) }
 {
-    // A keeper gives them in order: then one pass is all.
+    // Those of one update come in order: then one pass is all.
     if do_ascend(&rows) {
         return Some(rows);
     }

@@ -97,7 +97,7 @@ impl Model for DayMerge {
 }
 
 /// The rule that a length and a unit break (M1, M2). The length is held against the one that is known
-/// of an update or of a day, and then the unit against the day's.
+/// under its update, and then the unit against the day's.
 pub fn head_conflict(
     known: Option<Length>,
     of_day: Option<Unit>,
@@ -659,7 +659,7 @@ impl DayBook {
     pub fn plan(&self, alloc: Global, claims: &[Claim]) -> Result<Additions, Stop>
         requires lines { AreAscending claims.now }
         ensures ok { IfOk result
-            (λ additions. IsPlan (book_world self.now) (claims_world self.now.stream self.now.day claims.now) additions) }
+            (λ additions. IsPlan self.now (claims_world self.now.stream self.now.day claims.now) additions) }
         ensures refused { IfErr result (λ stop. IfRefused stop
             (IsRefusal (book_world self.now) (claims_upto self.now.stream self.now.day claims.now))) }
     {

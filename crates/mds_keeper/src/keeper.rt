@@ -18,7 +18,7 @@ use mds_terms::{Day, Details, Event, Stream};
 use std::alloc::{AllocError, AllocFailed};
 
 /// The store can't answer now.
-#[derive(Clone, Copy, Debug, PartialEq, Eq)]
+#[derive(Clone, Copy, Debug)]
 pub struct Unavailable;
 
 impl From<AllocError> for Unavailable {
@@ -42,7 +42,7 @@ pub trait Keeper {
     /// What is kept, whether it is honest and sound, and what a crash may leave.
     ghost kept: { Self → Kept };
 
-    /// All that is kept of a day: its head and its versions.
+    /// All that is kept of a day: its heads and its versions.
     fn day(&mut self, stream: Stream, day: Day) -> Result<DayBook, Unavailable>
         ensures of_day { IfOk result (λ book. (book.stream ≡ stream) × (book.day ≡ day)) }
         ensures book { Asks (kept self.old) (kept self.new) result IsDay };

@@ -1,6 +1,6 @@
 //! Why the machine refuses what a request says.
 
-ghost use Rattle.std.specs.Prelude.{◌≡◌, Some};
+ghost use Rattle.std.specs.Prelude.{◌≡◌, ◌↔◌, IsTrue, Some};
 ghost use Rattle.mds_keeper.specs.Refusals.{code_text, refusal_text};
 
 use std::fmt;
@@ -35,6 +35,13 @@ pub enum RefusalCode {
 }
 
 impl RefusalCode {
+    ghost use Rattle.mds_keeper.specs.declared.refusal.RefusalCode.{RefusalCode as ARefusalCode};
+
+    /// A law: `==` says whether two codes are the same.
+    pub fn one_equality()
+        ensures { (a b : ARefusalCode) → IsTrue (⟦<RefusalCode as PartialEq>⟧.eq a b) ↔ (a ≡ b) }
+    {}
+
     /// Its code, as `M3`.
     pub fn text(self) -> &'static str
         ensures { result.now ≡ code_text self }
@@ -77,6 +84,13 @@ pub struct Refusal {
 }
 
 impl Refusal {
+    ghost use Rattle.mds_keeper.specs.declared.refusal.Refusal.{Refusal as ARefusal};
+
+    /// A law: `==` says whether two refusals are the same.
+    pub fn one_equality()
+        ensures { (a b : ARefusal) → IsTrue (⟦<Refusal as PartialEq>⟧.eq a b) ↔ (a ≡ b) }
+    {}
+
     /// A refusal of a request as a whole.
     pub const fn of_request(code: RefusalCode) -> Refusal
         ensures { result ≡ record { code = code; line = 0; field = 0; interval = 0 } }

@@ -31,7 +31,8 @@ use Rattle.mds_keeper.specs.declared.additions.DetailDays.{DetailDays}
 use Rattle.mds_memory.specs.StoredDetails.{details_world}
 use Rattle.mds_memory.specs.declared.stored_notes.Note.{Note}
 use Rattle.mds_memory.specs.declared.stored_notes.Note.TheVariants.{Event, Holiday}
-use Rattle.mds_memory.proofs.StoredDays.{Kept, fact_on, in_days, nothing_lawful}
+use Rattle.mds_keeper.proofs.Unknown.{nothing_lawful}
+use Rattle.mds_memory.proofs.StoredDays.{Kept, fact_on, in_days}
 use Rattle.mds_memory.proofs.StoredDetails.{Meters, in_details, is_detail, meter_of}
 use Rattle.mds_memory.proofs.StoredJobs.{Jobs, in_jobs}
 use Rattle.mds_memory.proofs.StoredPeriods.{Periods, in_periods}

@@ -17,7 +17,7 @@ use Rattle.mds_world.specs.Lists.{Member}
 use Rattle.mds_world.proofs.Members.{in_list, in_union, list_in, same_by, union_left}
 use Rattle.mds_world.proofs.Sets.{not_in_empty}
 use Rattle.mds_world.specs.Sets.{◌∈◌}
-use Rattle.mds_world.specs.World.{IsLawful, IsOn, World, union}
+use Rattle.mds_world.specs.World.{IsOn, World, union}
 use Rattle.mds_keeper.specs.Books.{BookValue, IsDay, book_facts, book_world, head_facts, row_fact}
 use Rattle.mds_keeper.proofs.BookFacts.{member_head}
 use Rattle.mds_memory.specs.Stored.{AreOfTheirDays, HasRoom, IsChange, days_world, last_number, place_cmp}
@@ -160,33 +160,6 @@ put_world old changed now left w e put o t change =
       ]
       | inr a ↦ let r = change.all f a in put_holds old changed now w p change r.0 r.1 r.2 f r.3 h
     ])
-
--- no day
-pub nothing_lawful : IsLawful set.empty
-nothing_lawful = record {
-  agrees = record {
-    one_length = λ a b x y i j k. absurd (not_in_empty total exact (HeadIs a) x);
-    one_unit = λ a b x y i j. absurd (not_in_empty total exact (HeadIs a) x);
-    one_reading = λ key a b x y. absurd (not_in_empty total exact (VersionIs key a) x);
-    one_content = λ key a b x y. absurd (not_in_empty total exact (PeriodIs key a) x);
-  };
-  one_job = λ id a b m n x y. absurd (not_in_empty total exact (JobIs id a m) x);
-  closed = record {
-    headed = λ key reading x. absurd (not_in_empty total exact (VersionIs key reading) x);
-    versioned = λ head x. absurd (not_in_empty total exact (HeadIs head) x);
-    detailed = λ detail x. absurd (not_in_empty total exact (DetailIs detail) x);
-  };
-}
-
-abbrev pub bare : Stream → ℕ → List (ℕ × Version) → BookValue
-bare stream day rows = record { stream = stream; day = day; unit = None; rows = rows }
-
-pub bare_is : (stream : Stream) (day : ℕ) (rows : List (ℕ × Version)) → rows ≡ []
-    → ((w : World) → IsLawful w → IsDay w (bare stream day rows) → ⊥) → ⊥
-bare_is stream day rows e none = none set.empty nothing_lawful (subst (λ r. IsDay set.empty (bare stream day r)) (sym e) (record {
-  whole = λ f on h. h;
-  only = λ f h. h;
-}))
 
 pub says_nothing : (book : BookValue) (f : Fact) → book_world book ≡ set.empty → Member f (book_facts book) → ⊥
 says_nothing book f e m = not_in_empty total exact f (subst (λ w. f ∈ w) e (list_in (book_facts book) f m))

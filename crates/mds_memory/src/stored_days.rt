@@ -7,7 +7,7 @@ ghost use Rattle.std.specs.Option.{unwrap_or};
 ghost use Rattle.mds_world.specs.Facts.{Fact};
 ghost use Rattle.mds_world.specs.Facts.Fact.{HeadIs};
 ghost use Rattle.mds_world.specs.World.{IsLawful, World, union};
-ghost use Rattle.mds_keeper.specs.Books.{IsDay, book_world};
+ghost use Rattle.mds_keeper.specs.Books.{IsDay};
 ghost use Rattle.mds_keeper.specs.Content.{rows_of, version_fact, versions_of};
 ghost use Rattle.mds_keeper.specs.Queries.{AreDaysOf, IsLastDayOf};
 ghost use Rattle.mds_memory.specs.Stored.{AreOfTheirDays, HasRoom, IsChange, days_world, is_headed, last_number, place_cmp};
@@ -37,7 +37,7 @@ pub(crate) fn day_of(
     let place = StreamDay { stream, day };
     match days.get(&place) {
         Some(book) => book.try_clone(alloc),
-        None => Ok(unknown_day(alloc, &place)),
+        None => Ok(DayBook::unknown(alloc, place.stream, place.day)),
     }
 }
 
@@ -100,17 +100,6 @@ pub(crate) fn has_head(book: &DayBook) -> bool
     ensures { result ≡ is_headed book.now }
 {
     book.form().is_some()
-}
-
-/// The book of a day of which nothing is known.
-fn unknown_day(alloc: Global, place: &StreamDay) -> DayBook
-    ensures of_day { (result.stream ≡ place.now.stream) × (result.day ≡ place.now.day) }
-    ensures empty { book_world result ≡ set.empty }
-{
-    let Some(book) = DayBook::new(place.stream, place.day, None, Vec::new(alloc)) else {
-        unreachable!();
-    };
-    book
 }
 
 /// What a day will hold: its unit, and its versions in any order.
@@ -349,7 +338,8 @@ pub(crate) fn make_room(
     for place in changed.keys() {
         // For the proof: a day's number is at most that of the last day.
         let _ = place.day.number();
-        add_place(days, place, unknown_day(alloc, place))?;
+        let book = DayBook::unknown(alloc, place.stream, place.day);
+        add_place(days, place, book)?;
     }
     Ok(())
 }

@@ -137,26 +137,30 @@ abbrev pub Both : (Trees → Trees → Type 0) → (Trees → Trees → Type 0) 
 Both First Second old new = (between : Trees) × First old between × Second between new
 
 -- what one step makes of a store
-abbrev pub TakesOne : Database → Database → Type 0
+abbrev pub TakesOne : Database → Trees → Type 0
 TakesOne old new =
-    (IsDailyStore old × HasFormed old.trees new.trees)
-    ⊎ ((IsPackStore old × HasDated old.trees new.trees) ⊎ (IsStore old × HasPacked old.trees new.trees))
+    (IsDailyStore old × HasFormed old.trees new) ⊎ ((IsPackStore old × HasDated old.trees new) ⊎ (IsStore old × HasPacked old.trees new))
 
 -- what two steps make of one
-abbrev pub TakesTwo : Database → Database → Type 0
+abbrev pub TakesTwo : Database → Trees → Type 0
 TakesTwo old new =
-    (IsPackStore old × Both HasDated HasFormed old.trees new.trees) ⊎ (IsStore old × Both HasPacked HasDated old.trees new.trees)
+    (IsPackStore old × Both HasDated HasFormed old.trees new) ⊎ (IsStore old × Both HasPacked HasDated old.trees new)
 
 -- What all steps make of a store: the days of one of schema 3 were given heads of updates. Those of one of schema 2 were given details
 -- before, and those of one of schema 1 were packed before that.
-abbrev pub TakesSteps : Database → Database → Type 0
+abbrev pub TakesSteps : Database → Trees → Type 0
 TakesSteps old new =
-    (IsDailyStore old × HasFormed old.trees new.trees)
-    ⊎ ((IsPackStore old × Both HasDated HasFormed old.trees new.trees)
-    ⊎ (IsStore old × Both HasPacked (Both HasDated HasFormed) old.trees new.trees))
+    (IsDailyStore old × HasFormed old.trees new)
+    ⊎ ((IsPackStore old × Both HasDated HasFormed old.trees new)
+    ⊎ (IsStore old × Both HasPacked (Both HasDated HasFormed) old.trees new))
 
 abbrev pub LeavesMigrated : State → Trees → Type 0
 LeavesMigrated old left = LeavesTaken packing old left ⊎ (LeavesTaken dating old left ⊎ LeavesTaken forming old left)
+
+-- What a crash may leave of all steps: the store that one, two or all of them make, whole.
+abbrev pub LeavesSteps : State → Trees → Type 0
+LeavesSteps old left =
+    IsTrue old.is_open × (TakesOne old.committed left ⊎ (TakesTwo old.committed left ⊎ TakesSteps old.committed left))
 
 -- what a migration answers
 abbrev pub Answered : State → State → Migrated → Type 0

@@ -8,7 +8,7 @@ ghost use Rattle.mds_pack_rows.specs.DailyTables.{schema_3};
 ghost use Rattle.mds_pack_rows.specs.FormTables.{schema_4};
 ghost use Rattle.mds_pack_rows.specs.PackTables.{schema_2};
 ghost use Rattle.mds_pack_store.specs.Formed.{IsFormedStore};
-ghost use Rattle.mds_migrate.specs.Migrated.{Answered, IsRefused, LeavesMigrated, TakesOne, TakesSteps, TakesTwo};
+ghost use Rattle.mds_migrate.specs.Migrated.{Answered, IsRefused, LeavesMigrated, LeavesSteps, TakesOne, TakesSteps, TakesTwo};
 
 use crate::dating::Dating;
 use crate::forming::Forming;
@@ -23,7 +23,8 @@ use mds_tables::has_schema_1;
 use sqlite::{Alter, Connection};
 use std::alloc::Global;
 
-/// Takes a store to schema 4, one step after another. A step that is refused ends it, and those before it stand.
+/// Takes a store to schema 4, one step after another. A step that is refused ends it, and those before it stand. Behind a step that was
+/// done the answer is U1. A crash leaves the store as it was, or that which some of the steps make, whole.
 pub fn migrate_all<S: Alter>(
     alloc: Global,
     conn: &mut Connection<S>,
@@ -32,11 +33,13 @@ pub fn migrate_all<S: Alter>(
     ensures same { IfOk result (λ it. it ≡ Migrated.AlreadyCurrent → HasCleanDisk (state S.Store conn.new)
         → IsFormedStore (state S.Store conn.old).committed × KeepsCommit (state S.Store conn.old) (state S.Store conn.new)) }
     ensures taken { IfOk result (λ it. it ≡ Migrated.Done → HasCleanDisk (state S.Store conn.new)
-        → TakesSteps (state S.Store conn.old).committed (state S.Store conn.new).committed) }
-    ensures stopped { IfErr result (λ e. HasCleanDisk (state S.Store conn.new) → KeepsCommit (state S.Store conn.old) (state S.Store conn.new)
-        ⊎ (IsTrue (state S.Store conn.new).is_open → TakesOne (state S.Store conn.old).committed (state S.Store conn.new).committed
-        ⊎ TakesTwo (state S.Store conn.old).committed (state S.Store conn.new).committed)) }
+        → TakesSteps (state S.Store conn.old).committed (state S.Store conn.new).committed.trees) }
+    ensures stopped { IfErr result (λ e. HasCleanDisk (state S.Store conn.new) → IsRefused (state S.Store conn.old) (state S.Store conn.new) e
+        ⊎ ((e ≡ MigrateFault.Unavailable) × (IsTrue (state S.Store conn.new).is_open
+        → TakesOne (state S.Store conn.old).committed (state S.Store conn.new).committed.trees
+        ⊎ TakesTwo (state S.Store conn.old).committed (state S.Store conn.new).committed.trees))) }
     ensures mode { conn.new.in_transaction ≡ conn.old.in_transaction }
+    ensures survives { Survives (state S.Store conn.old) (state S.Store conn.new) (LeavesSteps (state S.Store conn.old)) }
 {
     match migrate(alloc, conn) {
         Ok(Migrated::Done) => match migrate(alloc, conn) {
@@ -61,6 +64,8 @@ pub fn migrate_all<S: Alter>(
 pub fn migrate<S: Alter>(alloc: Global, conn: &mut Connection<S>) -> Result<Migrated, MigrateFault>
     ensures done { IfOk result (λ it. HasCleanDisk (state S.Store conn.new) → Answered (state S.Store conn.old) (state S.Store conn.new) it) }
     ensures err { IfErr result (λ e. HasCleanDisk (state S.Store conn.new) → IsRefused (state S.Store conn.old) (state S.Store conn.new) e) }
+    ensures settled { IfErr result (λ e. e ≡ MigrateFault.OtherSchema → IsTrue (state S.Store conn.old).is_open
+        → (state S.Store conn.old).now ≡ (state S.Store conn.old).committed) }
     ensures mode { conn.new.in_transaction ≡ conn.old.in_transaction }
     ensures survives { Survives (state S.Store conn.old) (state S.Store conn.new) (LeavesMigrated (state S.Store conn.old)) }
 {

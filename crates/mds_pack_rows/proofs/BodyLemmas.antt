@@ -1,9 +1,10 @@
 -- A body says how many intervals its day has.
-use Rattle.std.proofs.Common.{◌≡◌, ◌*◌, ℕ, zero, suc, Bool, true, false, cond, not, ◌&&◌, nat_eq, nat_lt, List, [], ◌∷◌, drop, length, map, Option, Some, None, Ok, Err, Result, IfOk, IfSome, option_map, refl, sym, ap, ◌∙◌, arith}
-use Rattle.std.proofs.Math.Nat.{div-eq_of_eq-mul_right}
+use Rattle.std.proofs.Common.{◌≡◌, ℕ, Bool, true, false, cond, not, ◌&&◌, nat_eq, nat_lt, List, [], ◌∷◌, drop, length, map, Option, Some, None, Ok, Err, Result, IfOk, IfSome, option_map, refl, sym, ap, subst, inl, inr, ◌∙◌}
 use Rattle.std.specs.Int.{w16}
 use Rattle.std.proofs.lemmas.Bool.{eqb-true}
 use Rattle.std.proofs.lemmas.List.{length-map}
+use Rattle.mds_calendar.specs.Length.{count_of, is_length}
+use Rattle.mds_calendar.proofs.Lengths.{cases_length}
 use Rattle.mds_marks.specs.Reading.{ReadingValue}
 use Rattle.mds_runs.specs.declared.cover.Run.{Run}
 use Rattle.mds_runs.specs.GapSteps.{are_parted, marks_after}
@@ -89,26 +90,29 @@ all_whole count body (Err e) is = tt
 
 -- ---- as many as they are, so long are their intervals
 
--- so many intervals of a length are a day
-pub length_back : (count minutes : ℕ) → count * minutes ≡ 1440 → minutes_of count ≡ minutes
-length_back zero minutes day = absurd (omega (arith, day))
-length_back (suc count) minutes day = div-eq_of_eq-mul_right (omega arith) (sym day)
+-- so many intervals are of the length that has so many
+pub length_back : (minutes : ℕ) → is_length minutes ≡ true → minutes_of (count_of minutes) ≡ minutes
+length_back minutes known = elim (cases_length minutes known) [
+  | inl e ↦ subst (λ n. minutes_of (count_of n) ≡ n) (sym e) refl
+  | inr (inl e) ↦ subst (λ n. minutes_of (count_of n) ≡ n) (sym e) refl
+  | inr (inr e) ↦ subst (λ n. minutes_of (count_of n) ≡ n) (sym e) refl
+]
 
-module _ (count minutes : ℕ) (day : count * minutes ≡ 1440) where
+module _ (minutes : ℕ) (known : is_length minutes ≡ true) where
   -- what a call gives that reads for that count
   pub all_of_length : {V E : Type 0} (view : V → List (Option ReadingValue)) (Told : V → Type 0) (r : Result (Option V) E)
-      → IfOk r (λ o. IfSome o (λ v. IsDay count (view v) × Told v)) → IfOk r (λ o. IfSome o (λ v. minutes_of (length (view v)) ≡ minutes))
-  all_of_length view Told (Ok (Some v)) is = ap minutes_of is.0.places ∙ length_back count minutes day
+      → IfOk r (λ o. IfSome o (λ v. IsDay (count_of minutes) (view v) × Told v)) → IfOk r (λ o. IfSome o (λ v. minutes_of (length (view v)) ≡ minutes))
+  all_of_length view Told (Ok (Some v)) is = ap minutes_of is.0.places ∙ length_back minutes known
   all_of_length view Told (Ok None) is = tt
   all_of_length view Told (Err e) is = tt
 
   -- and what one gives that reads a whole day
   pub whole_of_length : {E : Type 0} (body : List ℕ) → IsBytes body → (r : Result (Option (List ReadingValue)) E)
-      → IfOk r (λ o. IfSome o (λ readings. unpacked count body ≡ Some (map (λ reading. Some reading) readings)))
+      → IfOk r (λ o. IfSome o (λ readings. unpacked (count_of minutes) body ≡ Some (map (λ reading. Some reading) readings)))
       → IfOk r (λ o. IfSome o (λ readings. minutes_of (length readings) ≡ minutes))
   whole_of_length body fits (Ok (Some readings)) is =
-      let places : length (map (λ reading. Some reading) readings) ≡ count =
-      (readings_takes count body (map (λ reading. Some reading) readings) fits is).0.places in
-      ap minutes_of (sym (length-map readings (λ (reading : ReadingValue). Some reading)) ∙ places) ∙ length_back count minutes day
+      let places : length (map (λ reading. Some reading) readings) ≡ count_of minutes =
+      (readings_takes (count_of minutes) body (map (λ reading. Some reading) readings) fits is).0.places in
+      ap minutes_of (sym (length-map readings (λ (reading : ReadingValue). Some reading)) ∙ places) ∙ length_back minutes known
   whole_of_length body fits (Ok None) is = tt
   whole_of_length body fits (Err e) is = tt

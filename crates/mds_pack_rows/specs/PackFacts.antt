@@ -1,6 +1,6 @@
 -- What the rows of mds_pack say, as facts (profile). Each row names the versions of its body, whoever wrote it. A body that
 -- can't be read says none, so any tables name a World.
-use Rattle.std.specs.Prelude.{ℕ, ◌+◌, ◌/◌, List, [], ◌∷◌, drop, length, Option, Some, None, unwrap_or}
+use Rattle.std.specs.Prelude.{ℕ, ◌+◌, ◌==◌, if◌then◌else◌, List, [], ◌∷◌, drop, length, Option, Some, None, unwrap_or}
 use Rattle.std.specs.Int.{w16}
 use Rattle.std.specs.List.{flat_map}
 use Rattle.sqlite_trees.specs.Tree.{Trees}
@@ -13,9 +13,9 @@ use Rattle.mds_world.specs.Facts.Fact.{VersionIs}
 use Rattle.mds_tables.specs.RowFacts.{natural_at, stream_in, text_at}
 use Rattle.mds_pack_rows.specs.PackTables.{pack_tree}
 
--- the length of each of so many intervals of a day, in minutes
+-- The length of the intervals of a day that has so many, in minutes. It is 0 where no length has so many.
 abbrev pub minutes_of : ℕ → ℕ
-minutes_of count = 1440 / count
+minutes_of count = if count == 48 then 30 else (if count == 96 then 15 else (if count == 288 then 5 else 0))
 
 -- The versions of one length and one update that readings from an interval on are, none where an interval has no reading.
 abbrev pub facts_from : Stream → ℕ → ℕ → ℕ → ℕ → List (Option ReadingValue) → List Fact

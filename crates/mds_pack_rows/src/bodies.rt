@@ -55,8 +55,8 @@ pub fn unpack_for(
     ensures len { IfOk result (λ o. IfSome o (λ readings. minutes_of (list_length readings.items) ≡ length)) }
     ensures value { IfOk result (λ o. option_map (λ v. v.items) o ≡ unpacked (count_of length) body.now) }
 {
-    // For the proof: so many intervals of this length are a day.
-    let _ = length.count();
+    // For the proof: a length is 5, 15 or 30 minutes.
+    let _ = length.minutes();
     unpack_day(alloc, length, body)
 }
 
@@ -70,8 +70,8 @@ pub fn unpack_whole(
     ensures says { IfOk result (λ o. IfSome o (λ readings. readings_in body.now ≡ Some (map (λ reading. Some reading) readings))) }
     ensures len { IfOk result (λ o. IfSome o (λ readings. minutes_of (list_length readings) ≡ length)) }
 {
-    // For the proof: so many intervals of this length are a day.
-    let _ = length.count();
+    // For the proof: a length is 5, 15 or 30 minutes.
+    let _ = length.minutes();
     unpack_readings(alloc, length, body)
 }
 

@@ -181,6 +181,8 @@ fn pack_whole(
 ) -> Result<Option<PackRow>, AllocError>
     ensures { IfOk result (λ o. IfSome o (λ row. set.from_list {R = fact_cmp} (said_by row) ≡ set.from_list (map (row_fact stream.now day) (whole_rows length update 1 readings.now)))) }
 {
+    // For the proof: a length is 5, 15 or 30 minutes.
+    let _ = length.minutes();
     if readings.len() != length.count() || readings.len() == 0 {
         return Ok(None);
     }

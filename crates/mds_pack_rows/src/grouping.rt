@@ -102,6 +102,8 @@ fn put_whole<S: Alter>(
     ensures kept { IsThere (state S.Store tx.old.conn.now) (state S.Store tx.new.conn.now) → KeepsCommit (state S.Store tx.old.conn.now) (state S.Store tx.new.conn.now) }
     ensures survives { Survives (state S.Store tx.old.conn.now) (state S.Store tx.new.conn.now) (λ _. ⊥) }
 {
+    // For the proof: a length is 5, 15 or 30 minutes.
+    let _ = length.minutes();
     if readings.len() != length.count() {
         return Err(Unavailable);
     }
@@ -196,6 +198,8 @@ fn no_readings(alloc: Global, length: Length) -> Result<Vec<Option<Reading>>, Al
     ensures { IfOk result (λ readings. (list_length readings.items < 2 ^ 16) × (readings.items ≡ replicate (list_length readings.items) None)
         × (minutes_of (list_length readings.items) ≡ length)) }
 {
+    // For the proof: a length is 5, 15 or 30 minutes.
+    let _ = length.minutes();
     let mut readings = Vec::with_capacity(alloc, length.count())?;
     for _ in 0..length.count() {
         readings.push(None)?;

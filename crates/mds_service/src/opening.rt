@@ -193,7 +193,7 @@ fn unknown_day(alloc: Global, stream: &Stream, number: u32) -> Option<DayBook>
         × (book_world book ≡ set.empty)) }
 {
     let day = Day::from_number(i64::from(number))?;
-    DayBook::new(*stream, day, None, Vec::new(alloc))
+    Some(DayBook::unknown(alloc, *stream, day))
 }
 
 /// The number of a day.

@@ -93,15 +93,3 @@ pub struct Period {
     pub key: PeriodKey,
     pub content: PeriodContent,
 }
-
-impl Period {
-    /// A copy of the accumulation.
-    pub fn try_clone(&self) -> Result<Period, AllocError>
-        ensures { IfOk result (λ period. period ≡ self.now) }
-    {
-        Ok(Period {
-            key: self.key.try_clone()?,
-            content: self.content.try_clone()?,
-        })
-    }
-}

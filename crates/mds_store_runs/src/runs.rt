@@ -1,6 +1,6 @@
 //! What a run over a store of packed days promises, in the words of the library.
 
-ghost use Rattle.std.specs.Prelude.{◌≡◌, IfOk, IsTrue};
+ghost use Rattle.std.specs.Prelude.{◌≡◌, ◌<◌, IfOk, IsTrue, OnErr, length};
 ghost use Rattle.sqlite.specs.Held.{state};
 ghost use Rattle.sqlite.specs.State.{HasCleanDisk};
 ghost use Rattle.sqlite_trees.specs.Tree.{Trees};
@@ -24,6 +24,7 @@ pub fn run_packs<S: Alter>(
     // While the disk gives back what was written, all answers are those of a run of the machine. The run goes from the
     // World that the tables named to a lawful one. The tables name the latter where the connection is still open. An
     // open after a crash may find tables that name it, or it with one more whole request whose answer was Unavailable.
+    // Behind that one nothing was changed.
     ensures run { IfOk result (λ answers. HasCleanDisk (state S.Store keeper.new.conn)
         → IsTrue (state S.Store keeper.old.conn).is_open → IsLawful (world_kept forms_layout (state S.Store keeper.old.conn))
         → (w : World) × IsLawful w
@@ -31,6 +32,11 @@ pub fn run_packs<S: Alter>(
         × (IsTrue (state S.Store keeper.new.conn).is_open → world_kept forms_layout (state S.Store keeper.new.conn) ≡ w)
         × ((trees : Trees) → (state S.Store keeper.new.conn).may_leave trees
         → MayLeave w requests.now answers.items (world_4 trees))) }
+
+    // Each request has its answer. Nothing is changed where the list of answers has no room, and an empty list needs none.
+    ensures count { IfOk result (λ answers. length answers.items ≡ length requests.now) }
+    ensures err { OnErr result (keeper.new ≡ keeper.old) }
+    ensures memory { OnErr result (0 < length requests.now) }
 {
     run(alloc, keeper, requests)
 }

@@ -18,7 +18,7 @@ use Rattle.mds_statements.specs.declared.periods.Period.{Period}
 use Rattle.mds_tables.specs.Cells.{event_cells, holiday_cells, job_cells, period_cells}
 use Rattle.mds_tables.specs.Layouts.{Layout, rows_layout, world_with}
 use Rattle.mds_tables.specs.RowFacts.{int_at}
-use Rattle.mds_tables.specs.Tables.{detail_tree, event_tree, holiday_tree, job_tree, period_tree, schema_tree, schema_version, schema_with}
+use Rattle.mds_tables.specs.Tables.{detail_tree, event_tree, holiday_tree, job_tree, period_tree, schema_tree, schema_version, schema_with, version_tree}
 
 -- what mds_schema says
 abbrev pub versions_said : Trees → List ℤ
@@ -84,6 +84,7 @@ Gained = Trees → Trees → Additions → Type 0
 pub record AddsOf (HasOwn : Gained) (old new : Trees) (additions : Additions) : Type 0 where
   pub schema : new schema_tree ≡ old schema_tree
   pub own : HasOwn old new additions
+  pub unfilled : new version_tree ≡ old version_tree
   pub undated : new detail_tree ≡ old detail_tree
   pub events : Gains event_tree (map event_cells additions.events.items) old new
   pub periods : (rows : List Row) × AreRowsOf IsPeriodRow additions.periods.items rows × Gains period_tree rows old new

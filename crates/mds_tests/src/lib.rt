@@ -22,3 +22,5 @@ mod sources;
 mod terms;
 #[cfg(test)]
 mod versions;
+#[cfg(test)]
+mod written;

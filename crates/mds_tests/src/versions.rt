@@ -9,7 +9,7 @@ use mds_terms::{Day, Length, Moment, Reading, Stream};
 use std::alloc::Global;
 
 /// Half-hourly readings of quality A: all are 1 but the third.
-fn readings_of(alloc: Global, third: &str) -> Option<Vec<Reading>> {
+pub(crate) fn readings_of(alloc: Global, third: &str) -> Option<Vec<Reading>> {
     let mut readings = Vec::new(alloc);
     for i in 0..48 {
         let value = if i == 2 { third } else { "1" };

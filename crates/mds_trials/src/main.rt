@@ -5,7 +5,8 @@
 //! memory. `mds_trials deliver PATH` reads all that a NEM12 file states. `mds_trials imports PATH` takes the file into an empty keeper,
 //! and then again. `mds_trials exports PATH FROM TO` takes it in and exports each of its streams in that range.
 //!
-//! `mds_trials applies PATH` reads a NEM12 file once and applies what it states twice. Then it takes the file itself in.
+//! `mds_trials applies PATH` reads a NEM12 file once and applies what it states twice. Then it takes the file itself in, in two pieces and
+//! whole.
 //!
 //! Two words hold NEM12 files in pieces against the same files in one. A list of files stands in `PATH`, each behind its length in four
 //! bytes. `mds_trials cuts PATH` cuts each in two, at each of its bytes in turn, and then at all of them. `mds_trials pieces PATH SEED` cuts each once, in
@@ -26,6 +27,7 @@ use crate::stops::stop_in_turn;
 use mds_answers::{list_json, short_json};
 use mds_arguments::{ExportArguments, export_request};
 use mds_http::{StoreHandler, listen, serve_connections};
+use mds_laws::a_file_comes_in_pieces;
 use mds_memory::MemoryKeeper;
 use mds_nem12::read_nem12;
 use mds_records::FileKind;
@@ -133,7 +135,8 @@ fn print_answer(rt: &HostRuntime, answer: &Answer) -> io::Result<()> {
     io::writer(rt).write_all(&text)
 }
 
-/// Applies what a NEM12 file states to an empty keeper, and once more. Then it takes the file itself in. Prints the three answers.
+/// Applies what a NEM12 file states to an empty keeper, and once more. Then it takes the file itself in, in two pieces and whole. Prints
+/// the four answers.
 fn apply_twice(rt: &HostRuntime, path: &str) -> io::Result<bool> {
     let bytes = fs::read(rt, path)?;
     let Ok(delivery) = read_nem12(rt.alloc(), &bytes) else {
@@ -143,6 +146,11 @@ fn apply_twice(rt: &HostRuntime, path: &str) -> io::Result<bool> {
     for _ in 0..2 {
         print_answer(rt, &apply_delivery(rt.alloc(), &mut keeper, &delivery))?;
     }
+    let (front, rest) = bytes.split_at(bytes.len() / 2);
+    print_answer(
+        rt,
+        &a_file_comes_in_pieces(rt.alloc(), &mut keeper, &[front, rest]),
+    )?;
     let request = Request::Import {
         kind: FileKind::Nem12,
         bytes,

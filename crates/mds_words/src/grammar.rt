@@ -184,7 +184,7 @@ fn query_words<'a>(found: &ArgMatches<'a>) -> QueryWords<'a>
     QueryWords::of(&Found { matches: found })
 }
 
-/// The word of an argument, which is there, since it is required or has a default.
+/// The word of an argument. It is empty where the command has no such argument.
 fn word<'a>(found: &ArgMatches<'a>, id: &str) -> &'a str
     ensures { result.now ≡ value_of id.now (rows_of (found_of found.now)) }
 {

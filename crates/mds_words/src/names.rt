@@ -230,15 +230,19 @@ impl Word {
             Word::Suffix => "The stream of the meter, as E1",
             Word::Suffixes => "The streams of the meter, as E1 B1",
             Word::Date => "The day, CCYYMMDD",
-            Word::Interval => "The number of the interval, from 1",
+            Word::Interval => "The number of the interval, from 1, in one to four digits",
             Word::From => "The first day, CCYYMMDD",
             Word::To => "The last day, CCYYMMDD",
             Word::Moment => "When the file is made, CCYYMMDDhhmm or CCYYMMDDhhmmss",
-            Word::Sender => "Who the file is from",
-            Word::Receiver => "Who the file is for",
+            Word::Sender => {
+                "Who the file is from, in at most 240 printable ASCII characters without a comma"
+            }
+            Word::Receiver => {
+                "Who the file is for, in at most 240 printable ASCII characters without a comma"
+            }
             Word::Port => "The port",
             Word::Count => "After how many connections it ends",
-            Word::Code => "The code, as L8, or the line that is printed, as bad job",
+            Word::Code => "The code, as L8 or bad job",
         }
     }
 }

@@ -1,11 +1,11 @@
 //! What facts are about.
 
-ghost use Rattle.std.specs.Prelude.{◌≡◌, ◌+◌, ◌<◌, IfOk, OnErr, length};
+ghost use Rattle.std.specs.Prelude.{◌≡◌};
 ghost use Rattle.mds_world.specs.Current.{no_details};
 
 use mds_quantity::Unit;
 use mds_terms::{Day, Details, Length, Moment, Stream};
-use std::alloc::{AllocError, Global};
+use std::alloc::Global;
 use std::cmp::Ordering;
 
 /// A day of a stream. Its order goes by the stream, and then by the day.
@@ -76,31 +76,13 @@ pub struct Key {
     pub update: Moment,
 }
 
-/// The details of a day of a stream, and the moment of the header that they came under. Its order goes by the stream, the day, the
-/// moment, and then the details.
-#[derive(PartialEq, Eq, PartialOrd, Ord, Drop)]
+/// The details of a day of a stream, and the moment of the header that they came under.
+#[derive(Drop)]
 pub struct Detail {
     pub stream: Stream,
     pub day: Day,
     pub moment: Moment,
     pub details: Details,
-}
-
-impl Detail {
-    /// A copy of the details. It fails only where memory is refused: never where all texts are
-    /// empty.
-    pub fn try_clone(&self) -> Result<Detail, AllocError>
-        ensures value { IfOk result (λ detail. detail ≡ self.now) }
-        ensures full { OnErr result (0 < length self.now.details.configuration + length self.now.details.register
-            + length self.now.details.datastream + length self.now.details.meter) }
-    {
-        Ok(Detail {
-            stream: self.stream,
-            day: self.day,
-            moment: self.moment,
-            details: self.details.try_clone()?,
-        })
-    }
 }
 
 /// Details of which nothing is known: five empty ones. They take no memory.

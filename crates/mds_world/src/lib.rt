@@ -9,5 +9,5 @@ mod laws;
 pub use facts::{Detail, Head, Key, StreamDay, empty_details};
 pub use laws::{
     any_order, counts_grow, details_come_back, known_or_added, nearest_details, one_current,
-    one_details, parts_agree, repeated_facts_add_nothing,
+    one_details, one_form, parts_agree, repeated_facts_add_nothing,
 };

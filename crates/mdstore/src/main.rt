@@ -1,7 +1,8 @@
 //! The program `mdstore`: from the words that it is called with to what it prints and the status that it ends with.
 //!
-//! `call` does what words ask for. `inputs` and `queries` put files and questions to a store. `importing` takes NEM12 files in as they are read. `commands` are those on a store in a
-//! file, which `store_file` opens and closes. `place` knows what stood at its path, so that a refusal leaves just that.
+//! `call` does what words ask for. `inputs` and `queries` put files and questions to a store. `asking` does so over a keeper, and
+//! `importing` takes NEM12 files in as they are read. `commands` are those on a store in a file, which `store_file` opens and closes.
+//! `place` knows what stood at its path, so that a refusal leaves just that.
 #![tactic(auto)]
 
 mod asking;

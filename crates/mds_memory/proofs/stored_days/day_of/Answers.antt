@@ -5,8 +5,8 @@ use Rattle.mds_memory.proofs.stored_days.day_of.Goals as goal
 
 pub returns-in-None-clause-book : goal.returns-in-None-clause-book
 returns-in-None-clause-book c =
-    day_unknown c.args.days.now (record { stream = c.args.stream; day = c.args.day }) c.unknown_day.result c.requires
-    (sym c.in-None.ensures.value) c.unknown_day.ensures.of_day c.unknown_day.ensures.empty
+    day_unknown c.args.days.now (record { stream = c.args.stream; day = c.args.day }) c.unknown.result c.requires
+    (sym c.in-None.ensures.value) c.unknown.ensures.of_day c.unknown.ensures.empty
 
 pub returns-in-Some-clause-of_day : goal.returns-in-Some-clause-of_day
 returns-in-Some-clause-of_day c = if_ok_at c.try_clone.result c.in-Some.book.now (λ book. (book.stream ≡ c.args.stream) × (book.day ≡ c.args.day))

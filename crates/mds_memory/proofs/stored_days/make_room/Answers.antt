@@ -11,9 +11,9 @@ returns-in_err-add_place-clause-theirs c = λ t. theirs_same _ _ c.in_err-add_pl
 
 pub loop-place-preserved : goal.loop-place-preserved
 loop-place-preserved c =
-    room_put c.args.days.now c.args.changed.now c.loop-place.days c.add_place.new.days _ _ c.in-Some.place.now c.unknown_day.result _
+    room_put c.args.days.now c.args.changed.now c.loop-place.days c.add_place.new.days _ _ c.in-Some.place.now c.unknown-book.result _
     c.loop-place.invariant c.in-Some.ensures.steps refl c.in_ok-add_place.ensures.ok c.add_place.ensures.was_ordered
-    c.in_ok-add_place.ensures.ordered c.unknown_day.ensures.of_day c.number.ensures.last c.unknown_day.ensures.empty
+    c.in_ok-add_place.ensures.ordered c.unknown-book.ensures.of_day c.number.ensures.last c.unknown-book.ensures.empty
 
 pub returns-clause-room : goal.returns-clause-room
 returns-clause-room c = room_end c.args.days.now c.args.changed.now c.loop-place.days _ c.loop-place.invariant c.in-None.ensures.steps.0

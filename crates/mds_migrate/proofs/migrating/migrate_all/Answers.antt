@@ -1,7 +1,7 @@
 use Rattle.std.proofs.Common.{subst, arith}
 use Rattle.sqlite.specs.Held.{state}
 use Rattle.mds_migrate.specs.Migrated.{Answered}
-use Rattle.mds_migrate.proofs.Chaining.{stopped_behind_two, taken_all}
+use Rattle.mds_migrate.proofs.Chaining.{leaves_three, leaves_two, stopped_behind_one, stopped_behind_two, taken_all}
 use Rattle.mds_migrate.proofs.migrating.migrate_all.Goals as goal
 
 pub returns-in-Ok-clause-taken : goal.returns-in-Ok-clause-taken
@@ -26,4 +26,41 @@ returns-in-Err-migrate-2-clause-stopped g c clean =
     let two = c.migrate-in-Ok-Done-migrate.ensures.survives.clean in
     stopped_behind_two a b mid new (subst (Answered a b) c.in-Ok-Done.field-0-is (c.in-Ok-Done.ensures.done (omega (arith, clean, one, two))))
     (subst (Answered b mid) c.in-Ok-Done-migrate.field-0-is (c.in-Ok-Done-migrate.ensures.done (omega (arith, clean, two))))
-    c.in-Err-migrate-2.fault (c.in-Err-migrate-2.ensures.err clean)
+    c.in-Err-migrate-2.fault c.in-Err-migrate-2.ensures.settled (c.in-Err-migrate-2.ensures.err clean)
+
+pub returns-in-Err-migrate-clause-stopped : goal.returns-in-Err-migrate-clause-stopped
+returns-in-Err-migrate-clause-stopped g c clean =
+    let a = state g.S.Store c.args.conn.now in
+    let b = state g.S.Store c.migrate.new.conn in
+    let new = state g.S.Store c.migrate-in-Ok-Done.new.conn in
+    let one = c.migrate-in-Ok-Done.ensures.survives.clean in
+    stopped_behind_one a b new (subst (Answered a b) c.in-Ok-Done.field-0-is (c.in-Ok-Done.ensures.done (omega (arith, clean, one))))
+    c.in-Err-migrate.fault c.in-Err-migrate.ensures.settled (c.in-Err-migrate.ensures.err clean)
+
+pub returns-in-Ok-clause-survives : goal.returns-in-Ok-clause-survives
+returns-in-Ok-clause-survives g c =
+    let a = state g.S.Store c.args.conn.now in
+    let b = state g.S.Store c.migrate.new.conn in
+    let mid = state g.S.Store c.migrate-in-Ok-Done.new.conn in
+    let new = state g.S.Store c.migrate-in-Ok-Done-migrate.new.conn in
+    leaves_three a b mid new (λ clean. subst (Answered a b) c.in-Ok-Done.field-0-is (c.in-Ok-Done.ensures.done clean))
+    (λ clean. subst (Answered b mid) c.in-Ok-Done-migrate.field-0-is (c.in-Ok-Done-migrate.ensures.done clean))
+    c.migrate.ensures.survives c.migrate-in-Ok-Done.ensures.survives c.migrate-in-Ok-Done-migrate.ensures.survives
+
+pub returns-in-Err-migrate-2-clause-survives : goal.returns-in-Err-migrate-2-clause-survives
+returns-in-Err-migrate-2-clause-survives g c =
+    let a = state g.S.Store c.args.conn.now in
+    let b = state g.S.Store c.migrate.new.conn in
+    let mid = state g.S.Store c.migrate-in-Ok-Done.new.conn in
+    let new = state g.S.Store c.migrate-in-Ok-Done-migrate.new.conn in
+    leaves_three a b mid new (λ clean. subst (Answered a b) c.in-Ok-Done.field-0-is (c.in-Ok-Done.ensures.done clean))
+    (λ clean. subst (Answered b mid) c.in-Ok-Done-migrate.field-0-is (c.in-Ok-Done-migrate.ensures.done clean))
+    c.migrate.ensures.survives c.migrate-in-Ok-Done.ensures.survives c.migrate-in-Ok-Done-migrate.ensures.survives
+
+pub returns-in-Err-migrate-clause-survives : goal.returns-in-Err-migrate-clause-survives
+returns-in-Err-migrate-clause-survives g c =
+    let a = state g.S.Store c.args.conn.now in
+    let b = state g.S.Store c.migrate.new.conn in
+    let new = state g.S.Store c.migrate-in-Ok-Done.new.conn in
+    leaves_two a b new (λ clean. subst (Answered a b) c.in-Ok-Done.field-0-is (c.in-Ok-Done.ensures.done clean))
+    c.migrate.ensures.survives c.migrate-in-Ok-Done.ensures.survives

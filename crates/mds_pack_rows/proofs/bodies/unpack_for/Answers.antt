@@ -6,4 +6,4 @@ returns-clause-says c = all_said (λ v. v.items) _ c.args.body.now c.unpack_day.
 
 pub returns-clause-len : goal.returns-clause-len
 returns-clause-len c =
-    all_of_length _ c.args.length (rw c.count.ensures.value at c.count.ensures.whole) (λ v. v.items) _ c.unpack_day.result c.unpack_day.ensures.found
+    all_of_length c.args.length c.minutes.ensures.known (λ v. v.items) _ c.unpack_day.result c.unpack_day.ensures.found

@@ -7,5 +7,5 @@ returns-clause-says c = all_whole _ c.args.body.now c.unpack_readings.result c.u
 
 pub returns-clause-len : goal.returns-clause-len
 returns-clause-len c =
-    whole_of_length _ c.args.length (rw c.count.ensures.value at c.count.ensures.whole) c.args.body.now (λ i. omega (arith, c.type_inv.body i))
+    whole_of_length c.args.length c.minutes.ensures.known c.args.body.now (λ i. omega (arith, c.type_inv.body i))
     c.unpack_readings.result c.unpack_readings.ensures.some

@@ -1,4 +1,4 @@
-use Rattle.std.proofs.Common.{◌≡◌, ◌*◌, ◌<◌, Some, ap, length, map, ◌∙◌, rules}
+use Rattle.std.proofs.Common.{◌≡◌, ◌<◌, Some, ap, length, map, ◌∙◌, rules}
 use Rattle.mds_inserts.proofs.RowLemmas.{of}
 use Rattle.mds_pack_rows.specs.PackFacts.{minutes_of, readings_in}
 use Rattle.mds_pack_rows.proofs.BodyLemmas.{length_back, says}
@@ -13,6 +13,6 @@ returns c =
     let some : 0 < length readings = search rules in
     let many : length readings ≡ c.count.result = search rules in
     let full : minutes_of (length readings) ≡ c.args.length =
-    length_back (length readings) c.args.length (ap (λ n. n * c.args.length) many ∙ c.count.ensures.whole) in
+    ap minutes_of (many ∙ c.count.ensures.value) ∙ length_back c.args.length c.minutes.ensures.known in
     let is : readings_in body ≡ Some places = says (length readings) body places (c.in_ok-body.ensures.back some) in
     ap of (says_day c.args.stream.now c.args.day c.args.update body places is ∙ whole_said c.args.stream.now c.args.day c.args.length c.args.update readings full)

@@ -1,6 +1,7 @@
-use Rattle.std.proofs.Common.{◌≡◌, ◌*◌, [], ◌∷◌, ◌++◌, None, length, replicate, sym, ap, ◌∙◌, arith}
+use Rattle.std.proofs.Common.{◌≡◌, [], ◌∷◌, ◌++◌, None, length, replicate, sym, ap, ◌∙◌, arith}
 use Rattle.std.proofs.Math.Nat.{div-le_self}
 use Rattle.std.proofs.lemmas.List.{length-replicate, replicate-append-replicate}
+use Rattle.mds_pack_rows.specs.PackFacts.{minutes_of}
 use Rattle.mds_pack_rows.proofs.BodyLemmas.{length_back}
 use Rattle.mds_pack_rows.proofs.grouping.no_readings.Goals as goal
 
@@ -14,5 +15,5 @@ returns c =
     let len : length c.loop.readings.items ≡ c.loop.counter = ap length c.loop.invariant ∙ length-replicate c.loop.counter None in (
       omega (arith, len, c.loop.auto.counter-end, c.count-end.ensures.value, div-le_self 1440 c.args.length),
       c.loop.invariant ∙ ap (λ n. replicate n None) (sym len),
-      length_back (length c.loop.readings.items) c.args.length (ap (λ n. n * c.args.length) (len ∙ many) ∙ c.count-end.ensures.whole),
+      ap minutes_of (len ∙ many ∙ c.count-end.ensures.value) ∙ length_back c.args.length c.minutes.ensures.known,
     )

@@ -1,4 +1,4 @@
-use Rattle.std.proofs.Common.{◌≡◌, ◌*◌, ap, length, rules, subst, ◌∙◌}
+use Rattle.std.proofs.Common.{◌≡◌, ap, length, rules, subst, ◌∙◌}
 use Rattle.sqlite.specs.Held.{state}
 use Rattle.mds_pack_rows.specs.PackFacts.{minutes_of, readings_facts}
 use Rattle.mds_pack_rows.specs.Putting.{PutsFacts}
@@ -13,7 +13,7 @@ returns-clause-ok g c =
     let update = c.args.update in
     let many : length c.args.readings.now ≡ c.count.result = search rules in
     let full : minutes_of (length c.args.readings.now) ≡ c.args.length =
-    length_back (length c.args.readings.now) c.args.length (ap (λ n. n * c.args.length) many ∙ c.count.ensures.whole) in
+    ap minutes_of (many ∙ c.count.ensures.value) ∙ length_back c.args.length c.minutes.ensures.known in
     if_ok c.put_readings.result _ _
     (subst (PutsFacts (state g.S.Store c.args.tx.now.conn.now) (state g.S.Store c.put_readings.new.tx.conn.now))
     (ap (readings_facts s day update) (c.as_slice-2.ensures.value ∙ c.in_ok-places.ensures) ∙ whole_said s day c.args.length update c.args.readings.now full))

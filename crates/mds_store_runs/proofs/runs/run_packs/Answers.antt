@@ -19,4 +19,7 @@ returns g c = record {
               inl (stood ∙ sym same.0)
         ],
       )) c.run.ensures.run;
+  count = c.run.ensures.count;
+  err = c.run.ensures.err;
+  memory = c.run.ensures.memory;
 }

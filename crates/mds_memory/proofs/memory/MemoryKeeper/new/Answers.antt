@@ -1,7 +1,7 @@
 use Rattle.std.proofs.Common.{subst, sym}
 use Rattle.mds_world.specs.World.{IsLawful}
 use Rattle.mds_memory.proofs.Kept.{nothing_kept, nothing_stored}
-use Rattle.mds_memory.proofs.StoredDays.{nothing_lawful}
+use Rattle.mds_keeper.proofs.Unknown.{nothing_lawful}
 use Rattle.mds_memory.proofs.memory.MemoryKeeper.new.Goals as goal
 
 pub invariant_of-result : goal.invariant_of-result
