@@ -74,13 +74,6 @@ ended (x ∷ xs) day ends =
 
 -- ---- one row more
 
-pub none_told : TellsDays [] []
-none_told = record {
-  each = λ entry m. absurd m;
-  all = λ row m. m;
-  ascending = λ i j d low high. absurd (omega (arith, high));
-}
-
 module _ (front : List Row) (row : Row) (old : List Entry) (before : (x : Row) → Member x front → ComesFirst x row)
     (t : TellsDays front old) where
   no_later : (e : Entry) → Member e old → e.0 ≤ shown_day row

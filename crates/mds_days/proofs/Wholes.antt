@@ -109,9 +109,6 @@ pub record GoOn (own : Mark) (all : List Run) (from : ℕ) (left : List Run) : T
   pub ascending : AreAscending left
   pub marks : (i : ℕ) → from ≤ i → mark_at left own i ≡ mark_at all own i
 
-pub GoOn-first : (own : Mark) (all : List Run) (from : ℕ) → AreAscending all → GoOn own all from all
-GoOn-first own all from h = record { ascending = h; marks = λ i lo. refl }
-
 pub GoOn-next : (own : Mark) (all left rest : List Run) (k : ℕ) → GoOn own all (k + 1) left → AreAscending rest → ((i : ℕ) → k + 1 ≤ i → mark_at rest own i ≡ mark_at left own i) → GoOn own all (k + 1 + 1) rest
 GoOn-next own all left rest k h asc later = record { ascending = asc; marks = λ i lo. later i (omega arith) ∙ h.marks i (omega arith) }
 

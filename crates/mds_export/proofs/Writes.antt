@@ -75,10 +75,6 @@ day_of_several day old mid new never line rest = (
   appends_both old mid new line.0 rest.2 line.2 rest.4,
 )
 
--- no days, and days one after the other
-pub written_none : AreWritten [] []
-written_none = record { rows = []; of_days = refl; lines = refl }
-
 pub written_both : (xs ys : List PlacedDay) (a b : List ℕ) → AreWritten xs a → AreWritten ys b → AreWritten (xs ++ ys) (a ++ b)
 written_both xs ys a b h g = record {
   rows = h.rows ++ g.rows;

@@ -13,7 +13,7 @@ use Rattle.mds_keeper.specs.declared.day_merge.Stop.TheVariants.{Refused, Memory
 use Rattle.mds_keeper.specs.declared.refusal.Refusal.{Refusal}
 use Rattle.mds_keeper.specs.declared.refusal.RefusalCode.{RefusalCode}
 use Rattle.mds_keeper.specs.declared.refusal.RefusalCode.TheVariants.{LengthConflict, UnitConflict, VersionConflict, JobReused, Protected, StaleUpdate, NoLikeDay, TooLong, NoAnchor, UnknownDay, BadJob, RangeTooWide}
-use Rattle.mds_fill.specs.Fills.{AreSubstitutes, IsFillFault, IsFillRefusal, IsFilled, IsFree, IsSubstitute, IsTooLong, LacksLikeDay, target_count}
+use Rattle.mds_fill.specs.Fills.{IsFillFault, IsFillRefusal, IsFilled, IsFree, IsSubstitute, IsTooLong, LacksLikeDay}
 use Rattle.mds_fill.specs.FillSteps.{AreFilled, IsLack}
 
 -- a refusal of a rule at an interval
@@ -69,12 +69,6 @@ filled_more w job i n m xs ys r at next e filled is =
           ];
     }
 
-pub none_filled : (w : World) (job : JobContent) (n : ℕ) (xs : List ReadingValue) → n ≡ 0 → xs ≡ [] → AreFilled w job n xs
-none_filled w job n xs e f = record {
-  many = ap length f ∙ sym e;
-  each = λ k q h. let within = slice_get_within xs k q h in let none = ap length f in absurd (omega arith);
-}
-
 -- the reading of a value that fills
 pub substitute_is : (w : World) (job : JobContent) (i : ℕ) (r : ReadingValue) (v : ℤ)
     → r.mark ≡ record {
@@ -83,9 +77,3 @@ pub substitute_is : (w : World) (job : JobContent) (i : ℕ) (r : ReadingValue) 
     }
     → r.value ≡ Some v → IsFilled w job i v → IsSubstitute w job i r
 substitute_is w job i r v mark same filled = record { mark = mark; value = v; same = same; filled = filled }
-
--- the readings of all targets of a job that nothing stops
-pub all_filled : (w : World) (job : JobContent) (readings : List ReadingValue) → IsFree w job → (IsTooLong job → ⊥)
-    → AreFilled w job (target_count job) readings → AreSubstitutes w job readings
-all_filled w job readings free short filled =
-    record { free = free; short = short; count = filled.many; each = filled.each }

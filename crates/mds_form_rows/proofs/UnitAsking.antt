@@ -28,7 +28,7 @@ use Rattle.mds_world.proofs.Lists.{member_append}
 use Rattle.mds_world.specs.Lists.{Member}
 use Rattle.mds_world.specs.declared.facts.Head.{Head}
 use Rattle.mds_world.specs.declared.facts.StreamDay.{StreamDay}
-use Rattle.mds_tables.proofs.CallLemmas.{keeps_same, survives_more, survives_same}
+use Rattle.mds_tables.proofs.CallLemmas.{survives_more}
 use Rattle.mds_tables.specs.Cells.{range_cells}
 use Rattle.mds_tables.specs.RowFacts.{int_at, natural_at, text_at, unit_named}
 use Rattle.mds_tables.specs.Tables.{More, head_tree, schema_with}
@@ -153,16 +153,6 @@ if_ok_so (Err e) so h = tt
 on_ok_so : {X E : Type 0} (r : Result X E) {P Q : Type 0} → (P → Q) → OnOk r P → OnOk r Q
 on_ok_so (Ok x) so h = so h
 on_ok_so (Err e) so h = tt
-
--- nothing is asked
-pub none_asked : {X E : Type 0} {Tells : X → Trees → Type 0} (s : State) (x : X) → ((trees : Trees) → Tells x trees)
-    → AsksThere {E = E} s s (Ok x) Tells
-none_asked s x tells = record {
-  ok = λ clean is_open. record { same = λ rest has. same_state s is_open; shows = λ rest has whole. tells s.now.trees };
-  goes_on = record { was_open = λ _ o. o; is_open = λ _ o. o; inside = λ _ o. o };
-  kept = λ clean is_open rest has. keeps_same s;
-  survives = survives_same s;
-}
 
 module _ {X E : Type 0} {a b : State} {P : X → Trees → Type 0} {x : X} (before : AsksThere {E = E} a b (Ok x) P) where
   -- what is made of what is told

@@ -1,6 +1,6 @@
 -- How what calls do to a keeper goes together.
-use Rattle.std.specs.Prelude.{Ok, Result}
-use Rattle.std.proofs.Common.{◌∙◌, refl, subst, IfOk}
+use Rattle.std.specs.Prelude.{Ok}
+use Rattle.std.proofs.Common.{◌∙◌, refl, subst}
 use Rattle.mds_world.specs.World.{World}
 use Rattle.mds_keeper.specs.Kept.{Asks, Kept, Stays}
 
@@ -31,15 +31,6 @@ module _ {A B E F : Type 0} where
     opens = asked.opens;
     tells = λ sound. so a.world (asked.tells sound);
   }
-
--- a query behind a call that keeps what was kept
-pub asks_after : {A E : Type 0} {a b c : Kept} {r : Result A E} {Tells : World → A → Type 0}
-    → Stays a b → Asks b c r Tells → Asks a c r Tells
-asks_after {r = r} {Tells = Tells} stays asked = record {
-  stays = stays_on stays asked.stays;
-  opens = asked.opens;
-  tells = λ sound. subst (λ w. IfOk r (Tells w)) (stays.same (asked.stays.before sound)) (asked.tells sound);
-}
 
 module _ {A B C E F G : Type 0} where
   -- two queries

@@ -136,10 +136,6 @@ on_day book f h = elim (from_book book f h) [
   | inr b ↦ subst (IsOn book.stream book.day) (sym b.2) (refl, refl)
 ]
 
--- a book is a day of its own World
-pub own_day : (book : BookValue) → IsDay (book_world book) book
-own_day book = record { whole = λ f on h. h; only = λ f h. h }
-
 -- the books of one day of a World are one World
 pub same_day : (w : World) (a b : BookValue) → a.stream ≡ b.stream → a.day ≡ b.day → IsDay w a → IsDay w b
     → book_world a ≡ book_world b

@@ -1,9 +1,8 @@
 -- The rows of a day's book by their places: lemmas.
 use Rattle.std.specs.Prelude.{◌≡◌, ◌⊎◌, ◌-◌, ◌<◌, ◌≤◌, ℕ, List, [], ◌∷◌, length, refl}
 use Rattle.std.specs.List.{AllPairs}
-use Rattle.std.proofs.Common.{sym, ap, inl, inr, arith, ◌∙◌, zero, suc, get_or, take}
+use Rattle.std.proofs.Common.{sym, ap, inl, inr, arith, zero, suc, get_or}
 use Rattle.std.proofs.lemmas.Bool.{cases_lt}
-use Rattle.std.proofs.lemmas.List.{get_or-take, length-take-le}
 use Rattle.mds_world.specs.Current.{no_reading}
 use Rattle.mds_world.specs.Lists.{Member}
 use Rattle.mds_keeper.specs.BookPlaces.{EndsAt}
@@ -37,21 +36,6 @@ by_interval rows up i j d h k = elim (cases i j h) [
     cases (suc i) zero h = absurd (omega arith)
     cases (suc i) (suc j) h = elim (cases i j (omega arith)) [ inl a ↦ inl (omega arith) | inr b ↦ inr (ap suc b) ]
 
--- of two rows of one interval that of the greater update stands behind, and else they are one row
-pub later_update : (rows : List (ℕ × Version)) → AllPairs IsBefore rows → (i j : ℕ) (d : ℕ × Version) → i ≤ j
-    → j < length rows → (get_or rows i d).0 ≡ (get_or rows j d).0
-    → (get_or rows i d).1.update ≤ (get_or rows j d).1.update
-later_update rows up i j d h k e = elim (cases i j h) [
-  | inl less ↦ elim (up i j d less k) [ inl a ↦ absurd (omega arith) | inr b ↦ let f = b.1 in omega arith ]
-  | inr same ↦ let f = ap (λ n. (get_or rows n d).1.update) same in omega arith
-]
-  where
-    cases : (i j : ℕ) → i ≤ j → (i < j) ⊎ (i ≡ j)
-    cases zero zero h = inr refl
-    cases zero (suc j) h = inl (omega arith)
-    cases (suc i) zero h = absurd (omega arith)
-    cases (suc i) (suc j) h = elim (cases i j (omega arith)) [ inl a ↦ inl (omega arith) | inr b ↦ inr (ap suc b) ]
-
 -- a row of the interval, or of one below it, stands before the end
 pub before_end : (rows : List (ℕ × Version)) (interval end : ℕ) → EndsAt rows interval end → (row : ℕ × Version)
     → Member row rows → row.0 ≤ interval
@@ -65,15 +49,6 @@ before_end rows interval end ends row m h =
           let above = ends.above p.0 row b p.1 in
           absurd (omega arith)
     ]
-
--- the last row before the end
-pub last_row : (rows : List (ℕ × Version)) (end : ℕ) (row : ℕ × Version) → end ≤ length rows
-    → 0 < length (take end rows) → row ≡ get_or (take end rows) (length (take end rows) - 1) row
-    → (0 < end) × (row ≡ get_or rows (end - 1) row)
-last_row rows end row h some e =
-    let n : length (take end rows) ≡ end = length-take-le end rows h in
-    let one : 0 < end = omega arith in
-    (one, e ∙ ap (λ k. get_or (take end rows) (k - 1) row) n ∙ get_or-take end rows (end - 1) row (omega arith))
 
 -- a row, to read places of no row by
 pub no_row : ℕ × Version

@@ -5,12 +5,12 @@ use Rattle.std.proofs.Common.{sym, ap, ◌∙◌, subst, inl, inr, arith, get_or
 use Rattle.std.proofs.lemmas.Bool.{cases_lt}
 use Rattle.std.proofs.lemmas.List.{get_or-take, length-take, get_or-drop, length-drop}
 use Rattle.mds_calendar.specs.Length.{count_of}
-use Rattle.mds_world.specs.Current.{HasNoVersion, IsDayReading, IsFormOf, IsHeadOf, IsLatest, no_reading}
+use Rattle.mds_world.specs.Current.{HasNoVersion, IsDayReading, IsFormOf, IsHeadOf, IsLatest}
 use Rattle.mds_world.specs.declared.facts.Head.{Head}
 use Rattle.mds_names.specs.declared.stream.Stream.{Stream}
 use Rattle.mds_world.specs.Facts.{head_at, key_at}
 use Rattle.mds_world.specs.Facts.Fact.{VersionIs}
-use Rattle.mds_world.proofs.Forms.{form_is_latest, form_known, one_size}
+use Rattle.mds_world.proofs.Forms.{form_is_latest, one_size}
 use Rattle.mds_world.proofs.Lists.{in_map, map_in}
 use Rattle.mds_world.specs.Lists.{Member}
 use Rattle.mds_world.specs.Sets.{◌∈◌}
@@ -223,13 +223,6 @@ module _ (book : BookValue) (lawful : IsLawful (book_world book)) (minutes : ℕ
 module _ (book : BookValue) (none : book.rows ≡ []) where
   pub unknown_book : IsKnownDay (book_world book) book.stream book.day → ⊥
   unknown_book known = let h = head_of_book book known.0 known.1 in subst (Member h.3) none h.4
-
-  pub unknown_reading : (interval : ℕ) → IsDayReading (book_world book) book.stream book.day interval no_reading
-  unknown_reading interval = inr (unknown_book, refl)
-
-  pub unknown_form : (interval minutes : ℕ) (unit : MeasureUnit) → IsFormOf (book_world book) book.stream book.day minutes unit
-      → HasNoVersion (book_world book) book.stream book.day minutes interval
-  unknown_form interval minutes unit form = absurd (unknown_book (form_known (book_world book) book.stream book.day minutes unit form))
 
 -- a book's form
 pub form_some : (book : BookValue) (form : Option (ℕ × MeasureUnit)) → IsFormOfRows form book.rows → unit_of form ≡ book.unit

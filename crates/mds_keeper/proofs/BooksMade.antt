@@ -80,9 +80,6 @@ pub no_update : (rows : List (ℕ × Version)) → None ≡ reduce max (map (λ 
 no_update [] e = refl
 no_update (row ∷ rows) e = cc
 
-pub no_unit_fits : (known : Option MeasureUnit) (rows : List (ℕ × Version)) → Fits known rows → known ≡ None → rows ≡ []
-no_unit_fits known rows fits e = subst (λ (o : Option MeasureUnit). Fits o rows) e fits
-
 -- ---- what no lawful World has
 
 -- no lawful World has a day with two readings of an interval and update

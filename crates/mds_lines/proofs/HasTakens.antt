@@ -83,21 +83,6 @@ stays_lent : {S : Type 0} (gives : S → List ℕ → S → Type 0) (old new : M
 stays_lent gives old new [] r = ap (λ s. s.ghost_name) r
 stays_lent gives old new (x ∷ xs) r = stays_lent gives r.0 new xs r.2 ∙ r.1.0
 
--- from one state of the source to another, where its loan began and ended at these
-pub lent_taken : {S : Type 0} (gives : S → List ℕ → S → Type 0) (begin now : MutBor S) (buffered : Buffered) (first last : S) → HasTaken (lent_gives gives) begin now buffered
-    → begin.now ≡ first → last ≡ now.now → HasTaken gives first last buffered
-lent_taken {S = S} gives begin now buffered first last h e f = record {
-  given = h.given;
-  reads = subst (λ (s : S). Reads gives s h.given last) e (subst (λ (s : S). Reads gives begin.now h.given s) (sym f) (reads_lent gives begin now h.given h.reads));
-  few = h.few;
-  lines = h.lines;
-  held = h.held;
-}
-
--- the loan is the same one
-pub lent_name : {S : Type 0} (gives : S → List ℕ → S → Type 0) (begin now : MutBor S) (buffered : Buffered) → HasTaken (lent_gives gives) begin now buffered → now.ghost_name ≡ begin.ghost_name
-lent_name gives begin now buffered h = stays_lent gives begin now h.given h.reads
-
 -- all that it takes
 pub taken_bound : {S : Type 0} (gives : S → List ℕ → S → Type 0) (begin now : S) (buffered : Buffered) → (h : HasTaken gives begin now buffered)
     → length (concat h.given) ≤ most_lines * (longest_line + 1) + block

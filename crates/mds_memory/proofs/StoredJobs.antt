@@ -177,9 +177,6 @@ room_added old now new xs i x l is r none es ordered =
       ];
     }
 
-pub room_whole : (old now : Jobs) (xs ys : List (Job × ℕ)) → xs ≡ ys → IsRoom old xs now → HasPlaces now ys
-room_whole old now xs ys e r = subst (HasPlaces now) e r.room
-
 -- a call that changed nothing
 pub same_world : (old now new : Jobs) → new.entries ≡ now.entries → jobs_world now ≡ jobs_world old
     → jobs_world new ≡ jobs_world old

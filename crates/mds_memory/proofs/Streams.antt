@@ -260,10 +260,6 @@ is_kept e = is_some e.1
 abbrev pub IsPeriodRun : Periods → List Stream → List Place → Type 0
 IsPeriodRun periods streams left = IsStreamRun stream_of_key is_kept periods.entries streams left
 
-pub periods_begin : (periods : Periods) (streams : List Stream) (left : List Place) → streams ≡ []
-    → left ≡ periods.entries → IsPeriodRun periods streams left
-periods_begin periods streams left none all = begin stream_of_key is_kept periods.entries left streams none all
-
 pub without_content : (periods : Periods) (streams : List Stream) (left rest : List Place) (key : PeriodKey)
     (kept : Option PeriodContent) → IsPeriodRun periods streams left → left ≡ (key, kept) ∷ rest → false ≡ is_some kept
     → IsPeriodRun periods streams rest

@@ -2,7 +2,7 @@
 use Rattle.std.proofs.Common.{◌≡◌, ◌⊎◌, inl, inr, IsTrue, length, refl, sym, ap, subst, ◌∙◌, arith}
 use Rattle.sqlite.specs.Effect.{Database}
 use Rattle.sqlite.specs.State.{HasCleanDisk, KeepsCommit, State, Survives}
-use Rattle.sqlite.proofs.StateLemmas.{survives_then, survives_weaker}
+use Rattle.sqlite.proofs.StateLemmas.{survives_then}
 use Rattle.sqlite_schema.specs.declared.schema.Schema.{Schema}
 use Rattle.sqlite_trees.specs.Tree.{Trees}
 use Rattle.mds_pack_store.specs.Daily.{IsDailyStore}
@@ -143,9 +143,6 @@ three_left a b c left (inl both) (inr (inr r)) =
 three_left a b c left (inr both) (inl r) = absurd (let e = follows forming packing b c both.1 r.was in omega (arith, e))
 three_left a b c left (inr both) (inr (inl r)) = absurd (let e = follows forming dating b c both.1 r.was in omega (arith, e))
 three_left a b c left (inr both) (inr (inr r)) = absurd (let e = follows forming forming b c both.1 r.was in omega (arith, e))
-
-pub leaves_one : (a b : State) → Survives a b (LeavesMigrated a) → Survives a b (LeavesSteps a)
-leaves_one a b one = survives_weaker a b (LeavesMigrated a) (LeavesSteps a) (λ _ left m. one_left a left m) one
 
 pub leaves_two : (a b c : State) → (HasCleanDisk b → IsMigrated a b) → Survives a b (LeavesMigrated a) → Survives b c (LeavesMigrated b)
     → Survives a c (LeavesSteps a)

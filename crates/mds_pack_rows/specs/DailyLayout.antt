@@ -1,7 +1,7 @@
 -- The layout of schema 3 (profile): mds_head says the heads, without an update. mds_pack says all versions, and mds_daydetail all
 -- details of days. A migration reads it.
 use Rattle.std.specs.Prelude.{◌≡◌, ◌↔◌, ◌==◌, ℕ, List, [], ◌∷◌, ◌++◌, length, map}
-use Rattle.std.proofs.Common.{inl, inr, refl, sym, ap, subst, arith}
+use Rattle.std.proofs.Common.{inl, inr, sym, ap, subst, arith}
 use Rattle.std.specs.List.{flat_map}
 use Rattle.sqlite_rules.specs.Action.{works}
 use Rattle.sqlite_schema.specs.declared.schema.Action.TheVariants.{NoAction}
@@ -20,7 +20,7 @@ use Rattle.mds_tables.specs.RowFacts.{detail_fact, head_fact, heads_in}
 use Rattle.mds_tables.specs.Tables.{daydetail_tree, head_tree}
 use Rattle.mds_pack_rows.specs.PackFacts.{pack_facts, pack_versions}
 use Rattle.mds_pack_rows.specs.PackTables.{Behind, pack_tree}
-use Rattle.mds_pack_rows.specs.PacksLayout.{HasPacks, only_both, only_packs}
+use Rattle.mds_pack_rows.specs.PacksLayout.{only_both, only_packs}
 use Rattle.mds_pack_rows.specs.DailyTables.{daily, daydetails, schema_3}
 
 -- the details that the rows of mds_daydetail name
@@ -86,9 +86,6 @@ daily_layout = record {
   behind = (omega arith, (omega arith, tt));
   indexes_behind = (omega arith, (omega arith, tt));
 }
-
-abbrev pub daily_packs : HasPacks daily_layout
-daily_packs = record { rest = daydetails_behind; more = refl; versions = versions_packed }
 
 -- The World that the rows of the tables name.
 abbrev pub world_3 : Trees → World

@@ -1,7 +1,7 @@
 -- Layouts with mds_pack (profile): it stands behind the tables that every schema has, and says all versions. That of schema 2 has
 -- nothing behind it.
 use Rattle.std.specs.Prelude.{◌≡◌, ◌↔◌, ◌==◌, ◌≤◌, ℕ, ◌+◌, List, [], ◌∷◌, ◌++◌, length, map, Option, Some, None, unwrap_or}
-use Rattle.std.proofs.Common.{inl, inr, refl, sym, ap, subst, arith}
+use Rattle.std.proofs.Common.{inl, inr, sym, ap, subst, arith}
 use Rattle.std.specs.List.{AllByRecursion, flat_map}
 use Rattle.sqlite.specs.Table.{Table}
 use Rattle.sqlite_rules.specs.Action.{works}
@@ -97,9 +97,6 @@ nothing_behind = record { more = no_more; idle = idle_packs; behind = tt; indexe
 
 abbrev pub packs_layout : Layout
 packs_layout = packs_over 2 nothing_behind
-
-abbrev pub packs_in : HasPacks packs_layout
-packs_in = record { rest = nothing_behind; more = refl; versions = λ trees key reading. (λ m. m, λ m. m) }
 
 -- The World that the rows of the tables name.
 abbrev pub world_2 : Trees → World

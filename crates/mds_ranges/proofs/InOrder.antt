@@ -11,7 +11,7 @@ use Rattle.mds_world.proofs.Lists.{append_left, append_right, member_append}
 use Rattle.mds_world.specs.Lists.{Member}
 use Rattle.mds_ranges.specs.Selections.{AreDistinct, Ascend, HasManySuffixes}
 use Rattle.mds_ranges.specs.SuffixesSteps.{IsAfter, IsBefore, IsNext}
-use Rattle.mds_ranges.proofs.Pairs.{no_more, pairs_append, pairs_apart, pairs_none, pairs_one}
+use Rattle.mds_ranges.proofs.Pairs.{no_more, pairs_append, pairs_apart, pairs_one}
 
 before_before : (a b c : List ℕ) → IsBefore a b → IsBefore b c → IsBefore a c
 before_before a b c ab bc = nat_list_cmp_total.trans a b c ab bc
@@ -82,14 +82,6 @@ pub record AreUpTo (last : Option (List ℕ)) (suffixes distinct : List (List �
   pub whole : (suffix : List ℕ) → Member suffix suffixes → (IsAfter last suffix → ⊥) → Member suffix distinct
   pub before : (suffix other : List ℕ) → Member suffix distinct → IsAfter last other → IsBefore suffix other
   pub ascending : Ascend distinct
-
-pub up_to_none : (suffixes distinct : List (List ℕ)) → distinct ≡ [] → AreUpTo None suffixes distinct
-up_to_none suffixes distinct e = subst (AreUpTo None suffixes) (sym e) (record {
-  each = λ suffix m. absurd m;
-  whole = λ suffix m not. absurd (not tt);
-  before = λ suffix other m after. absurd m;
-  ascending = pairs_none IsBefore;
-})
 
 -- up to the next one these are one more
 pub up_to_next : (last : Option (List ℕ)) (suffixes distinct : List (List ℕ)) (next : List ℕ)

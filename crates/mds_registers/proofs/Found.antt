@@ -47,13 +47,6 @@ same_gap i a b e f = λ k. record { first = e k; last = f k }
 same_final : (a b : Final) → a.mark ≡ b.mark → a.first ≡ b.first → a.last ≡ b.last → a ≡ b
 same_final a b m e f = λ k. record { first = e k; last = f k; mark = m k }
 
--- no interval yet
-pub no_gaps : (w : World) (book : BookValue) → AreGapsTo w book 0 []
-no_gaps w book = λ i low high y q. absurd (omega arith)
-
-pub no_finals : (w : World) (book : BookValue) → AreFinalsTo w book 0 []
-no_finals w book = λ i low high y q. absurd (omega arith)
-
 -- an interval that isn't null, and one that is
 pub gaps_stay : (w : World) (book : BookValue) (n : ℕ) (gaps : List Gap)
     → (IsNull w book.stream book.day (n + 1) → ⊥) → AreGapsTo w book n gaps → AreGapsTo w book (n + 1) gaps

@@ -1,4 +1,3 @@
 pub mod Shown
-pub mod Found
 pub mod Added
 pub mod Written

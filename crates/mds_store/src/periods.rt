@@ -1,5 +1,5 @@
-//! The accumulations of a store. A store that can't answer is unavailable (U1). So is one that holds a row that it
-//! didn't write.
+//! The accumulations of a store. A store that can't answer is unavailable (U1). So is one with a row whose columns aren't those of an
+//! accumulation. How many fields a body has isn't looked at.
 
 ghost use Rattle.std.specs.Prelude.{◌≡◌, ◌<◌, ◌^◌, ◌↔◌, ℕ, List, false, length, IfOk, IsTrue, OnErr};
 ghost use Rattle.std.specs.List.{AllPairs};

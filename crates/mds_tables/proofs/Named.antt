@@ -118,10 +118,6 @@ module _ (layout : Layout) (trees : Trees) where
   of_two : (f : Fact) → Member f two → Member f (facts_with layout.heads layout.own trees)
   of_two f m = of_three f (append_left f two events m)
 
-  -- a head among the facts is one that the layout says
-  pub among_heads : (h : Head) → Member (HeadIs h) (facts_with layout.heads layout.own trees) ↔ Member (HeadIs h) (layout.heads trees)
-  among_heads h = ((λ m. is_named (HeadIs h) m), (λ m. of_two (HeadIs h) (append_left (HeadIs h) heads own m)))
-
   -- what the layout says of heads is of the World
   pub in_heads : (f : Fact) → Member f (layout.heads trees) → f ∈ world_with layout trees
   in_heads f m = list_in (facts_with layout.heads layout.own trees) f (of_two f (append_left f heads own m))

@@ -126,13 +126,6 @@ pub record FindsOf (layout : Layout) (old new : State) (Shows : Trees → Type 0
 abbrev pub SelectsAll : ℕ → List ℕ → Trees → List Row → Type 0
 SelectsAll tree places trees rows = IsPermutation (map (λ row. map (column row) places) (trees tree)) rows
 
--- ---- the same of the layout of schema 1
-
+-- a store of schema 1
 abbrev pub IsStore : Database → Type 0
 IsStore = IsStoreOf rows_layout
-
-abbrev pub Holds : State → Type 0
-Holds = HoldsOf rows_layout
-
-abbrev pub HoldsTables : State → Type 0
-HoldsTables = HoldsTablesOf rows_layout

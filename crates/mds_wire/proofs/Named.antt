@@ -19,9 +19,6 @@ pub record Seen (bytes name : List ℕ) (fields : List HeaderSpan) (at : ℕ) (f
   pub kept : IsValues seen found
   pub all : values_in name (map (header_bytes bytes) fields) ≡ seen ++ values_in name (map (header_bytes bytes) (drop at fields))
 
-pub seen_none : (bytes name : List ℕ) (fields : List HeaderSpan) → Seen bytes name fields 0 values.None
-seen_none bytes name fields = record { seen = []; kept = refl; all = refl }
-
 -- the next field
 pub values_at : (bytes name : List ℕ) (fields : List HeaderSpan) (i : ℕ) (d : HeaderSpan) → i < length fields
     → values_in name (map (header_bytes bytes) (drop i fields))
