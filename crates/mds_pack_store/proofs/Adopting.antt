@@ -2,7 +2,7 @@
 use Rattle.std.specs.Prelude.{◌≡◌, ◌≢◌, ℕ, pos, List, [], ◌∷◌, map, Bool, true, false, IfErr, IfOk, IsTrue, OnOk, Ok, Err, Result}
 use Rattle.std.specs.Bool.{MatchBool}
 use Rattle.std.specs.List.Sorted.{IsPermutation}
-use Rattle.std.proofs.Common.{refl, ap, subst, ◌∙◌, arith}
+use Rattle.std.proofs.Common.{refl, ap, subst, sym, ◌∙◌, arith}
 use Rattle.std.proofs.lemmas.List.Sorted.{length_permutation}
 use Rattle.sqlite.specs.Effect.{Database}
 use Rattle.sqlite.specs.State.{HasCleanDisk, KeepsCommit, State, Survives}
@@ -18,7 +18,7 @@ use Rattle.mds_tables.specs.Tables.{version_tree}
 use Rattle.mds_tables.proofs.CallLemmas.{survives_more}
 use Rattle.mds_tables.proofs.CauseLemmas.{failed_since}
 use Rattle.mds_pack_rows.specs.FormLayout.{forms_layout}
-use Rattle.mds_store.proofs.Adopting.{is_adopted}
+use Rattle.mds_store.proofs.Adopting.{is_adopted, still_holds}
 use Rattle.mds_pack_store.specs.Daily.{AreBare, AreDaily, IsDailyStore}
 use Rattle.mds_pack_store.specs.Formed.{AreFormed, IsFormedAdopted, IsFormedStore}
 use Rattle.mds_pack_store.specs.Packed.{ArePacked, IsPackStore}
@@ -154,4 +154,12 @@ pub is_formed_adopted : (old new : State) → HoldsTablesOf forms_layout old →
 is_formed_adopted old new held survives kept clean are_open are = record {
   adopted = is_adopted forms_layout old new held survives kept clean are_open are.version;
   bare = are.bare;
+}
+
+-- and so it stays
+pub still_formed : (old new : State) → HoldsTablesOf forms_layout old → Survives old new (λ _. ⊥) → (HasCleanDisk new → KeepsCommit old new)
+    → (HasCleanDisk new → AreFormed old.committed.trees) → HasCleanDisk new → IsTrue new.is_open → IsFormedStore new.committed
+still_formed old new held survives kept are clean is_open = record {
+  store = still_holds forms_layout old new held survives kept (λ clean. (are clean).version) clean is_open;
+  bare = subst (λ (db : Database). AreBare db.trees) (sym ((kept clean).committed is_open)) (are clean).bare;
 }

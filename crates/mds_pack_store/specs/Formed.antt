@@ -1,7 +1,7 @@
 -- What makes a database with the tables of schema 4 a store (profile).
-use Rattle.std.specs.Prelude.{◌≡◌, ◌⊎◌, [], ◌∷◌, pos}
+use Rattle.std.specs.Prelude.{◌≡◌, ◌⊎◌, [], ◌∷◌, pos, IsTrue}
 use Rattle.sqlite.specs.Effect.{Database}
-use Rattle.sqlite.specs.State.{State}
+use Rattle.sqlite.specs.State.{HasCleanDisk, State}
 use Rattle.sqlite_trees.specs.Tree.{Trees}
 use Rattle.mds_tables.specs.Stores.{IsStore, IsStoreOf, versions_said}
 use Rattle.mds_pack_rows.specs.FormLayout.{forms_layout}
@@ -18,6 +18,12 @@ pub record AreFormed (trees : Trees) : Type 0 where
 pub record IsFormedStore (db : Database) : Type 0 where
   pub store : IsStoreOf forms_layout db
   pub bare : AreBare db.trees
+
+-- While the disk is honest, what is committed is such a store where the connection is open. What a crash may leave says 4 and has no
+-- such row, open or not.
+pub record HoldsFormed (s : State) : Type 0 where
+  pub committed : HasCleanDisk s → IsTrue s.is_open → IsFormedStore s.committed
+  pub left : HasCleanDisk s → (trees : Trees) → s.may_leave trees → AreFormed trees
 
 -- a store of an earlier schema, which is to be migrated first
 abbrev pub IsEarlierStore : Database → Type 0

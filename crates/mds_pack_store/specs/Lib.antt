@@ -1,4 +1,5 @@
 pub mod Daily
 pub mod Formed
 pub mod Packed
+pub mod Props
 pub mod Shown

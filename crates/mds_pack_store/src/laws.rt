@@ -6,6 +6,7 @@ ghost use Rattle.sqlite.specs.State.{HasCleanDisk};
 ghost use Rattle.sqlite_trees.specs.Tree.{Trees};
 ghost use Rattle.mds_tables.specs.Stores.{world_kept};
 ghost use Rattle.mds_pack_rows.specs.FormLayout.{forms_layout, world_4};
+ghost use Rattle.mds_pack_store.specs.Formed.{AreFormed, IsFormedStore};
 ghost use Rattle.mds_world.specs.World.{World};
 
 use crate::pack_keeper::PackKeeper;
@@ -13,7 +14,8 @@ use mds_keeper::Keeper;
 use sqlite::Alter;
 
 /// It keeps the World that the rows of its tables name. It is honest while its disk is, and sound while its connection is open
-/// too. A crash may leave any World that is named by tables which the library's store may leave.
+/// too. A crash may leave any World that is named by tables which the library's store may leave. While it is sound, what is committed
+/// is a store that `adopt` takes. While it is honest, any tables that a crash may leave say 4, and have no row that would stand unseen.
 pub fn a_keeper_is_its_tables<S: Alter>(_keeper: &PackKeeper<S>)
     ensures world { (⟦<PackKeeper<S> as Keeper>⟧.kept _keeper.now).world ≡ world_kept forms_layout (state S.Store _keeper.now.conn) }
     ensures honest { (⟦<PackKeeper<S> as Keeper>⟧.kept _keeper.now).honest ↔ HasCleanDisk (state S.Store _keeper.now.conn) }
@@ -21,4 +23,8 @@ pub fn a_keeper_is_its_tables<S: Alter>(_keeper: &PackKeeper<S>)
         ↔ (HasCleanDisk (state S.Store _keeper.now.conn) × IsTrue (state S.Store _keeper.now.conn).is_open) }
     ensures may_leave { (left : World) → (⟦<PackKeeper<S> as Keeper>⟧.kept _keeper.now).may_leave left
         ↔ ((trees : Trees) × (state S.Store _keeper.now.conn).may_leave trees × (world_4 trees ≡ left)) }
+    ensures store { HasCleanDisk (state S.Store _keeper.now.conn) → IsTrue (state S.Store _keeper.now.conn).is_open
+        → IsFormedStore (state S.Store _keeper.now.conn).committed }
+    ensures left { HasCleanDisk (state S.Store _keeper.now.conn) → (trees : Trees) → (state S.Store _keeper.now.conn).may_leave trees
+        → AreFormed trees }
 {}

@@ -2,10 +2,11 @@
 
 ghost use Rattle.std.specs.Prelude.{◌≡◌, false};
 ghost use Rattle.sqlite.specs.Held.{state};
-ghost use Rattle.mds_tables.specs.Stores.{HoldsOf};
 ghost use Rattle.mds_pack_rows.specs.FormLayout.{forms_layout};
 ghost use Rattle.mds_store.specs.KeptRows.{kept_in};
-ghost use Rattle.mds_store.specs.Props.{Holds-prop, settles};
+ghost use Rattle.mds_store.specs.Props.{settles};
+ghost use Rattle.mds_pack_store.specs.Formed.{HoldsFormed};
+ghost use Rattle.mds_pack_store.specs.Props.{HoldsFormed-prop};
 
 use mds_day_details::{current_details, days_without, details_between};
 use mds_form_rows::{commit, day_of, days_of, last_day, streams};
@@ -27,25 +28,25 @@ pub struct PackKeeper<S: Alter> {
     conn: Connection<S>,
     // It is in no transaction.
     pub ghost autocommit: { conn.in_transaction ≡ false },
-    // While the disk is honest and the connection open, what is committed is a store.
-    pub ghost holds: { HoldsOf forms_layout (state S.Store conn) } by { Holds-prop forms_layout (state S.Store conn) },
+    // While the disk is honest, what is committed is a store that `adopt` takes, and a crash leaves no row that would stand unseen.
+    pub ghost holds: { HoldsFormed (state S.Store conn) } by { HoldsFormed-prop (state S.Store conn) },
 }
 
 impl<S: Alter> PackKeeper<S> {
-    /// A keeper over a connection that is in no transaction and holds a store.
+    /// A keeper over a connection that is in no transaction and holds a store that `adopt` takes.
     pub(crate) fn over(alloc: Global, conn: Connection<S>) -> PackKeeper<S>
         requires autocommit { conn.in_transaction ≡ false }
-        requires holds { HoldsOf forms_layout (state S.Store conn) }
+        requires holds { HoldsFormed (state S.Store conn) }
         ensures { result.conn ≡ conn }
     {
         PackKeeper { alloc, conn }
     }
 
-    /// Gives the connection back, in no transaction and with the same tables.
+    /// Gives the connection back, in no transaction and with the same tables. They are those of a store that `adopt` takes.
     pub fn into_connection(self) -> Connection<S>
         ensures same { result ≡ self.conn }
         ensures autocommit { result.in_transaction ≡ false }
-        ensures holds { HoldsOf forms_layout (state S.Store result) }
+        ensures holds { HoldsFormed (state S.Store result) }
     {
         let PackKeeper { alloc: _, conn } = self;
         conn

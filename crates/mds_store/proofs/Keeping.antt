@@ -1,7 +1,7 @@
 -- What a question and a commit do to a connection, as a keeper's calls.
 use Rattle.std.specs.Prelude.{◌≡◌, Ok, Err, IsTrue, OnErr, OnOk, Result}
 use Rattle.std.specs.Result.{is_ok}
-use Rattle.std.proofs.Common.{◌∙◌, ap, arith, inl, inr, subst, sym}
+use Rattle.std.proofs.Common.{◌∙◌, ap, arith, inl, inr, sym}
 use Rattle.std.proofs.lemmas.Result.{on_err_weaker, on_ok_weaker}
 use Rattle.sqlite.specs.Effect.{Database}
 use Rattle.sqlite.specs.State.{HasCleanDisk, KeepsCommit, State, Survives}
@@ -12,7 +12,7 @@ use Rattle.mds_keeper.specs.Kept.{Adds, Asks, Stays}
 use Rattle.mds_keeper.specs.declared.additions.Additions.{Additions}
 use Rattle.mds_tables.specs.Layouts.{Layout, world_with}
 use Rattle.mds_tables.specs.Queries.{Answers}
-use Rattle.mds_tables.specs.Stores.{CommitsOf, Gained, HoldsOf, IsStoreOf, LeavesAddedOf}
+use Rattle.mds_tables.specs.Stores.{CommitsOf, Gained, HoldsOf, LeavesAddedOf}
 use Rattle.mds_store.specs.KeptRows.{kept_in}
 
 module _ (layout : Layout) {A E : Type 0} {old new : State} {r : Result A E} {Tells : Trees → A → Type 0} (holds : HoldsOf layout old)
@@ -31,13 +31,6 @@ module _ (layout : Layout) {A E : Type 0} {old new : State} {r : Result A E} {Te
       | inr none ↦ absurd none
     ];
   }
-
-  -- what was not changed holds as it did
-  pub holds_on : HoldsOf layout new
-  holds_on clean is_open =
-      let kept = answered.kept clean holds in
-      let before : HasCleanDisk old = omega (arith, (answered.survives holds).clean, clean) in
-      subst (IsStoreOf layout) (sym (kept.committed is_open)) (holds before (kept.was_open is_open))
 
 -- an answer is what is so of the World
 pub asked : (layout : Layout) {A E : Type 0} {old new : State} {r : Result A E} (Tells : World → A → Type 0) (holds : HoldsOf layout old)

@@ -7,6 +7,7 @@ ghost use Rattle.sqlite_trees.specs.Tree.{Trees};
 ghost use Rattle.mds_world.specs.World.{IsLawful, World};
 ghost use Rattle.mds_tables.specs.Stores.{world_kept};
 ghost use Rattle.mds_pack_rows.specs.FormLayout.{forms_layout, world_4};
+ghost use Rattle.mds_pack_store.specs.Formed.{HoldsFormed};
 ghost use Rattle.mds_service.specs.Crashes.{MayLeave};
 ghost use Rattle.mds_service.specs.Machine.{Run};
 
@@ -32,6 +33,9 @@ pub fn run_packs<S: Alter>(
         × (IsTrue (state S.Store keeper.new.conn).is_open → world_kept forms_layout (state S.Store keeper.new.conn) ≡ w)
         × ((trees : Trees) → (state S.Store keeper.new.conn).may_leave trees
         → MayLeave w requests.now answers.items (world_4 trees))) }
+
+    // The tables are those of a store that opens again.
+    ensures store { HoldsFormed (state S.Store keeper.new.conn) }
 
     // Each request has its answer. Nothing is changed where the list of answers has no room, and an empty list needs none.
     ensures count { IfOk result (λ answers. length answers.items ≡ length requests.now) }

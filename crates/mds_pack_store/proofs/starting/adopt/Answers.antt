@@ -7,11 +7,11 @@ use Rattle.mds_pack_rows.specs.DailyLayout.{daily_layout}
 use Rattle.mds_pack_rows.specs.FormLayout.{forms_layout}
 use Rattle.mds_pack_rows.specs.FormTables.{schema_4}
 use Rattle.mds_pack_rows.proofs.TwoSchemas.{not_of}
-use Rattle.mds_store.proofs.Adopting.{still_holds}
 use Rattle.mds_tables.specs.Layouts.{rows_layout}
 use Rattle.mds_pack_rows.specs.PacksLayout.{packs_layout}
 use Rattle.mds_pack_store.specs.Formed.{AreFormed}
-use Rattle.mds_pack_store.proofs.Adopting.{is_formed_adopted, isnt_seen, of_formed}
+use Rattle.mds_pack_store.proofs.Adopting.{is_formed_adopted, isnt_seen, of_formed, still_formed}
+use Rattle.mds_pack_store.proofs.Keeping.{of_open}
 use Rattle.mds_pack_store.proofs.starting.adopt.Goals as goal
 
 pub returns-in-Ok-true-clause-survives : goal.returns-in-Ok-true-clause-survives
@@ -35,8 +35,9 @@ over-requires-clause-holds g c =
     let new = state g.S.Store c.are_formed.new.conn in
     let held : HoldsTablesOf forms_layout old = search rules in
     let formed : HasCleanDisk new → AreFormed old.committed.trees = λ clean. let it = c.in-Ok-true.ensures.answers.found clean held in search rules in
-    still_holds forms_layout old new held (c.are_formed.ensures.answers.survives held) (λ clean. c.are_formed.ensures.answers.kept clean held)
-    (λ clean. (formed clean).version)
+    of_open new (λ is_open trees. g.met.S.Store.settled c.are_formed.new.conn.store trees is_open)
+    (λ clean. (c.in-Ok-true.ensures.answers.open clean held).is_open)
+    (still_formed old new held (c.are_formed.ensures.answers.survives held) (λ clean. c.are_formed.ensures.answers.kept clean held) formed)
 
 pub returns-in-Ok-true-clause-ok : goal.returns-in-Ok-true-clause-ok
 returns-in-Ok-true-clause-ok g c =

@@ -3,14 +3,16 @@ use Rattle.std.proofs.Common.{rules}
 use Rattle.sqlite.specs.Held.{state}
 use Rattle.sqlite.specs.State.{HasCleanDisk}
 use Rattle.mds_tables.specs.Tables.{no_schema}
+use Rattle.mds_pack_store.proofs.Keeping.{of_nothing, of_open}
 use Rattle.mds_pack_store.proofs.starting.create.Goals as goal
 
 pub over-requires-clause-holds : goal.over-requires-clause-holds
-over-requires-clause-holds g c = λ clean is_open.
+over-requires-clause-holds g c =
     let old = state g.S.Store c.args.conn in
+    let new = state g.S.Store c.make_tables.new.conn in
     let empty : IsTrue old.is_open → old.committed.schema ≡ no_schema = search rules in
-    let made = c.in-Ok.ensures.ok clean in
-    (made.made (empty made.was_open)).store
+    of_open new (λ is_open trees. g.met.S.Store.settled c.make_tables.new.conn.store trees is_open) (λ clean. (c.in-Ok.ensures.ok clean).is_open)
+    (λ clean _. let made = c.in-Ok.ensures.ok clean in of_nothing new.committed (made.made (empty made.was_open)))
 
 pub returns-in-Ok-clause-ok : goal.returns-in-Ok-clause-ok
 returns-in-Ok-clause-ok g c =

@@ -19,6 +19,7 @@ returns g c = record {
               inl (stood ∙ sym same.0)
         ],
       )) c.run.ensures.run;
+  store = c.run.new.keeper.holds;
   count = c.run.ensures.count;
   err = c.run.ensures.err;
   memory = c.run.ensures.memory;

@@ -2,9 +2,17 @@ use Rattle.std.proofs.Common.{refl}
 use Rattle.mds_pack_rows.specs.FormLayout.{forms_layout}
 use Rattle.mds_form_rows.specs.FormPutting.{HasFormed}
 use Rattle.mds_store.proofs.Keeping.{added}
+use Rattle.mds_pack_store.proofs.Keeping.{as_store, formed_with}
 use Rattle.mds_pack_store.proofs.pack_keeper.PackKeeperKeeper.commit.Goals as goal
+
+pub invariant_of-self : goal.invariant_of-self
+invariant_of-self g c =
+    let did = c.commit.ensures in
+    let store = as_store c.args.self.now.holds in
+    record { autocommit = did.mode; holds = formed_with c.args.self.now.holds (did.survives store) c.commit.result (λ clean. did.ok clean store) (λ clean. did.err clean store) }
 
 pub returns : goal.returns
 returns g c =
     let did = c.commit.ensures in
-    added forms_layout HasFormed c.commit.result c.args.self.now.holds did.ok (λ clean. did.err clean c.args.self.now.holds) did.survives c.commit.result refl
+    let store = as_store c.args.self.now.holds in
+    added forms_layout HasFormed c.commit.result store did.ok (λ clean. did.err clean store) did.survives c.commit.result refl

@@ -1,9 +1,10 @@
 use Rattle.mds_pack_rows.specs.FormLayout.{forms_layout}
-use Rattle.mds_store.proofs.Keeping.{asked, holds_on}
+use Rattle.mds_store.proofs.Keeping.{asked}
+use Rattle.mds_pack_store.proofs.Keeping.{as_store, formed_on}
 use Rattle.mds_pack_store.proofs.pack_keeper.PackKeeperKeeper.details_between.Goals as goal
 
 pub invariant_of-self : goal.invariant_of-self
-invariant_of-self g c = record { autocommit = c.details_between.ensures.mode; holds = holds_on forms_layout c.args.self.now.holds c.details_between.ensures }
+invariant_of-self g c = record { autocommit = c.details_between.ensures.mode; holds = formed_on c.args.self.now.holds c.details_between.ensures }
 
 pub returns : goal.returns
-returns g c = asked forms_layout _ c.args.self.now.holds c.details_between.ensures
+returns g c = asked forms_layout _ (as_store c.args.self.now.holds) c.details_between.ensures

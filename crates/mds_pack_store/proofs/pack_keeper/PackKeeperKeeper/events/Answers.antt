@@ -1,9 +1,10 @@
 use Rattle.mds_pack_rows.specs.FormLayout.{forms_layout}
-use Rattle.mds_store.proofs.Keeping.{asked, holds_on}
+use Rattle.mds_store.proofs.Keeping.{asked}
+use Rattle.mds_pack_store.proofs.Keeping.{as_store, formed_on}
 use Rattle.mds_pack_store.proofs.pack_keeper.PackKeeperKeeper.events.Goals as goal
 
 pub invariant_of-self : goal.invariant_of-self
-invariant_of-self g c = record { autocommit = (c.events_of.ensures forms_layout).mode; holds = holds_on forms_layout c.args.self.now.holds (c.events_of.ensures forms_layout) }
+invariant_of-self g c = record { autocommit = (c.events_of.ensures forms_layout).mode; holds = formed_on c.args.self.now.holds (c.events_of.ensures forms_layout) }
 
 pub returns : goal.returns
-returns g c = asked forms_layout _ c.args.self.now.holds (c.events_of.ensures forms_layout)
+returns g c = asked forms_layout _ (as_store c.args.self.now.holds) (c.events_of.ensures forms_layout)

@@ -1,0 +1,82 @@
+-- What a question and a commit do to a connection that holds a store which `adopt` takes.
+use Rattle.std.specs.Prelude.{◌≡◌, Ok, Err, IsTrue, OnErr, OnOk, Result}
+use Rattle.std.proofs.Common.{◌∙◌, arith, inl, inr, subst, sym}
+use Rattle.sqlite.specs.Effect.{Database}
+use Rattle.sqlite.specs.State.{HasCleanDisk, KeepsCommit, State, Survives}
+use Rattle.sqlite_trees.specs.Tree.{Trees}
+use Rattle.mds_keeper.specs.declared.additions.Additions.{Additions}
+use Rattle.mds_tables.specs.Making.{KeepsNothingOf}
+use Rattle.mds_tables.specs.Queries.{Answers}
+use Rattle.mds_tables.specs.Stores.{AddsOf, CommitsOf, HoldsOf, LeavesAddedOf}
+use Rattle.mds_pack_rows.specs.FormLayout.{forms_layout}
+use Rattle.mds_form_rows.specs.FormPutting.{HasFormed}
+use Rattle.mds_pack_store.specs.Daily.{AreBare}
+use Rattle.mds_pack_store.specs.Formed.{AreFormed, HoldsFormed, IsFormedStore}
+use Rattle.mds_pack_store.proofs.Adopting.{of_formed}
+
+pub as_store : {s : State} → HoldsFormed s → HoldsOf forms_layout s
+as_store holds clean is_open = (holds.committed clean is_open).store
+
+-- one that keeps nothing has no row in any table but mds_schema
+pub of_nothing : (db : Database) → KeepsNothingOf forms_layout db → IsFormedStore db
+of_nothing db none = record { store = none.store; bare = (none.bare.1.0, none.bare.1.1.0) }
+
+-- a crash leaves what is committed on an open connection
+pub of_open : (s : State) → (IsTrue s.is_open → (trees : Trees) → s.may_leave trees → trees ≡ s.committed.trees)
+    → (HasCleanDisk s → IsTrue s.is_open) → (HasCleanDisk s → IsTrue s.is_open → IsFormedStore s.committed) → HoldsFormed s
+of_open s settled opened store = record {
+  committed = store;
+  left = λ clean trees may.
+      subst AreFormed (sym (settled (opened clean) trees may)) (of_formed s.committed (store clean (opened clean)));
+}
+
+was_clean : {old new : State} (Commits : Trees → Type 0) → Survives old new Commits → HasCleanDisk new → HasCleanDisk old
+was_clean Commits survives clean = omega (arith, survives.clean, clean)
+
+-- what was not changed is what it was
+stays_formed : (old new : State) → HoldsFormed old → HasCleanDisk old → KeepsCommit old new → IsTrue new.is_open → IsFormedStore new.committed
+stays_formed old new holds clean kept is_open =
+    subst IsFormedStore (sym (kept.committed is_open)) (holds.committed clean (kept.was_open is_open))
+
+-- a question changes nothing
+pub formed_on : {A E : Type 0} {old new : State} {r : Result A E} {Tells : Trees → A → Type 0} → HoldsFormed old
+    → Answers (HoldsOf forms_layout) old new r Tells → HoldsFormed new
+formed_on {old = old} {new = new} holds answered =
+    let store = as_store holds in
+    let survives = answered.survives store in
+    record {
+      committed = λ clean. stays_formed old new holds (was_clean _ survives clean) (answered.kept clean store);
+      left = λ clean trees may. elim (survives.crash clean trees may) [
+        | inl was ↦ holds.left (was_clean _ survives clean) trees was
+        | inr none ↦ absurd none
+      ];
+    }
+
+-- a commit puts no row into either table
+still_bare : (old new : Trees) (additions : Additions) → AddsOf HasFormed old new additions → AreBare old → AreBare new
+still_bare old new additions adds bare = (adds.unfilled ∙ bare.0, adds.undated ∙ bare.1)
+
+module _ {A E : Type 0} {old new : State} {additions : Additions} (holds : HoldsFormed old)
+    (survives : Survives old new (LeavesAddedOf forms_layout HasFormed old additions)) where
+  committed : (r : Result A E) → HasCleanDisk old → OnOk r (CommitsOf forms_layout HasFormed old new additions)
+      → OnErr r (KeepsCommit old new) → IsTrue new.is_open → IsFormedStore new.committed
+  committed (Ok x) clean made kept is_open = record {
+    store = made.store;
+    bare = still_bare old.committed.trees new.committed.trees additions made.rows (holds.committed clean made.was_open).bare;
+  }
+  committed (Err e) clean made kept is_open = stays_formed old new holds clean kept is_open
+
+  -- it is made, or nothing is changed
+  pub formed_with : (r : Result A E) → (HasCleanDisk new → OnOk r (CommitsOf forms_layout HasFormed old new additions))
+      → (HasCleanDisk new → OnErr r (KeepsCommit old new)) → HoldsFormed new
+  formed_with r ok err = record {
+    committed = λ clean. committed r (was_clean _ survives clean) (ok clean) (err clean);
+    left = λ clean trees may. elim (survives.crash clean trees may) [
+      | inl was ↦ holds.left (was_clean _ survives clean) trees was
+      | inr adds ↦ record {
+        version = adds.store.version;
+        bare = still_bare old.committed.trees trees additions adds.rows
+            (holds.committed (was_clean _ survives clean) adds.was_open).bare;
+      }
+    ];
+  }

@@ -1,0 +1,36 @@
+-- What a keeper's connection keeps true has at most one proof.
+use Rattle.std.specs.Prelude.{List}
+use Rattle.std.specs.Coded.{Coded, Coded-set, coded_list, coded_ℤ, ×_prop, Π_prop}
+use Rattle.sqlite.specs.Effect.{Database}
+use Rattle.sqlite.specs.State.{State}
+use Rattle.sqlite_trees.specs.Tree.{Trees}
+use Rattle.sqlite_value.specs.Order.{Row}
+use Rattle.sqlite_value.specs.contracts.value.Value.{the_row}
+use Rattle.mds_pack_rows.specs.FormLayout.{forms_layout}
+use Rattle.mds_store.specs.Props.{IsStore-prop}
+use Rattle.mds_pack_store.specs.Daily.{AreBare}
+use Rattle.mds_pack_store.specs.Formed.{AreFormed, HoldsFormed, IsFormedStore}
+
+abbrev coded_rows : Coded (List Row)
+coded_rows = coded_list (coded_list the_row.coded)
+
+AreBare-prop : (trees : Trees) → IsProp (AreBare trees)
+AreBare-prop trees = ×_prop (Coded-set coded_rows _ _) (Coded-set coded_rows _ _)
+
+AreFormed-prop : (trees : Trees) → IsProp (AreFormed trees)
+AreFormed-prop trees a b = λ i. record {
+  version = Coded-set (coded_list coded_ℤ) _ _ a.version b.version i;
+  bare = AreBare-prop trees a.bare b.bare i;
+}
+
+IsFormedStore-prop : (db : Database) → IsProp (IsFormedStore db)
+IsFormedStore-prop db a b = λ i. record {
+  store = IsStore-prop forms_layout db a.store b.store i;
+  bare = AreBare-prop db.trees a.bare b.bare i;
+}
+
+pub HoldsFormed-prop : (s : State) → IsProp (HoldsFormed s)
+HoldsFormed-prop s a b = λ i. record {
+  committed = Π_prop (λ _. Π_prop (λ _. IsFormedStore-prop s.committed)) a.committed b.committed i;
+  left = Π_prop (λ _. Π_prop (λ trees. Π_prop (λ _. AreFormed-prop trees))) a.left b.left i;
+}
