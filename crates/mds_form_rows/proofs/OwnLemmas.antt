@@ -1,6 +1,5 @@
 -- Heads, versions and details that are put in turn, as what the layout of schema 4 says by itself.
-use Rattle.std.proofs.Common.{◌≡◌, ◌≤◌, ◌++◌, List, map, Ok, Err, OnOk, Result, sym, ap, subst, ◌∙◌, append_assoc, arith}
-use Rattle.std.specs.List.{flat_map}
+use Rattle.std.proofs.Common.{◌≡◌, ◌≤◌, ◌++◌, List, map, Ok, Err, OnOk, Result, sym, subst, ◌∙◌, append_assoc, arith}
 use Rattle.sqlite.specs.Effect.{Database}
 use Rattle.sqlite.specs.Schema.{Schema}
 use Rattle.sqlite.specs.State.{HasCleanDisk, KeepsCommit, State}
@@ -8,11 +7,9 @@ use Rattle.sqlite.proofs.InsideLemmas.{keeps_then}
 use Rattle.sqlite_catalog.specs.Listing.{IsSound}
 use Rattle.sqlite_trees.specs.View.{doubt}
 use Rattle.sqlite_trees.specs.Tree.{Trees}
-use Rattle.sqlite_value.specs.Order.{Row}
 use Rattle.mds_world.specs.Facts.{Fact}
 use Rattle.mds_world.specs.Facts.Fact.{DetailIs, HeadIs}
 use Rattle.mds_world.specs.Lists.{Member}
-use Rattle.mds_world.specs.World.{union}
 use Rattle.mds_world.specs.declared.facts.Head.{Head}
 use Rattle.mds_keeper.specs.Content.{details_of, heads_of, version_fact, versions_of}
 use Rattle.mds_keeper.specs.declared.additions.Additions.{Additions}
@@ -21,15 +18,16 @@ use Rattle.mds_tables.specs.Stores.{Gains}
 use Rattle.mds_tables.specs.Tables.{daydetail_tree, form_tree, head_tree, schema_with}
 use Rattle.mds_inserts.specs.Parts.{by_eights, detail_part, head_part}
 use Rattle.mds_inserts.specs.Writing.{IsMore, IsSteady, KeepsOthers, Puts, PutsEach, PutsOwn, PutsOwnThere, PutsThere}
-use Rattle.mds_inserts.proofs.RowLemmas.{detail_bare, gains_kept, kept_gains, more, more_both, of, says_details}
+use Rattle.mds_inserts.proofs.RowLemmas.{detail_bare, gains_kept, kept_gains, more, more_both, says_details}
 use Rattle.mds_pack_rows.specs.DailyLayout.{daily_own, day_details}
 use Rattle.mds_pack_rows.specs.DailyPutting.{PutsDetails}
 use Rattle.mds_pack_rows.specs.DailyTables.{daydetails_then}
 use Rattle.mds_pack_rows.specs.FormLayout.{form_heads, forms_behind, forms_layout}
 use Rattle.mds_pack_rows.specs.FormTables.{formed, forms, schema_4, tables_4}
-use Rattle.mds_pack_rows.specs.PackFacts.{pack_facts, pack_versions}
+use Rattle.mds_pack_rows.specs.PackFacts.{pack_versions}
 use Rattle.mds_pack_rows.specs.PackTables.{pack_tree}
 use Rattle.mds_pack_rows.specs.Putting.{ChangesPacks, NamesMore, PutsFacts}
+use Rattle.mds_pack_rows.proofs.NameLemmas.{named_on}
 use Rattle.mds_form_rows.specs.Committing.{KeepsUnits, PutsDays, PutsDaysThere}
 use Rattle.mds_form_rows.specs.FormPutting.{HasFormed, IsThereFormed, SayUnits, form_part}
 use Rattle.mds_form_rows.specs.Units.{AsksThere}
@@ -98,8 +96,7 @@ steady_forms a b c d additions heads _ first has heads_then _ last = (
       (kept_gains head_tree (map unit_cells additions.new_days.items) a b c heads has.0) heads_then,
   gains_kept form_tree (map form_cells (heads_of additions)) a c d
       (kept_gains form_tree (map form_cells (heads_of additions)) a b c first.1.1.0 has.1) last.1.1.0,
-  ap (λ (rows : List Row). of (flat_map pack_facts rows)) last.0 ∙ has.2
-      ∙ ap (λ (rows : List Row). union (of (flat_map pack_facts rows)) (of (map version_fact (versions_of additions.days.items)))) first.0,
+  named_on a b c d (map version_fact (versions_of additions.days.items)) first.0 last.0 has.2,
   gains_kept daydetail_tree (map detail_cells (details_of additions.details.items)) a c d
       (kept_gains daydetail_tree (map detail_cells (details_of additions.details.items)) a b c first.1.0 has.3) last.1.0,
 )
@@ -139,9 +136,7 @@ module _ (a b c d e : State) (additions : Additions) where
       let forms_put : Gains form_tree (map form_cells (heads_of additions)) one last =
       gains_kept form_tree (map form_cells (heads_of additions)) one four last
       (kept_gains form_tree (map form_cells (heads_of additions)) one three four bare forms.rows) formed_then in
-      let packs_put : NamesMore one last version_facts =
-      ap (λ (rows : List Row). of (flat_map pack_facts rows)) packed ∙ packs.1
-      ∙ ap (λ (rows : List Row). union (of (flat_map pack_facts rows)) (of version_facts)) unpacked in
+      let packs_put : NamesMore one last version_facts = named_on one two three last version_facts unpacked packed packs.1 in
       let dates : Gains daydetail_tree (map detail_cells (details_of additions.details.items)) one last =
       kept_gains daydetail_tree (map detail_cells (details_of additions.details.items)) one four last undated details.rows in
       let keeps : KeepsUnits additions.new_days.items (one head_tree) (last head_tree) =
@@ -153,7 +148,7 @@ module _ (a b c d e : State) (additions : Additions) where
       (version_facts ++ map DetailIs (details_of additions.details.items))
       (forms_more one last additions.new_days.items additions.heads.items sound details.sound keeps say forms_put)
       (more_both (pack_versions one) (day_details one) (pack_versions last) (day_details last)
-      version_facts (map DetailIs (details_of additions.details.items)) packs_put
+      version_facts (map DetailIs (details_of additions.details.items)) packs_put.names
       (more detail_part detail_bare (details_of additions.details.items) (says_details (details_of additions.details.items)) one last dates)) in
       record {
         schema = details.schema;

@@ -259,6 +259,7 @@ module _ (a b c : State) (bc : doubt b.is_clean ≤ doubt c.is_clean)
           has_dated : HasDated a.now.trees e.now.trees
           has_dated = record {
             becomes = carried_becomes a.now.trees e.now.trees (dated clean_c o first).details carried;
+            packs = carried.packs;
             version = raised.version;
             unversioned = raises_others.1.1.0 (λ e. omega arith) ∙ clears_others.1.1.0 (λ e. omega arith)
                 ∙ dates_others.1.1.0 (λ e. omega arith) ∙ made.others.1.1.0 ∙ first.store.unversioned;

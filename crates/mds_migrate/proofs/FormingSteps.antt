@@ -292,6 +292,7 @@ module _ (a b c : State) (bc : doubt b.is_clean ≤ doubt c.is_clean)
           has_formed = record {
             becomes = becomes a.now.trees e.now.trees put.heads given_forms;
             kept = kept a.now.trees e.now.trees put.heads given_forms;
+            packs = given_forms.packs;
             lengths = no_lengths a.now.trees e.now.trees put.heads given_forms;
             version = raised.version;
             unversioned = raises_others.1.1.0 (λ e. omega arith) ∙ clears_others.1.1.0 (λ e. omega arith)

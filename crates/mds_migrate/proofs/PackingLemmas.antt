@@ -38,7 +38,7 @@ use Rattle.mds_selects.proofs.Named.{Names}
 use Rattle.mds_pack_rows.specs.PackFacts.{pack_facts, pack_versions}
 use Rattle.mds_pack_rows.specs.PackTables.{Behind, pack_tree, packs_then}
 use Rattle.mds_pack_rows.specs.PacksLayout.{packs_over}
-use Rattle.mds_pack_rows.specs.Putting.{ChangesPacks, FindsThere, GoesOn, IsThere, PutsFacts}
+use Rattle.mds_pack_rows.specs.Putting.{ChangesPacks, FindsThere, GoesOn, IsAmong, IsThere, PutsFacts}
 use Rattle.mds_pack_rows.proofs.PutLemmas.{as_rows, is_database, others_of, puts_none, puts_since, puts_then, there_after, there_before}
 use Rattle.mds_migrate.specs.Migrating.{IsLengthened, Packs}
 use Rattle.mds_migrate.specs.OldHeads.{updateless}
@@ -254,7 +254,7 @@ packs_all a c heads p there none sel =
     let facts = of p.facts in
     let was : of (pack_versions a.now.trees) ≡ of [] = ap (λ rows. of (flat_map pack_facts rows)) none in
     let same : of (pack_versions c.now.trees) ≡ facts =
-    it.1 ∙ ap (λ w. union w facts) was ∙ union_comm total exact (of []) facts ∙ union_empty total exact facts in
+    it.1.names ∙ ap (λ w. union w facts) was ∙ union_comm total exact (of []) facts ∙ union_empty total exact facts in
     let all = of_all a.now.trees heads sel p.facts (p.are there) in
     record {
       changes = it.0;
@@ -262,6 +262,10 @@ packs_all a c heads p there none sel =
         (λ m. (all f).0 (in_list p.facts f (subst (λ w. f ∈ w) same (list_in (pack_versions c.now.trees) f m)))),
         (λ l. in_list (pack_versions c.now.trees) f (subst (λ w. f ∈ w) (sym same) (list_in p.facts f ((all f).1 l)))),
       );
+      said = λ row m. elim (it.1.came row m) [
+        | inl n ↦ absurd (subst (IsAmong row) none n)
+        | inr s ↦ λ silent. absurd (subst (Member s.0) silent s.2)
+      ];
     }
 
 -- the same behind the query that showed them

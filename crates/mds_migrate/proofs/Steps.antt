@@ -258,6 +258,7 @@ module _ (a b c d e : State) (bc : doubt b.is_clean ≤ doubt c.is_clean) (cd : 
     has_packed = record {
       lengthened = lengthened a.now.trees e.now.trees taken_over;
       kept = kept a.now.trees e.now.trees taken_over first.sound;
+      said = λ row m. packed.said row (subst (Member row) same_packs m);
       details = same_details;
       version = raised.version;
       unversioned = raises_others.1.1.0 (λ e. omega arith) ∙ cleared.none;

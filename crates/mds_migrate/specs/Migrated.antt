@@ -1,5 +1,5 @@
 -- What a step of a migration leaves (profile): from schema 1 to schema 2, from there to schema 3, or from there to schema 4.
-use Rattle.std.specs.Prelude.{◌≡◌, ◌⊎◌, ◌↔◌, ℕ, [], ◌∷◌, pos, IsTrue}
+use Rattle.std.specs.Prelude.{◌≡◌, ◌≢◌, ◌⊎◌, ◌↔◌, ℕ, [], ◌∷◌, pos, IsTrue}
 use Rattle.std.specs.List.{AllByRecursion}
 use Rattle.sqlite.specs.Effect.{Database}
 use Rattle.sqlite.specs.Schema.{Schema}
@@ -11,6 +11,7 @@ use Rattle.mds_quantity.specs.declared.unit.Unit.{Unit as MeasureUnit}
 use Rattle.mds_marks.specs.Reading.{ReadingValue}
 use Rattle.mds_world.specs.Facts.{Fact, key_at}
 use Rattle.mds_world.specs.Facts.Fact.{HeadIs, VersionIs}
+use Rattle.mds_world.specs.Lists.{Member}
 use Rattle.mds_world.specs.Sets.{◌∈◌}
 use Rattle.mds_world.specs.World.{head_over}
 use Rattle.mds_world.specs.declared.facts.Key.{Key}
@@ -22,7 +23,8 @@ use Rattle.mds_pack_rows.specs.DailyLayout.{world_3}
 use Rattle.mds_pack_rows.specs.DailyTables.{schema_3}
 use Rattle.mds_pack_rows.specs.FormLayout.{world_4}
 use Rattle.mds_pack_rows.specs.FormTables.{schema_4}
-use Rattle.mds_pack_rows.specs.PackTables.{schema_2}
+use Rattle.mds_pack_rows.specs.PackFacts.{pack_facts}
+use Rattle.mds_pack_rows.specs.PackTables.{pack_tree, schema_2}
 use Rattle.mds_pack_rows.specs.PacksLayout.{world_2}
 use Rattle.mds_pack_store.specs.Daily.{IsDailyStore}
 use Rattle.mds_pack_store.specs.Formed.{IsFormedStore}
@@ -42,27 +44,31 @@ pub record HasPacked (old new : Trees) : Type 0 where
   -- no version is lost: its day has a head, whose length it takes
   pub kept : (key : Key) (reading : ReadingValue) → VersionIs key reading ∈ world_with rows_layout old
       → (length : ℕ) × (VersionIs (key_at key.stream key.day length key.interval key.update) reading ∈ world_2 new)
+  -- each row of mds_pack says a version
+  pub said : (row : Row) → Member row (new pack_tree) → pack_facts row ≢ []
   pub details : new detail_tree ≡ old detail_tree
   pub version : versions_said new ≡ pos 2 ∷ []
   pub unversioned : new version_tree ≡ []
   pub sound : IsSound schema_2 new
 
--- The tables of schema 3 name the World that those of schema 2 become. mds_schema says 3, and neither versions nor details of
--- streams have rows of their own.
+-- The tables of schema 3 name the World that those of schema 2 become, and mds_pack is as it was. mds_schema says 3, and neither
+-- versions nor details of streams have rows of their own.
 pub record HasDated (old new : Trees) : Type 0 where
   pub becomes : Becomes old (world_3 new)
+  pub packs : new pack_tree ≡ old pack_tree
   pub version : versions_said new ≡ pos 3 ∷ []
   pub unversioned : new version_tree ≡ []
   pub undated : new detail_tree ≡ []
   pub sound : IsSound schema_3 new
 
--- The tables of schema 4 name the World that comes of the one that those of schema 3 named. mds_schema says 4, mds_head says days and
--- units alone, and neither versions nor details of streams have rows of their own.
+-- The tables of schema 4 name the World that comes of the one that those of schema 3 named, and mds_pack is as it was. mds_schema says
+-- 4, mds_head says days and units alone, and neither versions nor details of streams have rows of their own.
 pub record HasFormed (old new : Trees) : Type 0 where
   pub becomes : (fact : Fact) → (fact ∈ world_4 new) ↔ IsFormedOf (world_3 old) fact
   -- no form is lost: a version of the length of its day's head has a head of its own update
   pub kept : (key : Key) (reading : ReadingValue) (unit : MeasureUnit) → VersionIs key reading ∈ world_3 old
       → HeadIs (day_head key unit) ∈ world_3 old → HeadIs (head_over key unit) ∈ world_4 new
+  pub packs : new pack_tree ≡ old pack_tree
   pub lengths : AllByRecursion (λ (row : Row). column row 4 ≡ number_cell 0) (new head_tree)
   pub version : versions_said new ≡ pos 4 ∷ []
   pub unversioned : new version_tree ≡ []

@@ -1,5 +1,5 @@
 -- What the steps of a migration do in a transaction, and all of it (profile).
-use Rattle.std.specs.Prelude.{◌≡◌, ◌↔◌, ℕ, ℤ, pos, [], ◌∷◌, drop, map, IsTrue}
+use Rattle.std.specs.Prelude.{◌≡◌, ◌≢◌, ◌↔◌, ℕ, ℤ, pos, [], ◌∷◌, drop, map, IsTrue}
 use Rattle.std.specs.List.Sorted.{IsPermutation}
 use Rattle.sqlite.specs.State.{State}
 use Rattle.sqlite.specs.declared.types.Value.TheVariants.{Int}
@@ -14,7 +14,8 @@ use Rattle.mds_tables.specs.RowFacts.{head_fact, versions_in}
 use Rattle.mds_tables.specs.Stores.{versions_said}
 use Rattle.mds_tables.specs.Tables.{head_tree, schema_tree}
 use Rattle.mds_inserts.specs.Writing.{KeepsOthers}
-use Rattle.mds_pack_rows.specs.PackFacts.{pack_versions}
+use Rattle.mds_pack_rows.specs.PackFacts.{pack_facts, pack_versions}
+use Rattle.mds_pack_rows.specs.PackTables.{pack_tree}
 use Rattle.mds_pack_rows.specs.Putting.{ChangesPacks}
 use Rattle.mds_migrate.specs.OldLengths.{day_head, erased}
 
@@ -25,11 +26,12 @@ IsLengthened trees (VersionIs key reading) =
     × ((unit : MeasureUnit) × Member (HeadIs (day_head key unit)) (map head_fact (trees head_tree)))
 IsLengthened trees fact = ⊥
 
--- mds_pack says the versions that mds_version says, each with the length of its day's head, and nothing else. Every other table is as it
--- was.
+-- mds_pack says the versions that mds_version says, each with the length of its day's head, and nothing else. Each of its rows says one.
+-- Every other table is as it was.
 pub record Packs (old new : State) : Type 0 where
   pub changes : ChangesPacks old new
   pub lengthened : (fact : Fact) → Member fact (pack_versions new.now.trees) ↔ IsLengthened old.now.trees fact
+  pub said : (row : Row) → Member row (new.now.trees pack_tree) → pack_facts row ≢ []
 
 -- A table has no row, and every other one is as it was.
 pub record Clears (tree : ℕ) (old new : State) : Type 0 where

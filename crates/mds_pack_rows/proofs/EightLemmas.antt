@@ -1,5 +1,5 @@
 -- Eight new days whose rows one statement puts.
-use Rattle.std.proofs.Common.{◌≡◌, ◌≤◌, ◌<◌, ◌+◌, ◌/◌, ◌++◌, ℕ, Bool, List, [], ◌∷◌, get_or, length, map, take, IsTrue, IfOk, IfSome, Ok, Err, None, Some, Option, Result, refl, sym, ap, subst, ◌∙◌, arith}
+use Rattle.std.proofs.Common.{◌≡◌, ◌≢◌, ◌≤◌, ◌<◌, ◌+◌, ◌/◌, ◌++◌, ℕ, Bool, List, [], ◌∷◌, get_or, length, map, take, IsTrue, IfOk, IfSome, Ok, Err, None, Some, Option, Result, refl, sym, ap, subst, ◌∙◌, arith}
 use Rattle.std.proofs.lemmas.Grind.{flat_map-append}
 use Rattle.std.proofs.lemmas.List.{append-nil, map-append, take_more}
 use Rattle.std.specs.List.{flat_map}
@@ -19,7 +19,9 @@ use Rattle.mds_names.specs.declared.stream.Stream.{Stream}
 use Rattle.mds_marks.specs.Reading.{ReadingValue}
 use Rattle.mds_world.specs.FactOrder.{exact, total}
 use Rattle.mds_world.specs.Facts.{Fact}
-use Rattle.mds_world.proofs.Sets.{list_append, union_empty}
+use Rattle.mds_world.specs.Lists.{Member}
+use Rattle.mds_world.proofs.Lists.{in_map}
+use Rattle.mds_world.proofs.Sets.{list_append}
 use Rattle.mds_world.specs.World.{union}
 use Rattle.mds_keeper.specs.Books.{row_fact}
 use Rattle.mds_keeper.specs.Content.{day_versions, rows_of, version_fact, versions_of}
@@ -30,16 +32,17 @@ use Rattle.mds_tables.specs.Tables.{More, schema_with}
 use Rattle.mds_inserts.specs.Writing.{KeepsOthers}
 use Rattle.mds_inserts.proofs.Eights.{eight_got}
 use Rattle.mds_inserts.proofs.RowLemmas.{of}
-use Rattle.mds_pack_rows.specs.Eights.{SayDays, SaysDay, columns_of, said_by}
-use Rattle.mds_pack_rows.specs.PackFacts.{body_facts, pack_facts, pack_versions, readings_in}
+use Rattle.mds_selects.proofs.MemberLemmas.{all_has}
+use Rattle.mds_pack_rows.specs.Eights.{SayDays, SaySome, SaysDay, columns_of, said_by}
+use Rattle.mds_pack_rows.specs.PackFacts.{body_facts, pack_facts, readings_in}
 use Rattle.mds_pack_rows.specs.PackTables.{pack_table, pack_tree, packs_then}
 use Rattle.mds_pack_rows.specs.Putting.{ChangesPacks, NamesMore, PutsFacts, SayRows}
 use Rattle.mds_pack_rows.specs.declared.statements.PackRow.{PackRow}
 use Rattle.mds_inserts.proofs.ManyLemmas.{AddsAll, AreFit, adds_all, sources}
 use Rattle.mds_pack_rows.proofs.PackTexts.{eight_terms, insert_packs, insert_packs_is, insert_packs_plain, pack_place}
+use Rattle.mds_pack_rows.proofs.NameLemmas.{came_all, named_none, plain}
 use Rattle.mds_pack_rows.proofs.PutLemmas.{fits, is_database, others_in, puts_as, puts_then, ran_on, rows_say, same_others, says_day}
 use Rattle.mds_pack_rows.proofs.RefusedLemmas.{StaysAs}
-use Rattle.mds_pack_rows.proofs.SwapLemmas.{gained_all, pack_bare}
 
 -- ---- eight rows that are put
 
@@ -87,14 +90,21 @@ module _ (rows : List PackRow) (eight : length rows ≡ 8) (count : ℕ) (old ne
         put.rows,
       )
 
-  pub eight_there : (HasCleanDisk new → ExecutesInside 0 insert_packs cells old new (Ok count)) → PutsFacts old new (flat_map said_by rows)
-  eight_there runs = (
+  -- each row says a version
+  says_each : SaySome rows → (row : Row) → Member row (map columns_of rows) → plain row ≢ []
+  says_each some row m =
+      let it = in_map columns_of rows row m in
+      subst (λ cells. plain cells ≢ []) (sym it.2) (all_has (λ (r : PackRow). said_by r ≢ []) rows it.0 some it.1)
+
+  pub eight_there : SaySome rows → (HasCleanDisk new → ExecutesInside 0 insert_packs cells old new (Ok count))
+      → PutsFacts old new (flat_map said_by rows)
+  eight_there some runs = (
     ran_on insert_packs cells count old new runs,
     λ there.
         let it = puts there.rest.more there.schema (runs there.clean) in (
           it.0,
           subst (NamesMore old.now.trees new.now.trees) (say_all rows)
-              (gained_all pack_facts pack_bare pack_tree (map columns_of rows) old.now.trees new.now.trees it.1),
+              (came_all (map columns_of rows) old.now.trees new.now.trees (says_each some) it.1),
         ),
   )
 
@@ -118,7 +128,7 @@ none_there old new stays = (
           committed = it.committed_is there.is_open;
           sound = subst IsDatabase (sym now) (is_database old new there);
         },
-        subst (λ (d : Database). NamesMore old.now.trees d.trees []) (sym now) (sym (union_empty total exact (of (pack_versions old.now.trees)))),
+        subst (λ (d : Database). NamesMore old.now.trees d.trees []) (sym now) (named_none old.now.trees),
       ),
 )
 

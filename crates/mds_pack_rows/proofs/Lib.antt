@@ -4,6 +4,7 @@ pub mod DetailLemmas
 pub mod EightLemmas
 pub mod LaidLemmas
 pub mod MakingTexts
+pub mod NameLemmas
 pub mod PackTexts
 pub mod PutLemmas
 pub mod RefusedLemmas

@@ -1,5 +1,5 @@
 -- Rows of mds_pack that are put and replaced in a transaction.
-use Rattle.std.proofs.Common.{◌≡◌, ◌≤◌, ◌<◌, ◌+◌, inl, ℕ, ℤ, List, [], ◌∷◌, ◌++◌, drop, length, map, slice_index_or, take, Some, None, Ok, Err, OnOk, Result, Option, append_assoc, refl, sym, ap, subst, ◌∙◌, arith, unwrap_or}
+use Rattle.std.proofs.Common.{◌≡◌, ◌≢◌, ◌≤◌, ◌<◌, ◌+◌, inl, ℕ, ℤ, List, [], ◌∷◌, ◌++◌, drop, length, map, slice_index_or, take, true, Some, None, Ok, Err, OnOk, Result, Option, append_assoc, refl, sym, ap, subst, ◌∙◌, arith, unwrap_or}
 use Rattle.std.specs.List.Sorted.{IsPermutation}
 use Rattle.sqlite.specs.Command.TheVariants.{Insert, Update}
 use Rattle.sqlite.specs.Does.{Does}
@@ -27,11 +27,10 @@ use Rattle.mds_world.specs.Lists.{Member}
 use Rattle.mds_marks.specs.Reading.{ReadingValue}
 use Rattle.mds_world.specs.Facts.{Fact, key_at}
 use Rattle.mds_world.specs.Facts.Fact.{VersionIs}
-use Rattle.mds_world.specs.FactOrder.{exact, total}
 use Rattle.mds_world.specs.World.{union}
-use Rattle.mds_world.proofs.Sets.{list_append, union_assoc, union_empty}
 use Rattle.std.proofs.lemmas.Grind.{flat_map-append}
 use Rattle.std.proofs.lemmas.List.{append-nil, length-map, map-append, take_more}
+use Rattle.mds_packs.proofs.Whole.{any_held}
 use Rattle.mds_keeper.specs.Books.{row_fact}
 use Rattle.mds_keeper.specs.Content.{day_versions, rows_of, version_at, version_fact, versions_of, whole_rows}
 use Rattle.mds_keeper.specs.declared.additions.DayVersions.{DayVersions}
@@ -48,13 +47,15 @@ use Rattle.mds_selects.proofs.SelectTexts.{equals}
 use Rattle.mds_selects.proofs.TypedRows.{begins_at}
 use Rattle.mds_pack_rows.specs.Laying.{laid}
 use Rattle.mds_pack_rows.specs.PackCells.{key_cells, pack_cells}
-use Rattle.mds_pack_rows.specs.PackFacts.{body_facts, facts_from, minutes_of, pack_facts, pack_versions, readings_facts, readings_in}
+use Rattle.mds_pack_rows.specs.PackFacts.{body_facts, facts_from, minutes_of, pack_facts, readings_facts, readings_in}
 use Rattle.mds_pack_rows.specs.PackTables.{Behind, body_columns, pack_table, pack_tree, packs_then}
 use Rattle.mds_pack_rows.specs.Putting.{ChangesPacks, GoesOn, IsThere, NamesMore, PutsBeside, PutsBody, PutsFacts}
 use Rattle.mds_pack_rows.specs.Swaps.{Swaps}
 use Rattle.mds_pack_rows.proofs.PackTexts.{changed_terms, insert_pack, insert_pack_is, insert_pack_plain, pack_place, pack_terms, update_body, update_body_is, update_body_plain, update_query}
-use Rattle.mds_pack_rows.proofs.SwapLemmas.{gained, pack_bare, swapped as swapped_rows}
+use Rattle.mds_pack_rows.proofs.SwapLemmas.{pack_bare}
 use Rattle.mds_pack_rows.proofs.LaidLemmas.{laid_said}
+use Rattle.mds_pack_rows.proofs.NameLemmas.{came_one, came_over, named_as, named_none, named_then}
+use Rattle.mds_pack_rows.proofs.SpreadLemmas.{some_said}
 use Rattle.mds_pack_rows.proofs.UpdateLemmas.{Changes, swaps, updates}
 
 -- the cells are of their types
@@ -123,12 +124,13 @@ module _ (s : Stream) (day update : ℕ) (body : List ℕ) (count : ℕ) (old ne
             (gains_one (Int (next_rowid (db pack_tree))) cells (db pack_tree) put.fresh),
       )
 
-  pub puts_there : (HasCleanDisk new → ExecutesInside 0 insert_pack cells old new (Ok count)) → PutsFacts old new (body_facts s day update body)
-  puts_there runs = (
+  pub puts_there : body_facts s day update body ≢ [] → (HasCleanDisk new → ExecutesInside 0 insert_pack cells old new (Ok count))
+      → PutsFacts old new (body_facts s day update body)
+  puts_there some runs = (
     ran_on insert_pack cells count old new runs,
     λ there.
         let it = puts there.rest.more there.schema (runs there.clean) in
-        (it.0, gained pack_facts pack_bare pack_tree cells old.now.trees new.now.trees it.1),
+        (it.0, came_one cells old.now.trees new.now.trees some it.1),
   )
 
 -- ---- a body that is replaced
@@ -195,6 +197,12 @@ pub says_day : (s : Stream) (day update : ℕ) (body : List ℕ) (readings : Lis
     → body_facts s day update body ≡ readings_facts s day update readings
 says_day s day update body readings is = ap (λ o. readings_facts s day update (unwrap_or o [])) is
 
+-- a body of readings that aren't none says a version
+pub says_some : (s : Stream) (day update : ℕ) (body : List ℕ) (readings : List (Option ReadingValue)) → readings_in body ≡ Some readings
+    → any_held readings ≡ true → body_facts s day update body ≢ []
+says_some s day update body readings is some =
+    subst (λ facts. facts ≢ []) (sym (says_day s day update body readings is)) (some_said s day (minutes_of (length readings)) update 1 readings some)
+
 -- what a row says that begins with the key and has a body
 row_says : (s : Stream) (day update : ℕ) (row : Row) (body : List ℕ) → Begins (key_cells s day update) row → column row 5 ≡ Blob body
     → pack_facts row ≡ body_facts s day update body
@@ -210,8 +218,8 @@ row_says s day update row body begins has =
 -- a row whose body was replaced by one that says more readings
 pub lays_there : (old new : State) (id : ℤ) (shown : Row) (old_body new_body : List ℕ) (olds news all : List (Option ReadingValue))
     → column shown 0 ≡ Int id → column shown 1 ≡ Blob old_body → readings_in old_body ≡ Some olds → readings_in new_body ≡ Some all
-    → laid olds news ≡ Some all → PutsBody old new id new_body → PutsBeside old new shown news
-lays_there old new id shown old_body new_body olds news all has_id has_body was is made replaces = (
+    → laid olds news ≡ Some all → any_held news ≡ true → PutsBody old new id new_body → PutsBeside old new shown news
+lays_there old new id shown old_body new_body olds news all has_id has_body was is made some replaces = (
   replaces.0,
   λ there. let it = replaces.1 there in (
     it.0,
@@ -222,8 +230,9 @@ lays_there old new id shown old_body new_body olds news all has_id has_body was 
         ap of (says_day s day update new_body all is) ∙ laid_said s day update olds news all made
         ∙ ap (λ facts. union (of facts) (of (readings_facts s day update news)))
         (sym (row_says s day update row old_body begins at_body ∙ says_day s day update old_body olds was) ∙ pack_bare row) in
-        swapped_rows pack_facts pack_bare pack_tree (drop 1 row) (pack_cells s day update new_body) (readings_facts s day update news) old.now.trees new.now.trees
-        (it.1 s day update row m at_id begins) says,
+        came_over row (pack_cells s day update new_body) (readings_facts s day update news) olds old.now.trees new.now.trees
+        (ap (λ v. readings_in (bytes v)) at_body ∙ was) (some_said s day (minutes_of (length news)) update 1 news some) says
+        (it.1 s day update row m at_id begins),
   ),
 )
 
@@ -324,7 +333,7 @@ puts_none s = (
       committed = refl;
       sound = is_database s s there;
     },
-    sym (union_empty total exact (of (pack_versions s.now.trees))),
+    named_none s.now.trees,
   ),
 )
 
@@ -354,8 +363,7 @@ module _ (a b c : State) (later : doubt b.is_clean ≤ doubt c.is_clean) where
     on_then a b c later p.0 q.0,
     λ there.
         let one = p.1 (there_before there) in
-        let two = q.1 (there_after there one.0) in
-        let first = of (pack_versions a.now.trees) in (
+        let two = q.1 (there_after there one.0) in (
           record {
             is_open = two.0.is_open;
             schema = two.0.schema ∙ one.0.schema;
@@ -364,7 +372,7 @@ module _ (a b c : State) (later : doubt b.is_clean ≤ doubt c.is_clean) where
             committed = two.0.committed ∙ one.0.committed;
             sound = two.0.sound;
           },
-          two.1 ∙ ap (λ w. union w (of ys)) one.1 ∙ union_assoc total exact first (of xs) (of ys) ∙ ap (union first) (sym (list_append total exact xs ys)),
+          named_then a.now.trees b.now.trees c.now.trees xs ys one.1 two.1,
         ),
   )
 
@@ -384,7 +392,7 @@ module _ (a b c : State) (later : doubt b.is_clean ≤ doubt c.is_clean) where
 -- the same facts in other words
 pub puts_as : (a b : State) (xs ys : List Fact) → of xs ≡ of ys → PutsFacts a b xs → PutsFacts a b ys
 puts_as a b xs ys same puts =
-    (puts.0, λ there. let it = puts.1 there in (it.0, it.1 ∙ ap (union (of (pack_versions a.now.trees))) same))
+    (puts.0, λ there. let it = puts.1 there in (it.0, named_as a.now.trees b.now.trees xs ys same it.1))
 
 -- the readings of all intervals say a version of each
 each_said : (s : Stream) (day minutes update interval : ℕ) (readings : List ReadingValue)

@@ -1,8 +1,9 @@
 -- Versions of one update that are spread over the intervals of a day.
-use Rattle.std.proofs.Common.{◌≡◌, ◌<◌, ℕ, ◌+◌, zero, suc, List, [], ◌∷◌, ◌++◌, length, map, get_or, slice_set, slice_index_or, replicate, take, Option, Some, None, refl, sym, ap, ◌∙◌, arith}
+use Rattle.std.proofs.Common.{◌≡◌, ◌≢◌, ◌<◌, ℕ, ◌+◌, zero, suc, List, [], ◌∷◌, ◌++◌, length, map, get_or, slice_set, slice_index_or, replicate, take, true, Option, Some, None, refl, sym, ap, ◌∙◌, arith}
 use Rattle.std.proofs.lemmas.List.{map-append, take_more}
 use Rattle.mds_names.specs.declared.stream.Stream.{Stream}
 use Rattle.mds_marks.specs.Reading.{ReadingValue}
+use Rattle.mds_packs.proofs.Whole.{any_held}
 use Rattle.mds_world.specs.FactOrder.{exact, total}
 use Rattle.mds_world.specs.Facts.{Fact, key_at}
 use Rattle.mds_world.specs.Facts.Fact.{VersionIs}
@@ -17,6 +18,11 @@ use Rattle.mds_pack_rows.specs.Putting.{SayMore, SayRows}
 abbrev Held : Type 0
 Held = Option ReadingValue
 
+-- where all intervals have a reading, one has
+pub all_held : (readings : List ReadingValue) → 0 < length readings → any_held (map (λ reading. Some reading) readings) ≡ true
+all_held [] some = absurd (omega (arith, some))
+all_held (r ∷ readings) some = refl
+
 module _ (s : Stream) (day minutes update : ℕ) where
   -- the version of an interval
   abbrev pub version_of : ℕ → ReadingValue → Fact
@@ -26,6 +32,12 @@ module _ (s : Stream) (day minutes update : ℕ) where
   pub none_said : (count interval : ℕ) → facts_from s day minutes update interval (replicate count None) ≡ []
   none_said zero interval = refl
   none_said (suc count) interval = none_said count (interval + 1)
+
+  -- where one has a reading, they say a version
+  pub some_said : (interval : ℕ) (readings : List Held) → any_held readings ≡ true → facts_from s day minutes update interval readings ≢ []
+  some_said interval [] some = absurd cc
+  some_said interval (None ∷ readings) some = some_said (interval + 1) readings some
+  some_said interval (Some r ∷ readings) some = λ none. absurd cc
 
   -- an interval that gets its reading says that more
   pub interval_said : (readings : List Held) (k interval : ℕ) (r : ReadingValue) → k < length readings → get_or readings k None ≡ None

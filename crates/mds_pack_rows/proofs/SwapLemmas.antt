@@ -1,7 +1,6 @@
 -- What a table names once a row was added, or one stands in the place of another.
-use Rattle.std.proofs.Common.{◌≡◌, ℕ, List, [], ◌∷◌, ◌++◌, drop, map, refl, sym, ap, subst, ◌∙◌}
+use Rattle.std.proofs.Common.{◌≡◌, ℕ, List, [], ◌∷◌, ◌++◌, drop, map, refl, sym, ap, ◌∙◌}
 use Rattle.std.proofs.lemmas.Grind.{flat_map-append}
-use Rattle.std.proofs.lemmas.List.{append-nil}
 use Rattle.std.proofs.lemmas.List.Sorted.{IsPermutation-sym}
 use Rattle.std.specs.List.{flat_map}
 use Rattle.std.specs.List.Sorted.{IsPermutation}
@@ -51,12 +50,6 @@ module _ (read : Row → List Fact) (bare : (row : Row) → read row ≡ read (N
       ∙ ap of (flat_map-append plain rows cells)
       ∙ ap (λ facts. of (facts ++ flat_map plain cells)) (sym (plainly (old tree)))
       ∙ append_of (flat_map read (old tree)) (flat_map plain cells)
-
-  -- one with one row more
-  pub gained : (tree : ℕ) (cells : Row) (old new : Trees) → Gains tree (cells ∷ []) old new
-      → IsMore (flat_map read (new tree)) (flat_map read (old tree)) (plain cells)
-  gained tree cells old new gains =
-      subst (IsMore (flat_map read (new tree)) (flat_map read (old tree))) (append-nil (plain cells)) (gained_all tree (cells ∷ []) old new gains)
 
   -- a table with one row in the place of another, which says more
   pub swapped : (tree : ℕ) (gone come : Row) (facts : List Fact) (old new : Trees) → Swaps tree gone come old new

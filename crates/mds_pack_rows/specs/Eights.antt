@@ -1,7 +1,7 @@
 -- Rows of mds_pack that are still to be put, and the versions that they say (profile).
-use Rattle.std.specs.Prelude.{◌≡◌, List, map}
+use Rattle.std.specs.Prelude.{◌≡◌, ◌≢◌, List, [], map}
 use Rattle.std.specs.FinSet as set
-use Rattle.std.specs.List.{flat_map}
+use Rattle.std.specs.List.{AllByRecursion, flat_map}
 use Rattle.sqlite_value.specs.Order.{Row}
 use Rattle.mds_world.specs.FactOrder.{fact_cmp}
 use Rattle.mds_world.specs.Facts.{Fact}
@@ -18,6 +18,10 @@ columns_of row = pack_cells row.stream row.day row.update row.body.items
 -- the versions that it says
 abbrev pub said_by : PackRow → List Fact
 said_by row = body_facts row.stream row.day row.update row.body.items
+
+-- each says a version
+abbrev pub SaySome : List PackRow → Type 0
+SaySome rows = AllByRecursion (λ row. said_by row ≢ []) rows
 
 -- it says the versions of a day
 abbrev pub SaysDay : PackRow → DayVersions → Type 0

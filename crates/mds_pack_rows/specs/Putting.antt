@@ -1,5 +1,5 @@
 -- What statements on mds_pack do in a transaction (profile).
-use Rattle.std.specs.Prelude.{◌≡◌, ℕ, ℤ, List, ◌∷◌, [], drop, map, IsTrue, Option}
+use Rattle.std.specs.Prelude.{◌≡◌, ◌⊎◌, ℕ, ℤ, List, ◌∷◌, [], drop, map, IsTrue, None, Option}
 use Rattle.std.specs.FinSet as set
 use Rattle.sqlite.specs.Effect.{IsDatabase}
 use Rattle.sqlite.specs.State.{HasCleanDisk, IsUnchanged, State}
@@ -15,11 +15,12 @@ use Rattle.mds_world.specs.Lists.{Member}
 use Rattle.mds_world.specs.World.{union}
 use Rattle.mds_keeper.specs.Books.{row_fact}
 use Rattle.mds_keeper.specs.declared.day_book.Version.{Version}
+use Rattle.mds_tables.specs.RowFacts.{text_at}
 use Rattle.mds_tables.specs.Stores.{Begins}
 use Rattle.mds_tables.specs.Tables.{More, schema_with, tables_1}
 use Rattle.mds_inserts.specs.Writing.{IsMore, Keeps, KeepsOthers}
 use Rattle.mds_pack_rows.specs.PackCells.{key_cells, pack_cells}
-use Rattle.mds_pack_rows.specs.PackFacts.{pack_versions, readings_facts}
+use Rattle.mds_pack_rows.specs.PackFacts.{pack_facts, pack_versions, readings_facts, readings_in}
 use Rattle.mds_pack_rows.specs.PackTables.{Behind, body_columns, pack_tree, packs_then, schema_2}
 use Rattle.mds_pack_rows.specs.Swaps.{Swaps}
 
@@ -60,9 +61,16 @@ pub record MakesPack (old new : State) : Type 0 where
   pub committed : new.committed ≡ old.committed
   pub sound : IsSound schema_2 new.now.trees
 
--- mds_pack names these facts beside those that it named
-abbrev pub NamesMore : Trees → Trees → List Fact → Type 0
-NamesMore old new = IsMore (pack_versions new) (pack_versions old)
+-- one of these rows is this, whatever their rowids
+abbrev pub IsAmong : Row → List Row → Type 0
+IsAmong row rows = Member (drop 1 row) (map (drop 1) rows)
+
+-- mds_pack names these facts beside those that it named. A row that came says one of them, and one whose body doesn't read stays.
+pub record NamesMore (old new : Trees) (facts : List Fact) : Type 0 where
+  pub names : IsMore (pack_versions new) (pack_versions old) facts
+  pub came : (row : Row) → Member row (new pack_tree)
+      → IsAmong row (old pack_tree) ⊎ ((fact : Fact) × Member fact facts × Member fact (pack_facts row))
+  pub stay : (row : Row) → Member row (old pack_tree) → readings_in (text_at row 5) ≡ None → IsAmong row (new pack_tree)
 
 -- these facts are put into mds_pack, as the transaction sees it
 abbrev pub PutsFacts : State → State → List Fact → Type 0

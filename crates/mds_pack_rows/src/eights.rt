@@ -1,13 +1,13 @@
 //! Versions of days, where eight new rows are put at once.
 
-ghost use Rattle.std.specs.Prelude.{◌≡◌, [], IfOk, IfSome, IsTrue, OnOk, false, length as list_length, map};
+ghost use Rattle.std.specs.Prelude.{◌≡◌, ◌≢◌, [], IfOk, IfSome, IsTrue, OnOk, false, length as list_length, map};
 ghost use Rattle.sqlite.specs.Held.{state};
 ghost use Rattle.sqlite.specs.State.{HasCleanDisk, KeepsCommit, Survives};
 ghost use Rattle.std.specs.FinSet as set;
 ghost use Rattle.mds_world.specs.FactOrder.{fact_cmp};
 ghost use Rattle.mds_keeper.specs.Books.{row_fact};
 ghost use Rattle.mds_keeper.specs.Content.{version_fact, versions_of, whole_rows};
-ghost use Rattle.mds_pack_rows.specs.Eights.{SayDays, SaysDay, said_by};
+ghost use Rattle.mds_pack_rows.specs.Eights.{SayDays, SaySome, SaysDay, said_by};
 ghost use Rattle.mds_pack_rows.specs.Putting.{IsThere, PutsFacts};
 
 use crate::grouping::{has_some, put_each_day, spread};
@@ -96,6 +96,7 @@ fn pack_new_days(
 ) -> Result<Option<Vec<PackRow>>, AllocError>
     ensures len { IfOk result (λ o. IfSome o (λ rows. list_length rows.items ≡ list_length days.now)) }
     ensures says { IfOk result (λ o. IfSome o (λ rows. SayDays rows.items days.now)) }
+    ensures some { IfOk result (λ o. IfSome o (λ rows. SaySome rows.items)) }
 {
     let mut rows = Vec::with_capacity(alloc, days.len())?;
     for added in days {
@@ -115,7 +116,8 @@ fn pack_new_day(
     further: &[Head],
     added: &DayVersions,
 ) -> Result<Option<PackRow>, AllocError>
-    ensures { IfOk result (λ o. IfSome o (λ row. SaysDay row added.now)) }
+    ensures says { IfOk result (λ o. IfSome o (λ row. SaysDay row added.now)) }
+    ensures some { IfOk result (λ o. IfSome o (λ row. said_by row ≢ [])) }
 {
     match &added.rows {
         VersionRows::Each(rows) => pack_listed(
@@ -145,7 +147,8 @@ fn pack_listed(
     day: Day,
     rows: &[(u16, Version)],
 ) -> Result<Option<PackRow>, AllocError>
-    ensures { IfOk result (λ o. IfSome o (λ row. set.from_list {R = fact_cmp} (said_by row) ≡ set.from_list (map (row_fact stream.now day) rows.now))) }
+    ensures says { IfOk result (λ o. IfSome o (λ row. set.from_list {R = fact_cmp} (said_by row) ≡ set.from_list (map (row_fact stream.now day) rows.now))) }
+    ensures some { IfOk result (λ o. IfSome o (λ row. said_by row ≢ [])) }
 {
     let Some(first) = rows.first() else {
         return Ok(None);
@@ -179,7 +182,8 @@ fn pack_whole(
     update: Moment,
     readings: &DayReadings,
 ) -> Result<Option<PackRow>, AllocError>
-    ensures { IfOk result (λ o. IfSome o (λ row. set.from_list {R = fact_cmp} (said_by row) ≡ set.from_list (map (row_fact stream.now day) (whole_rows length update 1 readings.now)))) }
+    ensures says { IfOk result (λ o. IfSome o (λ row. set.from_list {R = fact_cmp} (said_by row) ≡ set.from_list (map (row_fact stream.now day) (whole_rows length update 1 readings.now)))) }
+    ensures some { IfOk result (λ o. IfSome o (λ row. said_by row ≢ [])) }
 {
     // For the proof: a length is 5, 15 or 30 minutes.
     let _ = length.minutes();

@@ -1,6 +1,6 @@
 //! The statements of SQL.
 
-ghost use Rattle.std.specs.Prelude.{◌≡◌, [], ◌∷◌, IfOk, IsTrue, OnOk, false, length};
+ghost use Rattle.std.specs.Prelude.{◌≡◌, ◌≢◌, [], ◌∷◌, IfOk, IsTrue, OnOk, false, length};
 ghost use Rattle.std.specs.List.{flat_map};
 ghost use Rattle.sqlite.specs.Held.{state};
 ghost use Rattle.sqlite.specs.State.{HasCleanDisk, KeepsCommit, Survives};
@@ -9,7 +9,7 @@ ghost use Rattle.sqlite.specs.declared.types.Value.TheVariants.{Blob, Int};
 ghost use Rattle.mds_tables.specs.Cells.{day_cells as day_columns};
 ghost use Rattle.mds_tables.specs.Stores.{Selects};
 ghost use Rattle.mds_tables.specs.Tables.{More, schema_with};
-ghost use Rattle.mds_pack_rows.specs.Eights.{columns_of, said_by};
+ghost use Rattle.mds_pack_rows.specs.Eights.{SaySome, columns_of, said_by};
 ghost use Rattle.mds_pack_rows.specs.FailureSteps.{is_store_error};
 ghost use Rattle.mds_pack_rows.specs.PackCells as row;
 ghost use Rattle.mds_pack_rows.specs.PackFacts.{body_facts};
@@ -143,7 +143,7 @@ pub(crate) fn body_rows<S: Alter>(
     }
 }
 
-/// Puts a row.
+/// Puts a row. Its body says a version.
 pub(crate) fn insert_body<S: Alter>(
     tx: &mut Transaction<'_, S>,
     stream: &Stream,
@@ -151,6 +151,7 @@ pub(crate) fn insert_body<S: Alter>(
     update: Moment,
     body: &[u8],
 ) -> Result<(), Unavailable>
+    requires some { body_facts stream.now day update body.now ≢ [] }
     ensures same_reference { tx.new.conn.ghost_name ≡ tx.old.conn.ghost_name }
     ensures ok { OnOk result (PutsFacts (state S.Store tx.old.conn.now) (state S.Store tx.new.conn.now) (body_facts stream.now day update body.now)) }
     ensures kept { HasCleanDisk (state S.Store tx.new.conn.now) → KeepsCommit (state S.Store tx.old.conn.now) (state S.Store tx.new.conn.now) }
@@ -183,12 +184,14 @@ fn is_failure(e: &Error) -> bool
     }
 }
 
-/// Puts eight rows by one statement. It tells whether the tables took them: where they refuse one, all stays as it was.
+/// Puts eight rows by one statement, each of which says a version. It tells whether the tables took them: where they refuse one, all
+/// stays as it was.
 pub(crate) fn insert_eight<S: Alter>(
     tx: &mut Transaction<'_, S>,
     rows: &[PackRow],
 ) -> Result<bool, Unavailable>
-    requires { length rows.now ≡ 8 }
+    requires eight { length rows.now ≡ 8 }
+    requires some { SaySome rows.now }
     ensures same_reference { tx.new.conn.ghost_name ≡ tx.old.conn.ghost_name }
     ensures put { IfOk result (λ put. IsTrue put → PutsFacts (state S.Store tx.old.conn.now) (state S.Store tx.new.conn.now) (flat_map said_by rows.now)) }
     ensures none { IfOk result (λ put. put ≡ false → PutsFacts (state S.Store tx.old.conn.now) (state S.Store tx.new.conn.now) []) }

@@ -1,8 +1,8 @@
-use Rattle.std.proofs.Common.{◌≡◌, IfSome, ap, length, subst, ◌∙◌}
+use Rattle.std.proofs.Common.{◌≡◌, IfSome, ap, length, subst, sym, ◌∙◌}
 use Rattle.std.specs.List.{flat_map}
 use Rattle.sqlite.specs.Held.{state}
 use Rattle.mds_inserts.proofs.RowLemmas.{of}
-use Rattle.mds_pack_rows.specs.Eights.{SayDays, said_by}
+use Rattle.mds_pack_rows.specs.Eights.{SayDays, SaySome, said_by}
 use Rattle.mds_pack_rows.proofs.EightLemmas.{put_as}
 use Rattle.mds_pack_rows.proofs.PutLemmas.{puts_none}
 use Rattle.mds_pack_rows.proofs.eights.put_new_days.Goals as goal
@@ -11,10 +11,12 @@ pub returns-in_default-clause-none : goal.returns-in_default-clause-none
 returns-in_default-clause-none g c _ = puts_none (state g.S.Store c.args.tx.now.conn.now)
 
 pub insert_eight-requires : goal.insert_eight-requires
-insert_eight-requires g c =
-    ap length c.as_slice.ensures.value
-    ∙ subst (λ o. IfSome o (λ rows. length rows.items ≡ length c.args.days.now)) c.in-Some.is c.in_ok-rows.ensures.len
-    ∙ c.type_inv.days
+insert_eight-requires g c = record {
+  eight = ap length c.as_slice.ensures.value
+      ∙ subst (λ o. IfSome o (λ rows. length rows.items ≡ length c.args.days.now)) c.in-Some.is c.in_ok-rows.ensures.len
+      ∙ c.type_inv.days;
+  some = subst SaySome (sym c.as_slice.ensures.value) (subst (λ o. IfSome o (λ rows. SaySome rows.items)) c.in-Some.is c.in_ok-rows.ensures.some);
+}
 
 pub returns-clause-put : goal.returns-clause-put
 returns-clause-put g c =

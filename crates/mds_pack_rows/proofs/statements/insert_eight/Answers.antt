@@ -12,7 +12,8 @@ pub returns-in-Ok-clause-put : goal.returns-in-Ok-clause-put
 returns-in-Ok-clause-put g c _ =
     let given : bound c.as_flattened.result.now ≡ flat_map columns_of c.args.rows.now =
     ap bound c.as_flattened.ensures.value ∙ c.eight_cells-cells.ensures in
-    eight_there c.args.rows.now c.requires c.in-Ok.field-0 (state g.S.Store c.args.tx.now.conn.now) (state g.S.Store c.execute.new.self.conn.now)
+    eight_there c.args.rows.now c.requires.eight c.in-Ok.field-0 (state g.S.Store c.args.tx.now.conn.now) (state g.S.Store c.execute.new.self.conn.now)
+    c.requires.some
     (λ clean. rw (c.in-Ok.is, given) at (c.execute.ensures.runs clean (still _ _ _ _ c.execute.ensures.ended c.in-Ok.is)))
 
 pub returns-else-is_failure-clause-none : goal.returns-else-is_failure-clause-none
