@@ -1,7 +1,6 @@
 -- Whether the day of a job suits it, by the book of that day.
-use Rattle.std.specs.Prelude.{◌≡◌, ◌≢◌, ℕ, Bool, Option, Some, None, IfNone, IfSome, is_some}
+use Rattle.std.specs.Prelude.{◌≡◌, ◌≢◌, ℕ, Bool, true, false, List, [], ◌++◌, Option, Some, None, IfNone, IfSome, is_some}
 use Rattle.std.proofs.Common.{sym, ap, subst, ◌∙◌, refl, inl, inr}
-use Rattle.std.specs.Bool.{MatchBool}
 use Rattle.mds_quantity.specs.declared.unit.Unit.{Unit as MeasureUnit}
 use Rattle.mds_names.specs.declared.stream.Stream.{Stream}
 use Rattle.mds_world.specs.Current.{IsFormOf, IsHeadOf}
@@ -15,13 +14,14 @@ use Rattle.mds_jobs.specs.Jobs.{IsBad, content_of}
 use Rattle.mds_jobs.specs.declared.job.Job.{Job}
 use Rattle.mds_keeper.specs.Books.{BookValue, book_world}
 use Rattle.mds_keeper.specs.Claims.{BreaksHead, IsLengthUnder, IsOther, SuitsHead, SuitsKnown}
+use Rattle.mds_keeper.specs.DayMergeSteps.{first_of, further_of}
 use Rattle.mds_keeper.specs.declared.refusal.RefusalCode.{RefusalCode}
 use Rattle.mds_keeper.specs.declared.refusal.RefusalCode.TheVariants.{LengthConflict, UnitConflict, VersionConflict, JobReused, Protected, StaleUpdate, NoLikeDay, TooLong, NoAnchor, UnknownDay, BadJob, RangeTooWide}
 use Rattle.mds_keeper.proofs.BookFacts.{row_in_book, version_of_book}
 use Rattle.mds_fill.specs.Fills.{IsBookOf}
 use Rattle.mds_registers.proofs.BookReadings.{form_in, form_out}
 use Rattle.mds_service.specs.Substitution.{HasOtherLength, HasOtherUnit, IsJobFault, IsJobRefusal, IsNewJob, SuitsDay, head_of}
-use Rattle.mds_service.specs.SubstitutionSteps.{BreaksDay}
+use Rattle.mds_service.specs.SubstitutionSteps.{BreaksDay, HasItsHead, new_heads}
 
 -- ---- the book of the job's day
 
@@ -164,10 +164,6 @@ module _ (w : World) (job : Job) (book : BookValue) (of : IsBookOf w job.stream 
   breaks_day None it = tt
   breaks_day (Some code) it = breaks code it
 
--- whether the World has the job's head
-abbrev pub HasItsHead : World → Job → Bool → Type 0
-HasItsHead w job has = MatchBool has (HeadIs (head_of job) ∈ w) (HeadIs (head_of job) ∈ w → ⊥)
-
 -- it has it where its day has a length under the job's update
 pub has_its_head : (w : World) (job : Job) (book : BookValue) (under : Option ℕ) → IsBookOf w job.stream job.day book
     → IsLawful (book_world book) → IsLengthUnder book job.update under → SuitsDay w job → HasItsHead w job (is_some under)
@@ -182,6 +178,40 @@ has_its_head w job book (Some length) of lawful is suits =
     let same : g.0 ≡ head_of job =
     λ i. head_at (there.1 i) (there.2 i) (g.2 i) (of_length i) (of_unit i) in
     subst (λ h. HeadIs h ∈ w) same there.0
+
+-- a head is one of a new day where the day isn't known
+module _ (w : World) (job : Job) (book : BookValue) (of : IsBookOf w job.stream job.day book) where
+  known_in_book : IsKnownDay w job.stream job.day → IsKnownDay (book_world book) book.stream book.day
+  known_in_book known =
+      let h = head_out w job.stream job.day book of known.0 (known.1, known.2, known.3) in (known.0, h.0, h.1, h.2)
+
+  book_in_known : IsKnownDay (book_world book) book.stream book.day → IsKnownDay w job.stream job.day
+  book_in_known known =
+      let h = head_in w job.stream job.day book of known.0 (known.1, known.2, known.3) in (known.0, h.0, h.1, h.2)
+
+  both_parts : (is_new has_head : Bool)
+      → first_of is_new (new_heads job has_head) ++ further_of is_new (new_heads job has_head) ≡ new_heads job has_head
+  both_parts false has_head = refl
+  both_parts true true = refl
+  both_parts true false = refl
+
+  no_further : (has_head : Bool) → further_of true (new_heads job has_head) ≡ []
+  no_further true = refl
+  no_further false = refl
+
+  pub heads_put : (is_new has_head : Bool) (new_days heads : List Head)
+      → (IsKnownDay (book_world book) book.stream book.day → is_new ≡ false)
+      × ((IsKnownDay (book_world book) book.stream book.day → ⊥) → is_new ≡ true)
+      → new_days ≡ first_of is_new (new_heads job has_head) → heads ≡ further_of is_new (new_heads job has_head)
+      → (new_days ++ heads ≡ new_heads job has_head) × (IsKnownDay w job.stream job.day → new_days ≡ [])
+      × ((IsKnownDay w job.stream job.day → ⊥) → heads ≡ [])
+  heads_put is_new has_head new_days heads told first further = (
+    (λ i. first i ++ further i) ∙ both_parts is_new has_head,
+    λ known. first ∙ ap (λ t. first_of t (new_heads job has_head)) (told.0 (known_in_book known)),
+    λ unknown.
+        further ∙ ap (λ t. further_of t (new_heads job has_head)) (told.1 (λ known. unknown (book_in_known known)))
+        ∙ no_further has_head,
+  )
 
 day_fault : (w : World) (job : Job) → (IsBad (content_of job) → ⊥) → IsNewJob w job → (code : RefusalCode) → BreaksDay w job code
     → IsJobFault w job code 0

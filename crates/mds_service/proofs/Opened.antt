@@ -1,25 +1,95 @@
 -- Merges that are opened before anything is claimed of their days.
-use Rattle.std.specs.Prelude.{◌≡◌, ℕ, ◌+◌, ◌<◌, ◌≤◌, List, [], ◌∷◌, false, cond, Option, Some, None, is_some}
-use Rattle.std.proofs.Common.{sym, subst, inl, inr, arith}
+use Rattle.std.specs.Prelude.{◌≡◌, ℕ, ◌+◌, ◌<◌, ◌≤◌, List, [], ◌∷◌, ◌++◌, length, map, slice_index_or, take, false, cond, Option, Some, None, is_some}
+use Rattle.std.proofs.Common.{sym, ap, ◌∙◌, subst, inl, inr, arith, get_or}
 use Rattle.std.specs.BTreeMap.{BTreeMap, get}
+use Rattle.std.proofs.Math.ListN.{set as set_at}
+use Rattle.std.proofs.lemmas.Bool.{cases_lt}
+use Rattle.std.proofs.lemmas.List.{map-append, take_all, take_more}
+use Rattle.std.proofs.lemmas.List.Elements.{All-get_or, All-nil, All-push, All-same, All-set, All-weaker}
 use Rattle.std.specs.FinSet as set
+use Rattle.std.specs.List.{All}
 use Rattle.std.specs.Ordering.{is_eq}
 use Rattle.mds_names.specs.declared.stream.Stream.{Stream}
 use Rattle.mds_world.specs.declared.facts.StreamDay.{StreamDay}
 use Rattle.mds_world.specs.FactOrder.{exact, total}
 use Rattle.mds_world.specs.Facts.{Fact}
 use Rattle.mds_world.specs.Facts.Fact.{HeadIs, VersionIs, DetailIs, EventIs, PeriodIs, HolidayIs, JobIs}
+use Rattle.mds_world.proofs.Lists.{append_left, append_right}
 use Rattle.mds_world.proofs.Sets.{decided, not_in_empty, same_bool, union_empty}
 use Rattle.mds_world.specs.Sets.{◌∈◌}
 use Rattle.mds_world.specs.World.{Agrees, IsKnownDay, IsLawful, IsOn, World, head_over, union}
 use Rattle.mds_keeper.specs.Books.{BookValue, IsDay, book_world}
 use Rattle.mds_keeper.specs.DayMerges.{DayMergeValue}
 use Rattle.mds_keeper.specs.Queries.{AreDaysOf}
+use Rattle.mds_statements.specs.declared.blocks.DeliveredDay.{DeliveredDay}
 use Rattle.mds_ranges.proofs.Ranged.{days_behind, first_is, unknown_before}
 use Rattle.mds_service.proofs.DayOrder.{day_cmp, day_exact}
 use Rattle.mds_service.proofs.Gather.{open_new}
 use Rattle.mds_service.specs.Imports.{AreMerges, IsMergeOf, MatchMerge}
-use Rattle.mds_service.specs.OpeningSteps.{AreUnknown}
+use Rattle.mds_service.specs.OpeningSteps.{AreUnknown, IsOfDates}
+use Rattle.mds_service.specs.declared.opening.Stretch.{Stretch}
+
+-- ---- stretches of dates
+
+-- with one date more
+wider : (dates : List ℕ) (date : ℕ) (s : Stretch) → IsOfDates dates s → IsOfDates (dates ++ date ∷ []) s
+wider dates date s of = record { each = λ day from upto. append_left day dates (date ∷ []) (of.each day from upto); few = of.few }
+
+all_wider : (dates : List ℕ) (date : ℕ) (xs : List Stretch) → All (IsOfDates dates) xs → All (IsOfDates (dates ++ date ∷ [])) xs
+all_wider dates date xs all = All-weaker (IsOfDates dates) (IsOfDates (dates ++ date ∷ [])) (wider dates date) xs all
+
+module _ (dates : List ℕ) (date : ℕ) (xs : List Stretch) (all : All (IsOfDates dates) xs) where
+  -- of a date that comes last
+  goes_on : (s : Stretch) → IsOfDates dates s → date ≡ s.last + 1 → date < s.first + 64
+      → IsOfDates (dates ++ date ∷ []) (record { first = s.first; last = date })
+  goes_on s of next near = record {
+    each = λ day from upto. elim (cases_lt day date) [
+      | inl before ↦ append_left day dates (date ∷ []) (of.each day from (omega (arith, before, next)))
+      | inr late ↦
+          let same : day ≡ date = omega (arith, late, upto) in
+          append_right day dates (date ∷ []) (inl same)
+    ];
+    few = near;
+  }
+
+  module _ (i : ℕ) (s : Stretch) (is : s ≡ slice_index_or xs i s) (here : i < length xs) where
+    of_dates : IsOfDates dates s
+    of_dates = subst (IsOfDates dates) (sym is) (All-get_or (IsOfDates dates) xs i s here all)
+
+    pub date_taken : date ≡ s.last + 1 → date < s.first + 64
+        → All (IsOfDates (dates ++ date ∷ [])) (set_at xs i (record { first = s.first; last = date }))
+    date_taken next near =
+        All-set (IsOfDates (dates ++ date ∷ [])) xs i _ (goes_on s of_dates next near) (all_wider dates date xs all)
+
+    pub date_known : All (IsOfDates (dates ++ date ∷ [])) (set_at xs i s)
+    date_known = All-set (IsOfDates (dates ++ date ∷ [])) xs i s (wider dates date s of_dates) (all_wider dates date xs all)
+
+  -- of a date by itself
+  pub date_pushed : All (IsOfDates (dates ++ date ∷ [])) (xs ++ record { first = date; last = date } ∷ [])
+  date_pushed = All-push (IsOfDates (dates ++ date ∷ [])) xs _ (all_wider dates date xs all) (record {
+    each = λ day from upto. let same : day ≡ date = omega (arith, from, upto) in append_right day dates (date ∷ []) (inl same);
+    few = omega arith;
+  })
+
+pub same_stretches : (dates : List ℕ) (xs ys : List Stretch) → xs ≡ ys → All (IsOfDates dates) ys → All (IsOfDates dates) xs
+same_stretches dates xs ys e all = All-same (IsOfDates dates) xs ys e all
+
+pub no_stretch : (dates : List ℕ) (xs : List Stretch) → xs ≡ [] → All (IsOfDates dates) xs
+no_stretch dates xs e = All-same (IsOfDates dates) xs [] e (All-nil (IsOfDates dates))
+
+abbrev dates_of : List DeliveredDay → List ℕ
+dates_of days = map (λ day. day.date) days
+
+pub dates_more : (days : List DeliveredDay) (i : ℕ) (day : DeliveredDay) (xs : List Stretch) → i < length days
+    → day ≡ get_or days i day → All (IsOfDates (dates_of (take i days) ++ day.date ∷ [])) xs
+    → All (IsOfDates (dates_of (take (i + 1) days))) xs
+dates_more days i day xs h at all = subst (λ dates. All (IsOfDates dates) xs)
+    (sym (ap dates_of (take_more days i day h ∙ ap (λ z. take i days ++ z ∷ []) (sym at))
+    ∙ map-append (λ (x : DeliveredDay). x.date) (take i days) (day ∷ []))) all
+
+pub all_dates : (days : List DeliveredDay) (i : ℕ) (xs : List Stretch) → length days ≤ i
+    → All (IsOfDates (dates_of (take i days))) xs → All (IsOfDates (dates_of days)) xs
+all_dates days i xs end all = subst (λ l. All (IsOfDates (dates_of l)) xs) (take_all i days end) all
 
 -- ---- one merge
 

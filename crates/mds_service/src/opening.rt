@@ -4,7 +4,8 @@
 //! for at once, and their merges opened. A claim then finds the merge of its day, and asks nobody. A merge says nothing
 //! until a line claims something of its day, so to open one changes no fact.
 
-ghost use Rattle.std.specs.Prelude.{◌≡◌, ◌≤◌, IfErr, IfSome, OnOk};
+ghost use Rattle.std.specs.Prelude.{◌≡◌, ◌≤◌, ◌++◌, ◌∷◌, List, [], ℕ, false, map, IfErr, IfOk, IfSome, IsTrue, OnOk};
+ghost use Rattle.std.specs.List.{All};
 ghost use Rattle.std.specs.FinSet as set;
 ghost use Rattle.mds_calendar.specs.Calendar.{last_day};
 ghost use Rattle.mds_world.specs.World.{IsLawful, World};
@@ -13,7 +14,7 @@ ghost use Rattle.mds_keeper.specs.Kept.{OfKept, Stays};
 ghost use Rattle.mds_keeper.specs.Queries.{AreDaysOf};
 ghost use Rattle.mds_keeper.specs.declared.day_merge.Stop.TheVariants.{Memory};
 ghost use Rattle.mds_service.specs.Imports.{AreMerges};
-ghost use Rattle.mds_service.specs.OpeningSteps.{AreUnknown};
+ghost use Rattle.mds_service.specs.OpeningSteps.{AreUnknown, IsOfDates};
 
 use mds_keeper::{DayBook, DayMerge, Keeper, Stop, StreamDay};
 use mds_statements::DeliveredDay;
@@ -22,7 +23,7 @@ use std::alloc::{AllocError, Global};
 use std::collections::BTreeMap;
 
 /// A keeper is asked for at most so many days at once, as its rows of all of them are in memory while it answers.
-const MOST_AHEAD: i64 = 64;
+const MOST_AHEAD: u32 = 64;
 
 /// Days that follow one another, first to last, both included.
 #[derive(Clone, Copy)]
@@ -33,7 +34,9 @@ pub(crate) struct Stretch {
 
 /// The stretches of a block's days, in their order: a plan of what to ask at once. Each has only dates that the block
 /// has, so that no day is read that the file doesn't state.
-pub(crate) fn stretches(alloc: Global, days: &[DeliveredDay]) -> Result<Vec<Stretch>, AllocError> {
+pub(crate) fn stretches(alloc: Global, days: &[DeliveredDay]) -> Result<Vec<Stretch>, AllocError>
+    ensures { IfOk result (λ found. All (IsOfDates (map (λ day. day.date) days.now)) found.items) }
+{
     let mut found: Vec<Stretch> = Vec::new(alloc);
     for day in days {
         if !goes_on(&mut found, day.date) {
@@ -47,17 +50,21 @@ pub(crate) fn stretches(alloc: Global, days: &[DeliveredDay]) -> Result<Vec<Stre
 }
 
 /// Takes a date into the last of these stretches, where it is its last day or the one after. Says whether it did.
-fn goes_on(found: &mut Vec<Stretch>, date: Day) -> bool {
+fn goes_on(found: &mut Vec<Stretch>, date: Day) -> bool
+    ensures stays { result ≡ false → found.new.items ≡ found.old.items }
+    ensures taken { IsTrue result → (dates : List ℕ) → All (IsOfDates dates) found.old.items
+        → All (IsOfDates (dates ++ date ∷ [])) found.new.items }
+{
     let Some(stretch) = found.last_mut() else {
         return false;
     };
-    let first = stretch.first.number();
-    let last = stretch.last.number();
-    let number = date.number();
+    let first = number_of(stretch.first);
+    let last = number_of(stretch.last);
+    let number = number_of(date);
     if number == last {
         return true;
     }
-    if number != last + 1 || number - first >= MOST_AHEAD {
+    if number != last + 1 || number >= first + MOST_AHEAD {
         return false;
     }
     stretch.last = date;

@@ -1,5 +1,6 @@
 use Rattle.std.proofs.Common.{subst, sym}
-use Rattle.mds_service.proofs.DayOfJob.{HasItsHead, has_its_head}
+use Rattle.mds_service.specs.SubstitutionSteps.{HasItsHead}
+use Rattle.mds_service.proofs.DayOfJob.{has_its_head}
 use Rattle.mds_service.proofs.substituting.has_head_of.Goals as goal
 
 pub returns : goal.returns
