@@ -1,21 +1,21 @@
 -- What the claims of a day add to its book, or at which line they are refused.
-use Rattle.std.proofs.Common.{◌≡◌, ◌≢◌, ℕ, zero, suc, ◌+◌, ◌<◌, ◌≤◌, List, [], ◌∷◌, ◌++◌, length, map, take, get_or, refl, sym, ap, ◌∙◌, subst, inl, inr, arith}
+use Rattle.std.proofs.Common.{◌≡◌, ℕ, zero, suc, ◌+◌, ◌<◌, ◌≤◌, List, [], ◌∷◌, ◌++◌, length, map, take, get_or, refl, sym, ap, ◌∙◌, subst, inl, inr, arith}
 use Rattle.std.specs.Prelude.{Bool, true, false, cond, nat_le, ◌⊎◌}
 use Rattle.std.specs.FinSet as set
 use Rattle.std.specs.List.{filter, flat_map}
 use Rattle.std.proofs.lemmas.Bool.Decides.{nat_tests}
 use Rattle.std.proofs.lemmas.Grind.{flat_map-append}
-use Rattle.std.proofs.lemmas.List.{append-nil, length-map}
+use Rattle.std.proofs.lemmas.List.{append-nil}
 use Rattle.std.proofs.lemmas.Option.{get_or_from_slice_get}
 use Rattle.mds_names.specs.declared.stream.Stream.{Stream}
-use Rattle.mds_world.specs.Counts.{countable, is_counted}
+use Rattle.mds_world.specs.Counts.{countable}
 use Rattle.mds_world.specs.FactOrder.{exact, fact_cmp, total}
 use Rattle.mds_world.specs.Facts.{Fact}
 use Rattle.mds_world.specs.Facts.Fact.{HeadIs, DetailIs, EventIs, HolidayIs}
-use Rattle.mds_world.proofs.Lists.{member_append, append_right, flat_in, in_flat, in_map}
+use Rattle.mds_world.proofs.Lists.{flat_in, in_flat}
 use Rattle.mds_world.specs.Lists.{Apart, Member}
-use Rattle.mds_world.proofs.Members.{same_by, in_union, union_left, union_right, in_list, list_in, len_list}
-use Rattle.mds_world.proofs.Sets.{decided, difference_in, in_difference, in_retain, list_append, retain_in, union_empty}
+use Rattle.mds_world.proofs.Members.{same_by, in_union, union_left, union_right, in_list, list_in}
+use Rattle.mds_world.proofs.Sets.{decided, difference_in, in_difference, list_append, union_empty}
 use Rattle.mds_world.specs.Sets.{◌∈◌}
 use Rattle.mds_world.specs.Stated.{day_facts}
 use Rattle.mds_world.specs.World.{Agrees, IsKnownDay, IsLawful, World, union}
@@ -30,6 +30,7 @@ use Rattle.mds_keeper.specs.declared.day_merge.Stop.{Stop}
 use Rattle.mds_keeper.specs.declared.day_merge.Stop.TheVariants.{Refused, Memory}
 use Rattle.mds_keeper.specs.declared.refusal.Refusal.{Refusal}
 use Rattle.mds_keeper.proofs.Rows.{member_get}
+use Rattle.mds_keeper.proofs.Settled.{counted_versions}
 
 agrees_sub : (a b : World) → ((f : Fact) → f ∈ a → f ∈ b) → Agrees b → Agrees a
 agrees_sub a b s g = record {
@@ -233,14 +234,14 @@ added_facts d old new counts s e =
     let ps : old.periods.items ≡ [] = nil_map period_fact old.periods.items (nil_right (((H ++ V) ++ D) ++ E) P e5) in
     let ls : old.holidays.items ≡ [] = nil_map HolidayIs old.holidays.items (nil_right ((((H ++ V) ++ D) ++ E) ++ P) L e6) in
     let js : old.jobs.items ≡ [] = nil_map job_fact old.jobs.items (nil_right (((((H ++ V) ++ D) ++ E) ++ P) ++ L) J e) in
-    let n : new.new_days.items ≡ s.first = s.more_first ∙ ap (λ l. l ++ s.first) ns in
-    let h : new.heads.items ≡ s.further = s.more_heads ∙ ap (λ l. l ++ s.further) fs in
-    let v : versions_of new.days.items ≡ s.versions = s.more_versions ∙ ap (λ l. l ++ s.versions) vs in
-    let x : details_of new.details.items ≡ [] = ap (λ k. details_of k.items) s.same_details ∙ ds in
-    let y : new.events.items ≡ [] = ap (λ k. k.items) s.same_events ∙ es in
-    let p : new.periods.items ≡ [] = ap (λ k. k.items) s.same_periods ∙ ps in
-    let z : new.holidays.items ≡ [] = ap (λ k. k.items) s.same_holidays ∙ ls in
-    let w : new.jobs.items ≡ [] = ap (λ k. k.items) s.same_jobs ∙ js in
+    let n : new.new_days.items ≡ s.first = s.grows.more_first ∙ ap (λ l. l ++ s.first) ns in
+    let h : new.heads.items ≡ s.further = s.grows.more_heads ∙ ap (λ l. l ++ s.further) fs in
+    let v : versions_of new.days.items ≡ s.versions = s.grows.more_versions ∙ ap (λ l. l ++ s.versions) vs in
+    let x : details_of new.details.items ≡ [] = ap (λ k. details_of k.items) s.grows.same_details ∙ ds in
+    let y : new.events.items ≡ [] = ap (λ k. k.items) s.grows.same_events ∙ es in
+    let p : new.periods.items ≡ [] = ap (λ k. k.items) s.grows.same_periods ∙ ps in
+    let z : new.holidays.items ≡ [] = ap (λ k. k.items) s.grows.same_holidays ∙ ls in
+    let w : new.jobs.items ≡ [] = ap (λ k. k.items) s.grows.same_jobs ∙ js in
     let N = map HeadIs (s.first ++ s.further) ++ map version_fact s.versions in (
       (λ i. map HeadIs (n i ++ h i) ++ map version_fact (v i) ++ map DetailIs (x i) ++ map EventIs (y i) ++ map period_fact (p i)
           ++ map HolidayIs (z i) ++ map job_fact (w i))
@@ -250,27 +251,23 @@ added_facts d old new counts s e =
       h,
     )
 
-apart_tail : (xs ys : List Fact) → Apart (xs ++ ys) → Apart ys
-apart_tail [] ys a = a
-apart_tail (x ∷ xs) ys a = apart_tail xs ys a.1
-
 pub planned : (b : BookValue) (claims : List Claim) (i : ℕ) (d : DayMergeValue) → IsPlanning b claims i d → length claims ≤ i → i ≤ length claims
-    → (old new : Additions) (settled : MergeCounts) → content_facts old ≡ [] → Settles d old new settled
+    → (old new : Additions) (settled : MergeCounts) → content_facts old ≡ [] → old.days.items ≡ [] → Settles d old new settled
     → IsPlan b (claims_world b.stream b.day claims) new
-planned b claims i d is low high old new settled none s = record {
+planned b claims i d is low high old new settled none no_days s = record {
   agrees = subst (λ w. Agrees (union (book_world b) w)) all is.agrees;
   whole = ap (union (book_world b)) added ∙ rest_in ∙ ap (union (book_world b)) all;
   new = record {
     apart = subst Apart (sym facts.0) s.apart;
     absent = λ f m h. (in_difference total exact d.said (book_world b) f (subst (λ w. f ∈ w) added (list_in (content_facts new) f m))).1 h;
   };
-  counted = ap length facts.1 ∙ sym (length-map s.versions version_fact)
-      ∙ sym (len_list (map version_fact s.versions) (apart_tail (map HeadIs (s.first ++ s.further)) (map version_fact s.versions) s.apart))
-      ∙ ap set.len counts ∙ ap (λ w. set.len (set.difference (countable w) (countable (book_world b)))) all;
+  counted = ap length facts.1 ∙ counted_versions d.said (book_world d.book) (s.first ++ s.further) s.versions s.apart s.just
+      ∙ (λ j. set.len (set.difference (countable (all j)) (countable (book_world (is.book j)))));
   one_first = subst (λ l. length l ≤ 1) (sym facts.2) s.one_first;
   known_day = λ known. facts.2 ∙ s.known_day (subst (λ x. IsKnownDay (book_world x) x.stream x.day) (sym is.book) known);
   new_day = λ unknown none.
       facts.3 ∙ s.new_day (λ known. unknown (subst (λ x. IsKnownDay (book_world x) x.stream x.day) is.book known)) (sym facts.2 ∙ none);
+  days = λ day m. s.grows.more_days.2 day (subst (Member day) (s.grows.more_days.1 ∙ ap (λ l. l ++ s.grows.more_days.0) no_days) m);
 }
   where
     facts : (content_facts new ≡ map HeadIs (s.first ++ s.further) ++ map version_fact s.versions) × (versions_of new.days.items ≡ s.versions)
@@ -298,24 +295,3 @@ planned b claims i d is low high old new settled none s = record {
             | inr n ↦ union_right _ _ f (difference_in total exact _ _ f a n)
           ]
         ])
-
-    counts : set.from_list (map version_fact s.versions) ≡ set.difference (countable d.said) (countable (book_world b))
-    counts = same_by _ _
-        (λ f m.
-        let n = in_list (map version_fact s.versions) f m in
-        let p = in_map version_fact s.versions f n in
-        let one : is_counted f ≡ true = ap is_counted p.2 in
-        let w = in_difference total exact d.said (book_world b) f (subst (λ w. f ∈ w) (s.just ∙ ap (λ x. set.difference d.said (book_world x)) is.book)
-        (list_in (map HeadIs (s.first ++ s.further) ++ map version_fact s.versions) f (append_right f (map HeadIs (s.first ++ s.further)) (map version_fact s.versions) n))) in
-        difference_in total exact _ _ f (retain_in total exact d.said is_counted f w.0 one)
-        (λ h. w.1 (in_retain total exact (book_world b) is_counted f h).0))
-        (λ f m.
-        let w = in_difference total exact _ _ f m in
-        let c = in_retain total exact d.said is_counted f w.0 in
-        let out : set.contains (book_world b) f ≢ true = λ h. w.1 (retain_in total exact (book_world b) is_counted f h c.1) in
-        let n = in_list (map HeadIs (s.first ++ s.further) ++ map version_fact s.versions) f (subst (λ x. f ∈ x)
-        (sym (s.just ∙ ap (λ x. set.difference d.said (book_world x)) is.book)) (difference_in total exact d.said (book_world b) f c.0 out)) in
-        list_in (map version_fact s.versions) f (elim (member_append f (map HeadIs (s.first ++ s.further)) (map version_fact s.versions) n) [
-          | inl k ↦ let p = in_map HeadIs (s.first ++ s.further) f k in let z : is_counted f ≡ false = ap is_counted p.2 in let y = c.1 in cc
-          | inr k ↦ k
-        ]))

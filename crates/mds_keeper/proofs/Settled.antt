@@ -6,6 +6,7 @@ use Rattle.std.proofs.lemmas.Grind.{flat_map-append}
 use Rattle.std.proofs.lemmas.List.{append-nil, drop_all, length-append, length-map, map-append, nil_from_length}
 use Rattle.std.proofs.Math.Nat.{div-le_self}
 use Rattle.std.specs.FinSet as set
+use Rattle.mds_calendar.specs.Length.{count_of}
 use Rattle.mds_quantity.specs.declared.unit.Unit.{Unit as MeasureUnit}
 use Rattle.mds_marks.specs.Reading.{ReadingValue}
 use Rattle.mds_world.specs.declared.facts.Head.{Head}
@@ -21,13 +22,13 @@ use Rattle.mds_world.specs.Lists.{Apart, Member}
 use Rattle.mds_world.proofs.Members.{same_by, in_list, list_in, len_list}
 use Rattle.mds_world.proofs.Sets.{difference_in, in_difference, in_intersection, intersection_in, in_retain, not_true, retain_in, true_not}
 use Rattle.mds_world.specs.Sets.{◌∈◌}
-use Rattle.mds_world.specs.World.{IsKnownDay, IsLawful}
+use Rattle.mds_world.specs.World.{IsKnownDay, IsLawful, World}
 use Rattle.mds_keeper.specs.Books.{BookValue, book_world}
 use Rattle.mds_keeper.specs.BookRows.{IsFormOfRows}
 use Rattle.mds_keeper.specs.ClaimedUpdates.{entries_of}
-use Rattle.mds_keeper.specs.Claims.{AreShort, Entry, IsLengthUnder, fresh_all, fresh_heads, fresh_versions, has_update, held_all, held_count, is_held, key_of}
-use Rattle.mds_keeper.specs.Content.{day_versions, rows_of, version_at, version_fact, versions_of, whole_rows}
-use Rattle.mds_keeper.specs.DayMerges.{DayMergeValue, Settles}
+use Rattle.mds_keeper.specs.Claims.{Entry, IsLengthUnder, fresh_all, fresh_heads, fresh_versions, has_update, held_all, held_count, is_held, key_of}
+use Rattle.mds_keeper.specs.Content.{AreMoreDays, AreWellFormed, day_versions, rows_of, version_at, version_fact, versions_of, whole_rows}
+use Rattle.mds_keeper.specs.DayMerges.{DayMergeValue, GoesOn, Grows, Settles}
 use Rattle.mds_keeper.specs.DayMergeSteps.{AreCounts, Gains, HaveReadings, IsDayMerge, IsInBook, all_claimed, claimed_entries, claimed_entry, claimed_readings, first_of, fresh_head, further_of, merge_value, new_heads, readings_under}
 use Rattle.mds_keeper.specs.declared.additions.Additions.{Additions}
 use Rattle.mds_keeper.specs.declared.additions.DayVersions.{DayVersions}
@@ -90,10 +91,29 @@ pushed b now next minutes interval update r e =
 -- one more day
 pub day_pushed : (b : BookValue) (added : List (Key × ReadingValue)) (old new : List DayVersions) (day : DayVersions)
     → new ≡ old ++ day ∷ [] → day.stream ≡ b.stream → day.day ≡ b.day → map (version_at b.stream b.day) (rows_of day.rows) ≡ added
-    → versions_of new ≡ versions_of old ++ added
-day_pushed b added old new day push s d rows =
-    ap versions_of push ∙ flat_map-append day_versions old (day ∷ []) ∙ ap (λ l. versions_of old ++ l)
-    (append-nil (day_versions day) ∙ (λ i. map (version_at (s i) (d i)) (rows_of day.rows)) ∙ rows)
+    → AreWellFormed day.rows → (versions_of new ≡ versions_of old ++ added) × AreMoreDays old new
+day_pushed b added old new day push s d rows formed = (
+  ap versions_of push ∙ flat_map-append day_versions old (day ∷ []) ∙ ap (λ l. versions_of old ++ l)
+      (append-nil (day_versions day) ∙ (λ i. map (version_at (s i) (d i)) (rows_of day.rows)) ∙ rows),
+  (day ∷ [], push, (λ x m. elim m [ inl e ↦ subst (λ (y : DayVersions). AreWellFormed y.rows) (sym e) formed | inr n ↦ absurd n ])),
+)
+
+-- none more
+no_more_days : (old new : List DayVersions) → new ≡ old → AreMoreDays old new
+no_more_days old new e = ([], e ∙ sym (append-nil old), (λ day m. absurd m))
+
+pub none_pushed : (b : BookValue) (added : List (Key × ReadingValue)) (old : List DayVersions) (rows : List (ℕ × Version)) → rows ≡ []
+    → map (version_at b.stream b.day) rows ≡ added → (versions_of old ≡ versions_of old ++ added) × AreMoreDays old old
+none_pushed b added old rows none e =
+    (sym (append-nil (versions_of old)) ∙ ap (λ l. versions_of old ++ l) (sym (ap (map (version_at b.stream b.day)) none) ∙ e), no_more_days old old refl)
+
+-- first these, and then others
+more_and_more : (old now next : List DayVersions) → AreMoreDays old now → AreMoreDays now next → AreMoreDays old next
+more_and_more old now next (xs, p, f) (ys, q, g) = (
+  xs ++ ys,
+  q ∙ ap (λ l. l ++ ys) p ∙ append_assoc old xs ys,
+  (λ day m. elim (member_append day xs ys m) [ inl n ↦ f day n | inr n ↦ g day n ]),
+)
 
 -- where the book has none of the readings, it has neither the first nor one of the rest
 none_or_more : (t : Bool) (n : ℕ) → cond t 1 0 + n ≡ 0 → (t ≡ false) × (n ≡ 0)
@@ -444,6 +464,7 @@ none_gained a t heads versions no_heads no_versions =
       more_first = sym (append-nil a.new_days.items);
       more_heads = sym (append-nil a.heads.items);
       more_versions = sym (append-nil (versions_of a.days.items));
+      more_days = no_more_days a.days.items a.days.items refl;
       same_details = refl;
       same_events = refl;
       same_periods = refl;
@@ -454,6 +475,7 @@ none_gained a t heads versions no_heads no_versions =
       more_first = sym (append-nil a.new_days.items);
       more_heads = sym (append-nil a.heads.items);
       more_versions = sym (append-nil (versions_of a.days.items));
+      more_days = no_more_days a.days.items a.days.items refl;
       same_details = refl;
       same_events = refl;
       same_periods = refl;
@@ -461,16 +483,15 @@ none_gained a t heads versions no_heads no_versions =
       same_jobs = refl;
     }
 
--- first these, and then others of a day that isn't new any more
-pub gained_on : (old now next : Additions) (t : Bool) (heads more : List Head) (versions others : List (Key × ReadingValue))
-    → (t ≡ true → heads ≢ []) → Gains old now t heads versions → Gains now next false more others
-    → Gains old next t (heads ++ more) (versions ++ others)
-gained_on old now next t heads more versions others some g k = record {
-  more_first = k.more_first ∙ append-nil now.new_days.items ∙ g.more_first
-      ∙ ap (λ l. old.new_days.items ++ l) (first_on t heads more some);
-  more_heads = k.more_heads ∙ ap (λ l. l ++ more) g.more_heads ∙ append_assoc old.heads.items (further_of t heads) more
-      ∙ ap (λ l. old.heads.items ++ l) (further_on t heads more some);
-  more_versions = k.more_versions ∙ ap (λ l. l ++ others) g.more_versions ∙ append_assoc (versions_of old.days.items) versions others;
+-- one growth and then another
+grows_on : (old now next : Additions) (first more_first further more_further : List Head) (versions more : List (Key × ReadingValue))
+    → Grows old now first further versions → Grows now next more_first more_further more
+    → Grows old next (first ++ more_first) (further ++ more_further) (versions ++ more)
+grows_on old now next first more_first further more_further versions more g k = record {
+  more_first = k.more_first ∙ ap (λ l. l ++ more_first) g.more_first ∙ append_assoc old.new_days.items first more_first;
+  more_heads = k.more_heads ∙ ap (λ l. l ++ more_further) g.more_heads ∙ append_assoc old.heads.items further more_further;
+  more_versions = k.more_versions ∙ ap (λ l. l ++ more) g.more_versions ∙ append_assoc (versions_of old.days.items) versions more;
+  more_days = more_and_more old.days.items now.days.items next.days.items g.more_days k.more_days;
   same_details = k.same_details ∙ g.same_details;
   same_events = k.same_events ∙ g.same_events;
   same_periods = k.same_periods ∙ g.same_periods;
@@ -478,10 +499,46 @@ gained_on old now next t heads more versions others some g k = record {
   same_jobs = k.same_jobs ∙ g.same_jobs;
 }
 
+-- first these, and then others of a day that isn't new any more
+pub gained_on : (old now next : Additions) (t : Bool) (heads more : List Head) (versions others : List (Key × ReadingValue))
+    → (t ≡ true → heads ≢ []) → Gains old now t heads versions → Gains now next false more others
+    → Gains old next t (heads ++ more) (versions ++ others)
+gained_on old now next t heads more versions others some g k =
+    subst (λ l. Grows old next l (further_of t (heads ++ more)) (versions ++ others)) (append-nil (first_of t heads) ∙ first_on t heads more some)
+    (subst (λ l. Grows old next (first_of t heads ++ []) l (versions ++ others)) (further_on t heads more some)
+    (grows_on old now next (first_of t heads) [] (further_of t heads) more versions others g k))
+
+-- ---- what stands where memory was wanting
+
+pub gone_on : {old new : Additions} {first further : List Head} {versions : List (Key × ReadingValue)} → Grows old new first further versions
+    → GoesOn old new
+gone_on {first = first} {further} {versions} g = record { first = first; further = further; versions = versions; grows = g }
+
+pub on_and_on : (old now next : Additions) → GoesOn old now → GoesOn now next → GoesOn old next
+on_and_on old now next g k =
+    gone_on (grows_on old now next g.first k.first g.further k.further g.versions k.versions g.grows k.grows)
+
+-- the lists are as they were
+pub nothing_put : (old next : Additions) → next.new_days.items ≡ old.new_days.items → next.heads.items ≡ old.heads.items
+    → next.days.items ≡ old.days.items → next.details ≡ old.details → next.events ≡ old.events → next.periods ≡ old.periods
+    → next.holidays ≡ old.holidays → next.jobs ≡ old.jobs → GoesOn old next
+nothing_put old next ns hs vs ds es ps ls js = gone_on {first = []} {further = []} {versions = []} (record {
+  more_first = ns ∙ sym (append-nil old.new_days.items);
+  more_heads = hs ∙ sym (append-nil old.heads.items);
+  more_versions = ap versions_of vs ∙ sym (append-nil (versions_of old.days.items));
+  more_days = no_more_days old.days.items next.days.items vs;
+  same_details = ds;
+  same_events = es;
+  same_periods = ps;
+  same_holidays = ls;
+  same_jobs = js;
+})
+
 -- a head without versions, and then the readings that are kept of its update
 pub readings_gained : (b : BookValue) (t : Bool) (heads : List Head) (update : ℕ) (kept : ClaimedReadings) (readings : List ReadingValue)
     → kept.readings ≡ Some readings → (old now next : Additions) → Gains old now t heads []
-    → versions_of next.days.items ≡ versions_of now.days.items ++ fresh_versions b kept.length update 1 readings
+    → (versions_of next.days.items ≡ versions_of now.days.items ++ fresh_versions b kept.length update 1 readings)
+    × AreMoreDays now.days.items next.days.items
     → next.new_days ≡ now.new_days → next.heads ≡ now.heads → next.details ≡ now.details → next.events ≡ now.events
     → next.periods ≡ now.periods → next.holidays ≡ now.holidays → next.jobs ≡ now.jobs
     → Gains old next t heads (fresh_versions b kept.length update 1 (claimed_readings b update kept.readings))
@@ -489,8 +546,9 @@ readings_gained b t heads update kept readings is old now next g more ns hs ds e
     subst (λ o. Gains old next t heads (fresh_versions b kept.length update 1 (claimed_readings b update o))) (sym is) (record {
       more_first = ap (λ l. l.items) ns ∙ g.more_first;
       more_heads = ap (λ l. l.items) hs ∙ g.more_heads;
-      more_versions = more ∙ ap (λ l. l ++ fresh_versions b kept.length update 1 readings)
+      more_versions = more.0 ∙ ap (λ l. l ++ fresh_versions b kept.length update 1 readings)
           (g.more_versions ∙ append-nil (versions_of old.days.items));
+      more_days = more_and_more old.days.items now.days.items next.days.items g.more_days more.1;
       same_details = ds ∙ g.same_details;
       same_events = es ∙ g.same_events;
       same_periods = ps ∙ g.same_periods;
@@ -511,6 +569,7 @@ module _ (b : BookValue) (unit : MeasureUnit) (update minutes : ℕ) (old next :
     more_first = push ∙ ap (λ l. old.new_days.items ++ first_of true l) alone;
     more_heads = ap (λ l. l.items) hs ∙ sym (append-nil old.heads.items) ∙ ap (λ l. old.heads.items ++ further_of true l) alone;
     more_versions = ap (λ l. versions_of l.items) vs ∙ sym (append-nil (versions_of old.days.items));
+    more_days = no_more_days old.days.items next.days.items (ap (λ l. l.items) vs);
     same_details = ds;
     same_events = es;
     same_periods = ps;
@@ -525,6 +584,7 @@ module _ (b : BookValue) (unit : MeasureUnit) (update minutes : ℕ) (old next :
     more_first = ap (λ l. l.items) ns ∙ sym (append-nil old.new_days.items);
     more_heads = push ∙ ap (λ l. old.heads.items ++ l) alone;
     more_versions = ap (λ l. versions_of l.items) vs ∙ sym (append-nil (versions_of old.days.items));
+    more_days = no_more_days old.days.items next.days.items (ap (λ l. l.items) vs);
     same_details = ds;
     same_events = es;
     same_periods = ps;
@@ -705,8 +765,9 @@ none_claimed b unit t es old none =
     no_heads None = refl
     no_heads (Some one) = refl
 
-pub all_short : (b : BookValue) (unit : Option MeasureUnit) (claimed : List Entry) → IsDayMerge b unit claimed → AreShort claimed
-all_short b unit claimed d entry m = omega (arith, d.whole entry m, div-le_self 1440 entry.1.0)
+-- a day has fewer intervals than minutes
+pub few_whole : (n minutes : ℕ) → n ≡ count_of minutes → n ≤ 1440
+few_whole n minutes e = omega (arith, e, div-le_self 1440 minutes)
 
 -- ---- a day is new or known
 
@@ -730,6 +791,40 @@ module _ (b : BookValue) (form : Option (ℕ × MeasureUnit)) (t : Bool) (is : i
         go None false e s n = cc
         go (Some f) true e s n = cc
         go (Some f) false e s n = ((λ known. refl), (λ new. absurd (new (form_known (book_world b) b.stream b.day f.0 f.1 s))))
+
+-- Of facts that are claimed and aren't in a book so many count as the versions among them.
+apart_tail : (xs ys : List Fact) → Apart (xs ++ ys) → Apart ys
+apart_tail [] ys a = a
+apart_tail (x ∷ xs) ys a = apart_tail xs ys a.1
+
+pub counted_versions : (said book : World) (heads : List Head) (versions : List (Key × ReadingValue))
+    → Apart (map HeadIs heads ++ map version_fact versions)
+    → set.from_list (map HeadIs heads ++ map version_fact versions) ≡ set.difference said book
+    → length versions ≡ set.len (set.difference (countable said) (countable book))
+counted_versions said book heads versions apart just =
+    sym (length-map versions version_fact)
+    ∙ sym (len_list (map version_fact versions) (apart_tail (map HeadIs heads) (map version_fact versions) apart)) ∙ ap set.len counts
+  where
+    counts : set.from_list (map version_fact versions) ≡ set.difference (countable said) (countable book)
+    counts = same_by _ _
+        (λ f m.
+        let n = in_list (map version_fact versions) f m in
+        let p = in_map version_fact versions f n in
+        let one : is_counted f ≡ true = ap is_counted p.2 in
+        let w = in_difference total exact said book f (subst (λ w. f ∈ w) just
+        (list_in (map HeadIs heads ++ map version_fact versions) f (append_right f (map HeadIs heads) (map version_fact versions) n))) in
+        difference_in total exact _ _ f (retain_in total exact said is_counted f w.0 one)
+        (λ h. w.1 (in_retain total exact book is_counted f h).0))
+        (λ f m.
+        let w = in_difference total exact _ _ f m in
+        let c = in_retain total exact said is_counted f w.0 in
+        let out : set.contains book f ≢ true = λ h. w.1 (retain_in total exact book is_counted f h c.1) in
+        let n = in_list (map HeadIs heads ++ map version_fact versions) f (subst (λ x. f ∈ x)
+        (sym just) (difference_in total exact said book f c.0 out)) in
+        list_in (map version_fact versions) f (elim (member_append f (map HeadIs heads) (map version_fact versions) n) [
+          | inl k ↦ let p = in_map HeadIs heads f k in let z : is_counted f ≡ false = ap is_counted p.2 in let y = c.1 in cc
+          | inr k ↦ k
+        ]))
 
 -- the heads and the versions that a merge adds
 module _ (b : BookValue) (unit : Option MeasureUnit) (claimed : List Entry) (d : IsDayMerge b unit claimed)
@@ -844,6 +939,13 @@ module _ (b : BookValue) (unit : Option MeasureUnit) (claimed : List Entry) (d :
   counts = all_held b claimed ∙ sym (length-map (picked_all has b claimed) version_fact)
       ∙ sym (len_list (map version_fact (picked_all has b claimed)) (all_apart has b claimed d.once)) ∙ ap set.len held_facts
 
+  -- where a version is fresh, something is new that counts
+  pub some_new : (v : DayMergeValue) → merge_value b unit claimed ≡ v → 0 < length (fresh_all b claimed)
+      → 0 < set.len (set.difference (countable v.said) (countable (book_world v.book)))
+  some_new v is some = subst (λ (x : DayMergeValue). 0 < set.len (set.difference (countable x.said) (countable (book_world x.book)))) is
+      (subst (λ n. 0 < n) (ap length (all_picked b claimed)
+      ∙ counted_versions (all_claimed b unit claimed) (book_world b) (new_heads b unit claimed) (picked_all not b claimed) apart just) some)
+
   pub settles : (v : DayMergeValue) → merge_value b unit claimed ≡ v → (old new : Additions) (counted : MergeCounts) (t : Bool)
       → (IsKnownDay (book_world b) b.stream b.day → t ≡ false) × ((IsKnownDay (book_world b) b.stream b.day → ⊥) → t ≡ true)
       → Gains old new t (new_heads b unit claimed) (fresh_all b claimed)
@@ -855,14 +957,7 @@ module _ (b : BookValue) (unit : Option MeasureUnit) (claimed : List Entry) (d :
     one_first = one_first t (new_heads b unit claimed);
     known_day = λ known. ap (λ k. first_of k (new_heads b unit claimed)) (day.0 known);
     new_day = λ fresh none. no_further t (new_heads b unit claimed) (day.1 fresh) none;
-    more_first = g.more_first;
-    more_heads = g.more_heads;
-    more_versions = g.more_versions ∙ ap (λ l. versions_of old.days.items ++ l) (all_picked b claimed);
-    same_details = g.same_details;
-    same_events = g.same_events;
-    same_periods = g.same_periods;
-    same_holidays = g.same_holidays;
-    same_jobs = g.same_jobs;
+    grows = subst (Grows old new (first_of t (new_heads b unit claimed)) (further_of t (new_heads b unit claimed))) (all_picked b claimed) g;
     apart = subst (λ hs. Apart (map HeadIs hs ++ map version_fact (picked_all not b claimed))) (sym (both_parts t (new_heads b unit claimed))) apart;
     just = ap (λ hs. set.from_list (map HeadIs hs ++ map version_fact (picked_all not b claimed))) (both_parts t (new_heads b unit claimed)) ∙ just;
     added = c.fresh_are ∙ ap length (all_picked b claimed);

@@ -1,7 +1,8 @@
 -- What a claim says beside a day's book: which rule it breaks first, and which of its versions the book doesn't have.
-use Rattle.std.specs.Prelude.{◌≡◌, ◌≢◌, ℕ, ◌+◌, ◌<◌, ◌≤◌, Bool, cond, nat_eq, List, [], ◌∷◌, ◌++◌, length, Option, Some}
+use Rattle.std.specs.Prelude.{◌≡◌, ◌≢◌, ℕ, ◌+◌, ◌<◌, Bool, cond, nat_eq, List, [], ◌∷◌, ◌++◌, length, Option, Some}
 use Rattle.std.specs.List.{list_any, slice_get}
 use Rattle.std.specs.FinSet as set
+use Rattle.mds_calendar.specs.Length.{count_of}
 use Rattle.mds_quantity.specs.declared.unit.Unit.{Unit as MeasureUnit}
 use Rattle.mds_marks.specs.Reading.{ReadingValue}
 use Rattle.mds_world.specs.declared.facts.Head.{Head}
@@ -103,6 +104,6 @@ abbrev pub held_all : BookValue → List Entry → ℕ
 held_all book [] = 0
 held_all book (entry ∷ rest) = held_count book entry.1.0 entry.0 1 entry.1.1 + held_all book rest
 
--- none has more readings than a day has minutes
-abbrev pub AreShort : List Entry → Type 0
-AreShort claimed = (entry : Entry) → Member entry claimed → length entry.1.1 ≤ 1440
+-- each has a reading for each interval of its length
+abbrev pub AreComplete : List Entry → Type 0
+AreComplete claimed = (entry : Entry) → Member entry claimed → length entry.1.1 ≡ count_of entry.1.0

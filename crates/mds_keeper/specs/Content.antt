@@ -1,7 +1,8 @@
 -- What additions add, as facts.
-use Rattle.std.specs.Prelude.{ℕ, ◌+◌, List, [], ◌∷◌, ◌++◌, map}
+use Rattle.std.specs.Prelude.{◌≡◌, ◌≢◌, ℕ, ◌+◌, List, [], ◌∷◌, ◌++◌, length, map}
 use Rattle.std.specs.List.{flat_map}
 use Rattle.std.specs.FinSet as set
+use Rattle.mds_calendar.specs.Length.{count_of}
 use Rattle.mds_marks.specs.Reading.{ReadingValue}
 use Rattle.mds_names.specs.declared.stream.Stream.{Stream}
 use Rattle.mds_jobs.specs.Jobs.{content_of}
@@ -38,12 +39,22 @@ abbrev pub rows_of : VersionRows → List (ℕ × Version)
 rows_of (Each rows) = rows.items
 rows_of (Whole minutes update readings) = whole_rows minutes update 1 readings
 
+-- A list has a version. Readings that lie as a whole day are one of each interval of their length.
+abbrev pub AreWellFormed : VersionRows → Type 0
+AreWellFormed (Each rows) = rows.items ≢ []
+AreWellFormed (Whole minutes update readings) = length readings ≡ count_of minutes
+
 abbrev pub day_versions : DayVersions → List (Key × ReadingValue)
 day_versions day = map (version_at day.stream day.day) (rows_of day.rows)
 
 -- the versions of days, one day after the other
 abbrev pub versions_of : List DayVersions → List (Key × ReadingValue)
 versions_of days = flat_map day_versions days
+
+-- days come behind others, and the versions of each are well formed
+abbrev pub AreMoreDays : List DayVersions → List DayVersions → Type 0
+AreMoreDays old new =
+    (more : List DayVersions) × (new ≡ old ++ more) × ((day : DayVersions) → Member day more → AreWellFormed day.rows)
 
 abbrev pub version_fact : Key × ReadingValue → Fact
 version_fact version = VersionIs version.0 version.1

@@ -1,5 +1,5 @@
 -- What a merge holds, as a value, and what it puts behind additions.
-use Rattle.std.specs.Prelude.{◌≡◌, ◌≢◌, ◌⊎◌, ◌+◌, ◌≤◌, ℕ, Bool, true, false, cond, nat_eq, List, [], ◌∷◌, ◌++◌, map, Option, Some, None, IsNone, Result, IfErr, IfOk, OnOk, length, refl}
+use Rattle.std.specs.Prelude.{◌≡◌, ◌≢◌, ◌⊎◌, ◌+◌, ◌≤◌, ℕ, Bool, true, false, cond, nat_eq, List, [], ◌∷◌, map, Option, Some, None, IsNone, Result, IfErr, IfOk, OnOk, length, refl}
 use Rattle.std.specs.Coded.{Coded, code_by, coded×, coded_ℕ, coded_list, coded_option}
 use Rattle.std.specs.FinSet as set
 use Rattle.std.specs.FinSet.{code}
@@ -18,9 +18,8 @@ use Rattle.mds_world.specs.Stated.{day_facts}
 use Rattle.mds_world.specs.World.{Agrees, World, union}
 use Rattle.mds_keeper.specs.Books.{BookValue, book_world}
 use Rattle.mds_keeper.specs.BookRows.{IsBefore}
-use Rattle.mds_keeper.specs.Claims.{Contradicts, Entry, IsFirst, IsLengthUnder, Suits, fresh_all, fresh_heads, held_all, held_count, key_of}
-use Rattle.mds_keeper.specs.Content.{versions_of}
-use Rattle.mds_keeper.specs.DayMerges.{DayMergeValue}
+use Rattle.mds_keeper.specs.Claims.{AreComplete, Contradicts, Entry, IsFirst, IsLengthUnder, Suits, fresh_all, fresh_heads, held_all, held_count, key_of}
+use Rattle.mds_keeper.specs.DayMerges.{DayMergeValue, Grows}
 use Rattle.mds_keeper.specs.declared.additions.Additions.{Additions}
 use Rattle.mds_keeper.specs.declared.claimed.ClaimedReadings.{ClaimedReadings}
 use Rattle.mds_keeper.specs.declared.day_book.Version.{Version}
@@ -93,7 +92,7 @@ merge_value book unit claimed = record {
 -- book or a claim says.
 pub record IsDayMerge (book : BookValue) (unit : Option MeasureUnit) (claimed : List Entry) : Type 0 where
   pub agrees : Agrees (union (book_world book) (merge_value book unit claimed).said)
-  pub whole : (entry : Entry) → Member entry claimed → length entry.1.1 ≡ count_of entry.1.0
+  pub whole : AreComplete claimed
   pub some : HaveReadings claimed
   pub once : Apart (map (λ entry. entry.0) claimed)
   pub none : unit ≡ None → claimed ≡ []
@@ -128,15 +127,8 @@ further_of true [] = []
 further_of true (head ∷ rest) = rest
 
 -- Heads and versions are put behind what is to be added: of a new day the first head behind those of new days.
-pub record Gains (old new : Additions) (is_new_day : Bool) (heads : List Head) (versions : List (Key × ReadingValue)) : Type 0 where
-  pub more_first : new.new_days.items ≡ old.new_days.items ++ first_of is_new_day heads
-  pub more_heads : new.heads.items ≡ old.heads.items ++ further_of is_new_day heads
-  pub more_versions : versions_of new.days.items ≡ versions_of old.days.items ++ versions
-  pub same_details : new.details ≡ old.details
-  pub same_events : new.events ≡ old.events
-  pub same_periods : new.periods ≡ old.periods
-  pub same_holidays : new.holidays ≡ old.holidays
-  pub same_jobs : new.jobs ≡ old.jobs
+abbrev pub Gains : Additions → Additions → Bool → List Head → List (Key × ReadingValue) → Type 0
+Gains old new is_new_day heads versions = Grows old new (first_of is_new_day heads) (further_of is_new_day heads) versions
 
 -- how many of an update's readings of a length the book has, or the first interval of which it has another
 pub record AreHeld (book : BookValue) (minutes update : ℕ) (readings : List ReadingValue) (result : Result ℕ ℕ) : Type 0 where

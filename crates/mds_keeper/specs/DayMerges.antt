@@ -7,11 +7,12 @@ use Rattle.mds_world.specs.declared.facts.Head.{Head}
 use Rattle.mds_world.specs.declared.facts.Key.{Key}
 use Rattle.mds_world.specs.Counts.{countable}
 use Rattle.mds_world.specs.Facts.Fact.{HeadIs}
-use Rattle.mds_world.specs.Lists.{Apart}
+use Rattle.mds_world.specs.Lists.{Apart, Member}
 use Rattle.mds_world.specs.World.{Agrees, IsKnownDay, World, union}
 use Rattle.mds_keeper.specs.Books.{BookValue, book_world}
-use Rattle.mds_keeper.specs.Content.{AreNew, content, version_fact, versions_of}
+use Rattle.mds_keeper.specs.Content.{AreMoreDays, AreNew, AreWellFormed, content, version_fact, versions_of}
 use Rattle.mds_keeper.specs.declared.additions.Additions.{Additions}
+use Rattle.mds_keeper.specs.declared.additions.DayVersions.{DayVersions}
 use Rattle.mds_keeper.specs.declared.claim.Claim.{Claim}
 use Rattle.mds_keeper.specs.declared.day_merge.MergeCounts.{MergeCounts}
 use Rattle.mds_keeper.specs.declared.day_merge.Stop.{Stop}
@@ -42,6 +43,26 @@ pub record IsPlan (book : BookValue) (said : World) (additions : Additions) : Ty
   pub one_first : length additions.new_days.items ≤ 1
   pub known_day : IsKnownDay (book_world book) book.stream book.day → additions.new_days.items ≡ []
   pub new_day : (IsKnownDay (book_world book) book.stream book.day → ⊥) → additions.new_days.items ≡ [] → additions.heads.items ≡ []
+  pub days : (day : DayVersions) → Member day additions.days.items → AreWellFormed day.rows
+
+-- What is put behind additions: heads of new days, further heads, and days with these versions. Nothing else changes.
+pub record Grows (old new : Additions) (first further : List Head) (versions : List (Key × ReadingValue)) : Type 0 where
+  pub more_first : new.new_days.items ≡ old.new_days.items ++ first
+  pub more_heads : new.heads.items ≡ old.heads.items ++ further
+  pub more_versions : versions_of new.days.items ≡ versions_of old.days.items ++ versions
+  pub more_days : AreMoreDays old.days.items new.days.items
+  pub same_details : new.details ≡ old.details
+  pub same_events : new.events ≡ old.events
+  pub same_periods : new.periods ≡ old.periods
+  pub same_holidays : new.holidays ≡ old.holidays
+  pub same_jobs : new.jobs ≡ old.jobs
+
+-- Nothing that was there is lost. Heads and days may stand behind it.
+pub record GoesOn (old new : Additions) : Type 0 where
+  pub first : List Head
+  pub further : List Head
+  pub versions : List (Key × ReadingValue)
+  pub grows : Grows old new first further versions
 
 -- What a merge puts behind additions: heads and versions, each once, that are just what is claimed and isn't in the
 -- book. Of a day that isn't known one head comes first, behind those of new days. It tells how many versions these are, and how many of
@@ -53,14 +74,7 @@ pub record Settles (merge : DayMergeValue) (old new : Additions) (counts : Merge
   pub one_first : length first ≤ 1
   pub known_day : IsKnownDay (book_world merge.book) merge.book.stream merge.book.day → first ≡ []
   pub new_day : (IsKnownDay (book_world merge.book) merge.book.stream merge.book.day → ⊥) → first ≡ [] → further ≡ []
-  pub more_first : new.new_days.items ≡ old.new_days.items ++ first
-  pub more_heads : new.heads.items ≡ old.heads.items ++ further
-  pub more_versions : versions_of new.days.items ≡ versions_of old.days.items ++ versions
-  pub same_details : new.details ≡ old.details
-  pub same_events : new.events ≡ old.events
-  pub same_periods : new.periods ≡ old.periods
-  pub same_holidays : new.holidays ≡ old.holidays
-  pub same_jobs : new.jobs ≡ old.jobs
+  pub grows : Grows old new first further versions
   pub apart : Apart (map HeadIs (first ++ further) ++ map version_fact versions)
   pub just : set.from_list (map HeadIs (first ++ further) ++ map version_fact versions)
       ≡ set.difference merge.said (book_world merge.book)

@@ -1,6 +1,6 @@
 //! What is added to a World.
 
-ghost use Rattle.std.specs.Prelude.{◌≡◌, ◌++◌, IfOk, OnOk};
+ghost use Rattle.std.specs.Prelude.{◌≡◌, ◌++◌, ◌<◌, ℕ, IfOk, OnErr, OnOk, length as size, take};
 ghost use Rattle.mds_keeper.specs.BookRows.{IsMade};
 ghost use Rattle.mds_keeper.specs.Content.{rows_of, whole_rows};
 
@@ -26,7 +26,7 @@ pub enum VersionRows {
     /// These, in any order.
     Each(Vec<(u16, Version)>),
     /// One of each interval of a length, from 1 on, all under one update. So a file states a day, and its readings are moved here as
-    /// they lie.
+    /// they lie. A merge and a plan add no others (`AreWellFormed`).
     Whole(Length, Moment, DayReadings),
 }
 
@@ -42,9 +42,11 @@ impl Drop for VersionRows {
 
 impl VersionRows {
     /// Moves them behind these versions. Readings that lie together are copied one by one: each takes the room of a version, and that
-    /// of its reason's text.
+    /// of its reason's text. It takes memory only where there is a version. Where memory is wanting, a front of them may stand there.
     pub fn append_to(self, rows: &mut Vec<(u16, Version)>) -> Result<(), AllocError>
-        ensures { OnOk result (rows.new.items ≡ rows.old.items ++ rows_of self) }
+        ensures done { OnOk result (rows.new.items ≡ rows.old.items ++ rows_of self) }
+        ensures kept { OnErr result ((n : ℕ) × (rows.new.items ≡ rows.old.items ++ take n (rows_of self))) }
+        ensures memory { OnErr result (0 < size (rows_of self)) }
     {
         match self {
             VersionRows::Each(more) => append_each(rows, more),
@@ -75,7 +77,9 @@ impl VersionRows {
 
 /// Moves versions behind others. Where there are no others they take no memory.
 fn append_each(rows: &mut Vec<(u16, Version)>, more: Vec<(u16, Version)>) -> Result<(), AllocError>
-    ensures { OnOk result (rows.new.items ≡ rows.old.items ++ more.items) }
+    ensures done { OnOk result (rows.new.items ≡ rows.old.items ++ more.items) }
+    ensures kept { OnErr result ((n : ℕ) × (rows.new.items ≡ rows.old.items ++ take n more.items)) }
+    ensures memory { OnErr result (0 < size more.items) }
 {
     if rows.is_empty() {
         *rows = more;
@@ -87,14 +91,15 @@ fn append_each(rows: &mut Vec<(u16, Version)>, more: Vec<(u16, Version)>) -> Res
     Ok(())
 }
 
-/// A copy of each reading as a version, from interval 1 of a length on and under one update.
+/// A copy of each reading as a version, from interval 1 of a length on and under one update. It takes memory only where there is one.
 pub(crate) fn spread(
     alloc: Global,
     length: Length,
     update: Moment,
     readings: &DayReadings,
 ) -> Result<Vec<(u16, Version)>, AllocError>
-    ensures { IfOk result (λ rows. rows.items ≡ whole_rows length update 1 readings.now) }
+    ensures value { IfOk result (λ rows. rows.items ≡ whole_rows length update 1 readings.now) }
+    ensures memory { OnErr result (0 < size (whole_rows length update 1 readings.now)) }
 {
     let mut rows = Vec::new(alloc);
     append_whole(&mut rows, length, update, readings)?;
@@ -108,7 +113,9 @@ fn append_whole(
     update: Moment,
     readings: &DayReadings,
 ) -> Result<(), AllocError>
-    ensures { OnOk result (rows.new.items ≡ rows.old.items ++ whole_rows length update 1 readings.now) }
+    ensures done { OnOk result (rows.new.items ≡ rows.old.items ++ whole_rows length update 1 readings.now) }
+    ensures kept { OnErr result ((n : ℕ) × (rows.new.items ≡ rows.old.items ++ take n (whole_rows length update 1 readings.now))) }
+    ensures memory { OnErr result (0 < size (whole_rows length update 1 readings.now)) }
 {
     rows.reserve(readings.len())?;
     for i in 0..readings.len() {
@@ -155,9 +162,10 @@ impl Additions {
     ghost use Rattle.mds_keeper.specs.BookRows.{IsMade};
     ghost use Rattle.mds_keeper.specs.Content.{content_facts};
 
-    /// Nothing.
+    /// Nothing: each list is empty.
     pub fn new(alloc: Global) -> Additions
-        ensures { content_facts result ≡ [] }
+        ensures facts { content_facts result ≡ [] }
+        ensures lists { (result.days.items ≡ []) × (result.details.items ≡ []) }
     {
         Additions {
             new_days: Vec::new(alloc),

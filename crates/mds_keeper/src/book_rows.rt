@@ -89,7 +89,7 @@ impl BookRows {
         }
     }
 
-    /// A copy. It takes memory only where there is a row, and none where the rows are shared.
+    /// A copy. It takes memory only where there is a row. Where the rows are shared it takes none, but no clause says so.
     pub(crate) fn try_clone(&self, alloc: Global) -> Result<BookRows, AllocError>
         requires { (minutes : ℕ) → kept_whole self.now ≢ Some (minutes, 0) }
         ensures value { IfOk result (λ rows. (kept_rows rows ≡ kept_rows self.now)

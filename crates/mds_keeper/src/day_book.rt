@@ -301,9 +301,10 @@ impl DayBook {
         self.rows.lent()
     }
 
-    /// A copy of all its versions, which is the caller's own.
+    /// A copy of all its versions, which is the caller's own. It takes memory only where there is one.
     pub fn copied_rows(&self, alloc: Global) -> Result<Vec<(u16, Version)>, AllocError>
-        ensures { IfOk result (λ rows. rows.items ≡ self.now.rows) }
+        ensures value { IfOk result (λ rows. rows.items ≡ self.now.rows) }
+        ensures memory { OnErr result (0 < length self.now.rows) }
     {
         match self.lent_rows() {
             LentRows::Each(rows) => copied(alloc, rows),
@@ -329,7 +330,7 @@ impl DayBook {
         })
     }
 
-    /// A copy. It takes memory only where there is a row, and none where the rows are shared.
+    /// A copy. It takes memory only where there is a row. Where the rows are shared it takes none, but no clause says so.
     pub fn try_clone(&self, alloc: Global) -> Result<DayBook, AllocError>
         ensures value { IfOk result (λ book. book ≡ self.now) }
         ensures memory { OnErr result (0 < length self.now.rows) }

@@ -1,22 +1,23 @@
 //! A day of the store with what the lines so far claim of it.
 
-ghost use Rattle.std.specs.Prelude.{◌≡◌, ◌≢◌, ◌+◌, ◌<◌, ◌≤◌, ℕ, ◌++◌, cond, false, length, Err, IsTrue, IfOk, IfErr, IfSome, IfNone, IsNone, None, OnOk, Some, []};
+ghost use Rattle.std.specs.Prelude.{◌≡◌, ◌≢◌, ◌+◌, ◌<◌, ◌≤◌, ℕ, ◌++◌, cond, false, length, Err, IsTrue, IfOk, IfErr, IfSome, IfNone, IsNone, None, OnErr, OnOk, Some, []};
 ghost use Rattle.std.specs.List.{AllPairs, slice_get};
 ghost use Rattle.std.specs.FinSet as set;
 ghost use Rattle.mds_calendar.specs.Length.{count_of};
 ghost use Rattle.mds_quantity.specs.declared.unit.Unit.{Unit as MeasureUnit};
 ghost use Rattle.mds_marks.specs.Reading.{ReadingValue};
+ghost use Rattle.mds_world.specs.Counts.{countable};
 ghost use Rattle.mds_world.specs.Facts.Fact.{VersionIs};
 ghost use Rattle.mds_world.specs.Lists.{Member};
 ghost use Rattle.mds_world.specs.Sets.{◌∈◌};
 ghost use Rattle.mds_world.specs.World.{Agrees, union};
 ghost use Rattle.mds_keeper.specs.Books.{book_world};
 ghost use Rattle.mds_keeper.specs.BookRows.{IsBefore};
-ghost use Rattle.mds_keeper.specs.Content.{versions_of, whole_rows};
+ghost use Rattle.mds_keeper.specs.Content.{AreMoreDays, versions_of, whole_rows};
 ghost use Rattle.mds_keeper.specs.declared.day_merge.Stop.TheVariants.{Memory, Refused};
 ghost use Rattle.mds_keeper.specs.declared.refusal.RefusalCode.TheVariants.{VersionConflict};
-ghost use Rattle.mds_keeper.specs.DayMerges.{DayMergeValue, AreAscending, IfRefused, IsPlan, Settles};
-ghost use Rattle.mds_keeper.specs.Claims.{IsFirst, BreaksHead, SuitsHead, AreShort, fresh_all, fresh_versions, held_all, held_count, is_held, key_of};
+ghost use Rattle.mds_keeper.specs.DayMerges.{DayMergeValue, AreAscending, GoesOn, IfRefused, IsPlan, Settles};
+ghost use Rattle.mds_keeper.specs.Claims.{AreComplete, IsFirst, BreaksHead, SuitsHead, fresh_all, fresh_versions, held_all, held_count, is_held, key_of};
 ghost use Rattle.mds_keeper.specs.DayMergeSteps.{AreAsMany, AreCounts, AreHeld, AreInBook, AreOfLength, Gains, HaveReadings, IsFrom, IsInBook, IsKnownLength, claimed_entries, claimed_readings, fresh_head, new_heads, readings_under, row_of};
 ghost use Rattle.mds_keeper.specs.Merge.{Breaks, IsRefusal, claim_world, claims_upto, claims_world};
 
@@ -371,7 +372,8 @@ fn settle_head(
     length: Length,
     additions: &mut Additions,
 ) -> Result<(), AllocError>
-    ensures { OnOk result (Gains additions.old additions.new is_new_day (fresh_head book.now unit update length) []) }
+    ensures ok { OnOk result (Gains additions.old additions.new is_new_day (fresh_head book.now unit update length) []) }
+    ensures kept { OnErr result (GoesOn additions.old additions.new) }
 {
     if book.length_under(update).is_some() {
         return Ok(());
@@ -391,7 +393,8 @@ fn settle_head(
     Ok(())
 }
 
-/// Puts the readings of an update behind the days to be added, as they lie. A book has none of them.
+/// Puts the readings of an update behind the days to be added, as they lie. A book has none of them. There is one of each interval
+/// of their length.
 fn settle_whole(
     book: &DayBook,
     minutes: Length,
@@ -400,8 +403,11 @@ fn settle_whole(
     days: &mut Vec<DayVersions>,
 ) -> Result<(), AllocError>
     requires new { held_count book.now minutes update 1 readings ≡ 0 }
-    ensures { OnOk result (versions_of days.new.items
-        ≡ versions_of days.old.items ++ fresh_versions book.now minutes update 1 readings) }
+    requires whole { length readings ≡ count_of minutes }
+    ensures ok { OnOk result ((versions_of days.new.items
+        ≡ versions_of days.old.items ++ fresh_versions book.now minutes update 1 readings)
+        × AreMoreDays days.old.items days.new.items) }
+    ensures kept { OnErr result (days.new.items ≡ days.old.items) }
 {
     days.push(DayVersions {
         stream: book.stream(),
@@ -411,7 +417,7 @@ fn settle_whole(
     Ok(())
 }
 
-/// Puts copies of the readings of an update that a book doesn't have behind the days to be added.
+/// Puts copies of the readings of an update that a book doesn't have behind the days to be added, where there are such.
 fn settle_some(
     alloc: Global,
     book: &DayBook,
@@ -421,8 +427,10 @@ fn settle_some(
     days: &mut Vec<DayVersions>,
 ) -> Result<(), AllocError>
     requires few { length readings.now ≤ 1440 }
-    ensures { OnOk result (versions_of days.new.items
-        ≡ versions_of days.old.items ++ fresh_versions book.now minutes update 1 readings.now) }
+    ensures ok { OnOk result ((versions_of days.new.items
+        ≡ versions_of days.old.items ++ fresh_versions book.now minutes update 1 readings.now)
+        × AreMoreDays days.old.items days.new.items) }
+    ensures kept { OnErr result (days.new.items ≡ days.old.items) }
 {
     let mut rows = Vec::new(alloc);
     for i in 0..readings.len() {
@@ -437,6 +445,9 @@ fn settle_some(
             reading,
         };
         rows.push((interval, version))?;
+    }
+    if rows.is_empty() {
+        return Ok(());
     }
     days.push(DayVersions {
         stream: book.stream(),
@@ -459,12 +470,13 @@ fn settle_update(
     kept: ClaimedReadings,
     additions: &mut Additions,
 ) -> Result<(), AllocError>
-    requires few { length (claimed_readings book.now update kept.readings) ≤ 1440 }
+    requires whole { length (claimed_readings book.now update kept.readings) ≡ count_of kept.length }
     requires some { 1 ≤ length (claimed_readings book.now update kept.readings) }
     requires kept { IsNone kept.readings → IsInBook book.now kept.length update }
     requires new { IsTrue are_new → held_count book.now kept.length update 1 (claimed_readings book.now update kept.readings) ≡ 0 }
-    ensures { OnOk result (Gains additions.old additions.new is_new_day (fresh_head book.now unit update kept.length)
+    ensures ok { OnOk result (Gains additions.old additions.new is_new_day (fresh_head book.now unit update kept.length)
         (fresh_versions book.now kept.length update 1 (claimed_readings book.now update kept.readings))) }
+    ensures kept { OnErr result (GoesOn additions.old additions.new) }
 {
     let ClaimedReadings { length, readings } = kept;
     let Some(readings) = readings else {
@@ -488,12 +500,13 @@ fn settle_others(
     claimed: BTreeMap<Moment, ClaimedReadings>,
     additions: &mut Additions,
 ) -> Result<(), AllocError>
-    requires short { AreShort (claimed_entries book.now claimed.entries) }
+    requires whole { AreComplete (claimed_entries book.now claimed.entries) }
     requires some { HaveReadings (claimed_entries book.now claimed.entries) }
     requires kept { AreInBook book.now claimed.entries }
     requires new { IsTrue are_new → held_all book.now (claimed_entries book.now claimed.entries) ≡ 0 }
-    ensures { OnOk result (Gains additions.old additions.new false (new_heads book.now (Some unit) (claimed_entries book.now claimed.entries))
+    ensures ok { OnOk result (Gains additions.old additions.new false (new_heads book.now (Some unit) (claimed_entries book.now claimed.entries))
         (fresh_all book.now (claimed_entries book.now claimed.entries))) }
+    ensures kept { OnErr result (GoesOn additions.old additions.new) }
 {
     for (update, kept) in claimed {
         settle_update(alloc, book, unit, false, are_new, update, kept, additions)?;
@@ -514,14 +527,16 @@ fn settle_fresh(
     fresh: u64,
     additions: &mut Additions,
 ) -> Result<(), AllocError>
-    requires short { AreShort (claimed_entries book.now claimed) }
+    requires whole { AreComplete (claimed_entries book.now claimed) }
     requires some { HaveReadings (claimed_entries book.now claimed) }
     requires kept { AreInBook book.now claimed }
     requires counts { AreCounts book.now (claimed_entries book.now claimed) held fresh }
     requires none { unit ≡ None → claimed_entries book.now claimed ≡ [] }
     requires new_day { IsTrue is_new_day → book.now.rows ≡ [] }
-    ensures { OnOk result (Gains additions.old additions.new is_new_day (new_heads book.now unit (claimed_entries book.now claimed))
+    ensures ok { OnOk result (Gains additions.old additions.new is_new_day (new_heads book.now unit (claimed_entries book.now claimed))
         (fresh_all book.now (claimed_entries book.now claimed))) }
+    ensures kept { OnErr result (GoesOn additions.old additions.new) }
+    ensures memory { OnErr result (0 < length (fresh_all book.now (claimed_entries book.now claimed))) }
 {
     if fresh == 0 {
         return Ok(());
@@ -629,9 +644,12 @@ impl DayMerge {
         Ok(())
     }
 
-    /// Puts what is claimed and isn't in the book behind what is to be added.
+    /// Puts what is claimed and isn't in the book behind what is to be added. It takes memory only where a version is new. Where
+    /// memory is wanting, a part of it may stand there.
     pub fn settle(self, alloc: Global, additions: &mut Additions) -> Result<MergeCounts, AllocError>
-        ensures { IfOk result (Settles self additions.old additions.new) }
+        ensures ok { IfOk result (Settles self additions.old additions.new) }
+        ensures kept { OnErr result (GoesOn additions.old additions.new) }
+        ensures memory { OnErr result (0 < set.len (set.difference (countable self.said) (countable (book_world self.book)))) }
     {
         let DayMerge {
             book,

@@ -9,4 +9,4 @@ returns-in_default c =
 pub returns : goal.returns
 returns c =
     holds_kept c.args.days.now c.args.place.now c.in-Some.book.now _ c.requires (sym c.in-Some.ensures.value)
-    c.unit.ensures c.in_ok-copied_rows.ensures
+    c.unit.ensures c.in_ok-copied_rows.ensures.value

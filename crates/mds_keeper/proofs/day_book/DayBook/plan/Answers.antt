@@ -16,5 +16,5 @@ loop-claim-preserved c =
 
 pub returns-clause-ok : goal.returns-clause-ok
 returns-clause-ok c =
-    planned _ _ _ _ c.loop-claim.invariant c.loop-claim-test.false c.loop-claim.auto.claim-index-end _ _ _ c.new-additions.ensures
-    c.in_ok-settle.ensures
+    planned _ _ _ _ c.loop-claim.invariant c.loop-claim-test.false c.loop-claim.auto.claim-index-end _ _ _ c.new-additions.ensures.facts
+    c.new-additions.ensures.lists.0 c.in_ok-settle.ensures.ok
