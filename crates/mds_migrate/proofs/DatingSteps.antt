@@ -1,10 +1,9 @@
 -- The parts of the step to schema 3, one after another.
-use Rattle.std.proofs.Common.{◌≡◌, ◌≤◌, ◌↔◌, inl, inr, ℕ, ℤ, [], ◌∷◌, List, map, pos, IsTrue, refl, sym, ap, subst, ◌∙◌, arith}
+use Rattle.std.proofs.Common.{◌≡◌, ◌≤◌, ◌↔◌, inl, inr, ℤ, [], ◌∷◌, ◌++◌, List, map, pos, IsTrue, refl, sym, ap, subst, ◌∙◌, arith}
 use Rattle.std.specs.List.{flat_map}
 use Rattle.sqlite.specs.State.{HasCleanDisk, KeepsCommit, State}
 use Rattle.sqlite.proofs.InsideLemmas.{keeps_then}
 use Rattle.sqlite_catalog.specs.Listing.{IsSound}
-use Rattle.sqlite_schema.specs.declared.schema.Schema.{Schema}
 use Rattle.sqlite_trees.specs.Tree.{Trees}
 use Rattle.sqlite_trees.specs.View.{doubt}
 use Rattle.sqlite_value.specs.Order.{Row}
@@ -19,36 +18,32 @@ use Rattle.mds_world.proofs.Members.{in_list, in_union, list_in, union_right}
 use Rattle.mds_tables.specs.Making.{MakesThere}
 use Rattle.mds_tables.specs.RowFacts.{detail_fact, event_fact, head_fact, holiday_fact, int_at, job_fact, natural_at, period_fact, stream_in, text_at, unit_named}
 use Rattle.mds_tables.specs.Stores.{versions_said}
-use Rattle.mds_tables.specs.Tables.{daydetail_tree, detail_tree, event_tree, head_tree, holiday_tree, job_tree, period_tree, schema_tree}
+use Rattle.mds_tables.specs.Tables.{daydetail_tree, detail_tree, head_table, head_tree, schema_tree, version_table}
 use Rattle.mds_inserts.specs.Parts.{detail_part}
-use Rattle.mds_inserts.specs.Writing.{IsMore, KeepsOthers}
+use Rattle.mds_inserts.specs.Writing.{IsMore, Keeps, KeepsOthers}
 use Rattle.mds_inserts.proofs.RowLemmas.{detail_bare, more, of, says_details}
 use Rattle.mds_selects.proofs.Named.{Names, of_event, of_head_row, of_holiday, of_job, of_period, of_version}
 use Rattle.mds_pack_rows.specs.DailyLayout.{daily_layout, daydetails_behind, versions_packed, world_3}
 use Rattle.mds_pack_rows.specs.DailyPutting.{IsThereDaily, MakesDaydetail}
-use Rattle.mds_pack_rows.specs.DailyTables.{schema_3, tables_3}
+use Rattle.mds_pack_rows.specs.DailyTables.{daydetail_table, schema_3, tables_3}
 use Rattle.mds_pack_rows.specs.PackFacts.{pack_facts}
-use Rattle.mds_pack_rows.specs.PackTables.{pack_tree, schema_2}
+use Rattle.mds_pack_rows.specs.PackTables.{pack_table, pack_tree, schema_2, tables_2}
 use Rattle.mds_pack_rows.specs.PacksLayout.{packs_layout}
 use Rattle.mds_pack_rows.specs.Putting.{GoesOn, IsThere}
+use Rattle.mds_pack_rows.proofs.PutLemmas.{others_of}
 use Rattle.mds_day_details.proofs.DetailCells.{named}
 use Rattle.mds_migrate.specs.Dating.{Dates, IsOfKnownDay}
-use Rattle.mds_migrate.specs.Migrated.{HasDated, IsFor, TakesOn, dating}
+use Rattle.mds_migrate.specs.Migrated.{HasDated, IsFor, TakesOn, dating, steady_tables}
 use Rattle.mds_migrate.specs.Migrating.{Clears, Raises}
 use Rattle.mds_migrate.specs.OldDetails.{Becomes, Comes}
 use Rattle.mds_migrate.proofs.DatingLemmas.{greatest_as}
-use Rattle.mds_migrate.proofs.Steps.{across}
+use Rattle.mds_migrate.proofs.Steps.{across, spares}
 
 -- ---- what the tables become
 
 -- every table but those of details is as it was, and mds_daydetail says these details
 record IsCarried (old new : Trees) (details : List Detail) : Type 0 where
-  heads : new head_tree ≡ old head_tree
-  packs : new pack_tree ≡ old pack_tree
-  events : new event_tree ≡ old event_tree
-  periods : new period_tree ≡ old period_tree
-  holidays : new holiday_tree ≡ old holiday_tree
-  jobs : new job_tree ≡ old job_tree
+  others : Keeps old new (head_table ∷ pack_table ∷ steady_tables)
   dated : IsMore (map detail_fact (new daydetail_tree)) [] (map DetailIs details)
   are : (detail : Detail) → Member detail details ↔ IsOfKnownDay old detail
 
@@ -106,12 +101,12 @@ module _ (old new : Trees) (details : List Detail) (c : IsCarried old new detail
       }
 
   carried_becomes : Becomes old (world_3 new)
-  carried_becomes (HeadIs h) = across (λ rows. Names head_fact rows (HeadIs h)) _ _ (of_head_row daily_layout new refl h) (of_head_row packs_layout old refl h) c.heads
+  carried_becomes (HeadIs h) = across (λ rows. Names head_fact rows (HeadIs h)) _ _ (of_head_row daily_layout new refl h) (of_head_row packs_layout old refl h) c.others.0
   carried_becomes (VersionIs k v) =
       let all = of_version daily_layout new k v in
       let packed = versions_packed new k v in
       across (λ rows. Member (VersionIs k v) (flat_map pack_facts rows)) (new pack_tree) (old pack_tree)
-      ((λ m. packed.0 (all.0 m)), (λ m. all.1 (packed.1 m))) (of_version packs_layout old k v) c.packs
+      ((λ m. packed.0 (all.0 m)), (λ m. all.1 (packed.1 m))) (of_version packs_layout old k v) c.others.1.0
   carried_becomes (DetailIs x) = (
     (λ m.
         let n = (named new x).0 m in
@@ -122,10 +117,10 @@ module _ (old new : Trees) (details : List Detail) (c : IsCarried old new detail
         let n = in_map detail_fact (new daydetail_tree) (DetailIs x) (says x ((c.are x).1 (of_known x it))) in
         (named new x).1 (n.0, n.1, sym n.2)),
   )
-  carried_becomes (EventIs v) = across (λ rows. Names event_fact rows (EventIs v)) _ _ (of_event daily_layout new v) (of_event packs_layout old v) c.events
-  carried_becomes (PeriodIs k v) = across (λ rows. Names period_fact rows (PeriodIs k v)) _ _ (of_period daily_layout new k v) (of_period packs_layout old k v) c.periods
-  carried_becomes (HolidayIs d) = across (λ rows. Names holiday_fact rows (HolidayIs d)) _ _ (of_holiday daily_layout new d) (of_holiday packs_layout old d) c.holidays
-  carried_becomes (JobIs id v n) = across (λ rows. Names job_fact rows (JobIs id v n)) _ _ (of_job daily_layout new id v n) (of_job packs_layout old id v n) c.jobs
+  carried_becomes (EventIs v) = across (λ rows. Names event_fact rows (EventIs v)) _ _ (of_event daily_layout new v) (of_event packs_layout old v) c.others.1.1.0
+  carried_becomes (PeriodIs k v) = across (λ rows. Names period_fact rows (PeriodIs k v)) _ _ (of_period daily_layout new k v) (of_period packs_layout old k v) c.others.1.1.1.0
+  carried_becomes (HolidayIs d) = across (λ rows. Names holiday_fact rows (HolidayIs d)) _ _ (of_holiday daily_layout new d) (of_holiday packs_layout old d) c.others.1.1.1.1.0
+  carried_becomes (JobIs id v n) = across (λ rows. Names job_fact rows (JobIs id v n)) _ _ (of_job daily_layout new id v n) (of_job packs_layout old id v n) c.others.1.1.1.1.1.0
 
 -- a day that the tables say before mds_daydetail is made
 known_as : (old new : Trees) → new head_tree ≡ old head_tree → new detail_tree ≡ old detail_tree → (x : Detail) → IsOfKnownDay old x → IsOfKnownDay new x
@@ -138,11 +133,6 @@ known_as old new heads same x is = record {
 }
 
 -- ---- the chain
-
--- what is kept of the tables of a schema that it has
-others_of : (tree : ℕ) (schema : Schema) (old new : State) → old.now.schema ≡ schema → KeepsOthers tree old.now.trees new.now.trees old.now.schema.tables
-    → KeepsOthers tree old.now.trees new.now.trees schema.tables
-others_of tree schema old new has = subst (λ (s : Schema). KeepsOthers tree old.now.trees new.now.trees s.tables) has
 
 there_3 : (a b : State) → HasCleanDisk b → IsTrue a.is_open → a.now.schema ≡ schema_3 → IsSound a.now.schema a.now.trees → IsThere a b
 there_3 a b clean o has sound =
@@ -233,19 +223,15 @@ module _ (a b c : State) (bc : doubt b.is_clean ≤ doubt c.is_clean)
           same_dated : e.now.trees daydetail_tree ≡ c.now.trees daydetail_tree
           same_dated = raises_others.1.1.1.1.1.1.1.1.1.0 (λ e. omega arith) ∙ clears_others.1.1.1.1.1.1.1.1.1.0 (λ e. omega arith)
 
+          same : Keeps a.now.trees e.now.trees (head_table ∷ version_table ∷ steady_tables ++ pack_table ∷ [])
+          same =
+              spares a.now.trees b.now.trees c.now.trees d.now.trees e.now.trees daydetail_tree detail_tree schema_tree tables_2
+              (daydetail_table ∷ []) made.others dates_others clears_others raises_others
+
           carried : IsCarried a.now.trees e.now.trees (dated clean_c o first).details
           carried = record {
-            heads = raises_others.1.0 (λ e. omega arith) ∙ clears_others.1.0 (λ e. omega arith) ∙ dates_others.1.0 (λ e. omega arith) ∙ made.others.1.0;
-            packs = raises_others.1.1.1.1.1.1.1.1.0 (λ e. omega arith) ∙ clears_others.1.1.1.1.1.1.1.1.0 (λ e. omega arith)
-                ∙ dates_others.1.1.1.1.1.1.1.1.0 (λ e. omega arith) ∙ made.others.1.1.1.1.1.1.1.1.0;
-            events = raises_others.1.1.1.1.0 (λ e. omega arith) ∙ clears_others.1.1.1.1.0 (λ e. omega arith)
-                ∙ dates_others.1.1.1.1.0 (λ e. omega arith) ∙ made.others.1.1.1.1.0;
-            periods = raises_others.1.1.1.1.1.0 (λ e. omega arith) ∙ clears_others.1.1.1.1.1.0 (λ e. omega arith)
-                ∙ dates_others.1.1.1.1.1.0 (λ e. omega arith) ∙ made.others.1.1.1.1.1.0;
-            holidays = raises_others.1.1.1.1.1.1.0 (λ e. omega arith) ∙ clears_others.1.1.1.1.1.1.0 (λ e. omega arith)
-                ∙ dates_others.1.1.1.1.1.1.0 (λ e. omega arith) ∙ made.others.1.1.1.1.1.1.0;
-            jobs = raises_others.1.1.1.1.1.1.1.0 (λ e. omega arith) ∙ clears_others.1.1.1.1.1.1.1.0 (λ e. omega arith)
-                ∙ dates_others.1.1.1.1.1.1.1.0 (λ e. omega arith) ∙ made.others.1.1.1.1.1.1.1.0;
+            others =
+                (same.0, (same.1.1.1.1.1.1.0, (same.1.1.0, (same.1.1.1.0, (same.1.1.1.1.0, (same.1.1.1.1.1.0, tt))))));
             dated = subst (λ rows. IsMore (map detail_fact rows) [] (map DetailIs (dated clean_c o first).details)) (sym same_dated)
                 (subst (λ rows. IsMore (map detail_fact (c.now.trees daydetail_tree)) (map detail_fact rows) (map DetailIs (dated clean_c o first).details))
                 made.none daydetails_gained);
@@ -259,10 +245,9 @@ module _ (a b c : State) (bc : doubt b.is_clean ≤ doubt c.is_clean)
           has_dated : HasDated a.now.trees e.now.trees
           has_dated = record {
             becomes = carried_becomes a.now.trees e.now.trees (dated clean_c o first).details carried;
-            packs = carried.packs;
+            others = carried.others;
             version = raised.version;
-            unversioned = raises_others.1.1.0 (λ e. omega arith) ∙ clears_others.1.1.0 (λ e. omega arith)
-                ∙ dates_others.1.1.0 (λ e. omega arith) ∙ made.others.1.1.0 ∙ first.store.unversioned;
+            unversioned = same.1.0 ∙ first.store.unversioned;
             undated = raises_others.1.1.1.0 (λ e. omega arith) ∙ (cleared clean_d o first).none;
             sound = subst (λ schema. IsSound schema e.now.trees) (raised.schema ∙ behind_d clean_d o first) raised.sound;
           }

@@ -1,6 +1,6 @@
 -- The parts of the step to schema 4, one after another.
 use Rattle.std.proofs.Common.{◌≡◌, ◌≤◌, ◌↔◌, suc, ℕ, ℤ, [], ◌∷◌, ◌++◌, List, drop, map, pos, IsTrue, sym, ap, subst, ◌∙◌, arith}
-use Rattle.std.specs.List.{AllByRecursion, flat_map}
+use Rattle.std.specs.List.{flat_map}
 use Rattle.std.specs.List.Sorted.{IsPermutation}
 use Rattle.std.proofs.lemmas.List.Sorted.{IsPermutation-sym}
 use Rattle.sqlite.specs.State.{HasCleanDisk, KeepsCommit, State}
@@ -20,42 +20,37 @@ use Rattle.mds_world.specs.World.{head_over, key_under}
 use Rattle.mds_world.specs.declared.facts.Head.{Head}
 use Rattle.mds_world.specs.declared.facts.Key.{Key}
 use Rattle.mds_world.proofs.Lists.{in_map, map_in}
-use Rattle.mds_tables.specs.Cells.{form_cells, number_cell}
+use Rattle.mds_tables.specs.Cells.{form_cells}
 use Rattle.mds_tables.specs.Making.{MakesThere}
 use Rattle.mds_tables.specs.RowFacts.{detail_fact, event_fact, head_fact, heads_in, holiday_fact, int_at, job_fact, natural, period_fact, text_at}
 use Rattle.mds_tables.specs.Stores.{versions_said}
-use Rattle.mds_tables.specs.Tables.{daydetail_tree, event_tree, form_tree, head_tree, holiday_tree, job_tree, period_tree, schema_tree}
-use Rattle.mds_inserts.specs.Writing.{KeepsOthers}
-use Rattle.mds_selects.proofs.MemberLemmas.{all_of, moved}
+use Rattle.mds_tables.specs.Tables.{detail_table, form_tree, head_tree, schema_tree, version_table}
+use Rattle.mds_inserts.specs.Writing.{Keeps, KeepsOthers}
+use Rattle.mds_selects.proofs.MemberLemmas.{moved}
 use Rattle.mds_selects.proofs.Named.{Names, of_detail, of_event, of_head, of_holiday, of_job, of_period, of_version}
 use Rattle.mds_pack_rows.specs.DailyLayout.{daily_layout, daily_own, versions_packed, world_3}
-use Rattle.mds_pack_rows.specs.DailyTables.{schema_3}
+use Rattle.mds_pack_rows.specs.DailyTables.{daydetail_table, schema_3, tables_3}
 use Rattle.mds_pack_rows.specs.FormLayout.{day_in, form_fact, form_heads, forms_behind, forms_layout, unit_in, world_4}
-use Rattle.mds_pack_rows.specs.FormTables.{schema_4, tables_4}
+use Rattle.mds_pack_rows.specs.FormTables.{form_table, schema_4, tables_4}
 use Rattle.mds_pack_rows.specs.PackFacts.{pack_facts}
-use Rattle.mds_pack_rows.specs.PackTables.{pack_tree}
+use Rattle.mds_pack_rows.specs.PackTables.{pack_table}
 use Rattle.mds_pack_rows.specs.Putting.{GoesOn, IsThere}
 use Rattle.mds_pack_rows.proofs.PutLemmas.{others_of}
 use Rattle.mds_form_rows.specs.FormPutting.{IsThereFormed, MakesForm}
 use Rattle.mds_form_rows.proofs.UnitLemmas.{text_found}
 use Rattle.mds_migrate.specs.Forming.{Forms, IsPackedUnder, SayOneUnit}
-use Rattle.mds_migrate.specs.Migrated.{HasFormed, IsFor, TakesOn, forming}
+use Rattle.mds_migrate.specs.Migrated.{HasFormed, IsFor, TakesOn, forming, steady_tables}
 use Rattle.mds_migrate.specs.Migrating.{ClearsLengths, Raises, without_length}
 use Rattle.mds_migrate.specs.OldHeads.{IsFormedOf, updateless}
 use Rattle.mds_migrate.specs.OldLengths.{day_head}
 use Rattle.mds_migrate.proofs.PackingLemmas.{head_of}
-use Rattle.mds_migrate.proofs.Steps.{across}
+use Rattle.mds_migrate.proofs.Steps.{across, spares}
 
 -- ---- what the tables become
 
 -- mds_form says these heads, and mds_head no length. Every other table that says facts is as it was.
 record IsGivenForms (old new : Trees) (heads : List Head) : Type 0 where
-  packs : new pack_tree ≡ old pack_tree
-  details : new daydetail_tree ≡ old daydetail_tree
-  events : new event_tree ≡ old event_tree
-  periods : new period_tree ≡ old period_tree
-  holidays : new holiday_tree ≡ old holiday_tree
-  jobs : new job_tree ≡ old job_tree
+  others : Keeps old new (pack_table ∷ daydetail_table ∷ steady_tables)
   days : IsPermutation (map without_length (old head_tree)) (map (drop 1) (new head_tree))
   forms : IsPermutation (map form_cells heads) (map (drop 1) (new form_tree))
   are : (head : Head) → Member head heads ↔ (Member (HeadIs (updateless head)) (heads_in old) × IsPackedUnder old head)
@@ -88,11 +83,6 @@ module _ (old new : Trees) (heads : List Head) (c : IsGivenForms old new heads) 
 
   same_unit : (row was : Row) → drop 1 row ≡ without_length was → text_at row 5 ≡ text_at was 5
   same_unit row was is = ap bytes (behind row (without_length was) is 4)
-
-  no_lengths : AllByRecursion (λ (row : Row). column row 4 ≡ number_cell 0) days
-  no_lengths = all_of _ days (λ row m.
-      let was = thing_of without_length (old head_tree) days c.days row m in
-      behind row (without_length was.0) was.2 3)
 
   module _ (row : Row) (head : Head) (is : drop 1 row ≡ form_cells head) (m : Member head heads) where
     cell : (at : ℕ) → column row (suc at) ≡ column (form_cells head) at
@@ -138,7 +128,7 @@ module _ (old new : Trees) (heads : List Head) (c : IsGivenForms old new heads) 
   )
 
   same_own : daily_own new ≡ daily_own old
-  same_own = λ i. flat_map pack_facts (c.packs i) ++ map detail_fact (c.details i)
+  same_own = λ i. flat_map pack_facts (c.others.0 i) ++ map detail_fact (c.others.1.0 i)
 
   becomes : (fact : Fact) → (fact ∈ world_4 new) ↔ IsFormedOf (world_3 old) fact
   becomes (HeadIs h) =
@@ -156,10 +146,10 @@ module _ (old new : Trees) (heads : List Head) (c : IsGivenForms old new heads) 
   becomes (VersionIs k v) =
       across (λ facts. Member (VersionIs k v) facts) _ _ (of_version forms_layout new k v) (of_version daily_layout old k v) same_own
   becomes (DetailIs x) = across (λ facts. Member (DetailIs x) facts) _ _ (of_detail forms_layout new x) (of_detail daily_layout old x) same_own
-  becomes (EventIs v) = across (λ rows. Names event_fact rows (EventIs v)) _ _ (of_event forms_layout new v) (of_event daily_layout old v) c.events
-  becomes (PeriodIs k v) = across (λ rows. Names period_fact rows (PeriodIs k v)) _ _ (of_period forms_layout new k v) (of_period daily_layout old k v) c.periods
-  becomes (HolidayIs d) = across (λ rows. Names holiday_fact rows (HolidayIs d)) _ _ (of_holiday forms_layout new d) (of_holiday daily_layout old d) c.holidays
-  becomes (JobIs id v n) = across (λ rows. Names job_fact rows (JobIs id v n)) _ _ (of_job forms_layout new id v n) (of_job daily_layout old id v n) c.jobs
+  becomes (EventIs v) = across (λ rows. Names event_fact rows (EventIs v)) _ _ (of_event forms_layout new v) (of_event daily_layout old v) c.others.1.1.0
+  becomes (PeriodIs k v) = across (λ rows. Names period_fact rows (PeriodIs k v)) _ _ (of_period forms_layout new k v) (of_period daily_layout old k v) c.others.1.1.1.0
+  becomes (HolidayIs d) = across (λ rows. Names holiday_fact rows (HolidayIs d)) _ _ (of_holiday forms_layout new d) (of_holiday daily_layout old d) c.others.1.1.1.1.0
+  becomes (JobIs id v n) = across (λ rows. Names job_fact rows (JobIs id v n)) _ _ (of_job forms_layout new id v n) (of_job daily_layout old id v n) c.others.1.1.1.1.1.0
 
   kept : (key : Key) (reading : ReadingValue) (unit : MeasureUnit) → VersionIs key reading ∈ world_3 old → HeadIs (day_head key unit) ∈ world_3 old
       → HeadIs (head_over key unit) ∈ world_4 new
@@ -252,20 +242,15 @@ module _ (a b c : State) (bc : doubt b.is_clean ≤ doubt c.is_clean)
           raises_others : KeepsOthers schema_tree d.now.trees e.now.trees tables_4
           raises_others = others_of schema_tree schema_4 d e (behind_d clean_d o first) raised.others
 
+          same : Keeps a.now.trees e.now.trees (version_table ∷ detail_table ∷ steady_tables ++ pack_table ∷ daydetail_table ∷ [])
+          same =
+              spares a.now.trees b.now.trees c.now.trees d.now.trees e.now.trees form_tree head_tree schema_tree tables_3 (form_table ∷ [])
+              made.others forms_others clears_others raises_others
+
           given_forms : IsGivenForms a.now.trees e.now.trees put.heads
           given_forms = record {
-            packs = raises_others.1.1.1.1.1.1.1.1.0 (λ e. omega arith) ∙ clears_others.1.1.1.1.1.1.1.1.0 (λ e. omega arith)
-                ∙ forms_others.1.1.1.1.1.1.1.1.0 (λ e. omega arith) ∙ made.others.1.1.1.1.1.1.1.1.0;
-            details = raises_others.1.1.1.1.1.1.1.1.1.0 (λ e. omega arith) ∙ clears_others.1.1.1.1.1.1.1.1.1.0 (λ e. omega arith)
-                ∙ forms_others.1.1.1.1.1.1.1.1.1.0 (λ e. omega arith) ∙ made.others.1.1.1.1.1.1.1.1.1.0;
-            events = raises_others.1.1.1.1.0 (λ e. omega arith) ∙ clears_others.1.1.1.1.0 (λ e. omega arith)
-                ∙ forms_others.1.1.1.1.0 (λ e. omega arith) ∙ made.others.1.1.1.1.0;
-            periods = raises_others.1.1.1.1.1.0 (λ e. omega arith) ∙ clears_others.1.1.1.1.1.0 (λ e. omega arith)
-                ∙ forms_others.1.1.1.1.1.0 (λ e. omega arith) ∙ made.others.1.1.1.1.1.0;
-            holidays = raises_others.1.1.1.1.1.1.0 (λ e. omega arith) ∙ clears_others.1.1.1.1.1.1.0 (λ e. omega arith)
-                ∙ forms_others.1.1.1.1.1.1.0 (λ e. omega arith) ∙ made.others.1.1.1.1.1.1.0;
-            jobs = raises_others.1.1.1.1.1.1.1.0 (λ e. omega arith) ∙ clears_others.1.1.1.1.1.1.1.0 (λ e. omega arith)
-                ∙ forms_others.1.1.1.1.1.1.1.0 (λ e. omega arith) ∙ made.others.1.1.1.1.1.1.1.0;
+            others =
+                (same.1.1.1.1.1.1.0, (same.1.1.1.1.1.1.1.0, (same.1.1.0, (same.1.1.1.0, (same.1.1.1.1.0, (same.1.1.1.1.1.0, tt))))));
             days = subst (λ was. IsPermutation (map without_length was) (map (drop 1) (e.now.trees head_tree)))
                 (forms_others.1.0 (λ e. omega arith) ∙ made.others.1.0)
                 (subst (λ rows. IsPermutation (map without_length (c.now.trees head_tree)) (map (drop 1) rows))
@@ -292,13 +277,11 @@ module _ (a b c : State) (bc : doubt b.is_clean ≤ doubt c.is_clean)
           has_formed = record {
             becomes = becomes a.now.trees e.now.trees put.heads given_forms;
             kept = kept a.now.trees e.now.trees put.heads given_forms;
-            packs = given_forms.packs;
-            lengths = no_lengths a.now.trees e.now.trees put.heads given_forms;
+            others = given_forms.others;
+            heads = given_forms.days;
             version = raised.version;
-            unversioned = raises_others.1.1.0 (λ e. omega arith) ∙ clears_others.1.1.0 (λ e. omega arith)
-                ∙ forms_others.1.1.0 (λ e. omega arith) ∙ made.others.1.1.0 ∙ first.store.bare.0;
-            undated = raises_others.1.1.1.0 (λ e. omega arith) ∙ clears_others.1.1.1.0 (λ e. omega arith)
-                ∙ forms_others.1.1.1.0 (λ e. omega arith) ∙ made.others.1.1.1.0 ∙ first.store.bare.1;
+            unversioned = same.0 ∙ first.store.bare.0;
+            undated = same.1.0 ∙ first.store.bare.1;
             sound = subst (λ schema. IsSound schema e.now.trees) (raised.schema ∙ behind_d clean_d o first) raised.sound;
           }
 

@@ -1,7 +1,9 @@
 -- The parts of the step to schema 2, one after another.
-use Rattle.std.proofs.Common.{◌≡◌, ◌≤◌, ◌↔◌, [], ◌∷◌, List, ℕ, ℤ, map, pos, Ok, Err, IsTrue, OnOk, Result, refl, sym, ap, subst, ◌∙◌, arith}
-use Rattle.std.specs.List.{flat_map}
+use Rattle.std.proofs.Common.{◌≡◌, ◌≤◌, ◌↔◌, [], ◌∷◌, ◌++◌, List, ℕ, ℤ, map, pos, Bool, true, false, not, ◌&&◌, cond, eqb, Ok, Err, IsTrue, OnOk, Result, refl, sym, ap, subst, ◌∙◌, arith}
+use Rattle.std.specs.List.{filter, flat_map}
+use Rattle.std.proofs.lemmas.Bool.{and_parts, eqb-false, not-true}
 use Rattle.sqlite.specs.State.{HasCleanDisk, KeepsCommit, State}
+use Rattle.sqlite.specs.Table.{Table}
 use Rattle.sqlite.proofs.InsideLemmas.{keeps_then}
 use Rattle.sqlite_catalog.specs.Listing.{IsSound}
 use Rattle.sqlite_trees.specs.Tree.{Trees}
@@ -21,15 +23,15 @@ use Rattle.mds_tables.specs.Layouts.{rows_layout, world_with}
 use Rattle.mds_tables.specs.Making.{MakesThere}
 use Rattle.mds_tables.specs.RowFacts.{event_fact, head_fact, holiday_fact, int_at, job_fact, lengthless, natural_at, period_fact, stream_in, text_at, unit_named, version_fact}
 use Rattle.mds_tables.specs.Stores.{versions_said}
-use Rattle.mds_tables.specs.Tables.{detail_tree, event_tree, head_tree, holiday_tree, job_tree, no_more, period_tree, schema_1, schema_tree, version_tree}
-use Rattle.mds_inserts.specs.Writing.{KeepsOthers}
+use Rattle.mds_tables.specs.Tables.{detail_table, head_table, head_tree, no_more, schema_1, schema_tree, tables_1, version_tree}
+use Rattle.mds_inserts.specs.Writing.{Keeps, KeepsOthers}
 use Rattle.mds_selects.proofs.Named.{Names, of_detail, of_event, of_head_row, of_holiday, of_job, of_period, of_version}
 use Rattle.mds_pack_rows.specs.PackFacts.{pack_facts, pack_versions}
-use Rattle.mds_pack_rows.specs.PackTables.{pack_tree, schema_2, tables_2}
+use Rattle.mds_pack_rows.specs.PackTables.{pack_table, pack_tree, schema_2, tables_2}
 use Rattle.mds_pack_rows.specs.PacksLayout.{nothing_behind, packs_layout, world_2}
 use Rattle.mds_pack_rows.specs.Putting.{GoesOn, IsThere, MakesPack}
 use Rattle.mds_pack_rows.proofs.PutLemmas.{others_of}
-use Rattle.mds_migrate.specs.Migrated.{HasPacked, IsFor, TakesOn, packing}
+use Rattle.mds_migrate.specs.Migrated.{HasPacked, IsFor, TakesOn, packing, steady_tables}
 use Rattle.mds_migrate.specs.Migrating.{Clears, IsLengthened, Packs, Raises}
 use Rattle.mds_migrate.specs.OldLengths.{CameOf, day_head}
 use Rattle.mds_migrate.proofs.HeadLemmas.{has_head}
@@ -38,12 +40,8 @@ use Rattle.mds_migrate.proofs.HeadLemmas.{has_head}
 
 -- mds_pack says the versions with the lengths of heads, and every other table that says facts is as it was
 record IsTakenOver (old new : Trees) : Type 0 where
-  heads : new head_tree ≡ old head_tree
   versions : (fact : Fact) → Member fact (pack_versions new) ↔ IsLengthened old fact
-  events : new event_tree ≡ old event_tree
-  periods : new period_tree ≡ old period_tree
-  holidays : new holiday_tree ≡ old holiday_tree
-  jobs : new job_tree ≡ old job_tree
+  others : Keeps old new (head_table ∷ detail_table ∷ steady_tables)
 
 -- what the same rows, or facts, say
 pub across : {A C X : Type 0} (P : X → Type 0) (xs ys : X) → A ↔ P xs → C ↔ P ys → xs ≡ ys → A ↔ C
@@ -69,7 +67,7 @@ day_of other _ = other
 
 module _ (old new : Trees) (t : IsTakenOver old new) where
   lengthened : (fact : Fact) → (fact ∈ world_2 new) ↔ CameOf (world_with rows_layout old) fact
-  lengthened (HeadIs h) = across (λ rows. Names head_fact rows (HeadIs h)) _ _ (of_head_row packs_layout new refl h) (of_head_row rows_layout old refl h) t.heads
+  lengthened (HeadIs h) = across (λ rows. Names head_fact rows (HeadIs h)) _ _ (of_head_row packs_layout new refl h) (of_head_row rows_layout old refl h) t.others.0
   lengthened (VersionIs k v) =
       let all = of_version packs_layout new k v in
       let one = of_version rows_layout old (lengthless k) v in (
@@ -87,10 +85,10 @@ module _ (old new : Trees) (t : IsTakenOver old new) where
     (λ m. absurd ((t.versions (DetailIs x)).0 ((of_detail packs_layout new x).0 m))),
     (λ m. absurd (no_details x (old version_tree) ((of_detail rows_layout old x).0 m))),
   )
-  lengthened (EventIs v) = across (λ rows. Names event_fact rows (EventIs v)) _ _ (of_event packs_layout new v) (of_event rows_layout old v) t.events
-  lengthened (PeriodIs k v) = across (λ rows. Names period_fact rows (PeriodIs k v)) _ _ (of_period packs_layout new k v) (of_period rows_layout old k v) t.periods
-  lengthened (HolidayIs d) = across (λ rows. Names holiday_fact rows (HolidayIs d)) _ _ (of_holiday packs_layout new d) (of_holiday rows_layout old d) t.holidays
-  lengthened (JobIs id v n) = across (λ rows. Names job_fact rows (JobIs id v n)) _ _ (of_job packs_layout new id v n) (of_job rows_layout old id v n) t.jobs
+  lengthened (EventIs v) = across (λ rows. Names event_fact rows (EventIs v)) _ _ (of_event packs_layout new v) (of_event rows_layout old v) t.others.1.1.0
+  lengthened (PeriodIs k v) = across (λ rows. Names period_fact rows (PeriodIs k v)) _ _ (of_period packs_layout new k v) (of_period rows_layout old k v) t.others.1.1.1.0
+  lengthened (HolidayIs d) = across (λ rows. Names holiday_fact rows (HolidayIs d)) _ _ (of_holiday packs_layout new d) (of_holiday rows_layout old d) t.others.1.1.1.1.0
+  lengthened (JobIs id v n) = across (λ rows. Names job_fact rows (JobIs id v n)) _ _ (of_job packs_layout new id v n) (of_job rows_layout old id v n) t.others.1.1.1.1.1.0
 
   module _ (sound : IsSound schema_1 old) (key : Key) (reading : ReadingValue) (was : VersionIs key reading ∈ world_with rows_layout old) where
     said : (row : Row) × Member row (old version_tree) × (VersionIs key reading ≡ version_fact row)
@@ -144,6 +142,31 @@ as_before old new versions heads (EventIs v) = (λ l. l, λ l. l)
 as_before old new versions heads (PeriodIs k v) = (λ l. l, λ l. l)
 as_before old new versions heads (HolidayIs d) = (λ l. l, λ l. l)
 as_before old new versions heads (JobIs id v n) = (λ l. l, λ l. l)
+
+-- ---- the tables that no part changes
+
+-- the table is of none of these trees
+abbrev is_spared : ℕ → ℕ → ℕ → Table → Bool
+is_spared p q r table = not (eqb table.tree p) && (not (eqb table.tree q) && not (eqb table.tree r))
+
+-- Four parts: the first makes a table behind these, and each other one changes that of its tree. The tables of other trees are as they
+-- were.
+pub spares : (a b c d e : Trees) (p q r : ℕ) (tables more : List Table) → Keeps a b tables → KeepsOthers p b c (tables ++ more)
+    → KeepsOthers q c d (tables ++ more) → KeepsOthers r d e (tables ++ more) → Keeps a e (filter (is_spared p q r) tables)
+spares a b c d e p q r [] more one two three four = tt
+spares a b c d e p q r (t ∷ ts) more one two three four =
+    let rest = spares a b c d e p q r ts more one.1 two.1 three.1 four.1 in
+    let spared = filter (is_spared p q r) ts in
+    elim (is_spared p q r t) as (λ it. is_spared p q r t ≡ it → Keeps a e (cond it (t ∷ spared) spared)) [
+      | true ↦ λ is.
+          let parts = and_parts _ _ is in
+          let last = and_parts _ _ parts.1 in (
+            four.0 (eqb-false t.tree r (not-true _ last.1)) ∙ three.0 (eqb-false t.tree q (not-true _ last.0))
+                ∙ two.0 (eqb-false t.tree p (not-true _ parts.0)) ∙ one.0,
+            rest,
+          )
+      | false ↦ λ _. rest
+    ] refl
 
 -- ---- where the parts begin
 
@@ -202,35 +225,10 @@ module _ (a b c d e : State) (bc : doubt b.is_clean ≤ doubt c.is_clean) (cd : 
     raises_others : KeepsOthers schema_tree d.now.trees e.now.trees tables_2
     raises_others = others_of schema_tree schema_2 d e behind_d raised.others
 
-    same_heads : e.now.trees head_tree ≡ a.now.trees head_tree
-    same_heads =
-        raises_others.1.0 (λ e. omega arith) ∙ clears_others.1.0 (λ e. omega arith) ∙ packs_others.1.0 (λ e. omega arith)
-        ∙ made.others.1.0
-
-    same_details : e.now.trees detail_tree ≡ a.now.trees detail_tree
-    same_details =
-        raises_others.1.1.1.0 (λ e. omega arith) ∙ clears_others.1.1.1.0 (λ e. omega arith) ∙ packs_others.1.1.1.0 (λ e. omega arith)
-        ∙ made.others.1.1.1.0
-
-    same_events : e.now.trees event_tree ≡ a.now.trees event_tree
-    same_events =
-        raises_others.1.1.1.1.0 (λ e. omega arith) ∙ clears_others.1.1.1.1.0 (λ e. omega arith)
-        ∙ packs_others.1.1.1.1.0 (λ e. omega arith) ∙ made.others.1.1.1.1.0
-
-    same_periods : e.now.trees period_tree ≡ a.now.trees period_tree
-    same_periods =
-        raises_others.1.1.1.1.1.0 (λ e. omega arith) ∙ clears_others.1.1.1.1.1.0 (λ e. omega arith)
-        ∙ packs_others.1.1.1.1.1.0 (λ e. omega arith) ∙ made.others.1.1.1.1.1.0
-
-    same_holidays : e.now.trees holiday_tree ≡ a.now.trees holiday_tree
-    same_holidays =
-        raises_others.1.1.1.1.1.1.0 (λ e. omega arith) ∙ clears_others.1.1.1.1.1.1.0 (λ e. omega arith)
-        ∙ packs_others.1.1.1.1.1.1.0 (λ e. omega arith) ∙ made.others.1.1.1.1.1.1.0
-
-    same_jobs : e.now.trees job_tree ≡ a.now.trees job_tree
-    same_jobs =
-        raises_others.1.1.1.1.1.1.1.0 (λ e. omega arith) ∙ clears_others.1.1.1.1.1.1.1.0 (λ e. omega arith)
-        ∙ packs_others.1.1.1.1.1.1.1.0 (λ e. omega arith) ∙ made.others.1.1.1.1.1.1.1.0
+    same_others : Keeps a.now.trees e.now.trees (head_table ∷ detail_table ∷ steady_tables)
+    same_others =
+        spares a.now.trees b.now.trees c.now.trees d.now.trees e.now.trees pack_tree version_tree schema_tree tables_1 (pack_table ∷ [])
+        made.others packs_others clears_others raises_others
 
     same_packs : e.now.trees pack_tree ≡ c.now.trees pack_tree
     same_packs = raises_others.1.1.1.1.1.1.1.1.0 (λ e. omega arith) ∙ clears_others.1.1.1.1.1.1.1.1.0 (λ e. omega arith)
@@ -241,17 +239,13 @@ module _ (a b c d e : State) (bc : doubt b.is_clean ≤ doubt c.is_clean) (cd : 
 
     taken_over : IsTakenOver a.now.trees e.now.trees
     taken_over = record {
-      heads = same_heads;
       versions = λ f.
           let it = packed.lengthened f in
           let was = lengthened_as f in (
             (λ m. was.0 (it.0 (subst (λ rows. Member f (flat_map pack_facts rows)) same_packs m))),
             (λ l. subst (λ rows. Member f (flat_map pack_facts rows)) (sym same_packs) (it.1 (was.1 l))),
           );
-      events = same_events;
-      periods = same_periods;
-      holidays = same_holidays;
-      jobs = same_jobs;
+      others = same_others;
     }
 
     has_packed : HasPacked a.now.trees e.now.trees
@@ -259,7 +253,7 @@ module _ (a b c d e : State) (bc : doubt b.is_clean ≤ doubt c.is_clean) (cd : 
       lengthened = lengthened a.now.trees e.now.trees taken_over;
       kept = kept a.now.trees e.now.trees taken_over first.sound;
       said = λ row m. packed.said row (subst (Member row) same_packs m);
-      details = same_details;
+      others = same_others;
       version = raised.version;
       unversioned = raises_others.1.1.0 (λ e. omega arith) ∙ cleared.none;
       sound = subst (λ schema. IsSound schema e.now.trees) (raised.schema ∙ behind_d) raised.sound;

@@ -1,12 +1,13 @@
 -- What a step of a migration leaves (profile): from schema 1 to schema 2, from there to schema 3, or from there to schema 4.
-use Rattle.std.specs.Prelude.{◌≡◌, ◌≢◌, ◌⊎◌, ◌↔◌, ℕ, [], ◌∷◌, pos, IsTrue}
-use Rattle.std.specs.List.{AllByRecursion}
+use Rattle.std.specs.Prelude.{◌≡◌, ◌≢◌, ◌⊎◌, ◌↔◌, ℕ, List, [], ◌∷◌, drop, map, pos, IsTrue}
+use Rattle.std.specs.List.Sorted.{IsPermutation}
 use Rattle.sqlite.specs.Effect.{Database}
 use Rattle.sqlite.specs.Schema.{Schema}
 use Rattle.sqlite.specs.State.{HasCleanDisk, KeepsCommit, State}
+use Rattle.sqlite.specs.Table.{Table}
 use Rattle.sqlite_catalog.specs.Listing.{IsSound}
 use Rattle.sqlite_trees.specs.Tree.{Trees}
-use Rattle.sqlite_value.specs.Order.{Row, column}
+use Rattle.sqlite_value.specs.Order.{Row}
 use Rattle.mds_quantity.specs.declared.unit.Unit.{Unit as MeasureUnit}
 use Rattle.mds_marks.specs.Reading.{ReadingValue}
 use Rattle.mds_world.specs.Facts.{Fact, key_at}
@@ -15,20 +16,21 @@ use Rattle.mds_world.specs.Lists.{Member}
 use Rattle.mds_world.specs.Sets.{◌∈◌}
 use Rattle.mds_world.specs.World.{head_over}
 use Rattle.mds_world.specs.declared.facts.Key.{Key}
-use Rattle.mds_tables.specs.Cells.{number_cell}
 use Rattle.mds_tables.specs.Layouts.{rows_layout, world_with}
 use Rattle.mds_tables.specs.Stores.{AreOpen, IsStore, versions_said}
-use Rattle.mds_tables.specs.Tables.{detail_tree, head_tree, schema_1, version_tree}
+use Rattle.mds_tables.specs.Tables.{detail_table, detail_tree, event_table, head_table, head_tree, holiday_table, job_table, period_table, schema_1, version_tree}
+use Rattle.mds_inserts.specs.Writing.{Keeps}
 use Rattle.mds_pack_rows.specs.DailyLayout.{world_3}
-use Rattle.mds_pack_rows.specs.DailyTables.{schema_3}
+use Rattle.mds_pack_rows.specs.DailyTables.{daydetail_table, schema_3}
 use Rattle.mds_pack_rows.specs.FormLayout.{world_4}
 use Rattle.mds_pack_rows.specs.FormTables.{schema_4}
 use Rattle.mds_pack_rows.specs.PackFacts.{pack_facts}
-use Rattle.mds_pack_rows.specs.PackTables.{pack_tree, schema_2}
+use Rattle.mds_pack_rows.specs.PackTables.{pack_table, pack_tree, schema_2}
 use Rattle.mds_pack_rows.specs.PacksLayout.{world_2}
 use Rattle.mds_pack_store.specs.Daily.{IsDailyStore}
 use Rattle.mds_pack_store.specs.Formed.{IsFormedStore}
 use Rattle.mds_pack_store.specs.Packed.{IsPackStore}
+use Rattle.mds_migrate.specs.Migrating.{without_length}
 use Rattle.mds_migrate.specs.OldDetails.{Becomes}
 use Rattle.mds_migrate.specs.OldHeads.{IsFormedOf}
 use Rattle.mds_migrate.specs.OldLengths.{CameOf, day_head}
@@ -37,8 +39,12 @@ use Rattle.mds_migrate.specs.declared.outcome.Migrated.TheVariants.{AlreadyCurre
 use Rattle.mds_migrate.specs.declared.outcome.MigrateFault.{MigrateFault}
 use Rattle.mds_migrate.specs.declared.outcome.MigrateFault.TheVariants.{OtherSchema, Unavailable}
 
--- The tables of schema 2 name the World that comes of the one that those of schema 1 named, and the details of streams are as they were.
--- mds_schema says 2, and no version has a row of its own.
+-- the tables that no step changes: those of events, accumulations, holidays and jobs
+abbrev pub steady_tables : List Table
+steady_tables = event_table ∷ period_table ∷ holiday_table ∷ job_table ∷ []
+
+-- The tables of schema 2 name the World that comes of the one that those of schema 1 named. mds_schema says 2, and no version has a row
+-- of its own.
 pub record HasPacked (old new : Trees) : Type 0 where
   pub lengthened : (fact : Fact) → (fact ∈ world_2 new) ↔ CameOf (world_with rows_layout old) fact
   -- no version is lost: its day has a head, whose length it takes
@@ -46,30 +52,34 @@ pub record HasPacked (old new : Trees) : Type 0 where
       → (length : ℕ) × (VersionIs (key_at key.stream key.day length key.interval key.update) reading ∈ world_2 new)
   -- each row of mds_pack says a version
   pub said : (row : Row) → Member row (new pack_tree) → pack_facts row ≢ []
-  pub details : new detail_tree ≡ old detail_tree
+  -- mds_head, mds_detail and the steady tables have the same rows as before
+  pub others : Keeps old new (head_table ∷ detail_table ∷ steady_tables)
   pub version : versions_said new ≡ pos 2 ∷ []
   pub unversioned : new version_tree ≡ []
   pub sound : IsSound schema_2 new
 
--- The tables of schema 3 name the World that those of schema 2 become, and mds_pack is as it was. mds_schema says 3, and neither
--- versions nor details of streams have rows of their own.
+-- The tables of schema 3 name the World that those of schema 2 become. mds_schema says 3, and neither versions nor details of streams
+-- have rows of their own.
 pub record HasDated (old new : Trees) : Type 0 where
   pub becomes : Becomes old (world_3 new)
-  pub packs : new pack_tree ≡ old pack_tree
+  -- mds_head, mds_pack and the steady tables have the same rows as before
+  pub others : Keeps old new (head_table ∷ pack_table ∷ steady_tables)
   pub version : versions_said new ≡ pos 3 ∷ []
   pub unversioned : new version_tree ≡ []
   pub undated : new detail_tree ≡ []
   pub sound : IsSound schema_3 new
 
--- The tables of schema 4 name the World that comes of the one that those of schema 3 named, and mds_pack is as it was. mds_schema says
--- 4, mds_head says days and units alone, and neither versions nor details of streams have rows of their own.
+-- The tables of schema 4 name the World that comes of the one that those of schema 3 named. mds_schema says 4, and neither versions nor
+-- details of streams have rows of their own.
 pub record HasFormed (old new : Trees) : Type 0 where
   pub becomes : (fact : Fact) → (fact ∈ world_4 new) ↔ IsFormedOf (world_3 old) fact
   -- no form is lost: a version of the length of its day's head has a head of its own update
   pub kept : (key : Key) (reading : ReadingValue) (unit : MeasureUnit) → VersionIs key reading ∈ world_3 old
       → HeadIs (day_head key unit) ∈ world_3 old → HeadIs (head_over key unit) ∈ world_4 new
-  pub packs : new pack_tree ≡ old pack_tree
-  pub lengths : AllByRecursion (λ (row : Row). column row 4 ≡ number_cell 0) (new head_tree)
+  -- mds_pack, mds_daydetail and the steady tables have the same rows as before
+  pub others : Keeps old new (pack_table ∷ daydetail_table ∷ steady_tables)
+  -- mds_head has its rows with length 0, and else as they were
+  pub heads : IsPermutation (map without_length (old head_tree)) (map (drop 1) (new head_tree))
   pub version : versions_said new ≡ pos 4 ∷ []
   pub unversioned : new version_tree ≡ []
   pub undated : new detail_tree ≡ []

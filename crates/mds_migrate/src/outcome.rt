@@ -1,7 +1,7 @@
 //! What a migration comes to.
 
 /// What a migration did.
-#[derive(Clone, Copy, Debug, PartialEq, Eq)]
+#[derive(Clone, Copy, Debug)]
 pub enum Migrated {
     /// The store is one of the next schema.
     Done,
@@ -10,7 +10,7 @@ pub enum Migrated {
 }
 
 /// Why a database isn't migrated.
-#[derive(Clone, Copy, Debug, PartialEq, Eq)]
+#[derive(Clone, Copy, Debug)]
 pub enum MigrateFault {
     /// The connection is in a transaction, or the store failed (U1). A row that the store didn't write makes it fail too.
     Unavailable,
