@@ -7,14 +7,13 @@ use Rattle.std.proofs.Math.Seq.{get_or-append_seam}
 use Rattle.mds_marks.specs.Reading.{ReadingValue}
 use Rattle.mds_world.specs.Facts.{JobContent}
 use Rattle.mds_world.specs.World.{World}
-use Rattle.mds_keeper.specs.DayMerges.{IfRefused}
 use Rattle.mds_keeper.specs.declared.day_merge.Stop.{Stop}
-use Rattle.mds_keeper.specs.declared.day_merge.Stop.TheVariants.{Refused, Memory}
 use Rattle.mds_keeper.specs.declared.refusal.Refusal.{Refusal}
 use Rattle.mds_keeper.specs.declared.refusal.RefusalCode.{RefusalCode}
-use Rattle.mds_keeper.specs.declared.refusal.RefusalCode.TheVariants.{LengthConflict, UnitConflict, VersionConflict, JobReused, Protected, StaleUpdate, NoLikeDay, TooLong, NoAnchor, UnknownDay, BadJob, RangeTooWide}
-use Rattle.mds_fill.specs.Fills.{IsFillFault, IsFillRefusal, IsFilled, IsFree, IsSubstitute, IsTooLong, LacksLikeDay}
-use Rattle.mds_fill.specs.FillSteps.{AreFilled, IsLack}
+use Rattle.mds_fill.specs.Fills.{IsFillFault, IsFillRefusal, IsFilled, IsSubstitute, LacksAnchor, LacksLikeDay}
+use Rattle.mds_fill.specs.FillSteps.{AreFilled, IsSource}
+use Rattle.mds_fill.specs.declared.sources.Source.{Source}
+use Rattle.mds_fill.specs.declared.sources.Source.TheVariants.{LikeDay, LikeDays, Line, Zeros}
 
 -- a refusal of a rule at an interval
 pub refusal_is : (w : World) (job : JobContent) (r : Refusal) (code : RefusalCode) (i : ℕ)
@@ -22,28 +21,23 @@ pub refusal_is : (w : World) (job : JobContent) (r : Refusal) (code : RefusalCod
 refusal_is w job r code i e fault =
     subst (IsFillRefusal w job) (sym e) (record { line = refl; field = refl; fault = fault })
 
--- what a job lacks stops it where nothing did before
-pub lack_stops : (w : World) (job : JobContent) (code : RefusalCode) → IsFree w job → (IsTooLong job → ⊥)
-    → IsLack w job code → IsFillFault w job code 0
-lack_stops w job NoLikeDay free short lack = (free, lack, refl)
-lack_stops w job NoAnchor free short lack = (free, short, lack, refl)
-lack_stops w job LengthConflict free short lack = lack
-lack_stops w job UnitConflict free short lack = lack
-lack_stops w job VersionConflict free short lack = lack
-lack_stops w job JobReused free short lack = lack
-lack_stops w job Protected free short lack = absurd lack
-lack_stops w job StaleUpdate free short lack = absurd lack
-lack_stops w job TooLong free short lack = absurd lack
-lack_stops w job UnknownDay free short lack = lack
-lack_stops w job BadJob free short lack = lack
-lack_stops w job RangeTooWide free short lack = lack
+-- a job with a source lacks no value beside its targets
+pub has_anchor : (w : World) (job : JobContent) (source : Source) → IsSource w job source → LacksAnchor w job → ⊥
+has_anchor w job (LikeDay book) s lack = let a = s.0 in let b = lack.0 in omega arith
+has_anchor w job LikeDays s lack = let b = lack.0 in omega arith
+has_anchor w job (Line before after) s lack = elim lack.1 [ inl none ↦ none before s.1 | inr none ↦ none after s.2 ]
+has_anchor w job Zeros s lack = let b = lack.0 in omega arith
 
-pub no_like_day : (w : World) (job : JobContent) (stop : Stop) → IsFree w job → (IsTooLong job → ⊥)
-    → IfRefused stop (λ refusal.
-    (refusal ≡ record { code = NoLikeDay; line = 0; field = 0; interval = 0 }) × LacksLikeDay w job)
-    → IfRefused stop (IsFillRefusal w job)
-no_like_day w job (Refused refusal) free short r = refusal_is w job refusal NoLikeDay 0 r.0 (free, r.1, refl)
-no_like_day w job Memory free short r = tt
+-- and no like day, unless it is one for the mean
+pub lacks_for_mean : (w : World) (job : JobContent) (source : Source) → IsSource w job source → LacksLikeDay w job
+    → job.method ≡ 15
+lacks_for_mean w job source s (inr lack) = lack.0
+lacks_for_mean w job (LikeDay book) s (inl lack) =
+    let near = s.1.1 in
+    absurd (lack.1 near.place s.1.0 near.like near.all)
+lacks_for_mean w job LikeDays s (inl lack) = s
+lacks_for_mean w job (Line before after) s (inl lack) = let a = s.0 in let b = lack.0 in absurd (omega arith)
+lacks_for_mean w job Zeros s (inl lack) = let b = lack.0 in absurd (omega arith)
 
 -- one reading more
 pub filled_more : (w : World) (job : JobContent) (i n m : ℕ) (xs ys : List ReadingValue) (r : ReadingValue)

@@ -1,10 +1,10 @@
 //! The readings that a job fills in.
 
-ghost use Rattle.std.specs.Prelude.{◌≡◌, length, IfOk, IfErr, Some};
+ghost use Rattle.std.specs.Prelude.{◌≡◌, length, IfOk, IfErr, Some, Err};
 ghost use Rattle.mds_world.specs.World.{World};
 ghost use Rattle.mds_keeper.specs.DayMerges.{IfRefused};
 ghost use Rattle.mds_jobs.specs.Jobs.{IsBad, content_of};
-ghost use Rattle.mds_fill.specs.Fills.{AreSubstitutes, IsContext, IsFillRefusal, LacksLikeDay, target_count};
+ghost use Rattle.mds_fill.specs.Fills.{AreSubstitutes, IsContext, IsFillRefusal, IsFree, IsTooLong, LacksAnchor, LacksLikeDay, target_count};
 ghost use Rattle.mds_fill.specs.FillSteps.{AreFilled, IsGood, IsSource};
 
 use crate::context::Context;
@@ -25,6 +25,11 @@ pub fn fill(alloc: Global, job: &Job, context: &Context) -> Result<Vec<Reading>,
         → IfOk result (λ readings. AreSubstitutes w (content_of job.now) readings.items) }
     ensures refused { (w : World) → IsContext w (content_of job.now) context.now
         → IfErr result (λ stop. IfRefused stop (IsFillRefusal w (content_of job.now))) }
+
+    // Memory is wanting only where no rule stops the job. The mean alone may still lack a like day.
+    ensures memory { (w : World) → IsContext w (content_of job.now) context.now → result ≡ Err Stop.Memory
+        → IsFree w (content_of job.now) × (IsTooLong (content_of job.now) → ⊥)
+        × (LacksAnchor w (content_of job.now) → ⊥) × (LacksLikeDay w (content_of job.now) → job.now.method ≡ 15) }
 {
     // For the proof: its intervals are of its day, and its method and its flag are ones that a job may have.
     is_good(job);

@@ -7,7 +7,7 @@ use Rattle.std.specs.declared.cmp.Ordering.{Ordering}
 use Rattle.std.specs.declared.cmp.Ordering.TheVariants.{Less, Equal, Greater}
 use Rattle.sqlite.specs.Effect.{Database, IsDatabase}
 use Rattle.sqlite.specs.Listing.{reads_listing, understood}
-use Rattle.sqlite.specs.State.{FailsToQuery, HasCleanDisk, IsTooLate, IsUnchanged, Shown, State, Survives}
+use Rattle.sqlite.specs.State.{FailsToQuery, HasCleanDisk, IsTooLate, Shown, State, Survives}
 use Rattle.sqlite.specs.Term.{Term, col, op2}
 use Rattle.sqlite.specs.declared.error.Error.{Error}
 use Rattle.sqlite.specs.declared.types.Value.TheVariants.{Int, Text}
@@ -138,13 +138,6 @@ module _ {X E : Type 0} {old new : State} {Tells : X → Trees → Type 0} (s : 
   }
 
 -- ---- one question after another
-
-same_state : (s : State) → IsTrue s.is_open → IsUnchanged s s
-same_state s is_open = (
-  record { was_open = is_open; is_open = is_open; now_is = refl; committed_is = refl; mode = refl },
-  record { changes = refl; last_rowid = refl },
-  refl,
-)
 
 if_ok_so : {X E : Type 0} (r : Result X E) {P Q : X → Type 0} → ((x : X) → P x → Q x) → IfOk r P → IfOk r Q
 if_ok_so (Ok x) so h = so x h

@@ -1,5 +1,5 @@
 -- What the parts of a job's body say is the job.
-use Rattle.std.proofs.Common.{◌≡◌, ℕ, ◌<◌, ◌^◌, ◌⊎◌, inl, inr, Bool, true, false, List, [], ◌∷◌, get_or, if◌then◌else◌, refl, sym, ap, subst, ◌∙◌, arith, decimal, Option, Some, None}
+use Rattle.std.proofs.Common.{◌≡◌, ℕ, ◌<◌, ◌^◌, ◌⊎◌, inl, inr, Bool, true, false, List, [], ◌∷◌, get_or, length, if◌then◌else◌, refl, sym, ap, subst, ◌∙◌, arith, decimal, Option, Some, None}
 use Rattle.std.proofs.lemmas.Bool.Decides.{nat_tests}
 use Rattle.std.proofs.lemmas.Fmt.{decimal_is_IsNumeral}
 use Rattle.std.specs.Borrow.{Bor}
@@ -18,8 +18,8 @@ use Rattle.mds_marks.specs.Reason.{ReasonValue, code_of, code_text, is_reason, i
 use Rattle.mds_marks.specs.declared.mark.Mark.{Mark}
 use Rattle.mds_marks.proofs.Splits.{mark_reads}
 use Rattle.mds_world.specs.Facts.{JobContent}
-use Rattle.mds_jobs.specs.Bodies.{IsJobBody, IsLawfulJob, job_in, parts_of}
-use Rattle.mds_jobs.specs.BodySteps.{SaysManner, SaysPlace, Writes, flag_of, part_at, texts_of}
+use Rattle.mds_jobs.specs.Bodies.{AreJobParts, IsJobBody, IsLawfulJob, Writes, flag_of, flag_text, job_in, part_at, parts_of}
+use Rattle.mds_jobs.specs.BodySteps.{SaysManner, SaysPlace, texts_of}
 use Rattle.mds_jobs.specs.declared.job.JobManner.{JobManner}
 use Rattle.mds_jobs.specs.declared.job.JobPlace.{JobPlace}
 use Rattle.mds_jobs.proofs.BodySplits.{part_is}
@@ -94,8 +94,11 @@ unit_reads KA = refl
 unit_reads A = refl
 unit_reads Pf = refl
 
-letter_reads : (flag : ℕ) → is_ascii_uppercase flag ≡ true → flag_of (flag ∷ []) ≡ Some flag
-letter_reads flag h = rw h
+letter_reads : (flag : ℕ) → is_ascii_uppercase flag ≡ true → flag_of (flag_text flag) ≡ Some flag
+letter_reads flag h = let e : flag_text flag ≡ flag ∷ [] = rw h in ap flag_of e ∙ alone flag h
+  where
+    alone : (flag : ℕ) → is_ascii_uppercase flag ≡ true → flag_of (flag ∷ []) ≡ Some flag
+    alone flag h = rw h
 
 within_mark : (quality : Option QualityValue) (reason : Option ReasonValue) (m : Mark) → option_and_then (λ q. option_map (λ r. record { quality = q; reason = r }) reason) quality ≡ Some m → reason ≡ Some m.reason
 within_mark (Some q) (Some r) m e = let same : record { quality = q; reason = r } ≡ m = cc in ap (λ (n : Mark). Some n.reason) same
@@ -108,27 +111,45 @@ reason_reads code text h =
     let m = marked code text in
     within_mark (quality_of (quality_text m.quality)) (reason_of (code_text code) text) m (mark_reads m (is_marked code text h))
 
--- what a body says of each part
-pub place_said : (job : JobContent) (body : List ℕ) → IsLawfulJob job → IsJobBody job body → SaysPlace (parts_of body) (place_of job)
-place_said job body l b = subst (λ parts. SaysPlace parts (place_of job)) (sym (body_parts job body l b)) (record {
+-- the parts of a lawful job's body are read as the job
+pub body_read : (job : JobContent) (body : List ℕ) → IsLawfulJob job → IsJobBody job body → AreJobParts (parts_of body) job
+body_read job body l b = subst (λ parts. AreJobParts parts job) (sym (body_parts job body l b)) (record {
+  twelve = refl;
   nmi = nmi_reads job.stream.nmi l.nmi;
   suffix = suffix_reads job.stream.suffix l.suffix;
   day = b.day;
   first = decimal_writes 16 job.first l.first (omega (arith, l.first));
   last = decimal_writes 16 job.last l.last (omega (arith, l.last));
-})
-
-pub manner_said : (job : JobContent) (body : List ℕ) → IsLawfulJob job → IsJobBody job body → SaysManner (parts_of body) (manner_of job)
-manner_said job body l b = subst (λ parts. SaysManner parts (manner_of job)) (sym (body_parts job body l b)) (record {
   length = length_reads job.length l.length;
   unit = unit_reads job.unit;
   method = decimal_writes 8 job.method l.method (omega (arith, l.method));
   flag = letter_reads job.flag l.flag;
+  reason = reason_reads job.code job.text l.reason;
   update = b.moment;
 })
 
-pub reason_said : (job : JobContent) (body : List ℕ) → IsLawfulJob job → IsJobBody job body → reason_of (part_at (parts_of body) 9) (part_at (parts_of body) 10) ≡ Some (reason_in job)
-reason_said job body l b = rw (body_parts job body l b) (reason_reads job.code job.text l.reason)
+-- what is read of them step by step
+pub place_read : (parts : List (List ℕ)) (job : JobContent) → AreJobParts parts job → SaysPlace parts (place_of job)
+place_read parts job r = record { nmi = r.nmi; suffix = r.suffix; day = r.day; first = r.first; last = r.last }
+
+pub manner_read : (parts : List (List ℕ)) (job : JobContent) → AreJobParts parts job → SaysManner parts (manner_of job)
+manner_read parts job r = record { length = r.length; unit = r.unit; method = r.method; flag = r.flag; update = r.update }
+
+pub parts_read : (parts : List (List ℕ)) (job : JobContent) → length parts ≡ 12 → SaysPlace parts (place_of job) → SaysManner parts (manner_of job) → reason_of (part_at parts 9) (part_at parts 10) ≡ Some (reason_in job) → AreJobParts parts job
+parts_read parts job twelve p m reason = record {
+  twelve = twelve;
+  nmi = p.nmi;
+  suffix = p.suffix;
+  day = p.day;
+  first = p.first;
+  last = p.last;
+  length = m.length;
+  unit = m.unit;
+  method = m.method;
+  flag = m.flag;
+  reason = reason;
+  update = m.update;
+}
 
 -- the reason that two of the parts are
 pub reason_at : (texts : List (Bor (List ℕ))) (parts : List (List ℕ)) (reason : Option ReasonValue) → texts_of texts ≡ parts → reason ≡ reason_of (get_or texts 9 (record { ref_ptr = (0, 0); now = [] })).now (get_or texts 10 (record { ref_ptr = (0, 0); now = [] })).now → reason ≡ reason_of (part_at parts 9) (part_at parts 10)
@@ -156,15 +177,15 @@ flag_by : (b : Bool) (letter flag : ℕ) → (if b then Some letter else None) �
 flag_by true letter flag e = cc
 flag_by false letter flag e = absurd (cc)
 
--- what all parts say is what the body says
-pub job_said : (parts : List (List ℕ)) (job : JobContent) → SaysPlace parts (place_of job) → SaysManner parts (manner_of job) → reason_of (part_at parts 9) (part_at parts 10) ≡ Some (reason_in job) → job ≡ job_in parts
-job_said parts job p m r =
-    let nmi : part_at parts 0 ≡ job.stream.nmi = named_by (is_name nmi_length (part_at parts 0)) (part_at parts 0) job.stream.nmi p.nmi in
-    let suffix : part_at parts 1 ≡ job.stream.suffix = named_by (is_name suffix_length (part_at parts 1)) (part_at parts 1) job.stream.suffix p.suffix in
-    let flag : slice_index_or (part_at parts 8) 0 0 ≡ job.flag = flag_by _ (slice_index_or (part_at parts 8) 0 0) job.flag m.flag in
-    let reason = reason_parts (part_at parts 9) (part_at parts 10) (reason_in job) r in
-    rw (nmi, suffix, p.day, p.first.value, p.last.value, m.length, m.unit, m.method.value, flag, reason.0, reason.1, m.update)
+-- parts that are read as a job say it
+pub job_said : (parts : List (List ℕ)) (job : JobContent) → AreJobParts parts job → job ≡ job_in parts
+job_said parts job r =
+    let nmi : part_at parts 0 ≡ job.stream.nmi = named_by (is_name nmi_length (part_at parts 0)) (part_at parts 0) job.stream.nmi r.nmi in
+    let suffix : part_at parts 1 ≡ job.stream.suffix = named_by (is_name suffix_length (part_at parts 1)) (part_at parts 1) job.stream.suffix r.suffix in
+    let flag : slice_index_or (part_at parts 8) 0 0 ≡ job.flag = flag_by _ (slice_index_or (part_at parts 8) 0 0) job.flag r.flag in
+    let reason = reason_parts (part_at parts 9) (part_at parts 10) (reason_in job) r.reason in
+    rw (nmi, suffix, r.day, r.first.value, r.last.value, r.length, r.unit, r.method.value, flag, reason.0, reason.1, r.update)
 
 -- a lawful job's body says the job
 pub job_back : (job : JobContent) (body : List ℕ) → IsLawfulJob job → IsJobBody job body → job_in (parts_of body) ≡ job
-job_back job body l b = sym (job_said (parts_of body) job (place_said job body l b) (manner_said job body l b) (reason_said job body l b))
+job_back job body l b = sym (job_said (parts_of body) job (body_read job body l b))

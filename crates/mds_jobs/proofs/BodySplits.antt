@@ -8,8 +8,8 @@ use Rattle.std.proofs.lemmas.List.Sums.{fails_before_first}
 use Rattle.std.specs.Borrow.{Bor}
 use Rattle.std.specs.List.{position_or_len}
 use Rattle.mds_names.specs.Names.{is_comma}
-use Rattle.mds_jobs.specs.Bodies.{parts_of}
-use Rattle.mds_jobs.specs.BodySteps.{part_at, texts_of}
+use Rattle.mds_jobs.specs.Bodies.{part_at, parts_of}
+use Rattle.mds_jobs.specs.BodySteps.{texts_of}
 
 -- where there is no comma, the text is its one part
 pub one_part : (text : List ℕ) (n : ℕ) → n ≡ position_or_len is_comma text → n ≡ length text → parts_of text ≡ text ∷ []
@@ -35,6 +35,11 @@ last parts at x all long h e =
     let front : take (at + 1) whole ≡ whole = ap (λ n. take n whole) (sym size) ∙ take-length whole in
     let p : all ≡ texts_of (take (at + 1) whole) ++ [] = push parts at x all [] (omega arith) e in
     sym (p ∙ (append-nil (texts_of (take (at + 1) whole)) ∙ (ap texts_of front ∙ ap (λ n. texts_of (set parts n x)) h)))
+
+-- there are twelve then
+pub last_size : (parts : List (Bor (List ℕ))) (at : ℕ) (x : Bor (List ℕ)) (all : List (List ℕ)) → length parts ≡ 12 → at ≡ 11 → all ≡ texts_of (take at parts) ++ (x.now ∷ []) → length all ≡ 12
+last_size parts at x all long h e =
+    ap length (sym (last parts at x all long h e)) ∙ (length-map (set parts 11 x) (λ (text : Bor (List ℕ)). text.now) ∙ (length-set parts 11 x ∙ long))
 
 -- how many there are
 front_length : (parts : List (Bor (List ℕ))) (at : ℕ) → at ≤ length parts → length (texts_of (take at parts)) ≡ at

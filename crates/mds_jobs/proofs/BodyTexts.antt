@@ -1,5 +1,5 @@
 -- The texts of a job's body have no commas, so the body splits into them.
-use Rattle.std.proofs.Common.{◌≡◌, ℕ, ◌<◌, ◌^◌, Bool, true, false, ◌&&◌, not, List, [], ◌∷◌, refl, sym, ap, ◌∙◌, arith, decimal, Option}
+use Rattle.std.proofs.Common.{◌≡◌, ℕ, ◌<◌, ◌^◌, Bool, true, false, ◌&&◌, not, if◌then◌else◌, List, [], ◌∷◌, refl, sym, ap, ◌∙◌, arith, decimal, Option}
 use Rattle.std.proofs.lemmas.Bool.Decides.{nat_tests}
 use Rattle.std.proofs.lemmas.Fmt.{decimal_is_IsNumeral}
 use Rattle.std.proofs.lemmas.List.Splits.{slice_split-cons_yes, slice_split-cons_no}
@@ -20,7 +20,7 @@ use Rattle.mds_terms.specs.Parts.{joined}
 use Rattle.mds_terms.proofs.Joined.{lacks_comma, joined_splits}
 use Rattle.mds_terms.proofs.Texts.{both, day_is_digits, moment_is_digits}
 use Rattle.mds_world.specs.Facts.{JobContent}
-use Rattle.mds_jobs.specs.Bodies.{IsJobBody, IsLawfulJob, parts_of}
+use Rattle.mds_jobs.specs.Bodies.{IsJobBody, IsLawfulJob, flag_text, parts_of}
 
 -- a text of characters of a kind that has no comma lacks commas
 lacks_from : (p : ℕ → Bool) → ((c : ℕ) → p c ≡ true → not (is_comma c) ≡ true) → (text : List ℕ) → list_all p text ≡ true → lacks_comma text ≡ true
@@ -37,6 +37,13 @@ name_lacks n text h = lacks_from is_name_char (λ c d. grind (arith, nat_tests))
 
 letter_lacks : (flag : ℕ) → is_ascii_uppercase flag ≡ true → lacks_comma (flag ∷ []) ≡ true
 letter_lacks flag h = lacks_from is_ascii_uppercase (λ c d. grind (arith, nat_tests)) (flag ∷ []) (rw h)
+
+flag_lacks : (flag : ℕ) → lacks_comma (flag_text flag) ≡ true
+flag_lacks flag = by_letter flag (is_ascii_uppercase flag) refl
+  where
+    by_letter : (flag : ℕ) (b : Bool) → is_ascii_uppercase flag ≡ b → lacks_comma (if b then flag ∷ [] else []) ≡ true
+    by_letter flag true e = letter_lacks flag e
+    by_letter flag false e = refl
 
 -- a number's digits
 all_digits_lack : (ds : List ℕ) → AllDigits 10 ds → lacks_comma ds ≡ true
@@ -114,7 +121,7 @@ reason_lacks code text h =
 abbrev pub texts_of_job : JobContent → List ℕ → List ℕ → List (List ℕ)
 texts_of_job job date update =
     job.stream.nmi ∷ job.stream.suffix ∷ date ∷ decimal job.first ∷ decimal job.last ∷ decimal job.length
-    ∷ unit_text job.unit ∷ decimal job.method ∷ (job.flag ∷ []) ∷ code_text job.code ∷ job.text ∷ update ∷ []
+    ∷ unit_text job.unit ∷ decimal job.method ∷ flag_text job.flag ∷ code_text job.code ∷ job.text ∷ update ∷ []
 
 pub body_parts : (job : JobContent) (body : List ℕ) → IsLawfulJob job → (b : IsJobBody job body) → parts_of body ≡ texts_of_job job b.date b.update
 body_parts job body l b =
@@ -123,9 +130,17 @@ body_parts job body l b =
     let last : job.last < 2 ^ 64 = omega (arith, l.last) in
     let method : job.method < 2 ^ 64 = omega (arith, l.method) in
     let lacks : list_all lacks_comma (texts_of_job job b.date b.update) ≡ true =
-    rw (name_lacks nmi_length job.stream.nmi l.nmi, name_lacks suffix_length job.stream.suffix l.suffix, digits_lack b.date (day_is_digits b.date job.day b.day), decimal_lacks job.first first, decimal_lacks job.last last, decimal_lacks job.length (length_below job.length l.length), unit_lacks job.unit, decimal_lacks job.method method, letter_lacks job.flag l.flag, r.0, r.1, digits_lack b.update (moment_is_digits b.update job.update b.moment)) in
+    rw (name_lacks nmi_length job.stream.nmi l.nmi, name_lacks suffix_length job.stream.suffix l.suffix, digits_lack b.date (day_is_digits b.date job.day b.day), decimal_lacks job.first first, decimal_lacks job.last last, decimal_lacks job.length (length_below job.length l.length), unit_lacks job.unit, decimal_lacks job.method method, flag_lacks job.flag, r.0, r.1, digits_lack b.update (moment_is_digits b.update job.update b.moment)) in
     ap (slice_split is_comma) b.texts ∙ joined_splits job.stream.nmi (job.stream.suffix ∷ b.date ∷ decimal job.first ∷ decimal job.last ∷ decimal job.length
-    ∷ unit_text job.unit ∷ decimal job.method ∷ (job.flag ∷ []) ∷ code_text job.code ∷ job.text ∷ b.update ∷ []) lacks
+    ∷ unit_text job.unit ∷ decimal job.method ∷ flag_text job.flag ∷ code_text job.code ∷ job.text ∷ b.update ∷ []) lacks
+
+-- the text of one flag
+pub flag_written : (flag : ℕ) → (if list_all is_ascii_uppercase (flag ∷ []) then flag ∷ [] else []) ≡ flag_text flag
+flag_written flag = by_letter (is_ascii_uppercase flag) (flag ∷ [])
+  where
+    by_letter : (b : Bool) (text : List ℕ) → (if b && true then text else []) ≡ (if b then text else [])
+    by_letter true text = refl
+    by_letter false text = refl
 
 -- a job has one body where a day and a moment have one text
 pub one_body : (job : JobContent) (a b : List ℕ) → (x : IsJobBody job a) → (y : IsJobBody job b) → x.date ≡ y.date → x.update ≡ y.update → a ≡ b

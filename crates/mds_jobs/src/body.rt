@@ -1,6 +1,6 @@
 //! A substitution job as the text that a store keeps of it, and back.
 
-ghost use Rattle.std.specs.Prelude.{◌≡◌, ◌≢◌, ◌≤◌, ◌<◌, ◌+◌, ℕ, List, [], ◌∷◌, length, true, IsTrue, MatchOption, IfSome, IfNone, IfOk, OnOk, OnErr, string_bytes, string_capacity, string_len};
+ghost use Rattle.std.specs.Prelude.{◌≡◌, ◌≢◌, ◌≤◌, ◌<◌, ◌+◌, ℕ, if◌then◌else◌, List, [], ◌∷◌, length, true, IsTrue, MatchOption, IfSome, IfNone, IfOk, OnOk, OnErr, string_bytes, string_capacity, string_len};
 ghost use Rattle.std.specs.Char.{is_ascii_digit, is_ascii_uppercase};
 ghost use Rattle.std.specs.List.{list_all, position_or_len};
 ghost use Rattle.mds_quantity.specs.Append.{Appends, AppendsPart};
@@ -8,17 +8,16 @@ ghost use Rattle.mds_quantity.specs.Unit.{unit_text as text_of_unit};
 ghost use Rattle.mds_names.specs.Names.{is_comma};
 ghost use Rattle.mds_marks.specs.Reason.{code_text as text_of_code};
 ghost use Rattle.mds_world.specs.Facts.{JobContent};
-ghost use Rattle.mds_jobs.specs.Bodies.{IsJobBody, IsLawfulJob, job_in, parts_of};
-ghost use Rattle.mds_jobs.specs.BodySteps.{SaysManner, SaysPlace, Writes, flag_of, texts_of};
+ghost use Rattle.mds_jobs.specs.Bodies.{AreJobParts, IsJobBody, IsLawfulJob, Writes, flag_of, job_in, parts_of};
+ghost use Rattle.mds_jobs.specs.BodySteps.{SaysManner, SaysPlace, texts_of};
 ghost use Rattle.mds_jobs.specs.Jobs.{IsBad, content_of};
-ghost use Rattle.mds_jobs.specs.declared.job.Job.{Job};
 ghost use Rattle.mds_jobs.specs.declared.job.JobManner.{JobManner};
 ghost use Rattle.mds_jobs.specs.declared.job.JobPlace.{JobPlace};
 
 use crate::job::{Job, JobManner, JobPlace};
 use crate::job_id::JobId;
 use itoa::Buffer;
-use mds_marks::Reason;
+use mds_marks::ReasonRef;
 use mds_quantity::Unit;
 use mds_terms::{Day, Length, Moment, Stream, write_joined};
 use std::alloc::{AllocError, Global};
@@ -36,14 +35,15 @@ struct Parts<'a> {
 impl Job {
     /// Appends its body, its parts but for the id as twelve texts joined by commas, as
     /// `NEM1201009,E1,20240122,5,8,30,kWh,15,F,76,,20240123000000`. It reads back (`from_body`) where the flag is a
-    /// capital letter, as in each job that isn't bad. Fails only where `out` had no room for all of it and can't grow;
-    /// a front of it may be appended then.
+    /// capital letter, as in each job that isn't bad. Any other flag is left out. Fails only where `out` had no room for
+    /// all of it and can't grow; a front of it may be appended then.
     pub fn write_body(&self, out: &mut String) -> Result<(), AllocError>
         ensures done { IsTrue (is_ascii_uppercase self.now.flag) → OnOk result ((body : List ℕ)
             × IsJobBody (content_of self.now) body × (job_in (parts_of body) ≡ content_of self.now)
             × Appends (string_bytes out.old) (string_bytes out.new) body) }
-        ensures part { IsTrue (is_ascii_uppercase self.now.flag) → OnErr result ((body : List ℕ)
-            × IsJobBody (content_of self.now) body
+        ensures text { OnOk result ((body : List ℕ) × IsJobBody (content_of self.now) body
+            × Appends (string_bytes out.old) (string_bytes out.new) body) }
+        ensures part { OnErr result ((body : List ℕ) × IsJobBody (content_of self.now) body
             × AppendsPart (string_bytes out.old) (string_bytes out.new) body
             × (string_capacity out.old < string_len out.old + length body)) }
         ensures lawful { IsTrue (is_ascii_uppercase self.now.flag) → IsLawfulJob (content_of self.now) }
@@ -82,14 +82,16 @@ impl Job {
         )
     }
 
-    /// The job of an id that a body says, or `None` where the text is no job's body. Takes memory only for the
-    /// reason's text.
+    /// The job of an id that a body says, or `None` where its parts aren't read as a job. A number with zeros before it
+    /// and a unit in small letters are read too. Takes memory only for the reason's text.
     pub fn from_body(alloc: Global, id: JobId, body: &[u8]) -> Result<Option<Job>, AllocError>
         ensures some { IfOk result (λ found. IfSome found (λ job.
             (job.id ≡ id) × (content_of job ≡ job_in (parts_of body.now)))) }
-        ensures none { IfOk result (λ found. IfNone found ((job : Job)
-            → IsLawfulJob (content_of job) → IsJobBody (content_of job) body.now → ⊥)) }
-        ensures full { OnErr result (0 < length (job_in (parts_of body.now)).text) }
+        ensures parts { IfOk result (λ found. IfSome found (λ job. AreJobParts (parts_of body.now) (content_of job))) }
+        ensures none { IfOk result (λ found. IfNone found ((job : JobContent)
+            → AreJobParts (parts_of body.now) job → ⊥)) }
+        ensures full { OnErr result ((job : JobContent)
+            × AreJobParts (parts_of body.now) job × (0 < length job.text)) }
     {
         let Some(parts) = parts_in(body) else {
             return Ok(None);
@@ -100,18 +102,23 @@ impl Job {
         let Some(manner) = manner_in(&parts) else {
             return Ok(None);
         };
-        let Some(reason) = Reason::read(alloc, parts.texts[9], parts.texts[10])? else {
+        let Some(reason) = ReasonRef::read(parts.texts[9], parts.texts[10]) else {
             return Ok(None);
         };
+        let reason = reason.to_reason(alloc)?;
         Ok(Some(Job::new(id, place, manner, reason)))
     }
 }
 
-/// A law: the body of a lawful job says this job, and a job has one body. The function does nothing.
+/// A law: the body of a lawful job is read as this job, and says it. A job has one body, and parts are read as one job.
+/// The function does nothing.
 pub fn bodies_read_back()
+    ensures parts { (job : JobContent) (body : List ℕ)
+        → IsLawfulJob job → IsJobBody job body → AreJobParts (parts_of body) job }
     ensures says { (job : JobContent) (body : List ℕ)
         → IsLawfulJob job → IsJobBody job body → job_in (parts_of body) ≡ job }
     ensures only { (job : JobContent) (a b : List ℕ) → IsJobBody job a → IsJobBody job b → a ≡ b }
+    ensures one { (parts : List (List ℕ)) (job : JobContent) → AreJobParts parts job → job ≡ job_in parts }
 {}
 
 /// The text that digits are.
@@ -129,14 +136,22 @@ fn unit_text(unit: &Unit) -> &str
     unit.text()
 }
 
-/// The text of a flag. One that is no ASCII character, which no job that can be done has, is left out.
-fn flag_text(flag: &[u8; 1]) -> &str
-    ensures { list_all is_ascii_uppercase flag.now ≡ true → result.now ≡ flag.now }
+/// The text of flags. Where one is no capital letter, as in no job that can be done, there is none.
+fn flag_text(flags: &[u8]) -> &str
+    ensures { result.now ≡ (if list_all is_ascii_uppercase flags.now then flags.now else []) }
 {
-    match str::from_utf8(flag) {
-        Ok(text) => text,
-        Err(_) => "",
+    if are_letters(flags) {
+        str::from_utf8(flags).unwrap()
+    } else {
+        ""
     }
+}
+
+/// Whether each is a capital letter.
+fn are_letters(flags: &[u8]) -> bool
+    ensures { result ≡ list_all is_ascii_uppercase flags.now }
+{
+    flags.iter().all(|flag| flag.is_ascii_uppercase())
 }
 
 /// The text of a reason's code, which is empty where there is none.
@@ -175,7 +190,7 @@ fn first_part(text: &[u8]) -> Option<(&[u8], &[u8])>
 /// The parts of a body, or `None` where there aren't twelve.
 fn parts_in(body: &[u8]) -> Option<Parts<'_>>
     ensures { MatchOption result (length (parts_of body.now) ≢ 12)
-        (λ parts. texts_of parts.texts ≡ parts_of body.now) }
+        (λ parts. (texts_of parts.texts ≡ parts_of body.now) × (length (parts_of body.now) ≡ 12)) }
 {
     let mut texts: [&[u8]; PARTS] = [&[]; PARTS];
     let mut rest = body;

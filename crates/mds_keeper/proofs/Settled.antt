@@ -4,9 +4,7 @@ use Rattle.std.specs.Prelude.{Bool, true, false, cond, nat_eq, not, ◌||◌, �
 use Rattle.std.specs.List.{slice_get}
 use Rattle.std.proofs.lemmas.Grind.{flat_map-append}
 use Rattle.std.proofs.lemmas.List.{append-nil, drop_all, length-append, length-map, map-append, nil_from_length}
-use Rattle.std.proofs.Math.Nat.{div-le_self}
 use Rattle.std.specs.FinSet as set
-use Rattle.mds_calendar.specs.Length.{count_of}
 use Rattle.mds_quantity.specs.declared.unit.Unit.{Unit as MeasureUnit}
 use Rattle.mds_marks.specs.Reading.{ReadingValue}
 use Rattle.mds_world.specs.declared.facts.Head.{Head}
@@ -764,10 +762,6 @@ none_claimed b unit t es old none =
     no_heads : (o : Option MeasureUnit) → new_heads b o [] ≡ []
     no_heads None = refl
     no_heads (Some one) = refl
-
--- a day has fewer intervals than minutes
-pub few_whole : (n minutes : ℕ) → n ≡ count_of minutes → n ≤ 1440
-few_whole n minutes e = omega (arith, e, div-le_self 1440 minutes)
 
 -- ---- a day is new or known
 

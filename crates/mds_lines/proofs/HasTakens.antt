@@ -9,8 +9,6 @@ use Rattle.mds_lines.specs.Buffered.{Buffered, nothing_read, Takes, HasTaken}
 use Rattle.mds_lines.specs.Lines.{line_feed, longest_line, most_lines}
 use Rattle.mds_lines.specs.Readers.{reader_source, reader_lines, GoesOn}
 use Rattle.mds_lines.specs.Reads.{Reads, block}
-use Rattle.mds_lines.specs.Counted.{lent_gives}
-use denote.MutBor.{MutBor}
 
 reads_append : {S : Type 0} (gives : S → List ℕ → S → Type 0) (a b c : S) (xs ys : List (List ℕ)) → Reads gives a xs b → Reads gives b ys c → Reads gives a (xs ++ ys) c
 reads_append {S = S} gives a b c [] ys r h = subst (λ (s : S). Reads gives s ys c) r h
@@ -73,15 +71,6 @@ taken_next remaining failures gives begin old new (Ok None) h n =
     taken_no_line gives begin (reader_source old) (reader_source new) (reader_lines old) (reader_lines new) h n.takes n.next.number
 taken_next remaining failures gives begin old new (Err fault) h n =
     taken_no_line gives begin (reader_source old) (reader_source new) (reader_lines old) (reader_lines new) h n.takes n.kept.1
-
--- What was read of a lent source was read of the source itself, which stayed lent.
-reads_lent : {S : Type 0} (gives : S → List ℕ → S → Type 0) (old new : MutBor S) (given : List (List ℕ)) → Reads (lent_gives gives) old given new → Reads gives old.now given new.now
-reads_lent gives old new [] r = ap (λ s. s.now) r
-reads_lent gives old new (x ∷ xs) r = (r.0.now, r.1.1, reads_lent gives r.0 new xs r.2)
-
-stays_lent : {S : Type 0} (gives : S → List ℕ → S → Type 0) (old new : MutBor S) (given : List (List ℕ)) → Reads (lent_gives gives) old given new → new.ghost_name ≡ old.ghost_name
-stays_lent gives old new [] r = ap (λ s. s.ghost_name) r
-stays_lent gives old new (x ∷ xs) r = stays_lent gives r.0 new xs r.2 ∙ r.1.0
 
 -- all that it takes
 pub taken_bound : {S : Type 0} (gives : S → List ℕ → S → Type 0) (begin now : S) (buffered : Buffered) → (h : HasTaken gives begin now buffered)

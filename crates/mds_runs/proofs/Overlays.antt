@@ -37,6 +37,9 @@ passed_on (run ∷ runs) k place le = elim (cases_lt run.last k) [
   | inr here ↦ ap (λ l. runs_from l place) (runs_from-here k run runs here)
 ]
 
+pub left_on : (runs left next : List Run) (k : ℕ) → left ≡ runs_from runs k → next ≡ runs_from left (k + 1) → next ≡ runs_from runs (k + 1)
+left_on runs left next k e f = f ∙ ap (λ l. runs_from l (k + 1)) e ∙ passed_on runs k (k + 1) (omega arith)
+
 pub from_start : (runs : List Run) → runs ≡ runs_from runs 0
 from_start [] = refl
 from_start (run ∷ runs) = sym (runs_from-here 0 run runs (omega arith))

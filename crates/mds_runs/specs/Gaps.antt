@@ -1,5 +1,5 @@
 -- The runs of a list of marks with gaps, where a gap is an interval without a mark (profile). Intervals count from 1.
-use Rattle.std.specs.Prelude.{◌≡◌, ◌≤◌, ℕ, ◌+◌, Bool, false, true, ◌&&◌, ◌==◌, List, [], ◌∷◌, Option, Some, None, if◌then◌else◌, option_map, length, map, bytes_eq}
+use Rattle.std.specs.Prelude.{◌≡◌, ◌<◌, ◌≤◌, ℕ, ◌+◌, Bool, false, true, ◌&&◌, ◌==◌, List, [], ◌∷◌, Option, Some, None, if◌then◌else◌, option_map, length, map, bytes_eq}
 use Rattle.std.specs.List.{range_with_len}
 use Rattle.mds_marks.specs.declared.mark.Mark.{Mark}
 use Rattle.mds_runs.specs.declared.cover.Run.{Run}
@@ -53,6 +53,11 @@ IsLeastWithGaps count runs = (others : List Run) → AreRuns count others
 abbrev pub over : Option Run → Option Mark → Option Mark
 over None mark = mark
 over (Some run) mark = Some run.mark
+
+-- one of so many intervals is held by a run whose mark has a text
+abbrev pub LaysText : List Run → ℕ → Type 0
+LaysText runs count =
+    (interval : ℕ) × (run : Run) × (interval ≤ count) × (run_at runs interval ≡ Some run) × (0 < length run.mark.reason.text)
 
 -- marks and gaps that begin at an interval, with the mark of the run that holds an interval over what stands there
 abbrev pub overlaid : List Run → ℕ → List (Option Mark) → List (Option Mark)

@@ -3,7 +3,7 @@
 ghost use Rattle.std.specs.Prelude.{◌≡◌, ◌≢◌, ◌↔◌, ◌+◌, ◌-◌, ◌^◌, ◌<◌, ◌≤◌, ℕ, List, [], ◌∷◌, ◌++◌, filter, length, nat_le, replicate, slice_get, Contains, Some, IfOk, IfErr, OnOk, OnErr, IsTrue, not};
 ghost use Rattle.std.specs.Option.{unwrap_or};
 ghost use Rattle.mds_marks.specs.declared.mark.Mark.{Mark};
-ghost use Rattle.mds_runs.specs.Gaps.{runs_of, spread_with_gaps, IsLeastWithGaps, over, overlaid};
+ghost use Rattle.mds_runs.specs.Gaps.{runs_of, spread_with_gaps, IsLeastWithGaps, LaysText, over, overlaid};
 ghost use Rattle.mds_runs.specs.GapSteps.{stretch_of, first_begun};
 ghost use Rattle.mds_runs.specs.RunSteps.{first_mark, runs_from, held_by};
 ghost use Rattle.mds_runs.specs.Runs.{holds, is_in_range, AreRuns, AreAscending, run_at, mark_at, spread_of, IsFull, leaves_out, IsLeast, last_end, refusal};
@@ -338,11 +338,13 @@ fn are_alike(one: &Option<Mark>, other: &Option<Mark>) -> bool
 }
 
 /// Lays a cover over marks and gaps. An interval has the mark of the run that holds it, or else what stood there. It
-/// goes over both once. It fails only for want of memory, and drops the marks then.
+/// goes over both once. It fails only for want of memory, and only where an interval gets a mark with a text. It drops
+/// the marks then.
 pub fn overlay(marks: Vec<Option<Mark>>, cover: &Cover) -> Result<Vec<Option<Mark>>, AllocError>
     requires { length marks.items < 2 ^ 16 }
     ensures value { IfOk result (λ new. new.items ≡ overlaid cover.now.runs 1 marks.items) }
     ensures full { OnErr result (0 < length marks.items) }
+    ensures only { OnErr result (LaysText cover.now.runs (length marks.items)) }
 {
     let mut new = marks;
     set_marks(&mut new, cover.runs.as_slice())?;
@@ -355,6 +357,7 @@ fn set_marks(marks: &mut Vec<Option<Mark>>, runs: &[Run]) -> Result<(), AllocErr
     requires lawful { AreAscending runs.now }
     ensures done { OnOk result (marks.new.items ≡ overlaid runs.now 1 marks.old.items) }
     ensures full { OnErr result (0 < length marks.old.items) }
+    ensures only { OnErr result (LaysText runs.now (length marks.old.items)) }
 {
     let mut left = runs;
     for k in 0..marks.len() {
@@ -366,7 +369,9 @@ fn set_marks(marks: &mut Vec<Option<Mark>>, runs: &[Run]) -> Result<(), AllocErr
 
 /// Sets the mark of an interval to that of the first run, where this one has begun.
 fn set_mark(mark: &mut Option<Mark>, runs: &[Run], interval: u16) -> Result<(), AllocError>
-    ensures { OnOk result (mark.new ≡ over (first_begun runs.now interval) mark.old) }
+    ensures done { OnOk result (mark.new ≡ over (first_begun runs.now interval) mark.old) }
+    ensures only { OnErr result ((run : Run) × (first_begun runs.now interval ≡ Some run)
+        × (0 < length run.mark.reason.text)) }
 {
     if let [run, ..] = runs {
         if run.first <= interval {

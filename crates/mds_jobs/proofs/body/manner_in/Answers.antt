@@ -1,5 +1,5 @@
 use Rattle.std.proofs.Common.{subst}
-use Rattle.mds_jobs.specs.BodySteps.{Writes}
+use Rattle.mds_jobs.specs.Bodies.{Writes}
 use Rattle.mds_jobs.proofs.BodySplits.{part_is}
 use Rattle.mds_jobs.proofs.body.manner_in.Goals as goal
 

@@ -1,6 +1,6 @@
-use Rattle.std.proofs.Common.{◌++◌, ◌∙◌, ap, arith, length-set, take}
+use Rattle.std.proofs.Common.{◌≡◌, ◌++◌, ◌∙◌, ap, arith, length-set, take}
 use Rattle.mds_jobs.specs.BodySteps.{texts_of}
-use Rattle.mds_jobs.proofs.BodySplits.{last, push, too_few, too_many}
+use Rattle.mds_jobs.proofs.BodySplits.{last, last_size, push, too_few, too_many}
 use Rattle.mds_jobs.proofs.body.parts_in.Goals as goal
 
 pub loop-at-preserved : goal.loop-at-preserved
@@ -21,4 +21,6 @@ returns-in-Some-first_part c =
 pub returns-in-None : goal.returns-in-None
 returns-in-None c =
     let i = c.loop-at.invariant in
-    last c.loop-at.texts c.loop-at.at c.loop-at.rest _ i.0 (omega arith) (i.1 ∙ ap (λ t. texts_of (take c.loop-at.at c.loop-at.texts) ++ t) c.in-None.ensures)
+    let end : c.loop-at.at ≡ 11 = omega arith in
+    let all = i.1 ∙ ap (λ t. texts_of (take c.loop-at.at c.loop-at.texts) ++ t) c.in-None.ensures in
+    (last c.loop-at.texts c.loop-at.at c.loop-at.rest _ i.0 end all, last_size c.loop-at.texts c.loop-at.at c.loop-at.rest _ i.0 end all)
