@@ -1,7 +1,7 @@
 -- What `check` prints of a well formed file (profile): a line for each 300 or 250 record, in order. A 300 is told by NMI, suffix,
 -- date, how many of its intervals have a value, the sum of these values, and the unit. A 250 is told by NMI, suffix, the moments
 -- of the previous and the current read, the quantity, and the unit.
-use Rattle.std.specs.Prelude.{◌≡◌, ℕ, List, [], ◌∷◌, ◌++◌, length, codes, decimal, Some, None, ◌-◌, slice_index_or}
+use Rattle.std.specs.Prelude.{◌≡◌, ℕ, List, [], ◌∷◌, ◌++◌, length, codes, decimal, Some, None, ◌-◌, slice_index_or, Option}
 use Rattle.mds_quantity.specs.Quantity.{written}
 use Rattle.mds_quantity.specs.Unit.{unit_text}
 use Rattle.mds_calendar.specs.Calendar.{day_of, moment_of}
@@ -10,8 +10,9 @@ use Rattle.mds_records.specs.declared.file.FileFault.{FileFault}
 use Rattle.mds_records.specs.declared.file.FileKind.{FileKind}
 use Rattle.mds_records.specs.declared.file.FileKind.TheVariants.{Nem12, Nem13}
 use Rattle.mds_days.specs.Readings.{amounts, total}
-use Rattle.mds_nem12.specs.Faults.{fault_of}
-use Rattle.mds_nem13.specs.Faults.{fault_of as fault_of_13}
+use Rattle.mds_nem12.specs.Answers.{fault_so_far}
+use Rattle.mds_nem12.specs.Faults.{fault_of, nem12}
+use Rattle.mds_nem13.specs.Faults.{fault_of as fault_of_13, nem13}
 use Rattle.mds_nem13.specs.Statements.{statements_of as statements_of_13}
 use Rattle.mds_statements.specs.Statements.{DayStatement, PeriodContent, Statement}
 use Rattle.mds_nem12.specs.Statements.{statements_of}
@@ -56,3 +57,8 @@ IsReportOf Nem13 text report = (fault_of_13 text ≡ None) × IsReport (statemen
 abbrev pub IsFaultOf : FileKind → List ℕ → FileFault → Type 0
 IsFaultOf Nem12 text fault = fault_of text ≡ Some fault
 IsFaultOf Nem13 text fault = fault_of_13 text ≡ Some fault
+
+-- the fault that a file of a kind has by what stands of its text
+abbrev pub fault_by_now : FileKind → List ℕ → Option FileFault
+fault_by_now Nem12 text = fault_so_far nem12 text
+fault_by_now Nem13 text = fault_so_far nem13 text

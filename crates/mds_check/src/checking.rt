@@ -1,13 +1,14 @@
 //! `check`: what a file's days or accumulations add up to, or its first fault.
 
-ghost use Rattle.std.specs.Prelude.{ℕ, IsTrue, ◌↔◌, ◌≢◌, take, if◌then◌else◌, ◌≡◌, ◌≤◌, ◌+◌, ◌-◌, ◌*◌, ◌^◌, ◌<◌, List, length, false, None, Some, Err, IfSome, OnOk, IfOk, IfErr, MatchResult, is_ok, string_bytes};
+ghost use Rattle.std.specs.Prelude.{ℕ, IsTrue, ◌↔◌, ◌≢◌, take, if◌then◌else◌, ◌≡◌, ◌≤◌, ◌+◌, ◌-◌, ◌*◌, ◌^◌, ◌<◌, List, [], length, false, None, Some, Err, IfSome, OnOk, IfOk, IfErr, MatchResult, is_ok, string_bytes};
 ghost use Rattle.std.specs.Io.KnownBytes.{Appends as AppendsKnown, Keeps};
 ghost use Rattle.mds_records.specs.declared.file.FileFault.{FileFault};
 ghost use Rattle.std.specs.List.{concat};
 ghost use Rattle.mds_lines.specs.Lines.{longest_line, most_lines};
 ghost use Rattle.mds_lines.specs.Reads.{Reads, block};
 ghost use Rattle.mds_check.specs.Answer.{IsCheckOf, IsReportRead, is_read_fault, is_write_fault};
-ghost use Rattle.mds_check.specs.Report.{IsFaultOf, IsReportOf};
+ghost use Rattle.mds_check.specs.Report.{IsFaultOf, IsReportOf, fault_by_now};
+ghost use Rattle.mds_nem12.specs.Answers.{AreCallsNeeded};
 
 use crate::period_report::report_of_periods;
 use crate::report::report_of_days;
@@ -69,9 +70,10 @@ pub fn check<R: Source, W: Sink>(
     ensures writer { W.failures writer.new ≡ W.failures writer.old + (if is_write_fault result then 1 else 0) }
 
     // What was written, or answered, is of what the reader's calls brought, whatever that is. They brought no more than the lines
-    // that a file may have, and a block.
+    // that a file may have, and a block. Each call was needed: none comes behind the end, a failure, or a piece with a fault.
     ensures given { (given : List (List ℕ)) × Reads R.gives reader.old given reader.new
         × (length (concat given) ≤ most_lines * (longest_line + 1) + block)
+        × AreCallsNeeded (fault_by_now kind) [] false given
         × IsCheckOf kind given (AppendsKnown (W.contents writer.old) (W.contents writer.new)) result }
 {
     let text = report(alloc, kind, reader)?;
@@ -90,6 +92,7 @@ fn report<R: Source>(alloc: Global, kind: FileKind, reader: &mut R) -> Result<St
     ensures reader { R.failures reader.new ≡ R.failures reader.old + (if is_read_fault result then 1 else 0) }
     ensures given { (given : List (List ℕ)) × Reads R.gives reader.old given reader.new
         × (length (concat given) ≤ most_lines * (longest_line + 1) + block)
+        × AreCallsNeeded (fault_by_now kind) [] false given
         × IsReportRead kind string_bytes given result }
     ensures nothing { is_write_fault result ≡ false }
 {

@@ -94,7 +94,8 @@ ghost use Rattle.mds_lines.specs.Reads.{Reads, block};
 ghost use Rattle.mds_records.specs.declared.file.FileFault.{FileFault};
 ghost use Rattle.mds_records.specs.declared.file.FileKind.{FileKind};
 ghost use Rattle.mds_check.specs.Answer.{IsReportRead, is_read_fault, is_write_fault};
-ghost use Rattle.mds_check.specs.Report.{IsFaultOf, IsReportOf};
+ghost use Rattle.mds_check.specs.Report.{IsFaultOf, IsReportOf, fault_by_now};
+ghost use Rattle.mds_nem12.specs.Answers.{AreCallsNeeded};
 
 /// What is to be printed of a NEM12 file.
 pub(crate) fn report_of_days<R: Source>(alloc: Global, reader: &mut R) -> Result<String, CheckFault>
@@ -106,6 +107,7 @@ pub(crate) fn report_of_days<R: Source>(alloc: Global, reader: &mut R) -> Result
     ensures reader { R.failures reader.new ≡ R.failures reader.old + (if is_read_fault result then 1 else 0) }
     ensures given { (given : List (List ℕ)) × Reads R.gives reader.old given reader.new
         × (length (concat given) ≤ most_lines * (longest_line + 1) + block)
+        × AreCallsNeeded (fault_by_now FileKind.Nem12) [] false given
         × IsReportRead FileKind.Nem12 string_bytes given result }
     ensures nothing { is_write_fault result ≡ false }
 {

@@ -1,10 +1,11 @@
 -- How the import of what was read goes.
 use Rattle.std.specs.Prelude.{◌≡◌, ℕ, List, ◌++◌, true, Option, Some, None, IfSome, Result, Ok, Err}
 use Rattle.std.specs.List.{concat}
-use Rattle.std.proofs.Common.{inl, inr, refl, sym, subst}
+use Rattle.std.proofs.Common.{inl, inr, refl, sym, ap, ◌∙◌, subst}
 use Rattle.mds_records.specs.declared.file.FileFault.{FileFault}
 use Rattle.mds_records.specs.declared.file.FileKind.TheVariants.{Nem12}
 use Rattle.mds_statements.specs.Delivered.{delivery_statements}
+use Rattle.mds_statements.specs.Statements.{Statement}
 use Rattle.mds_statements.specs.declared.delivery.Delivery.{Delivery}
 use Rattle.mds_walk.specs.Given.{IsOfGiven}
 use Rattle.mds_walk.specs.declared.fault.ReadFault.{ReadFault}
@@ -21,12 +22,12 @@ use Rattle.mds_service.specs.Crashes.{GoesBy}
 use Rattle.mds_service.specs.Machine.{ImportStep, TakesIn}
 use Rattle.mds_service.proofs.Deliveries.{as_import}
 use Rattle.mds_service.proofs.Steps.{unasked}
-use Rattle.mds_desk.specs.Imported.{GoesByText, IsImportOf}
+use Rattle.mds_desk.specs.Imported.{GoesByRead, GoesByText, IsImportOf}
 use Rattle.mds_desk.specs.Performed.{IsToldAs}
 
-module _ (text : List ℕ) where
-  -- an import isn't answered with a list
-  no_list : (w v : World) (answer : Answer) → has_list answer ≡ true → ImportStep w Nem12 text answer v → ⊥
+module _ (statements : List Statement) where
+  -- what takes statements in isn't answered with a list
+  no_list : (w v : World) (answer : Answer) → has_list answer ≡ true → TakesIn w statements answer v → ⊥
   no_list w v (told.Imported added known) list h = cc
   no_list w v (told.Substituted count) list h = h
   no_list w v (told.Known count) list h = h
@@ -38,22 +39,33 @@ module _ (text : List ℕ) where
   no_list w v (told.Gaps it) list h = h
   no_list w v (told.Finals it) list h = h
   no_list w v (told.Exported it) list h = h
-  no_list w v (told.File fault) list h = cc
+  no_list w v (told.File fault) list h = h
   no_list w v (told.Refused refusal) list h = cc
   no_list w v told.Unavailable list h = cc
 
-  module _ {a b : Kept} where
-    -- so it is told as it is
-    pub told_so : (answer other : Answer) → IsToldAs answer other → GoesBy a b (λ w. ImportStep w Nem12 text) answer
-        → GoesBy a b (λ w. ImportStep w Nem12 text) other
-    told_so answer other (inl same) goes = subst (GoesBy a b (λ w. ImportStep w Nem12 text)) (sym same) goes
-    told_so answer other (inr wanting) goes = record {
-      outside = goes.outside;
-      before = goes.before;
-      step = λ honest w lawful shows.
-          let it = goes.step honest w lawful shows in absurd (no_list w it.0 answer wanting.0 it.2);
-    }
+  -- so it is told as it is
+  pub told_so : {a b : Kept} (answer other : Answer) → IsToldAs answer other → GoesBy a b (λ w. TakesIn w statements) answer
+      → GoesBy a b (λ w. TakesIn w statements) other
+  told_so {a = a} {b = b} answer other (inl same) goes = subst (GoesBy a b (λ w. TakesIn w statements)) (sym same) goes
+  told_so answer other (inr wanting) goes = record {
+    outside = goes.outside;
+    before = goes.before;
+    step = λ honest w lawful shows.
+        let it = goes.step honest w lawful shows in absurd (no_list w it.0 answer wanting.0 it.2);
+  }
 
+-- What was read is taken in, or told.
+module _ (read : Result Delivery ReadFault) where
+  pub read_delivered : {a b : Kept} (delivery : Delivery) (answer : Answer) → read ≡ Ok delivery
+      → GoesBy a b (λ w. TakesIn w (delivery_statements delivery)) answer → GoesByRead a b answer read
+  read_delivered {a = a} {b = b} delivery answer is goes = subst (GoesByRead a b answer) (sym is) goes
+
+  pub read_faulted : (a : Kept) (fault : ReadFault) (found : FileFault) → read ≡ Err fault → fault ≡ unread.File found
+      → GoesByRead a a (told.File found) read
+  read_faulted a fault found is same = subst (GoesByRead a a (told.File found)) (sym (is ∙ ap Err same)) refl
+
+module _ (text : List ℕ) where
+  module _ {a b : Kept} where
     -- what a text states is taken in
     pub delivered : (delivery : Delivery) (answer : Answer) → IsReadOf text (Ok delivery)
         → GoesBy a b (λ w. TakesIn w (delivery_statements delivery)) answer → GoesBy a b (λ w. ImportStep w Nem12 text) answer

@@ -5,8 +5,11 @@ use Rattle.mds_lines.specs.Reads.{Reads}
 use Rattle.mds_records.specs.declared.file.FileKind.TheVariants.{Nem12}
 use Rattle.mds_keeper.specs.Kept.{Kept}
 use Rattle.mds_messages.specs.declared.answer.Answer.{Answer}
+use Rattle.mds_messages.specs.declared.answer.Answer.TheVariants as told
 use Rattle.mds_service.specs.Crashes.{GoesBy}
-use Rattle.mds_service.specs.Machine.{ImportStep}
+use Rattle.mds_service.specs.Machine.{ImportStep, TakesIn}
+use Rattle.mds_statements.specs.Delivered.{delivery_statements}
+use Rattle.mds_statements.specs.declared.delivery.Delivery.{Delivery}
 use Rattle.mds_walk.specs.Given.{MeetsEnd}
 use Rattle.mds_walk.specs.declared.fault.ReadFault.{ReadFault}
 use Rattle.mds_walk.specs.declared.fault.ReadFault.TheVariants as unread
@@ -36,6 +39,12 @@ IsUnread fault result Unwritten = (result ≢ Err Read) × (result ≢ Err Memor
 -- the step of an import of a text
 abbrev pub GoesByText : Kept → Kept → Answer → List ℕ → Type 0
 GoesByText old new answer text = GoesBy old new (λ w. ImportStep w Nem12 text) answer
+
+-- What was read is taken in, whatever text it is of. Or its fault is the answer.
+abbrev pub GoesByRead : Kept → Kept → Answer → Result Delivery ReadFault → Type 0
+GoesByRead old new answer (Ok delivery) = GoesBy old new (λ w. TakesIn w (delivery_statements delivery)) answer
+GoesByRead old new answer (Err (unread.File fault)) = answer ≡ told.File fault
+GoesByRead old new answer (Err reason) = ⊥
 
 -- The step of an import of all that the calls brought, up to the end; or that of every text that begins so, where they stopped
 -- before.

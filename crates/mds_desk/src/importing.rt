@@ -1,14 +1,17 @@
 //! A NEM12 file, taken in as it is read. No more of it is held than a line and what it states.
 
-ghost use Rattle.std.specs.Prelude.{◌≡◌, ◌+◌, ◌-◌, ◌*◌, ◌<◌, ◌≤◌, ◌^◌, ◌≢◌, ℕ, List, Err, IfErr, IfOk, MatchResult, if◌then◌else◌, is_ok, length, take};
+ghost use Rattle.std.specs.Prelude.{◌≡◌, ◌+◌, ◌-◌, ◌*◌, ◌<◌, ◌≤◌, ◌^◌, ◌≢◌, ℕ, List, [], false, Err, IfErr, IfOk, MatchResult, if◌then◌else◌, is_ok, length, take};
 ghost use Rattle.std.specs.Io.KnownBytes.{Appends as AppendsKnown, Keeps};
 ghost use Rattle.std.specs.List.{concat};
 ghost use Rattle.mds_lines.specs.Lines.{longest_line, most_lines};
 ghost use Rattle.mds_lines.specs.Reads.{Reads, block};
 ghost use Rattle.mds_messages.specs.declared.answer.Answer.{Answer as AnAnswer};
 ghost use Rattle.mds_nem12.specs.Answers.{IsReadOf};
+ghost use Rattle.mds_nem12.specs.Faults.{nem12};
+ghost use Rattle.mds_walk.specs.Given.{AreCallsNeeded};
+ghost use Rattle.mds_walk.specs.SoFar.{fault_so_far};
 ghost use Rattle.mds_records.specs.declared.file.FileFault.{FileFault};
-ghost use Rattle.mds_desk.specs.Imported.{GoesByText, IsImportFrom, IsUnread, is_read_failure, is_write_failure};
+ghost use Rattle.mds_desk.specs.Imported.{GoesByRead, GoesByText, IsImportFrom, IsUnread, is_read_failure, is_write_failure};
 ghost use Rattle.mds_desk.specs.Performed.{IsAnswerText, IsToldAs, answer_status};
 
 use crate::outcome::Status;
@@ -32,7 +35,7 @@ pub enum ImportFault {
 }
 
 /// Takes in the NEM12 file that a reader gives, writes what a command prints of its answer, and answers the status to end with. It
-/// reads no further than the first line with a fault.
+/// reads no block behind the one that holds the first line with a fault.
 pub fn import_file<K: Keeper, R: Source, W: Sink>(
     alloc: Global,
     keeper: &mut K,
@@ -62,15 +65,18 @@ pub fn import_file<K: Keeper, R: Source, W: Sink>(
     ensures reader { R.failures reader.new ≡ R.failures reader.old + (if is_read_failure result then 1 else 0) }
     ensures writer { W.failures writer.new ≡ W.failures writer.old + (if is_write_failure result then 1 else 0) }
 
-    // It reads at most the lines that a file may have, and a block, whatever the reader gives.
+    // It reads at most the lines that a file may have, and a block, whatever the reader gives. Each call was needed: none comes
+    // behind the end, a failure, or a piece with a fault.
     ensures bounded { (given : List (List ℕ)) × Reads R.gives reader.old given reader.new
-        × (length (concat given) ≤ most_lines * (longest_line + 1) + block) }
+        × (length (concat given) ≤ most_lines * (longest_line + 1) + block)
+        × AreCallsNeeded (fault_so_far nem12) [] false given }
 {
     let read = read_delivery(alloc, reader);
     import_read(alloc, keeper, read, writer)
 }
 
-/// Takes in what was read of a NEM12 file, as `import_file` does. So a file may be read before the store is opened.
+/// Takes in what was read of a NEM12 file, as `import_file` does. So a file may be read before the store is opened. A delivery that
+/// no file states is taken in all the same.
 pub fn import_read<K: Keeper, W: Sink>(
     alloc: Global,
     keeper: &mut K,
@@ -80,10 +86,12 @@ pub fn import_read<K: Keeper, W: Sink>(
     requires { W.failures writer.old < 2 ^ 64 - 1 }
     ensures done { IfOk result (λ status. (answer : AnAnswer)
         × ((text : List ℕ) → IsReadOf text read → GoesByText (K.kept keeper.old) (K.kept keeper.new) answer text)
+        × GoesByRead (K.kept keeper.old) (K.kept keeper.new) answer read
         × (status ≡ answer_status answer) × (text : List ℕ) × IsAnswerText answer text
         × AppendsKnown (W.contents writer.old) (W.contents writer.new) text) }
     ensures part { result ≡ Err ImportFault.Write → (answer : AnAnswer)
         × ((text : List ℕ) → IsReadOf text read → GoesByText (K.kept keeper.old) (K.kept keeper.new) answer text)
+        × GoesByRead (K.kept keeper.old) (K.kept keeper.new) answer read
         × (text : List ℕ) × IsAnswerText answer text × (n : ℕ) × (n < length text)
         × AppendsKnown (W.contents writer.old) (W.contents writer.new) (take n text) }
 

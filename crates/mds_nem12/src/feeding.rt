@@ -1,10 +1,12 @@
 //! A NEM12 file that is fed in pieces.
 
-ghost use Rattle.std.specs.Prelude.{◌≡◌, ℕ, List, [], ◌++◌, map, None, Some, Err, IfSome, IfOk, IfErr, MatchResult};
+ghost use Rattle.std.specs.Prelude.{◌≡◌, ◌≢◌, ℕ, List, [], ◌++◌, map, None, Some, Err, IfSome, IfOk, IfErr, MatchResult};
 ghost use Rattle.std.specs.List.{concat};
-ghost use Rattle.mds_walk.specs.SoFar.{fault_so_far};
+ghost use Rattle.mds_walk.specs.Feeding.{MayLackFor, MayLackHere};
+ghost use Rattle.mds_walk.specs.SoFar.{fault_so_far, open_piece};
 ghost use Rattle.mds_walk.specs.Answers.{IsRefusal};
 ghost use Rattle.mds_statements.specs.Delivered.{delivery_statements};
+ghost use Rattle.mds_nem12.specs.Answers.{MayLackMemory};
 ghost use Rattle.mds_nem12.specs.Faults.{fault_of, nem12};
 ghost use Rattle.mds_nem12.specs.Statements.{statements_of};
 
@@ -62,6 +64,10 @@ impl Reader {
         ensures again { IfSome (reader_fault self.old) (λ fault. (result ≡ Err fault)
             × (reader_fault self.new ≡ Some fault)) }
         ensures kept { IfErr result (λ fault. reader_fault self.new ≡ Some fault) }
+
+        // A first want of memory is for a line that is copied, or for one for which it may be wanting.
+        ensures memory { (text : List ℕ) → HasRead text self.old → reader_fault self.old ≡ None
+            → result ≡ Err TakeFault.Memory → MayLackFor MayLackMemory nem12 text piece.now }
     {
         self.feeder.feed(piece)
     }
@@ -84,6 +90,10 @@ impl Reader {
             (λ delivery. (fault_of text ≡ None) × (delivery_statements delivery ≡ statements_of text))
             (IsRefusal (fault_of text)) }
         ensures again { IfSome (reader_fault self) (λ fault. result ≡ Err fault) }
+
+        // A first want of memory is for a last line without its line feed, for which it may be wanting.
+        ensures memory { (text : List ℕ) → HasRead text self → reader_fault self ≡ None
+            → result ≡ Err TakeFault.Memory → (open_piece text ≢ []) × MayLackHere MayLackMemory nem12 text }
     {
         match self.feeder.finish() {
             Ok(builder) => match builder.into_delivery() {

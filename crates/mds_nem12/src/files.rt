@@ -1,14 +1,15 @@
 //! A NEM12 file read from a source, or from memory.
 
-ghost use Rattle.std.specs.Prelude.{ℕ, ◌≡◌, ◌≤◌, ◌+◌, ◌-◌, ◌*◌, ◌^◌, ◌<◌, List, [], length, true, None, Some, Err, IfSome, IfOk, if◌then◌else◌};
+ghost use Rattle.std.specs.Prelude.{ℕ, ◌≡◌, ◌≤◌, ◌+◌, ◌-◌, ◌*◌, ◌^◌, ◌<◌, List, [], length, true, false, None, Some, Err, IfSome, IfOk, if◌then◌else◌};
 ghost use Rattle.std.specs.List.{concat};
 ghost use Rattle.mds_lines.specs.Lines.{longest_line, most_lines};
 ghost use Rattle.mds_lines.specs.Reads.{Reads, block};
 ghost use Rattle.mds_records.specs.declared.file.FileFault.{FileFault};
-ghost use Rattle.mds_walk.specs.Given.{IsOfGiven};
+ghost use Rattle.mds_walk.specs.Given.{AreCallsNeeded, IsOfGiven};
+ghost use Rattle.mds_walk.specs.SoFar.{fault_so_far};
 ghost use Rattle.mds_nem12.specs.Answers.{IsReadOf, is_read_fault};
 ghost use Rattle.mds_statements.specs.Delivered.{delivery_statements};
-ghost use Rattle.mds_nem12.specs.Faults.{fault_of};
+ghost use Rattle.mds_nem12.specs.Faults.{fault_of, nem12};
 ghost use Rattle.mds_nem12.specs.Statements.{statements_of};
 ghost use Rattle.mds_nem12.specs.Told.{is_headed};
 
@@ -44,9 +45,10 @@ pub fn read_lines<R: Source, T: StatementSink + Drop>(
     ensures counted { R.failures source.new ≡ R.failures source.old + (if is_read_fault result then 1 else 0) }
 
     // What it made is of what the source's calls brought, whatever that is. They brought no more than the lines that a file may
-    // have, and a block.
+    // have, and a block. Each call was needed: none comes behind the end, a failure, or a piece with a fault.
     ensures given { (given : List (List ℕ)) × Reads R.gives source.old given source.new
         × (length (concat given) ≤ most_lines * (longest_line + 1) + block)
+        × AreCallsNeeded (fault_so_far nem12) [] false given
         × IsOfGiven (λ out text. T.told out (statements_of text) × (is_headed (statements_of text) ≡ true)) fault_of given result }
 {
     let Ok(file) = FileReader::new(alloc, sink) else {
@@ -66,9 +68,10 @@ pub fn read_delivery<R: Source>(alloc: Global, source: &mut R) -> Result<Deliver
     ensures counted { R.failures source.new ≡ R.failures source.old + (if is_read_fault result then 1 else 0) }
 
     // What is read is of what the source's calls brought, whatever that is. They brought no more than the lines that a file may
-    // have, and a block.
+    // have, and a block. Each call was needed: none comes behind the end, a failure, or a piece with a fault.
     ensures given { (given : List (List ℕ)) × Reads R.gives source.old given source.new
         × (length (concat given) ≤ most_lines * (longest_line + 1) + block)
+        × AreCallsNeeded (fault_so_far nem12) [] false given
         × IsOfGiven (λ delivery text. delivery_statements delivery ≡ statements_of text) fault_of given result }
 {
     match read_lines(alloc, source, DeliveryBuilder::new(alloc)) {

@@ -1,6 +1,7 @@
 -- A source that is fed, block by block.
-use Rattle.std.proofs.Common.{◌≡◌, ℕ, ◌+◌, ◌*◌, ◌≤◌, inl, inr, List, [], ◌∷◌, ◌++◌, length, take, Option, Some, None, IfSome, Result, Ok, Err, refl, sym, ◌∙◌, ap, subst, arith, length-append, append_assoc}
+use Rattle.std.proofs.Common.{◌≡◌, ℕ, ◌+◌, ◌*◌, ◌≤◌, ◌<◌, Bool, false, ◌==◌, inl, inr, List, [], ◌∷◌, ◌++◌, length, take, Option, Some, None, IfSome, Result, Ok, Err, refl, sym, ◌∙◌, ap, subst, arith, length-append, append_assoc}
 use Rattle.std.specs.Io.KnownBytes.{Consumes}
+use Rattle.std.proofs.lemmas.Bool.Decides.{nat_tests}
 use Rattle.std.proofs.lemmas.List.{append-nil, length-take-le}
 use Rattle.std.proofs.lemmas.List.Folds.{concat-append}
 use Rattle.std.specs.List.{concat}
@@ -17,14 +18,15 @@ use Rattle.mds_walk.specs.declared.fault.TakeFault.TheVariants.{File, Memory}
 use Rattle.mds_walk.specs.Feeding.{WasFed}
 use Rattle.mds_walk.specs.SoFar.{fault_so_far}
 use Rattle.mds_walk.specs.FileSteps.{read_fault_of}
-use Rattle.mds_walk.specs.Given.{IsOfGiven}
+use Rattle.mds_walk.specs.Given.{AreCallsNeeded, IsOfGiven}
 use Rattle.mds_walk.specs.declared.feeder.LineFeeder.{LineFeeder}
 use Rattle.mds_walk.proofs.Bounds.{so_far_few}
 use Rattle.mds_walk.proofs.Stops.{fault_of_all}
 
--- reads brought these bytes, and may go on
-pub record HasGiven {S : Type 0} (gives : S → List ℕ → S → Type 0) (begin now : S) (bytes : List ℕ) : Type 0 where
+-- reads brought these bytes, each was needed, and they may go on
+pub record HasGiven {S : Type 0} (gives : S → List ℕ → S → Type 0) (found : List ℕ → Option FileFault) (begin now : S) (bytes : List ℕ) : Type 0 where
   pub given : List (List ℕ)
+  pub needed : (more : List (List ℕ)) → AreCallsNeeded found bytes false more → AreCallsNeeded found [] false (given ++ more)
   pub reads : (more : List (List ℕ)) (last : S) → Reads gives now more last → Reads gives begin (given ++ more) last
   pub all : concat given ≡ bytes
 
@@ -40,7 +42,7 @@ pub record IsReading {T : Type 0} {S : Type 0} (gives : S → List ℕ → S →
   pub none : fault_so_far judge fed ≡ None
   pub was : WasFed judge taken fed feeder
   pub consumed : Consumes first now fed
-  pub given : HasGiven gives begin here fed
+  pub given : HasGiven gives (fault_so_far judge) begin here fed
 
 consumes_none : (o : Option (List ℕ)) → Consumes o o []
 consumes_none None = tt
@@ -56,17 +58,18 @@ module _ {T : Type 0} {S : Type 0} {gives : S → List ℕ → S → Type 0} {be
     none = none;
     was = was;
     consumed = consumes_none first;
-    given = record { given = []; reads = λ more last r. r; all = refl };
+    given = record { given = []; needed = λ more n. n; reads = λ more last r. r; all = refl };
   }
 
   -- one read more, that brought a piece
   pub reading_more : {here next : S} {b c : Option (List ℕ)} {count size : ℕ} {piece : List ℕ} {old new : LineFeeder T}
-      → IsReading gives begin here judge taken first b count old → size ≡ length piece → Consumes b c piece → gives here piece next
+      → IsReading gives begin here judge taken first b count old → size ≡ length piece → 0 < size → Consumes b c piece → gives here piece next
       → ((text : List ℕ) → WasFed judge taken text old → WasFed judge taken (text ++ piece) new)
       → ((text : List ℕ) → WasFed judge taken text old → fault_so_far judge (text ++ piece) ≡ None)
       → IsReading gives begin next judge taken first c (count + size) new
-  reading_more {here = here} {next = next} {b = b} {c = c} {count = count} {size = size} {piece = piece} i e consumed gave fed none =
+  reading_more {here = here} {next = next} {b = b} {c = c} {count = count} {size = size} {piece = piece} i e least consumed gave fed none =
       let found = none i.fed i.was in
+      let some : (length piece == 0) ≡ false = grind (arith, nat_tests) in
       let all = length-append i.fed piece in
       let bound = so_far_few judge (i.fed ++ piece) found in
       let many : count + size ≡ length (i.fed ++ piece) = omega (arith, i.many) in
@@ -79,6 +82,8 @@ module _ {T : Type 0} {S : Type 0} {gives : S → List ℕ → S → Type 0} {be
         consumed = consumes_both first b c i.fed piece i.consumed consumed;
         given = record {
           given = i.given.given ++ piece ∷ [];
+          needed = λ more n. subst (AreCallsNeeded (fault_so_far judge) [] false) (sym (append_assoc i.given.given (piece ∷ []) more))
+              (i.given.needed (piece ∷ more) (i.none, refl, subst (λ (b : Bool). AreCallsNeeded (fault_so_far judge) (i.fed ++ piece) b more) (sym some) n));
           reads = λ more last r. subst (λ (t : List (List ℕ)). Reads gives begin t last) (sym (append_assoc i.given.given (piece ∷ []) more))
               (i.given.reads (piece ∷ more) last (next, gave, r));
           all = concat-append i.given.given (piece ∷ []) ∙ ap (λ t. concat i.given.given ++ t) (append-nil piece) ∙ ap (λ t. t ++ piece) i.given.all;
@@ -103,7 +108,8 @@ module _ {T : Type 0} {S : Type 0} {gives : S → List ℕ → S → Type 0} {be
   pub brought : {here last : S} {b : Option (List ℕ)} {count : ℕ} {old : LineFeeder T} (more : List ℕ) (Says : List (List ℕ) → Type 0)
       (i : IsReading gives begin here judge taken first b count old) → gives here more last → length more ≤ 114_688
       → ((before : List (List ℕ)) → concat (before ++ more ∷ []) ≡ i.fed ++ more → Says (before ++ more ∷ []))
-      → (given : List (List ℕ)) × Reads gives begin given last × (length (concat given) ≤ most_lines * (longest_line + 1) + block) × Says given
+      → (given : List (List ℕ)) × Reads gives begin given last × (length (concat given) ≤ most_lines * (longest_line + 1) + block)
+      × AreCallsNeeded (fault_so_far judge) [] false given × Says given
   brought {last = last} more Says i gave short says =
       let before = i.given.given in
       let all : concat (before ++ more ∷ []) ≡ i.fed ++ more =
@@ -111,7 +117,7 @@ module _ {T : Type 0} {S : Type 0} {gives : S → List ℕ → S → Type 0} {be
       let size = ap length i.given.all in
       let sum = given_size before more in
       let bound : length (concat (before ++ more ∷ [])) ≤ 16_385_131_072 = omega (arith, i.many, i.few) in
-      (before ++ more ∷ [], i.given.reads (more ∷ []) last (last, gave, refl), bound, says before all)
+      (before ++ more ∷ [], i.given.reads (more ∷ []) last (last, gave, refl), bound, i.given.needed (more ∷ []) (i.none, refl, tt), says before all)
 
 -- what a whole text ends in
 abbrev pub IsEndOf : {U : Type 0} → (U → List ℕ → Type 0) → Judge → List ℕ → Result U ReadFault → Type 0

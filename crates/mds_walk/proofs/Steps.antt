@@ -1,7 +1,7 @@
 -- The steps of a feeder of lines.
-use Rattle.std.proofs.Common.{Bor, ◌≡◌, ◌≢◌, ℕ, ◌+◌, ◌<◌, ◌≤◌, List, [], ◌∷◌, ◌++◌, length, take, drop, get_or, map, Option, Some, None, Result, Ok, Err, MatchResult, MatchOption, refl, sym, ◌∙◌, ap, subst, arith, length-append, append_assoc}
+use Rattle.std.proofs.Common.{Bor, ◌≡◌, ◌≢◌, ◌⊎◌, inl, inr, ℕ, ◌+◌, ◌-◌, ◌<◌, ◌≤◌, List, [], ◌∷◌, ◌++◌, length, take, drop, get_or, map, Option, Some, None, Result, Ok, Err, MatchResult, MatchOption, refl, sym, ◌∙◌, ap, subst, arith, length-append, append_assoc}
 use Rattle.std.specs.List.{All, concat}
-use Rattle.std.proofs.lemmas.List.{append-nil, length-map, length_push, map_push, take_all, drop-drop}
+use Rattle.std.proofs.lemmas.List.{append-nil, length-map, length_push, nil_from_length, map_push, take_all, drop-drop}
 use Rattle.std.proofs.lemmas.List.Elements.{All-nil, All-same}
 use Rattle.memchr.specs.Find.{IsFirstByte, is_byte}
 use Rattle.mds_lines.specs.Lines.{line_feed, line_pieces, line_text, longest_line}
@@ -9,13 +9,13 @@ use Rattle.mds_lines.proofs.Lefts.{around}
 use Rattle.mds_lines.proofs.Seeks.{IsFound, seen_all, seen_found}
 use Rattle.mds_records.specs.declared.file.FaultCode.TheVariants as code
 use Rattle.mds_records.specs.declared.file.FileFault.{FileFault}
-use Rattle.mds_walk.specs.Answers.{HasWalked, IsEndFault, IsRefusal}
-use Rattle.mds_walk.specs.Faults.{Judge, at_line, end_fault, fault_of, faults_of, first_of, line_fault, lines_of}
+use Rattle.mds_walk.specs.Answers.{HasWalked, IsEndFault, IsRefusal, Takes}
+use Rattle.mds_walk.specs.Faults.{Judge, at_line, end_fault, fault_of, faults_of, first_of, line_fault, lines_of, text_fault}
 use Rattle.mds_walk.specs.declared.fault.TakeFault.{TakeFault}
 use Rattle.mds_walk.specs.declared.fault.TakeFault.TheVariants.{File, Memory}
 use Rattle.mds_walk.specs.declared.walk.Walk.{Walk}
 use Rattle.mds_walk.proofs.Faultless.{Faultless, fault_ends, faultless_none, faultless_push}
-use Rattle.mds_walk.specs.Feeding.{HasFed, WasFed}
+use Rattle.mds_walk.specs.Feeding.{HasFed, MayLackFor, MayLackHere, WasFed}
 use Rattle.mds_walk.specs.SoFar.{fault_so_far, open_piece, whole_pieces}
 use Rattle.mds_walk.specs.declared.feeder.LineFeeder.{LineFeeder}
 use Rattle.mds_walk.proofs.Parts.{ended, pieces_ended, pieces_whole, parts_line, parts_none, parts_open}
@@ -36,17 +36,21 @@ pub refusal_ends : (judge : Judge) (text : List ℕ) (fault : TakeFault) → IsR
 refusal_ends judge text fault h =
     refusal_then _ _ fault (λ found e. ap (fault_of judge) (sym (append-nil text)) ∙ fault_of_all judge text [] found e) h
 
+-- what holds behind one piece and more holds behind all
+pub pieces_fed : (Says : List ℕ → Type 0) (text first later all : List ℕ) → all ≡ first ++ later → Says ((text ++ first) ++ later) → Says (text ++ all)
+pieces_fed Says text first later all e h = subst Says (append_assoc text first later ∙ ap (λ t. text ++ t) (sym e)) h
+
 -- a refusal before more pieces
 pub pieces_refused : (judge : Judge) (text first later all : List ℕ) (fault : TakeFault) → all ≡ first ++ later
     → IsRefusal (fault_so_far judge (text ++ first)) fault → IsRefusal (fault_so_far judge (text ++ all)) fault
 pieces_refused judge text first later all fault e h =
-    subst (λ (t : List ℕ). IsRefusal (fault_so_far judge t) fault) (append_assoc text first later ∙ ap (λ t. text ++ t) (sym e))
-    (refusal_stays judge (text ++ first) later fault h)
+    pieces_fed (λ t. IsRefusal (fault_so_far judge t) fault) text first later all e (refusal_stays judge (text ++ first) later fault h)
 
 pub first_piece : (pieces : List (Bor (List ℕ))) (default : Bor (List ℕ)) → 1 ≤ length pieces
-    → concat (map (λ piece. piece.now) pieces) ≡ (get_or pieces 0 default).now ++ concat (map (λ piece. piece.now) (drop 1 pieces))
+    → concat (map (λ piece. piece.now) pieces)
+    ≡ (get_or pieces 0 default).now ++ concat (map (λ piece. piece.now) (take (length pieces - 1) (drop 1 pieces)))
 first_piece [] default some = absurd (omega arith)
-first_piece (x ∷ xs) default some = refl
+first_piece (x ∷ xs) default some = ap (λ t. x.now ++ concat (map (λ piece. piece.now) t)) (sym (take_all _ xs (omega arith)))
 
 -- an empty text has none
 pub nothing_none : (judge : Judge) → fault_so_far judge [] ≡ None
@@ -161,6 +165,7 @@ has_none left h = subst (λ (t : List ℕ). All (λ x. x ≢ 10) t) (take_all (l
 pub record IsFeeding {T : Type 0} (judge : Judge) (taken : T → List (List ℕ) → Type 0) (piece left : List ℕ) (first now : LineFeeder T) : Type 0 where
   pub fed : List ℕ
   pub is : piece ≡ fed ++ left
+  pub ends : (fed ≡ []) ⊎ ((front : List ℕ) × (fed ≡ front ++ line_feed ∷ []))
   pub has : (text : List ℕ) → HasFed judge taken text first → HasFed judge taken (text ++ fed) now
 
 module _ {T : Type 0} {judge : Judge} {taken : T → List (List ℕ) → Type 0} (piece : List ℕ) (first : LineFeeder T) where
@@ -168,6 +173,7 @@ module _ {T : Type 0} {judge : Judge} {taken : T → List (List ℕ) → Type 0}
   feeding_none = record {
     fed = [];
     is = refl;
+    ends = inl refl;
     has = λ text h. subst (λ (t : List ℕ). HasFed judge taken t first) (sym (append-nil text)) h;
   }
 
@@ -181,6 +187,7 @@ module _ {T : Type 0} {judge : Judge} {taken : T → List (List ℕ) → Type 0}
   feeding_more left front behind old new i line step = record {
     fed = i.fed ++ (front ++ line_feed ∷ []);
     is = split_at left front behind old i line;
+    ends = inr (i.fed ++ front, sym (append_assoc i.fed front (line_feed ∷ [])));
     has = λ text h. subst (λ (t : List ℕ). HasFed judge taken t new) (append_assoc text i.fed (front ++ line_feed ∷ []))
         (step (text ++ i.fed) (i.has text h) line.apart);
   }
@@ -203,6 +210,82 @@ module _ {T : Type 0} {judge : Judge} {taken : T → List (List ℕ) → Type 0}
   feeding_ends left old new r i apart step text h =
       subst (λ (t : List ℕ). MatchResult r (λ _. HasFed judge taken t new) (IsRefusal (fault_so_far judge t)))
       (append_assoc text i.fed left ∙ ap (λ t. text ++ t) (sym i.is)) (step (text ++ i.fed) (i.has text h) apart)
+
+-- Where memory may be wanting.
+
+-- for a line that a walk takes
+pub takes_wanting : {T : Type 0} {U : Type 0} (taken : T → List (List ℕ) → Type 0) (may_lack : List (List ℕ) → List ℕ → Option FileFault → Type 0)
+    (before : List (List ℕ)) (line : List ℕ) (found : Option FileFault) (r : Result U TakeFault) (new : T)
+    → Takes taken may_lack before line found r new → r ≡ Err Memory → may_lack before line found
+takes_wanting {U = U} taken may_lack before line found r new h e = subst (λ (it : Result U TakeFault). Takes taken may_lack before line found it new) e h
+
+module _ {T : Type 0} {judge : Judge} {taken : T → List (List ℕ) → Type 0} (may_lack : List (List ℕ) → List ℕ → Option FileFault → Type 0) (Wanting : Type 0) where
+  -- for the line in hand and these bytes
+  pub line_wanting : (old : LineFeeder T) (text front piece : List ℕ)
+      → ((before : List (List ℕ)) → HasWalked taken old.walk before → old.lines ≡ length before → Wanting
+      → may_lack before (line_text piece) (text_fault judge before (line_text piece)))
+      → HasFed judge taken text old → All (λ x. x ≢ 10) front → piece ≡ open_piece text ++ front → Wanting → MayLackHere may_lack judge (text ++ front)
+  line_wanting old text front piece lacks h apart is wanting =
+      let p = parts_open text front apart in
+      let Lacks : List (List ℕ) → List ℕ → Type 0 = λ pieces last. may_lack (map line_text pieces) (line_text last) (text_fault judge (map line_text pieces) (line_text last)) in
+      subst (λ (pieces : List (List ℕ)). Lacks pieces (open_piece (text ++ front))) (sym p.whole)
+      (subst (Lacks (whole_pieces text)) (is ∙ sym p.open_is)
+      (lacks (map line_text (whole_pieces text)) h.walked (h.lines ∙ sym (length-map (whole_pieces text) line_text)) wanting))
+
+  -- for a line that ends in a piece
+  pub feeding_wanting : (piece : List ℕ) (first : LineFeeder T) (left front behind : List ℕ) (old : LineFeeder T)
+      → IsFeeding judge taken piece left first old → HasLine left front behind
+      → ((text : List ℕ) → HasFed judge taken text old → All (λ x. x ≢ 10) front → Wanting
+      → (open_piece text ≢ []) ⊎ MayLackHere may_lack judge (text ++ front))
+      → (text : List ℕ) → HasFed judge taken text first → Wanting → MayLackFor may_lack judge text piece
+  feeding_wanting piece first left front behind old i line lacks text h wanting =
+      let all = split_at piece first left front behind old i line in
+      let here = i.fed ++ (front ++ line_feed ∷ []) in
+      let sum = length-append here behind in
+      let inner = length-append i.fed (front ++ line_feed ∷ []) in
+      let last = length_push front line_feed in (
+        λ none. absurd (omega (arith, sum, inner, last, ap length none, ap length all)),
+        at i.ends (lacks (text ++ i.fed) (i.has text h) line.apart wanting),
+      ) where
+        at : (i.fed ≡ []) ⊎ ((before : List ℕ) × (i.fed ≡ before ++ line_feed ∷ []))
+            → (open_piece (text ++ i.fed) ≢ []) ⊎ MayLackHere may_lack judge ((text ++ i.fed) ++ front)
+            → (open_piece text ≢ []) ⊎ (open_piece (text ++ piece) ≢ [])
+            ⊎ ((front : List ℕ) × (behind : List ℕ) × (piece ≡ (front ++ line_feed ∷ []) ++ behind) × MayLackHere may_lack judge (text ++ front))
+        at ends (inr here) = inr (inr (
+          i.fed ++ front,
+          behind,
+          split_at piece first left front behind old i line ∙ ap (λ t. t ++ behind) (sym (append_assoc i.fed front (line_feed ∷ []))),
+          subst (MayLackHere may_lack judge) (append_assoc text i.fed front) here,
+        ))
+        at (inl none) (inl some) = inl (λ is. some (ap open_piece (ap (λ t. text ++ t) none ∙ append-nil text) ∙ is))
+        at (inr last) (inl some) = absurd (some
+            (ap open_piece (ap (λ t. text ++ t) last.1 ∙ sym (append_assoc text last.0 (line_feed ∷ []))) ∙ (ended (text ++ last.0)).open_is))
+
+  -- for the one that a piece doesn't end
+  pub keeping_wanting : (piece : List ℕ) (first : LineFeeder T) (left : List ℕ) (old : LineFeeder T)
+      → IsFeeding judge taken piece left first old → All (λ x. x ≢ 10) left → (Wanting → left ≢ [])
+      → (text : List ℕ) → HasFed judge taken text first → Wanting → MayLackFor may_lack judge text piece
+  keeping_wanting piece first left old i apart lacks text h wanting =
+      let some = lacks wanting in
+      let p = parts_open (text ++ i.fed) left apart in
+      let open_is : open_piece (text ++ piece) ≡ open_piece (text ++ i.fed) ++ left =
+      ap open_piece (ap (λ t. text ++ t) i.is ∙ sym (append_assoc text i.fed left)) ∙ p.open_is in
+      let sum = length-append (open_piece (text ++ i.fed)) left in
+      let whole = length-append i.fed left in (
+        λ none. some (nil_from_length left (omega (arith, whole, ap length none, ap length i.is))),
+        inr (inl (λ none. some (nil_from_length left (omega (arith, sum, ap length none, ap length open_is))))),
+      )
+
+-- for nothing at the end
+pub ends_wanting : {T : Type 0} {O : Type 0} {judge : Judge} {taken : T → List (List ℕ) → Type 0} (made : O → List (List ℕ) → Type 0)
+    (feeder : LineFeeder T) (r : Result O TakeFault)
+    → ((before : List (List ℕ)) → HasWalked taken feeder.walk before → feeder.lines ≡ length before
+    → MatchResult r (λ out. (end_fault judge before ≡ None) × made out before) (IsEndFault (end_fault judge before)))
+    → (text : List ℕ) → HasFed judge taken text feeder → r ≡ Err Memory → ⊥
+ends_wanting {O = O} {judge = judge} made feeder r ends text h e =
+    let before = map line_text (whole_pieces text) in
+    subst (λ (it : Result O TakeFault). MatchResult it (λ out. (end_fault judge before ≡ None) × made out before) (IsEndFault (end_fault judge before))) e
+    (ends before h.walked (h.lines ∙ sym (length-map (whole_pieces text) line_text)))
 
 -- How a text ends.
 
@@ -250,6 +333,9 @@ module _ {T : Type 0} (judge : Judge) (taken : T → List (List ℕ) → Type 0)
 
   pub was_fed : HasFed judge taken text feeder → WasFed judge taken text feeder
   was_fed h = subst Was (sym h.walked.faultless) h
+
+  pub none_fed : feeder.walk.fault ≡ None → WasFed judge taken text feeder → HasFed judge taken text feeder
+  none_fed e h = subst Was e h
 
   pub refused_fed : (fault : TakeFault) → feeder.walk.fault ≡ Some fault → WasFed judge taken text feeder → IsRefusal (fault_so_far judge text) fault
   refused_fed fault e h = subst Was e h

@@ -1,8 +1,9 @@
 -- What a feeder of lines has done (profile).
-use Rattle.std.specs.Prelude.{◌≡◌, ℕ, List, length, map, Option, None, MatchOption}
-use Rattle.mds_lines.specs.Lines.{line_text}
+use Rattle.std.specs.Prelude.{◌≡◌, ◌≢◌, ◌⊎◌, ℕ, List, [], ◌∷◌, ◌++◌, length, map, Option, None, MatchOption}
+use Rattle.mds_lines.specs.Lines.{line_feed, line_text}
+use Rattle.mds_records.specs.declared.file.FileFault.{FileFault}
 use Rattle.mds_walk.specs.Answers.{HasWalked, IsRefusal}
-use Rattle.mds_walk.specs.Faults.{Judge}
+use Rattle.mds_walk.specs.Faults.{Judge, text_fault}
 use Rattle.mds_walk.specs.SoFar.{fault_so_far, open_piece, whole_pieces}
 use Rattle.mds_walk.specs.declared.fault.TakeFault.{TakeFault}
 use Rattle.mds_walk.specs.declared.feeder.LineFeeder.{LineFeeder}
@@ -23,3 +24,16 @@ pub record HasFed {T : Type 0} (judge : Judge) (taken : T → List (List ℕ) �
 abbrev pub WasFed : {T : Type 0} → Judge → (T → List (List ℕ) → Type 0) → List ℕ → LineFeeder T → Type 0
 WasFed judge taken text feeder =
     MatchOption feeder.walk.fault (HasFed judge taken text feeder) (IsRefusal (fault_so_far judge text))
+
+-- Memory may be wanting for the line that isn't whole yet, were it to end here.
+abbrev pub MayLackHere : (List (List ℕ) → List ℕ → Option FileFault → Type 0) → Judge → List ℕ → Type 0
+MayLackHere may_lack judge text =
+    let before = map line_text (whole_pieces text) in
+    let line = line_text (open_piece text) in
+    may_lack before line (text_fault judge before line)
+
+-- Memory may be wanting for a piece behind a text. A line that lies in several pieces is copied: the one that was in hand, and the
+-- one that the piece doesn't end. Each line that ends in the piece is taken.
+abbrev pub MayLackFor : (List (List ℕ) → List ℕ → Option FileFault → Type 0) → Judge → List ℕ → List ℕ → Type 0
+MayLackFor may_lack judge text piece = (piece ≢ []) × ((open_piece text ≢ []) ⊎ (open_piece (text ++ piece) ≢ [])
+    ⊎ ((front : List ℕ) × (behind : List ℕ) × (piece ≡ (front ++ line_feed ∷ []) ++ behind) × MayLackHere may_lack judge (text ++ front)))

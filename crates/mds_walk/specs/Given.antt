@@ -1,5 +1,5 @@
 -- What was made of the calls that read a source (profile).
-use Rattle.std.specs.Prelude.{◌≡◌, ◌⊎◌, ℕ, List, [], ◌∷◌, ◌++◌, Option, Some, None, Result, Ok, Err}
+use Rattle.std.specs.Prelude.{◌≡◌, ◌⊎◌, ℕ, Bool, false, ◌==◌, length, List, [], ◌∷◌, ◌++◌, Option, Some, None, Result, Ok, Err}
 use Rattle.std.specs.List.{concat}
 use Rattle.mds_records.specs.declared.file.FileFault.{FileFault}
 use Rattle.mds_walk.specs.declared.fault.ReadFault.{ReadFault}
@@ -8,6 +8,13 @@ use Rattle.mds_walk.specs.declared.fault.ReadFault.TheVariants as read
 -- the last of the calls brought nothing: it met the end
 abbrev pub MeetsEnd : List (List ℕ) → Type 0
 MeetsEnd given = (before : List (List ℕ)) × (given ≡ before ++ [] ∷ [])
+
+-- Each of these calls was needed: what had come before it has no fault, and the source had not ended. A call that brought nothing
+-- met the end, or failed: none comes after it.
+abbrev pub AreCallsNeeded : (List ℕ → Option FileFault) → List ℕ → Bool → List (List ℕ) → Type 0
+AreCallsNeeded found came is_ended [] = Unit {0}
+AreCallsNeeded found came is_ended (bytes ∷ more) =
+    (found came ≡ None) × (is_ended ≡ false) × AreCallsNeeded found (came ++ bytes) (length bytes == 0) more
 
 -- The fault is of all that the calls brought, up to the end. Or it is that of every text that begins with what they brought.
 abbrev pub IsFaultOfGiven : (List ℕ → Option FileFault) → List (List ℕ) → FileFault → Type 0

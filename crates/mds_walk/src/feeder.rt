@@ -1,11 +1,11 @@
 //! The lines of a text that comes in pieces.
 
-ghost use Rattle.std.specs.Prelude.{◌≡◌, ◌≢◌, ◌≤◌, ℕ, List, [], ◌∷◌, ◌++◌, None, Some, Err, IfSome, IfOk, IfErr, MatchResult};
+ghost use Rattle.std.specs.Prelude.{◌≡◌, ◌≢◌, ◌≤◌, ℕ, List, [], ◌∷◌, ◌++◌, None, Some, Err, IfSome, IfOk, IfErr, MatchResult, ◌⊎◌};
 ghost use Rattle.std.specs.List.{All};
 ghost use Rattle.mds_lines.specs.Lines.{line_feed, most_lines};
 ghost use Rattle.mds_walk.specs.Answers.{IsRefusal};
 ghost use Rattle.mds_walk.specs.Faults.{fault_of, lines_of};
-ghost use Rattle.mds_walk.specs.SoFar.{fault_so_far};
+ghost use Rattle.mds_walk.specs.SoFar.{fault_so_far, open_piece};
 
 use crate::fault::{TakeFault, at_end};
 use crate::sink::RecordSink;
@@ -26,7 +26,7 @@ pub struct LineFeeder<T> {
 }
 
 impl<T: RecordSink + Drop> LineFeeder<T> {
-    ghost use Rattle.mds_walk.specs.Feeding.{HasFed, WasFed, fault_answered};
+    ghost use Rattle.mds_walk.specs.Feeding.{HasFed, MayLackFor, MayLackHere, WasFed, fault_answered};
 
     /// Before the first piece of a text, whose records go to a sink that has taken none.
     pub fn new(alloc: Global, sink: T) -> LineFeeder<T>
@@ -54,6 +54,10 @@ impl<T: RecordSink + Drop> LineFeeder<T> {
         ensures again { IfSome (fault_answered self.old) (λ fault. (result ≡ Err fault)
             × (fault_answered self.new ≡ Some fault)) }
         ensures kept { IfErr result (λ fault. fault_answered self.new ≡ Some fault) }
+
+        // A first want of memory is for a line that is copied, or for one for which the sink may lack it.
+        ensures memory { (text : List ℕ) → WasFed T.judge T.taken text self.old → fault_answered self.old ≡ None
+            → result ≡ Err TakeFault.Memory → MayLackFor T.may_lack T.judge text piece.now }
     {
         match self.walk.fault() {
             Some(fault) => Err(fault),
@@ -68,6 +72,8 @@ impl<T: RecordSink + Drop> LineFeeder<T> {
             (λ _. HasFed T.judge T.taken (text ++ piece.now) self.new)
             (IsRefusal (fault_so_far T.judge (text ++ piece.now))) }
         ensures kept { IfErr result (λ fault. fault_answered self.new ≡ Some fault) }
+        ensures memory { (text : List ℕ) → HasFed T.judge T.taken text self.old
+            → result ≡ Err TakeFault.Memory → MayLackFor T.may_lack T.judge text piece.now }
     {
         match self.feed_lines(piece) {
             Ok(()) => Ok(()),
@@ -80,10 +86,12 @@ impl<T: RecordSink + Drop> LineFeeder<T> {
 
     /// Takes the next piece, but keeps no fault.
     fn feed_lines(&mut self, piece: &[u8]) -> Result<(), TakeFault>
-        ensures { (text : List ℕ) → HasFed T.judge T.taken text self.old
+        ensures fed { (text : List ℕ) → HasFed T.judge T.taken text self.old
             → MatchResult result
             (λ _. HasFed T.judge T.taken (text ++ piece.now) self.new)
             (IsRefusal (fault_so_far T.judge (text ++ piece.now))) }
+        ensures memory { (text : List ℕ) → HasFed T.judge T.taken text self.old
+            → result ≡ Err TakeFault.Memory → MayLackFor T.may_lack T.judge text piece.now }
     {
         let mut left = piece;
         while let Some(size) = memchr(b'\n', left) {
@@ -98,10 +106,12 @@ impl<T: RecordSink + Drop> LineFeeder<T> {
 
     /// Ends the line in hand, by the bytes before its line feed.
     fn end_line(&mut self, front: &[u8]) -> Result<(), TakeFault>
-        ensures { (text : List ℕ) → HasFed T.judge T.taken text self.old → All (λ byte. byte ≢ line_feed) front.now
+        ensures fed { (text : List ℕ) → HasFed T.judge T.taken text self.old → All (λ byte. byte ≢ line_feed) front.now
             → MatchResult result
             (λ _. HasFed T.judge T.taken (text ++ (front.now ++ line_feed ∷ [])) self.new)
             (IsRefusal (fault_so_far T.judge (text ++ (front.now ++ line_feed ∷ [])))) }
+        ensures memory { (text : List ℕ) → HasFed T.judge T.taken text self.old → All (λ byte. byte ≢ line_feed) front.now
+            → result ≡ Err TakeFault.Memory → (open_piece text ≢ []) ⊎ MayLackHere T.may_lack T.judge (text ++ front.now) }
     {
         if self.rest.is_empty() {
             return self.take_front(front);
@@ -115,10 +125,12 @@ impl<T: RecordSink + Drop> LineFeeder<T> {
     /// Takes a line that lies in one piece, where none is in hand. It isn't copied.
     fn take_front(&mut self, front: &[u8]) -> Result<(), TakeFault>
         requires { self.old.rest.items ≡ [] }
-        ensures { (text : List ℕ) → HasFed T.judge T.taken text self.old → All (λ byte. byte ≢ line_feed) front.now
+        ensures fed { (text : List ℕ) → HasFed T.judge T.taken text self.old → All (λ byte. byte ≢ line_feed) front.now
             → MatchResult result
             (λ _. HasFed T.judge T.taken (text ++ (front.now ++ line_feed ∷ [])) self.new)
             (IsRefusal (fault_so_far T.judge (text ++ (front.now ++ line_feed ∷ [])))) }
+        ensures memory { (text : List ℕ) → HasFed T.judge T.taken text self.old → All (λ byte. byte ≢ line_feed) front.now
+            → result ≡ Err TakeFault.Memory → MayLackHere T.may_lack T.judge (text ++ front.now) }
     {
         match self.walk.take_piece(self.lines, front) {
             Ok(()) => {
@@ -136,6 +148,8 @@ impl<T: RecordSink + Drop> LineFeeder<T> {
             (λ _. HasFed T.judge T.taken (text ++ line_feed ∷ []) self.new)
             (IsRefusal (fault_so_far T.judge (text ++ line_feed ∷ []))) }
         ensures few { IfOk result (λ _. self.new.lines ≤ most_lines) }
+        ensures memory { (text : List ℕ) → HasFed T.judge T.taken text self.old
+            → result ≡ Err TakeFault.Memory → MayLackHere T.may_lack T.judge text }
     {
         match self.walk.take_piece(self.lines, &self.rest) {
             Ok(()) => {
@@ -149,10 +163,11 @@ impl<T: RecordSink + Drop> LineFeeder<T> {
 
     /// Puts bytes without a line feed behind those in hand. The line may get too long (L10).
     fn keep(&mut self, front: &[u8]) -> Result<(), TakeFault>
-        ensures { (text : List ℕ) → HasFed T.judge T.taken text self.old → All (λ byte. byte ≢ line_feed) front.now
+        ensures fed { (text : List ℕ) → HasFed T.judge T.taken text self.old → All (λ byte. byte ≢ line_feed) front.now
             → MatchResult result
             (λ _. HasFed T.judge T.taken (text ++ front.now) self.new)
             (IsRefusal (fault_so_far T.judge (text ++ front.now))) }
+        ensures memory { result ≡ Err TakeFault.Memory → front.now ≢ [] }
     {
         if front.len() > LONGEST_LINE || self.rest.len() > LONGEST_LINE - front.len() {
             return Err(at_end(FaultCode::TooLarge, u64::from(self.lines)));
@@ -169,6 +184,10 @@ impl<T: RecordSink + Drop> LineFeeder<T> {
             (λ out. (fault_of T.judge text ≡ None) × T.made out (lines_of text))
             (IsRefusal (fault_of T.judge text)) }
         ensures again { IfSome (fault_answered self) (λ fault. result ≡ Err fault) }
+
+        // A first want of memory is for a last line without its line feed, for which the sink may lack it.
+        ensures memory { (text : List ℕ) → WasFed T.judge T.taken text self → fault_answered self ≡ None
+            → result ≡ Err TakeFault.Memory → (open_piece text ≢ []) × MayLackHere T.may_lack T.judge text }
     {
         if let Some(fault) = self.walk.fault() {
             return Err(fault);
@@ -178,10 +197,12 @@ impl<T: RecordSink + Drop> LineFeeder<T> {
 
     /// Ends the text where no fault was answered yet.
     fn end(mut self) -> Result<T::Output, TakeFault>
-        ensures { (text : List ℕ) → HasFed T.judge T.taken text self
+        ensures ended { (text : List ℕ) → HasFed T.judge T.taken text self
             → MatchResult result
             (λ out. (fault_of T.judge text ≡ None) × T.made out (lines_of text))
             (IsRefusal (fault_of T.judge text)) }
+        ensures memory { (text : List ℕ) → HasFed T.judge T.taken text self
+            → result ≡ Err TakeFault.Memory → (open_piece text ≢ []) × MayLackHere T.may_lack T.judge text }
     {
         if self.rest.is_empty() {
             return self.walk.finish(u64::from(self.lines));

@@ -1,6 +1,6 @@
 //! A file read from a source, block by block.
 
-ghost use Rattle.std.specs.Prelude.{ℕ, ◌≡◌, ◌≤◌, ◌+◌, ◌-◌, ◌*◌, ◌^◌, ◌<◌, List, [], length, None, Some, Err, IfSome, IfOk, if◌then◌else◌, vec_len};
+ghost use Rattle.std.specs.Prelude.{ℕ, ◌≡◌, ◌≤◌, ◌+◌, ◌-◌, ◌*◌, ◌^◌, ◌<◌, List, [], length, None, Some, Err, IfSome, IfOk, if◌then◌else◌, false, vec_len};
 ghost use Rattle.std.specs.List.{concat};
 ghost use Rattle.mds_lines.specs.Lines.{longest_line, most_lines};
 ghost use Rattle.mds_lines.specs.Reads.{Reads, block};
@@ -8,7 +8,8 @@ ghost use Rattle.mds_records.specs.declared.file.FileFault.{FileFault};
 ghost use Rattle.mds_walk.specs.Answers.{is_read_fault};
 ghost use Rattle.mds_walk.specs.Faults.{fault_of, lines_of};
 ghost use Rattle.mds_walk.specs.FileSteps.{read_fault_of};
-ghost use Rattle.mds_walk.specs.Given.{IsOfGiven};
+ghost use Rattle.mds_walk.specs.Given.{AreCallsNeeded, IsOfGiven};
+ghost use Rattle.mds_walk.specs.SoFar.{fault_so_far};
 
 use crate::fault::{ReadFault, TakeFault};
 use crate::feeder::LineFeeder;
@@ -41,9 +42,10 @@ pub fn read_file<R: Source, T: RecordSink + Drop>(
     ensures counted { R.failures source.new ≡ R.failures source.old + (if is_read_fault result then 1 else 0) }
 
     // What it made is of what the source's calls brought, whatever that is. They brought no more than the lines that a file may
-    // have, and a block.
+    // have, and a block. Each call was needed: none comes behind the end, a failure, or a piece with a fault.
     ensures given { (given : List (List ℕ)) × Reads R.gives source.old given source.new
         × (length (concat given) ≤ most_lines * (longest_line + 1) + block)
+        × AreCallsNeeded (fault_so_far T.judge) [] false given
         × IsOfGiven (λ out text. T.made out (lines_of text)) (fault_of T.judge) given result }
 {
     let Ok(mut buffer) = room(alloc) else {

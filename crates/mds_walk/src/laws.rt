@@ -1,12 +1,12 @@
 //! Laws of a text so far, whatever follows, and of any list of pieces. The first function does nothing.
 
-ghost use Rattle.std.specs.Prelude.{◌≡◌, ◌≤◌, ◌++◌, ◌∷◌, [], ℕ, List, length, map, None, Some, MatchResult};
+ghost use Rattle.std.specs.Prelude.{◌≡◌, ◌≢◌, ◌≤◌, ◌++◌, ◌∷◌, [], ℕ, List, length, map, None, Some, Ok, Err, IfSome, IfOk, IfErr, MatchResult};
 ghost use Rattle.std.specs.List.{concat};
 ghost use Rattle.mds_lines.specs.Lines.{line_pieces};
 ghost use Rattle.mds_records.specs.declared.file.FileFault.{FileFault};
 ghost use Rattle.mds_walk.specs.Answers.{IsRefusal};
 ghost use Rattle.mds_walk.specs.Faults.{Judge, fault_at, fault_of};
-ghost use Rattle.mds_walk.specs.Feeding.{WasFed};
+ghost use Rattle.mds_walk.specs.Feeding.{WasFed, fault_answered};
 ghost use Rattle.mds_walk.specs.SoFar.{fault_so_far, open_piece, whole_pieces};
 
 use crate::fault::TakeFault;
@@ -25,7 +25,8 @@ pub fn fault_so_far_is_of_every_longer_text()
         → k ≤ length (whole_pieces text) → fault_at judge (line_pieces (text ++ more)) k ≡ None }
 {}
 
-/// Feeds pieces one after the other, as far as there is no fault. How a text is cut changes nothing.
+/// Feeds pieces one after the other, as far as there is no fault. How a text is cut changes nothing. After a fault, or want of
+/// memory, it answers the same. No piece at all changes nothing.
 pub fn feed_all<T: RecordSink + Drop>(
     feeder: &mut LineFeeder<T>,
     pieces: &[&[u8]],
@@ -36,6 +37,12 @@ pub fn feed_all<T: RecordSink + Drop>(
         → fault_so_far T.judge text ≡ None
         → MatchResult result (λ _. fault_so_far T.judge (text ++ concat (map (λ piece. piece.now) pieces.now)) ≡ None)
         (IsRefusal (fault_so_far T.judge (text ++ concat (map (λ piece. piece.now) pieces.now)))) }
+    ensures stays { (text : List ℕ) → WasFed T.judge T.taken text feeder.old → fault_answered feeder.old ≡ None
+        → IfOk result (λ _. fault_answered feeder.new ≡ None) }
+    ensures again { pieces.now ≢ [] → IfSome (fault_answered feeder.old) (λ fault. (result ≡ Err fault)
+        × (fault_answered feeder.new ≡ Some fault)) }
+    ensures kept { IfErr result (λ fault. fault_answered feeder.new ≡ Some fault) }
+    ensures nothing { pieces.now ≡ [] → (result ≡ Ok tt) × (feeder.new ≡ feeder.old) }
 {
     match pieces {
         [] => Ok(()),

@@ -66,6 +66,9 @@ impl<T: RecordSink + Drop> Walk<T> {
             × HasWalked T.taken self.new (before ++ line_text piece.now ∷ []))
             (IsRefusal (line_fault T.judge before piece.now)) }
         ensures few { IfOk result (λ _. lines < most_lines) }
+        ensures memory { (before : List (List ℕ)) → HasWalked T.taken self.old before → lines ≡ length before
+            → result ≡ Err TakeFault.Memory
+            → T.may_lack before (line_text piece.now) (text_fault T.judge before (line_text piece.now)) }
     {
         let number = u64::from(lines) + 1;
         if piece.len() > LONGEST_LINE || number > MOST_LINES {

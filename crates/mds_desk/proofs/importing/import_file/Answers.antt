@@ -9,11 +9,11 @@ returns-clause-done g c =
     let given = c.read_delivery-read.ensures.given in
     if_done c.import_read.result _ _ (λ status it. (
       it.0,
-      (of_known read it.1 (g.R.Source.remaining c.args.reader.now) known, (given.0, given.1, of_given read it.1 given.0 given.3)),
-      it.2,
+      (of_known read it.1 (g.R.Source.remaining c.args.reader.now) known, (given.0, given.1, of_given read it.1 given.0 given.4)),
       it.3,
       it.4,
       it.5,
+      it.6,
     )) c.import_read.ensures.done
 
 pub returns-clause-part : goal.returns-clause-part
@@ -23,10 +23,10 @@ returns-clause-part g c failed =
     let given = c.read_delivery-read.ensures.given in
     let it = c.import_read.ensures.part failed in (
       it.0,
-      (of_known read it.1 (g.R.Source.remaining c.args.reader.now) known, (given.0, given.1, of_given read it.1 given.0 given.3)),
-      it.2,
+      (of_known read it.1 (g.R.Source.remaining c.args.reader.now) known, (given.0, given.1, of_given read it.1 given.0 given.4)),
       it.3,
       it.4,
       it.5,
       it.6,
+      it.7,
     )

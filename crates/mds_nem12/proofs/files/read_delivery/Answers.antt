@@ -14,7 +14,7 @@ use Rattle.mds_nem12.proofs.files.read_delivery.Goals as goal
 pub unreachable-requires : goal.unreachable-requires
 unreachable-requires g c =
     let text = concat c.in-Ok.ensures.given.0 in
-    let made = c.in-Ok.ensures.given.3 in
+    let made = c.in-Ok.ensures.given.4 in
     absurd (false≢true (c.in-None.ensures.some (statements_of text) made.2.0 made.2.1 (days_ascend text) (days_whole text)))
 
 -- the fault of a text that is known

@@ -32,7 +32,7 @@ loop-feeder-preserved g c =
     let long = ap length is in
     let within : c.in-Ok-read.size ≤ length c.deref.result.now = omega (arith, c.in-Ok-read.ensures.bound) in
     record {
-      reading = reading_more i.reading (sym (length-take-le c.in-Ok-read.size c.deref.result.now within))
+      reading = reading_more i.reading (sym (length-take-le c.in-Ok-read.size c.deref.result.now within)) (omega (arith, c.in-Ok-read.size-test))
           (same_piece _ _ c.in-Ok-read.size _ _ is c.in-Ok-read.ensures.bytes.0)
           (gave_piece g.R.Source.gives _ _ c.in-Ok-read.size _ _ is c.in-Ok-read.ensures.gives) c.feed.ensures.fed c.in_default-feed.ensures.answer;
       failures = omega (arith, c.in-Ok-read.ensures.counted, i.failures);

@@ -1,4 +1,8 @@
-use Rattle.mds_walk.proofs.Steps.{fed_refused, first_piece, pieces_refused}
+use Rattle.std.proofs.Common.{◌≡◌, None, MatchResult}
+use Rattle.mds_walk.specs.Answers.{IsRefusal}
+use Rattle.mds_walk.specs.Feeding.{WasFed}
+use Rattle.mds_walk.specs.SoFar.{fault_so_far}
+use Rattle.mds_walk.proofs.Steps.{fed_refused, first_piece, pieces_fed, pieces_refused}
 use Rattle.mds_walk.proofs.laws.+feed_all.Goals as goal
 
 pub returns-in-Err-clause-fed : goal.returns-in-Err-clause-fed
@@ -9,3 +13,14 @@ returns-in-Err-clause-fed g n c = λ text h.
 pub returns-in-Err-clause-answer : goal.returns-in-Err-clause-answer
 returns-in-Err-clause-answer g n c = λ text h none.
     pieces_refused g.T.RecordSink.judge text _ _ _ _ (first_piece c.args.pieces.now _ c.in-len1-up.len_at_least) (c.in-Err.ensures.answer text h)
+
+pub returns-in-Ok-clause-fed : goal.returns-in-Ok-clause-fed
+returns-in-Ok-clause-fed g t c = λ text h.
+    pieces_fed (λ t. WasFed g.T.RecordSink.judge g.T.RecordSink.taken t c.feed_all.new.feeder) text _ _ _ (first_piece c.args.pieces.now _ c.in-len1-up.len_at_least)
+    (c.feed_all.ensures.fed _ (c.feed.ensures.fed text h))
+
+pub returns-in-Ok-clause-answer : goal.returns-in-Ok-clause-answer
+returns-in-Ok-clause-answer g t c = λ text h none.
+    pieces_fed (λ t. MatchResult c.feed_all.result (λ _. fault_so_far g.T.RecordSink.judge t ≡ None) (IsRefusal (fault_so_far g.T.RecordSink.judge t)))
+    text _ _ _ (first_piece c.args.pieces.now _ c.in-len1-up.len_at_least)
+    (c.feed_all.ensures.answer _ (c.feed.ensures.fed text h) (c.in-Ok.ensures.answer text h))
