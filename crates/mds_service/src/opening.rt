@@ -4,7 +4,7 @@
 //! for at once, and their merges opened. A claim then finds the merge of its day, and asks nobody. A merge says nothing
 //! until a line claims something of its day, so to open one changes no fact.
 
-ghost use Rattle.std.specs.Prelude.{◌≡◌, ◌≤◌, ◌++◌, ◌∷◌, List, [], ℕ, false, map, IfErr, IfOk, IfSome, IsTrue, OnOk};
+ghost use Rattle.std.specs.Prelude.{◌≡◌, ◌<◌, ◌≤◌, ◌++◌, ◌∷◌, List, [], ℕ, false, map, IfErr, IfOk, IsTrue, MatchOption, OnOk};
 ghost use Rattle.std.specs.List.{All};
 ghost use Rattle.std.specs.FinSet as set;
 ghost use Rattle.mds_calendar.specs.Calendar.{last_day};
@@ -196,7 +196,7 @@ fn open_day(
 
 /// The book of the day of a number, of which nothing is known. `None` where there is no such day.
 fn unknown_day(alloc: Global, stream: &Stream, number: u32) -> Option<DayBook>
-    ensures { IfSome result (λ book. (book.stream ≡ stream.now) × (book.day ≡ number)
+    ensures { MatchOption result (last_day < number) (λ book. (book.stream ≡ stream.now) × (book.day ≡ number)
         × (book_world book ≡ set.empty)) }
 {
     let day = Day::from_number(i64::from(number))?;
