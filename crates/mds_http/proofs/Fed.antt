@@ -1,5 +1,5 @@
 -- What is asked by a body of interval data that was fed to a reader.
-use Rattle.std.proofs.Common.{◌≡◌, ℕ, ◌≤◌, List, length, refl, sym, subst, arith}
+use Rattle.std.proofs.Common.{ℕ, ◌≤◌, List, length, refl, sym, subst, arith}
 use Rattle.std.specs.Global.{Vec}
 use Rattle.mds_records.specs.declared.file.FileKind.TheVariants.{Nem12}
 use Rattle.mds_messages.specs.declared.request.Request.{Request}

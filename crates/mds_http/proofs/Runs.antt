@@ -15,13 +15,14 @@ use Rattle.mds_requests.specs.declared.targets.TargetFault.{TargetFault}
 use Rattle.mds_requests.specs.declared.targets.TargetFault.TheVariants as fault
 use Rattle.mds_requests.specs.Targets.{IsFaultAt}
 use Rattle.mds_wire.proofs.Meant.{one_order}
-use Rattle.mds_wire.specs.Laws.{HeadDecides, IsHeadOf, OnlySteps}
+use Rattle.mds_wire.specs.Laws.{HeadDecides, IsHeadOf, OnlySteps, TakeMemory}
 use Rattle.mds_wire.specs.Meaning.{Answer, AnswersJudged}
 use Rattle.mds_wire.specs.declared.answer.Kind.{Kind}
 use Rattle.mds_wire.specs.declared.route.Route.{Route}
 use Rattle.mds_wire.specs.declared.answer.Status.{Status}
 use Rattle.mds_wire.specs.declared.answer.Status.TheVariants.{Success, Unavailable}
 use Rattle.mds_http.specs.declared.handling.StoreHandler.{StoreHandler}
+use Rattle.mds_http.specs.Bodies.{TakesMemoryAt}
 use Rattle.mds_http.specs.Handling.{Handles, TellsFault}
 use Rattle.mds_http.specs.Laws.{AreDone, AreServed, AskFor, AskForNone, ConnectionsRun, IsTold, RefusedNoChange, UnaskedNoChange}
 use Rattle.mds_http.specs.Serving.{IsSame, MeansOver}
@@ -64,9 +65,9 @@ module _ {K : Type 0} (kept : K → Kept) where
   abbrev Effect : List ℕ → StoreHandler K → Answer → StoreHandler K → Type 0
   Effect bytes old answer new =
       ((request : Request) × (told : Told) × AskFor bytes request × IsTold told answer × Went old new request told)
-      ⊎ ((AskForNone bytes ⊎ (answer.status ≡ Unavailable)) × (new ≡ old))
+      ⊎ ((AskForNone bytes ⊎ ((answer.status ≡ Unavailable) × TakeMemory TakesMemoryAt bytes)) × (new ≡ old))
 
-  effect : OnlySteps (Handles kept) IsSame → (bytes : List ℕ) (old new : StoreHandler K) (answer : Answer)
+  effect : OnlySteps (Handles kept) IsSame TakesMemoryAt → (bytes : List ℕ) (old new : StoreHandler K) (answer : Answer)
       → MeansOver kept bytes old answer new → Effect bytes old answer new
   effect steps bytes old new answer means = elim (steps bytes old new answer means) [
     | inl it ↦
@@ -97,7 +98,7 @@ module _ {K : Type 0} (kept : K → Kept) where
   honest_before bytes old new answer (inl done) = done.4.outside
   honest_before bytes old new answer (inr idle) = subst (λ (s : StoreHandler K). (kept s.keeper).honest) idle.1
 
-  module _ (steps : OnlySteps (Handles kept) IsSame) where
+  module _ (steps : OnlySteps (Handles kept) IsSame TakesMemoryAt) where
     honest_first : (connections : List (List ℕ × Answer)) (first last : StoreHandler K)
         → AreServed kept first connections last → (kept last.keeper).honest → (kept first.keeper).honest
     honest_first [] first last served h = subst (λ (s : StoreHandler K). (kept s.keeper).honest) served h
@@ -168,9 +169,9 @@ module _ {K : Type 0} (kept : K → Kept) where
         (λ left it. inl (settled first.keeper sound_first left it))
 
   -- what asks for no request changes nothing
-  pub unasked : HeadDecides (Handles kept) IsSame → UnaskedNoChange kept
+  pub unasked : HeadDecides (Handles kept) IsSame TakesMemoryAt → UnaskedNoChange kept
   unasked decides bytes rest head route size old new answer wants none means =
-      elim (subst (λ j. AnswersJudged (Handles kept) IsSame j head rest old answer new) wants.2
+      elim (subst (λ j. AnswersJudged (Handles kept) IsSame TakesMemoryAt j head rest old answer new) wants.2
       (decides bytes rest head old new answer wants.0 wants.1 means)) [
         | inl step ↦ elim step.2 [
           | inl asked ↦ absurd (none asked.0 asked.2)
@@ -178,12 +179,12 @@ module _ {K : Type 0} (kept : K → Kept) where
         ]
         | inr idle ↦ (
           (λ e. let is = ap (λ (a : Answer). a.status) idle.0 in cc),
-          elim idle.1 [ inl same ↦ same | inr same ↦ same ],
+          elim idle.2 [ inl same ↦ same | inr same ↦ same ],
         )
       ]
 
   -- a head that is refused changes nothing
-  pub refused_none : HeadDecides (Handles kept) IsSame → RefusedNoChange kept
+  pub refused_none : HeadDecides (Handles kept) IsSame TakesMemoryAt → RefusedNoChange kept
   refused_none decides bytes rest head status old new answer reads few is means =
-      subst (λ j. AnswersJudged (Handles kept) IsSame j head rest old answer new) is
+      subst (λ j. AnswersJudged (Handles kept) IsSame TakesMemoryAt j head rest old answer new) is
       (decides bytes rest head old new answer reads few means)

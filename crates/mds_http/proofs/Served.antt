@@ -8,6 +8,7 @@ use Rattle.mds_wire.specs.Serving.{ServesAnswer}
 use Rattle.mds_wire.specs.declared.answer.Status.{Status}
 use Rattle.mds_wire.specs.declared.serve.WireFault.{WireFault}
 use Rattle.mds_wire.specs.declared.serve.WireFault.TheVariants.{Read, Closed, Write, Memory}
+use Rattle.mds_http.specs.Bodies.{TakesMemoryAt}
 use Rattle.mds_http.specs.Handling.{Handles}
 use Rattle.mds_http.specs.Laws.{AreServed}
 use Rattle.mds_http.specs.Serving.{IsSame, ServesOver}
@@ -16,7 +17,7 @@ use Rattle.mds_http.specs.Connections.{HasServed}
 
 module _ {K : Type 0} (kept : K → Kept) where
   answered : (left held holds : Option (List ℕ)) (bytes : List ℕ) (old new : StoreHandler K)
-      (result : Result Status WireFault) → ServesAnswer (Handles kept) IsSame left held holds bytes old new result
+      (result : Result Status WireFault) → ServesAnswer (Handles kept) IsSame TakesMemoryAt left held holds bytes old new result
       → HasServed kept old 1 new
   answered left held holds bytes old new (Ok status) it = ((bytes, it.0) ∷ [], omega arith, (new, it.2, refl))
   answered left held holds bytes old new (Err Write) it = ((bytes, it.0) ∷ [], omega arith, (new, it.1, refl))

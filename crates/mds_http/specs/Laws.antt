@@ -1,6 +1,6 @@
 -- What follows of what bytes mean to a store.
 use Rattle.std.specs.Prelude.{◌≡◌, ◌≢◌, ◌⊎◌, ◌≤◌, ℕ, false, List, [], ◌∷◌, length, take}
-use Rattle.httparse.specs.Grammar.{RequestHead, ReadsRequest, HasNoRequest}
+use Rattle.httparse.specs.Grammar.{RequestHead, ReadsRequest}
 use Rattle.mds_world.specs.World.{IsLawful, World}
 use Rattle.mds_keeper.specs.Kept.{Kept}
 use Rattle.mds_service.specs.Crashes.{MayLeave}
@@ -11,14 +11,15 @@ use Rattle.mds_requests.specs.Targets.{AsksAt, IsFaultAt}
 use Rattle.mds_requests.specs.declared.targets.TargetFault.{TargetFault}
 use Rattle.mds_requests.specs.declared.targets.TargetFault.TheVariants as fault
 use Rattle.mds_wire.specs.Heads.{most_fields}
-use Rattle.mds_wire.specs.Laws.{IsHeadOf, IsRefusedHead}
+use Rattle.mds_wire.specs.Laws.{Headless, IsHeadOf, IsRefusedHead, TakeMemory}
 use Rattle.mds_wire.specs.Meaning.{Answer, is_head_method, refused}
 use Rattle.mds_wire.specs.declared.answer.Status.{Status}
-use Rattle.mds_wire.specs.declared.answer.Status.TheVariants.{Success, BadRequest, FieldsTooLarge, Unavailable}
+use Rattle.mds_wire.specs.declared.answer.Status.TheVariants.{Success, Unavailable}
 use Rattle.mds_wire.specs.declared.route.Route.{Route}
 use Rattle.mds_http.specs.declared.handling.StoreHandler.{StoreHandler}
-use Rattle.mds_http.specs.Handling.{Tells, status_of}
-use Rattle.mds_http.specs.Serving.{MeansOver}
+use Rattle.mds_http.specs.Bodies.{TakesMemoryAt}
+use Rattle.mds_http.specs.Handling.{Handles, Tells, status_of}
+use Rattle.mds_http.specs.Serving.{IsSame, MeansOver}
 
 -- the bytes begin with a head that wants a body of this size on a route
 abbrev pub Wants : List ℕ → RequestHead → List ℕ → Route → ℕ → Type 0
@@ -43,11 +44,12 @@ AskForNone bytes =
     → (reason : TargetFault) × (reason ≢ fault.Memory) × IsFaultAt route head.target (take size rest) reason
 
 -- The requests that were done, and their answers: by each connection the one that its bytes ask for, whose answer it was told.
--- It was none where the bytes ask for none, or the connection was told 503.
+-- It was none where the bytes ask for none, or where what they ask for takes memory, and the connection was told 503.
 abbrev pub AreDone : List (List ℕ × Answer) → List Request → List Told → Type 0
 AreDone [] requests answers = (requests ≡ []) × (answers ≡ [])
 AreDone (connection ∷ connections) requests answers =
-    ((AskForNone connection.0 ⊎ (connection.1.status ≡ Unavailable)) × AreDone connections requests answers)
+    ((AskForNone connection.0 ⊎ ((connection.1.status ≡ Unavailable) × TakeMemory TakesMemoryAt connection.0))
+    × AreDone connections requests answers)
     ⊎ ((request : Request) × (later : List Request) × (told : Told) × (more : List Told)
     × (requests ≡ request ∷ later) × (answers ≡ told ∷ more) × AskFor connection.0 request × IsTold told connection.1
     × AreDone connections later more)
@@ -74,9 +76,7 @@ module _ {K : Type 0} (kept : K → Kept) where
 
   -- bytes that hold no head change nothing
   abbrev pub NoHeadNoChange : Type 0
-  NoHeadNoChange = (bytes : List ℕ) (old new : StoreHandler K) (answer : Answer) → HasNoRequest bytes
-      → MeansOver kept bytes old answer new
-      → ((answer ≡ refused BadRequest false) ⊎ (answer ≡ refused FieldsTooLarge false)) × (new ≡ old)
+  NoHeadNoChange = Headless (Handles kept) IsSame TakesMemoryAt
 
   -- nor do those of a head that is refused
   abbrev pub RefusedNoChange : Type 0

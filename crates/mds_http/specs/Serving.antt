@@ -6,6 +6,7 @@ use Rattle.mds_wire.specs.Serving.{Serves}
 use Rattle.mds_wire.specs.declared.answer.Status.{Status}
 use Rattle.mds_wire.specs.declared.serve.WireFault.{WireFault}
 use Rattle.mds_http.specs.declared.handling.StoreHandler.{StoreHandler}
+use Rattle.mds_http.specs.Bodies.{TakesMemoryAt}
 use Rattle.mds_http.specs.Handling.{Handles}
 
 -- nothing changed
@@ -15,11 +16,11 @@ IsSame old new = new ≡ old
 module _ {K : Type 0} (kept : K → Kept) where
   -- bytes mean this answer, and a step of the store
   abbrev pub MeansOver : List ℕ → StoreHandler K → Answer → StoreHandler K → Type 0
-  MeansOver bytes old answer new = Means (Handles kept) IsSame bytes old answer new
+  MeansOver bytes old answer new = Means (Handles kept) IsSame TakesMemoryAt bytes old answer new
 
   -- bytes were read, and what they mean was done and answered
   abbrev pub ServesOver : {R : Type 0} → (R → List ℕ → R → Type 0) → (reader_old reader_new : R)
       → (old_left new_left held holds : Option (List ℕ)) → (old new : StoreHandler K) → Result Status WireFault → Type 0
   ServesOver gives reader_old reader_new old_left new_left held holds old new result =
-      Serves (Handles kept) IsSame gives reader_old reader_new old_left new_left held holds old new
+      Serves (Handles kept) IsSame TakesMemoryAt gives reader_old reader_new old_left new_left held holds old new
       result

@@ -1,9 +1,9 @@
 //! What is made of the body of a request while it comes.
 
-ghost use Rattle.std.specs.Prelude.{◌≡◌, ◌++◌, ◌≤◌, ℕ, List, [], IfOk, length};
+ghost use Rattle.std.specs.Prelude.{◌≡◌, ◌++◌, ◌≤◌, ℕ, List, [], IfOk, OnErr, length};
 ghost use Rattle.mds_wire.specs.Judging.{longest_body};
 ghost use Rattle.mds_wire.specs.declared.route.Route.{Route as ARoute};
-ghost use Rattle.mds_http.specs.Bodies.{HoldsBody};
+ghost use Rattle.mds_http.specs.Bodies.{HoldsBody, TakesMemoryAt};
 
 use mds_nem12::{Nem12Fault, Reader};
 use mds_requests::imports_interval_data;
@@ -27,7 +27,8 @@ impl Body {
         target: &[u8],
         size: usize,
     ) -> Result<Body, Unavailable>
-        ensures { IfOk result (λ body. HoldsBody body route target.now []) }
+        ensures begun { IfOk result (λ body. HoldsBody body route target.now []) }
+        ensures only { OnErr result (TakesMemoryAt route target.now size) }
     {
         match imports_interval_data(alloc, route, target) {
             Ok(true) => match Reader::new(alloc) {
@@ -44,9 +45,11 @@ impl Body {
 
     /// Takes more of the body. A fault of a file is told once the body is whole.
     pub(crate) fn feed(&mut self, piece: &[u8]) -> Result<(), Unavailable>
-        ensures { (route : ARoute) (target bytes : List ℕ) → HoldsBody self.old route target bytes
+        ensures fed { (route : ARoute) (target bytes : List ℕ) → HoldsBody self.old route target bytes
             → length (bytes ++ piece.now) ≤ longest_body
             → IfOk result (λ _. HoldsBody self.new route target (bytes ++ piece.now)) }
+        ensures only { (route : ARoute) (target bytes : List ℕ) (size : ℕ) → HoldsBody self.old route target bytes
+            → length (bytes ++ piece.now) ≤ size → OnErr result (TakesMemoryAt route target size) }
     {
         match self {
             Body::IntervalData(reader) => match reader.feed(piece) {

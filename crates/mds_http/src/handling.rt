@@ -4,7 +4,7 @@ ghost use Rattle.std.specs.Prelude.{◌≡◌, ℕ, List, ◌≤◌, [], IfOk, O
 ghost use Rattle.mds_requests.specs.Targets.{IsFaultAt};
 ghost use Rattle.mds_requests.specs.declared.targets.TargetFault.TheVariants as fault;
 ghost use Rattle.mds_wire.specs.Serving.{short_answer};
-ghost use Rattle.mds_http.specs.Bodies.{HoldsBody};
+ghost use Rattle.mds_http.specs.Bodies.{HoldsBody, TakesMemoryAt};
 ghost use Rattle.mds_http.specs.Handling.{Handles, HandlesBy};
 ghost use Rattle.mds_http.specs.Serving.{IsSame};
 
@@ -29,7 +29,7 @@ impl<K: Keeper> Handler for StoreHandler<K> {
 
     ghost same = { IsSame };
 
-    ghost takes_memory = { λ route target body. IsFaultAt route target body fault.Memory };
+    ghost takes_memory = { TakesMemoryAt };
 
     ghost holds = { HoldsBody };
 

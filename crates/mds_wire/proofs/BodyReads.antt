@@ -6,7 +6,7 @@ use Rattle.mds_wire.specs.Calls.{HasRead}
 use Rattle.mds_wire.specs.declared.body.BodyFault.{BodyFault}
 use Rattle.mds_wire.specs.declared.body.BodyFault.TheVariants.{Read, Closed, Unavailable}
 use Rattle.mds_wire.specs.declared.route.Route.{Route}
-use Rattle.mds_wire.specs.BodySteps.{WantsBody, IsFed, FeedsNext, FeedsBody}
+use Rattle.mds_wire.specs.BodySteps.{WantsBody, IsFed, IsUnfed, FeedsNext, FeedsBody}
 use Rattle.mds_wire.proofs.CallSteps.{read_none, read_next, read_last}
 use Rattle.mds_wire.proofs.HeadReads.{not_none}
 
@@ -19,6 +19,15 @@ module _ {B : Type 0} (Holds : B → Route → List ℕ → List ℕ → Type 0)
       let sum = length-append (before ++ xs) ys in
       subst (λ (t : List ℕ). Holds c route target t) is
       (next route target (before ++ xs) (first route target before holds (omega (arith, few, long, sum))) (omega (arith, few, long)))
+
+  -- a piece that wasn't taken, behind one that was
+  unfed_behind : (Takes : Route → List ℕ → ℕ → Type 0) (a b : B) (xs ys : List ℕ) → IsFed Holds a b xs → IsUnfed Holds Takes b ys
+      → IsUnfed Holds Takes a (xs ++ ys)
+  unfed_behind Takes a b xs ys first next route target before size holds within few =
+      let long : length ((before ++ xs) ++ ys) ≡ length (before ++ (xs ++ ys)) = ap length (append_assoc before xs ys) in
+      let sum = length-append (before ++ xs) ys in
+      next route target (before ++ xs) size (first route target before holds (omega (arith, within, few, long, sum)))
+      (omega (arith, within, long)) few
 
   -- What was read so far was fed behind the front. So many bytes are left.
   pub record IsFeeding {S : Type 0} (first now : B) (front : List ℕ) (size : ℕ) (gives : S → List ℕ → S → Type 0) (old new : S)
@@ -36,6 +45,17 @@ module _ {B : Type 0} (Holds : B → Route → List ℕ → List ℕ → Type 0)
     many = omega (arith, many);
     fed = subst (λ (t : List ℕ). IsFed Holds a b t) (sym (append-nil front)) fed;
     read = read_none (WantsBody front size) gives s remaining;
+  }
+
+  -- a front that wasn't taken
+  pub feeding_none_stops : {S : Type 0} (Takes : Route → List ℕ → ℕ → Type 0) (a b : B) (front : List ℕ) (size : ℕ) (gives : S → List ℕ → S → Type 0) (s : S)
+      (remaining : Option (List ℕ)) → length front ≤ size → IsUnfed Holds Takes a front
+      → FeedsBody Holds Takes {A = Unit {0}} a b front size gives s s remaining remaining (Err Unavailable)
+  feeding_none_stops Takes a b front size gives s remaining few unfed = record {
+    bytes = [];
+    few = omega (arith, few);
+    read = read_none (WantsBody front size) gives s remaining;
+    is = subst (λ (t : List ℕ). IsUnfed Holds Takes a t) (sym (append-nil front)) unfed;
   }
 
   module _ {S : Type 0} (first now : B) (front : List ℕ) (size : ℕ) (gives : S → List ℕ → S → Type 0) (a b c : S) (old next later : Option (List ℕ)) (left : ℕ)
@@ -56,9 +76,9 @@ module _ {B : Type 0} (Holds : B → Route → List ℕ → List ℕ → Type 0)
         (subst (λ (t : List ℕ). gives b t c) none gave) (subst (λ (t : List ℕ). Consumes next later t) none consumed)
 
     -- a call whose bytes were fed
-    pub feeding_more : (new : B) (block count : ℕ) → block ≤ left → FeedsNext Holds now new block gives b c next later (Ok count)
+    pub feeding_more : (Takes : Route → List ℕ → ℕ → Type 0) (new : B) (block count : ℕ) → block ≤ left → FeedsNext Holds Takes now new block gives b c next later (Ok count)
         → IsFeeding first new front size gives a c old later (left - count)
-    feeding_more new block count within n = record {
+    feeding_more Takes new block count within n = record {
       bytes = f.bytes ++ n.bytes;
       many = omega (arith, f.many, n.is.0, n.few, within, length-append f.bytes n.bytes);
       fed = subst (λ (t : List ℕ). IsFed Holds first new t) (append_assoc front f.bytes n.bytes) (fed_both first now new (front ++ f.bytes) n.bytes f.fed n.is.2);
@@ -66,21 +86,22 @@ module _ {B : Type 0} (Holds : B → Route → List ℕ → List ℕ → Type 0)
     }
 
     -- a call that brought nothing, or whose bytes weren't taken
-    pub feeding_stops : (new : B) (block : ℕ) (fault : BodyFault) → block ≤ left → 0 < left → FeedsNext Holds now new block gives b c next later (Err fault)
-        → FeedsBody Holds {A = Unit {0}} first new front size gives a c old later (Err fault)
-    feeding_stops new block Unavailable within some n = record {
+    pub feeding_stops : (Takes : Route → List ℕ → ℕ → Type 0) (new : B) (block : ℕ) (fault : BodyFault) → block ≤ left → 0 < left → FeedsNext Holds Takes now new block gives b c next later (Err fault)
+        → FeedsBody Holds Takes {A = Unit {0}} first new front size gives a c old later (Err fault)
+    feeding_stops Takes new block Unavailable within some n = record {
       bytes = f.bytes ++ n.bytes;
       few = omega (arith, f.many, n.few, within, length-append f.bytes n.bytes);
-      read = read_more n.bytes n.is (omega (arith, n.few, within)) n.gave n.consumed;
-      is = tt;
+      read = read_more n.bytes n.is.0 (omega (arith, n.few, within)) n.gave n.consumed;
+      is = subst (λ (t : List ℕ). IsUnfed Holds Takes first t) (append_assoc front f.bytes n.bytes)
+          (unfed_behind Takes first now (front ++ f.bytes) n.bytes f.fed n.is.1);
     }
-    feeding_stops new block Read within some n = record {
+    feeding_stops Takes new block Read within some n = record {
       bytes = f.bytes;
       few = omega (arith, f.many);
       read = read_nothing n.bytes n.is some n.gave n.consumed;
       is = tt;
     }
-    feeding_stops new block Closed within some n = record {
+    feeding_stops Takes new block Closed within some n = record {
       bytes = f.bytes;
       few = omega (arith, f.many);
       read = read_nothing n.bytes n.is.0 some n.gave n.consumed;

@@ -10,9 +10,9 @@ use Rattle.httparse.specs.Spans.{IsRequestAt, span_bytes}
 use Rattle.httparse.specs.declared.spans.HeaderSpan.{HeaderSpan}
 use Rattle.httparse.specs.declared.spans.RequestSpans.{RequestSpans}
 use Rattle.httparse.proofs.GrammarLemmas.{ReadsRequest-append, request_unique}
-use Rattle.mds_wire.specs.Heads.{IsWhole, IsNoHead, most_fields, longest_head}
+use Rattle.mds_wire.specs.Heads.{IsWhole, IsOpenHead, IsNoHead, most_fields, longest_head}
 use Rattle.mds_wire.specs.Judging.{Parts, is_host_fault, judge, judge_body, judge_length, judge_route, longest_body, parts_of, parts_at, path_of, values_in}
-use Rattle.mds_wire.specs.Laws.{HaveNoOrder, OnlySteps}
+use Rattle.mds_wire.specs.Laws.{HaveNoOrder, OnlySteps, TakeMemory}
 use Rattle.mds_wire.specs.Routes.{method_of, method_text, route_of, slash}
 use Rattle.mds_wire.specs.declared.route.Method.{Method}
 use Rattle.mds_wire.specs.declared.route.Method.TheVariants.{Get, Post}
@@ -134,33 +134,34 @@ refused_has_no_order bytes rest head status reads is other more route size other
     let both : Refused status ≡ Wanted route size = sym is ∙ wanted in
     cc
 
-module _ {S : Type 0} (Step : StepOf S) (Same : S → S → Type 0) where
+module _ {S : Type 0} (Step : StepOf S) (Same : S → S → Type 0) (Takes : Route → List ℕ → ℕ → Type 0) where
   means_judged : (bytes more : List ℕ) (fields : List HeaderSpan) (r : RequestSpans) (w : IsWhole bytes fields r) (judged : Judged) (old new : S) (answer : Answer)
       → judged ≡ judge (parts_at bytes fields r)
-      → AnswersJudged Step Same judged w.head (drop r.len bytes ++ more) old answer new → Means Step Same (bytes ++ more) old answer new
+      → AnswersJudged Step Same Takes judged w.head (drop r.len bytes ++ more) old answer new → Means Step Same Takes (bytes ++ more) old answer new
   means_judged bytes more fields r w judged old new answer is h = record {
     beginning = whole w.head (drop r.len bytes ++ more);
     begins = begins_whole bytes more fields r w;
-    answers = subst (λ (j : Judged). AnswersJudged Step Same j w.head (drop r.len bytes ++ more) old answer new) (is ∙ ap judge (parts_same bytes fields r w.head w.at)) h;
+    answers = subst (λ (j : Judged). AnswersJudged Step Same Takes j w.head (drop r.len bytes ++ more) old answer new) (is ∙ ap judge (parts_same bytes fields r w.head w.at)) h;
   }
 
   pub means_refused : (bytes : List ℕ) (fields : List HeaderSpan) (r : RequestSpans) (w : IsWhole bytes fields r) (status : Status) (head : Bool) (s : S)
       → Refused status ≡ judge (parts_at bytes fields r) → head ≡ bytes_eq (span_bytes bytes r.method) (codes "HEAD")
-      → Means Step Same (bytes ++ []) s (refused status head) s
+      → Means Step Same Takes (bytes ++ []) s (refused status head) s
   means_refused bytes fields r w status head s is head_is =
       means_judged bytes [] fields r w (Refused status) s s (refused status head) is
       (ap (refused status) (head_is ∙ ap (λ m. bytes_eq m (codes "HEAD")) w.at.method), refl)
 
-  pub means_unavailable : (bytes more : List ℕ) (fields : List HeaderSpan) (r : RequestSpans) (w : IsWhole bytes fields r) (route : Route) (size : ℕ) (old new : S)
-      → Wanted route size ≡ judge (parts_at bytes fields r) → (new ≡ old) ⊎ Same old new
-      → Means Step Same (bytes ++ more) old (refused Unavailable false) new
-  means_unavailable bytes more fields r w route size old new is same =
-      means_judged bytes more fields r w (Wanted route size) old new (refused Unavailable false) is (inr (refl, same))
+  pub means_unavailable : (bytes more : List ℕ) (fields : List HeaderSpan) (r : RequestSpans) (w : IsWhole bytes fields r) (route : Route) (size : ℕ) (old new : S) (target : List ℕ)
+      → Wanted route size ≡ judge (parts_at bytes fields r) → target ≡ span_bytes bytes r.path → Takes route target size → (new ≡ old) ⊎ Same old new
+      → Means Step Same Takes (bytes ++ more) old (refused Unavailable false) new
+  means_unavailable bytes more fields r w route size old new target is target_is takes same =
+      let moved = subst (λ (t : List ℕ). Takes route t size) (target_is ∙ w.at.path) takes in
+      means_judged bytes more fields r w (Wanted route size) old new (refused Unavailable false) is (inr (refl, moved, same))
 
   pub means_step : (bytes more : List ℕ) (fields : List HeaderSpan) (r : RequestSpans) (w : IsWhole bytes fields r) (route : Route) (size : ℕ) (old new : S) (target body : List ℕ) (answer : Answer)
       → Wanted route size ≡ judge (parts_at bytes fields r) → length (take size (drop r.len bytes)) + length more ≡ size
       → target ≡ span_bytes bytes r.path → body ≡ take size (drop r.len bytes) ++ more → answer.is_head ≡ false
-      → Step old route target body answer.status answer.kind answer.body new → Means Step Same (bytes ++ more) old answer new
+      → Step old route target body answer.status answer.kind answer.body new → Means Step Same Takes (bytes ++ more) old answer new
   means_step bytes more fields r w route size old new target body answer is sizes target_is body_is' not_head step =
       let b = body_is (drop r.len bytes) more size sizes in
       let moved = subst (λ (t : List ℕ). Step old route t body answer.status answer.kind answer.body new) (target_is ∙ w.at.path) step in
@@ -169,28 +170,28 @@ module _ {S : Type 0} (Step : StepOf S) (Same : S → S → Type 0) where
 
   -- Bytes that begin with a head of at most 64 fields mean what it says, and nothing else.
   whole_means : (bytes rest : List ℕ) (head : RequestHead) (b : Beginning) (old new : S) (answer : Answer) → ReadsRequest bytes head rest → length head.fields ≤ most_fields
-      → BeginsSo bytes b → AnswersBeginning Step Same b old answer new → AnswersJudged Step Same (judge (parts_of head)) head rest old answer new
+      → BeginsSo bytes b → AnswersBeginning Step Same Takes b old answer new → AnswersJudged Step Same Takes (judge (parts_of head)) head rest old answer new
   whole_means bytes rest head no_head old new answer reads few never a =
       absurd (omega (arith, few, never.none [] head rest (subst (λ (xs : List ℕ). ReadsRequest xs head rest) (sym (append-nil bytes)) reads)))
-  whole_means bytes rest head overlong old new answer reads few never a = absurd (never.1 head rest reads)
+  whole_means bytes rest head overlong old new answer reads few never a = absurd (never.1.none head rest reads)
   whole_means bytes rest head (whole other more) old new answer reads few is a =
       let same = request_unique bytes other head more rest is.0 reads in
-      subst (λ (h : RequestHead). AnswersJudged Step Same (judge (parts_of h)) h rest old answer new) same.0
-      (subst (λ (xs : List ℕ). AnswersJudged Step Same (judge (parts_of other)) other xs old answer new) same.1 a)
+      subst (λ (h : RequestHead). AnswersJudged Step Same Takes (judge (parts_of h)) h rest old answer new) same.0
+      (subst (λ (xs : List ℕ). AnswersJudged Step Same Takes (judge (parts_of other)) other xs old answer new) same.1 a)
 
   pub head_means : (bytes rest : List ℕ) (head : RequestHead) (old new : S) (answer : Answer) → ReadsRequest bytes head rest → length head.fields ≤ most_fields
-      → Means Step Same bytes old answer new → AnswersJudged Step Same (judge (parts_of head)) head rest old answer new
+      → Means Step Same Takes bytes old answer new → AnswersJudged Step Same Takes (judge (parts_of head)) head rest old answer new
   head_means bytes rest head old new answer reads few m = whole_means bytes rest head m.beginning old new answer reads few m.begins m.answers
 
   -- Bytes that hold no head are answered 400 or 431.
-  headless : (bytes : List ℕ) (b : Beginning) (old new : S) (answer : Answer) → HasNoRequest bytes → BeginsSo bytes b → AnswersBeginning Step Same b old answer new
-      → (((answer ≡ refused BadRequest false) × IsNoHead bytes) ⊎ ((answer ≡ refused FieldsTooLarge false) × (length bytes ≡ longest_head))) × (new ≡ old)
+  headless : (bytes : List ℕ) (b : Beginning) (old new : S) (answer : Answer) → HasNoRequest bytes → BeginsSo bytes b → AnswersBeginning Step Same Takes b old answer new
+      → (((answer ≡ refused BadRequest false) × IsNoHead bytes) ⊎ ((answer ≡ refused FieldsTooLarge false) × (length bytes ≡ longest_head) × IsOpenHead bytes)) × (new ≡ old)
   headless bytes no_head old new answer none is a = (inl (a.0, is), a.1)
-  headless bytes overlong old new answer none is a = (inr (a.0, is.0), a.1)
+  headless bytes overlong old new answer none is a = (inr (a.0, is.0, is.1), a.1)
   headless bytes (whole head rest) old new answer none is a = absurd (none head rest is.0)
 
-  pub headless_means : (bytes : List ℕ) (old new : S) (answer : Answer) → HasNoRequest bytes → Means Step Same bytes old answer new
-      → (((answer ≡ refused BadRequest false) × IsNoHead bytes) ⊎ ((answer ≡ refused FieldsTooLarge false) × (length bytes ≡ longest_head))) × (new ≡ old)
+  pub headless_means : (bytes : List ℕ) (old new : S) (answer : Answer) → HasNoRequest bytes → Means Step Same Takes bytes old answer new
+      → (((answer ≡ refused BadRequest false) × IsNoHead bytes) ⊎ ((answer ≡ refused FieldsTooLarge false) × (length bytes ≡ longest_head) × IsOpenHead bytes)) × (new ≡ old)
   headless_means bytes old new answer none m = headless bytes m.beginning old new answer none m.begins m.answers
 
   -- Nothing is changed but by a step of a whole request.
@@ -200,7 +201,8 @@ module _ {S : Type 0} (Step : StepOf S) (Same : S → S → Type 0) where
       × (length head.fields ≤ most_fields) × (judge (parts_of head) ≡ Wanted route size) × (size ≤ length rest)
       × (answer.is_head ≡ false)
       × Step old route head.target (take size rest) answer.status answer.kind answer.body new)
-      ⊎ ((HaveNoOrder bytes ⊎ (answer.status ≡ Unavailable)) × (answer.status ≢ Success) × ((new ≡ old) ⊎ Same old new))
+      ⊎ ((HaveNoOrder bytes ⊎ ((answer.status ≡ Unavailable) × TakeMemory Takes bytes)) × (answer.status ≢ Success)
+      × ((new ≡ old) ⊎ Same old new))
 
   -- what is refused isn't told 200
   no_success : (answer : Answer) (status : Status) (is_head : Bool) → answer ≡ refused status is_head → status ≢ Success
@@ -209,7 +211,7 @@ module _ {S : Type 0} (Step : StepOf S) (Same : S → S → Type 0) where
 
   step_or_none : (bytes rest : List ℕ) (head : RequestHead) (judged : Judged) (old new : S) (answer : Answer)
       → ReadsRequest bytes head rest → length head.fields ≤ most_fields → judge (parts_of head) ≡ judged → NoSuccess judged
-      → AnswersJudged Step Same judged head rest old answer new → IsStepOrNone bytes old answer new
+      → AnswersJudged Step Same Takes judged head rest old answer new → IsStepOrNone bytes old answer new
   step_or_none bytes rest head (Refused status) old new answer reads few is other a =
       inr (
         inl (refused_has_no_order bytes rest head status reads is),
@@ -219,10 +221,14 @@ module _ {S : Type 0} (Step : StepOf S) (Same : S → S → Type 0) where
   step_or_none bytes rest head (Wanted route size) old new answer reads few is other (inl step) =
       inl (head, rest, route, size, reads, few, is, step.0, step.1, step.2)
   step_or_none bytes rest head (Wanted route size) old new answer reads few is other (inr none) =
-      inr (inr (ap (λ (a : Answer). a.status) none.0), no_success answer Unavailable false none.0 (λ e. cc), none.1)
+      inr (
+        inr (ap (λ (a : Answer). a.status) none.0, (head, rest, route, size, reads, few, is, none.1)),
+        no_success answer Unavailable false none.0 (λ e. cc),
+        none.2,
+      )
 
   begun : (bytes : List ℕ) (b : Beginning) (old new : S) (answer : Answer) → BeginsSo bytes b
-      → AnswersBeginning Step Same b old answer new → IsStepOrNone bytes old answer new
+      → AnswersBeginning Step Same Takes b old answer new → IsStepOrNone bytes old answer new
   begun bytes no_head old new answer is a =
       inr (
         inl (λ head rest route size reads few order. absurd (omega (
@@ -236,12 +242,12 @@ module _ {S : Type 0} (Step : StepOf S) (Same : S → S → Type 0) where
       )
   begun bytes overlong old new answer is a =
       inr (
-        inl (λ head rest route size reads few order. is.1 head rest reads),
+        inl (λ head rest route size reads few order. is.1.none head rest reads),
         no_success answer FieldsTooLarge false a.0 (λ e. cc),
         inl a.1,
       )
   begun bytes (whole head rest) old new answer is a =
       step_or_none bytes rest head (judge (parts_of head)) old new answer is.0 is.1 refl (judge_refuses (parts_of head)) a
 
-  pub only_steps : OnlySteps Step Same
+  pub only_steps : OnlySteps Step Same Takes
   only_steps bytes old new answer m = begun bytes m.beginning old new answer m.begins m.answers

@@ -25,12 +25,19 @@ module _ {B : Type 0} (Holds : B → Route → List ℕ → List ℕ → Type 0)
   IsFed old new bytes = (route : Route) (target before : List ℕ) → Holds old route target before
       → length (before ++ bytes) ≤ longest_body → Holds new route target (before ++ bytes)
 
+-- `Takes` says that a route, a target and a body of this size take memory.
+module _ {B : Type 0} (Holds : B → Route → List ℕ → List ℕ → Type 0) (Takes : Route → List ℕ → ℕ → Type 0) where
+  -- A body wasn't fed these bytes, behind any that it had been fed: any body with them takes memory.
+  abbrev pub IsUnfed : B → List ℕ → Type 0
+  IsUnfed old bytes = (route : Route) (target before : List ℕ) (size : ℕ) → Holds old route target before
+      → length (before ++ bytes) ≤ size → size ≤ longest_body → Takes route target size
+
   -- what the bytes that one call brought are, by the answer
   abbrev pub NextAnswer : B → B → Option (List ℕ) → List ℕ → Result ℕ BodyFault → Type 0
-  NextAnswer old new left bytes (Ok count) = (length bytes ≡ count) × (0 < count) × IsFed old new bytes
+  NextAnswer old new left bytes (Ok count) = (length bytes ≡ count) × (0 < count) × IsFed Holds old new bytes
   NextAnswer old new left bytes (Err Read) = bytes ≡ []
   NextAnswer old new left bytes (Err Closed) = (bytes ≡ []) × IsAtEnd left
-  NextAnswer old new left bytes (Err Unavailable) = 0 < length bytes
+  NextAnswer old new left bytes (Err Unavailable) = (0 < length bytes) × IsUnfed old bytes
 
   -- one call brought these bytes, no more than a block has, and the answer is theirs
   pub record FeedsNext {S : Type 0} (old_body new_body : B) (block : ℕ) (gives : S → List ℕ → S → Type 0) (old new : S)
@@ -43,10 +50,10 @@ module _ {B : Type 0} (Holds : B → Route → List ℕ → List ℕ → Type 0)
 
   -- what the bytes that were read are, by the answer
   abbrev pub BodyAnswer : {A : Type 0} → B → B → List ℕ → ℕ → Option (List ℕ) → List ℕ → Result A BodyFault → Type 0
-  BodyAnswer old new front size left bytes (Ok done) = IsFed old new (front ++ bytes) × (length front + length bytes ≡ size)
+  BodyAnswer old new front size left bytes (Ok done) = IsFed Holds old new (front ++ bytes) × (length front + length bytes ≡ size)
   BodyAnswer old new front size left bytes (Err Read) = ⊤
   BodyAnswer old new front size left bytes (Err Closed) = IsAtEnd left × (length front + length bytes < size)
-  BodyAnswer old new front size left bytes (Err Unavailable) = ⊤
+  BodyAnswer old new front size left bytes (Err Unavailable) = IsUnfed old (front ++ bytes)
 
   -- these bytes were read, no more than the body needs, and the answer is theirs
   pub record FeedsBody {A : Type 0} {S : Type 0} (old_body new_body : B) (front : List ℕ) (size : ℕ)

@@ -1,7 +1,6 @@
 -- What a call that reads a head does.
 use Rattle.std.specs.Prelude.{◌≡◌, ℕ, ◌+◌, ◌≤◌, Bool, true, false, List, length, take, Option, Result, Ok, Err, ⊤, ◌<◌}
 use Rattle.std.specs.Io.KnownBytes.{IsAtEnd}
-use Rattle.httparse.specs.Grammar.{HasNoRequest}
 use Rattle.httparse.specs.declared.spans.HeaderSpan.{HeaderSpan}
 use Rattle.mds_wire.specs.declared.head.HeadRead.{HeadRead}
 use Rattle.mds_wire.specs.declared.head.HeadFault.{HeadFault}
@@ -19,7 +18,7 @@ HeadAnswer left bytes fields (Ok read) = (read.filled ≡ length bytes) × IsWho
 HeadAnswer left bytes fields (Err Read) = ⊤
 HeadAnswer left bytes fields (Err Closed) = IsAtEnd left × IsOpenHead bytes × (length bytes < longest_head)
 HeadAnswer left bytes fields (Err Bad) = IsNoHead bytes
-HeadAnswer left bytes fields (Err TooLarge) = (length bytes ≡ longest_head) × HasNoRequest bytes
+HeadAnswer left bytes fields (Err TooLarge) = (length bytes ≡ longest_head) × IsOpenHead bytes
 
 -- whether the last call brought no bytes
 abbrev pub is_head_cut : Result HeadRead HeadFault → Bool

@@ -1,7 +1,7 @@
 -- What follows of what bytes mean.
 use Rattle.std.specs.Prelude.{◌≡◌, ◌≢◌, ℕ, ◌≤◌, ◌⊎◌, List, length, take, false}
 use Rattle.httparse.specs.Grammar.{RequestHead, ReadsRequest, HasNoRequest}
-use Rattle.mds_wire.specs.Heads.{longest_head, most_fields, IsNoHead}
+use Rattle.mds_wire.specs.Heads.{longest_head, most_fields, IsOpenHead, IsNoHead}
 use Rattle.mds_wire.specs.Judging.{judge, parts_of}
 use Rattle.mds_wire.specs.declared.answer.Status.{Status}
 use Rattle.mds_wire.specs.declared.answer.Status.TheVariants.{Success, BadRequest, FieldsTooLarge, Unavailable}
@@ -23,26 +23,33 @@ HaveNoOrder bytes =
     (head : RequestHead) (rest : List ℕ) (route : Route) (size : ℕ) → ReadsRequest bytes head rest
     → length head.fields ≤ most_fields → IsHeadOf head route size → ⊥
 
-module _ {S : Type 0} (Step : StepOf S) (Same : S → S → Type 0) where
+-- the bytes begin with a head that is in order, whose target or body takes memory
+abbrev pub TakeMemory : (Takes : Route → List ℕ → ℕ → Type 0) → List ℕ → Type 0
+TakeMemory Takes bytes =
+    (head : RequestHead) × (rest : List ℕ) × (route : Route) × (size : ℕ) × ReadsRequest bytes head rest
+    × (length head.fields ≤ most_fields) × IsHeadOf head route size × Takes route head.target size
+
+module _ {S : Type 0} (Step : StepOf S) (Same : S → S → Type 0) (Takes : Route → List ℕ → ℕ → Type 0) where
   -- Bytes that begin with a head of at most 64 fields mean what it says, and nothing else.
   abbrev pub HeadDecides : Type 0
   HeadDecides = (bytes rest : List ℕ) (head : RequestHead) (old new : S) (answer : Answer)
-      → ReadsRequest bytes head rest → length head.fields ≤ most_fields → Means Step Same bytes old answer new
-      → AnswersJudged Step Same (judge (parts_of head)) head rest old answer new
+      → ReadsRequest bytes head rest → length head.fields ≤ most_fields → Means Step Same Takes bytes old answer new
+      → AnswersJudged Step Same Takes (judge (parts_of head)) head rest old answer new
 
-  -- Bytes that hold no head are answered 400 or 431, and change nothing.
+  -- Bytes that hold no head are answered 400 or 431, and change nothing. 431 is told only where they may still become one.
   abbrev pub Headless : Type 0
   Headless = (bytes : List ℕ) (old new : S) (answer : Answer) → HasNoRequest bytes
-      → Means Step Same bytes old answer new
+      → Means Step Same Takes bytes old answer new
       → (((answer ≡ refused BadRequest false) × IsNoHead bytes)
-      ⊎ ((answer ≡ refused FieldsTooLarge false) × (length bytes ≡ longest_head))) × (new ≡ old)
+      ⊎ ((answer ≡ refused FieldsTooLarge false) × (length bytes ≡ longest_head) × IsOpenHead bytes)) × (new ≡ old)
 
   -- Whatever bytes mean is one step, of a whole request with its target and its body. Else nothing is changed, and the answer
-  -- isn't 200. The bytes begin with no head that is in order then, or the answer is 503.
+  -- isn't 200. The bytes begin with no head that is in order then. Or the answer is 503, and memory is taken.
   abbrev pub OnlySteps : Type 0
-  OnlySteps = (bytes : List ℕ) (old new : S) (answer : Answer) → Means Step Same bytes old answer new
+  OnlySteps = (bytes : List ℕ) (old new : S) (answer : Answer) → Means Step Same Takes bytes old answer new
       → ((head : RequestHead) × (rest : List ℕ) × (route : Route) × (size : ℕ) × ReadsRequest bytes head rest
       × (length head.fields ≤ most_fields) × IsHeadOf head route size × (size ≤ length rest)
       × (answer.is_head ≡ false)
       × Step old route head.target (take size rest) answer.status answer.kind answer.body new)
-      ⊎ ((HaveNoOrder bytes ⊎ (answer.status ≡ Unavailable)) × (answer.status ≢ Success) × ((new ≡ old) ⊎ Same old new))
+      ⊎ ((HaveNoOrder bytes ⊎ ((answer.status ≡ Unavailable) × TakeMemory Takes bytes)) × (answer.status ≢ Success)
+      × ((new ≡ old) ⊎ Same old new))

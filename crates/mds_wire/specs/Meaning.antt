@@ -1,7 +1,7 @@
 -- What the bytes of a connection mean: an answer, and a step of whoever handles requests. RFC 9112, section 2.2. The
 -- order of checks is this project's profile.
 use Rattle.std.specs.Prelude.{◌≡◌, ℕ, ◌+◌, ◌≤◌, ◌⊎◌, List, length, take, bytes_eq, codes, false, Bool}
-use Rattle.httparse.specs.Grammar.{RequestHead, ReadsRequest, HasNoRequest}
+use Rattle.httparse.specs.Grammar.{RequestHead, ReadsRequest}
 use Rattle.mds_wire.specs.Heads.{longest_head, most_fields, IsOpenHead, IsNoHead}
 use Rattle.mds_wire.specs.Judging.{judge, parts_of}
 use Rattle.mds_wire.specs.declared.judge.Judged.{Judged}
@@ -24,14 +24,14 @@ pub record Answer : Type 0 where
 abbrev pub refused : Status → Bool → Answer
 refused status is_head = record { status = status; kind = Json; body = refusal_body status; is_head = is_head }
 
--- how bytes begin: with no head, with more bytes than a head has, or with a head and the bytes behind it
+-- how bytes begin: with no head, with a front of one that fills its room, or with a head and the bytes behind it
 pub data Beginning : Type 0 where
   no_head overlong : Beginning
   whole : RequestHead → List ℕ → Beginning
 
 abbrev pub BeginsSo : List ℕ → Beginning → Type 0
 BeginsSo bytes no_head = IsNoHead bytes
-BeginsSo bytes overlong = (length bytes ≡ longest_head) × HasNoRequest bytes
+BeginsSo bytes overlong = (length bytes ≡ longest_head) × IsOpenHead bytes
 BeginsSo bytes (whole head rest) = ReadsRequest bytes head rest × (length head.fields ≤ most_fields)
 
 -- After these bytes up to so many more are awaited. They are the rest of the room of a head that isn't whole, or what
@@ -48,16 +48,17 @@ is_head_method head = bytes_eq head.method (codes "HEAD")
 abbrev pub StepOf : Type 0 → Type 1
 StepOf S = S → Route → List ℕ → List ℕ → Status → Kind → List ℕ → S → Type 0
 
--- `Same` says that what is kept is the same in two states.
-module _ {S : Type 0} (Step : StepOf S) (Same : S → S → Type 0) where
-  -- The answer to a head that was judged so, and the state after it. Memory or the store may be unavailable instead.
+-- `Same` says that what is kept is the same in two states, and `Takes` that a route, a target and a body of this size take
+-- memory.
+module _ {S : Type 0} (Step : StepOf S) (Same : S → S → Type 0) (Takes : Route → List ℕ → ℕ → Type 0) where
+  -- The answer to a head that was judged so, and the state after it. Memory may be wanting instead, where some is taken.
   abbrev pub AnswersJudged : Judged → RequestHead → List ℕ → S → Answer → S → Type 0
   AnswersJudged (Refused status) head rest old answer new =
       (answer ≡ refused status (is_head_method head)) × (new ≡ old)
   AnswersJudged (Wanted route size) head rest old answer new =
       ((size ≤ length rest) × (answer.is_head ≡ false)
       × Step old route head.target (take size rest) answer.status answer.kind answer.body new)
-      ⊎ ((answer ≡ refused Unavailable false) × ((new ≡ old) ⊎ Same old new))
+      ⊎ ((answer ≡ refused Unavailable false) × Takes route head.target size × ((new ≡ old) ⊎ Same old new))
 
   abbrev pub AnswersBeginning : Beginning → S → Answer → S → Type 0
   AnswersBeginning no_head old answer new = (answer ≡ refused BadRequest false) × (new ≡ old)

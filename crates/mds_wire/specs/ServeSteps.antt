@@ -5,6 +5,7 @@ use Rattle.mds_wire.specs.Answers.{refusal_body}
 use Rattle.mds_wire.specs.declared.answer.Status.{Status}
 use Rattle.mds_wire.specs.declared.answer.Kind.{Kind}
 use Rattle.mds_wire.specs.declared.answer.Kind.TheVariants.{Json}
+use Rattle.mds_wire.specs.declared.route.Route.{Route}
 use Rattle.mds_wire.specs.declared.serve.Reply.{Reply}
 use Rattle.mds_wire.specs.declared.serve.Reply.TheVariants.{Refused, Told}
 use Rattle.mds_wire.specs.declared.serve.Unread.{Unread}
@@ -49,9 +50,9 @@ abbrev pub is_unread : Result Reply Unread → Bool
 is_unread (Ok reply) = false
 is_unread (Err fault) = true
 
-module _ {S : Type 0} (Step : StepOf S) (Same : S → S → Type 0) where
+module _ {S : Type 0} (Step : StepOf S) (Same : S → S → Type 0) (Takes : Route → List ℕ → ℕ → Type 0) where
   abbrev pub UnderstandsAnswer : Option (List ℕ) → List ℕ → S → S → List ℕ → Result Reply Unread → Type 0
-  UnderstandsAnswer left bytes old new told (Ok reply) = Means Step Same bytes old (answer_of reply told) new
+  UnderstandsAnswer left bytes old new told (Ok reply) = Means Step Same Takes bytes old (answer_of reply told) new
   UnderstandsAnswer left bytes old new told (Err Read) = new ≡ old
   UnderstandsAnswer left bytes old new told (Err Closed) = (new ≡ old) × IsAtEnd left × IsUnfinished bytes
 

@@ -3,6 +3,7 @@ use Rattle.std.specs.Prelude.{◌≡◌, ℕ, ◌+◌, ◌<◌, ◌≤◌, Bool,
 use Rattle.std.specs.Io.KnownBytes.{IsAtEnd, Appends, Keeps}
 use Rattle.mds_wire.specs.Answers.{head_text}
 use Rattle.mds_wire.specs.declared.answer.Status.{Status}
+use Rattle.mds_wire.specs.declared.route.Route.{Route}
 use Rattle.mds_wire.specs.declared.serve.WireFault.{WireFault}
 use Rattle.mds_wire.specs.declared.serve.WireFault.TheVariants.{Read, Closed, Write, Memory}
 use Rattle.mds_wire.specs.Calls.{HasRead}
@@ -32,16 +33,16 @@ is_cut (Err Memory) = false
 abbrev pub IsUnfinished : List ℕ → Type 0
 IsUnfinished bytes = (count : ℕ) × (0 < count) × Awaits bytes count
 
-module _ {S : Type 0} (Step : StepOf S) (Same : S → S → Type 0) where
+module _ {S : Type 0} (Step : StepOf S) (Same : S → S → Type 0) (Takes : Route → List ℕ → ℕ → Type 0) where
   -- What became of the bytes that were read. Their answer was written, or a part of it. Or nothing was written, and
   -- nothing changed.
   abbrev pub ServesAnswer : Option (List ℕ) → Option (List ℕ) → Option (List ℕ) → List ℕ → S → S
       → Result Status WireFault → Type 0
   ServesAnswer left held holds bytes old new (Ok status) =
-      (answer : Answer) × (answer.status ≡ status) × Means Step Same bytes old answer new
+      (answer : Answer) × (answer.status ≡ status) × Means Step Same Takes bytes old answer new
       × Appends held holds (text_of answer)
   ServesAnswer left held holds bytes old new (Err Write) =
-      (answer : Answer) × Means Step Same bytes old answer new
+      (answer : Answer) × Means Step Same Takes bytes old answer new
       × (n : ℕ) × (n < length (text_of answer)) × Appends held holds (take n (text_of answer))
   ServesAnswer left held holds bytes old new (Err Read) = (new ≡ old) × Keeps held holds
   ServesAnswer left held holds bytes old new (Err Closed) =

@@ -28,7 +28,7 @@ fn feed_next<H: Handler, R: Source>(
 ) -> Result<usize, BodyFault>
     requires failures { R.failures source.old < 2 ^ 64 - 1 }
     requires room { 0 < length block.old }
-    ensures feeds { FeedsNext H.holds body.old body.new (length block.old) R.gives source.old source.new
+    ensures feeds { FeedsNext H.holds H.takes_memory body.old body.new (length block.old) R.gives source.old source.new
         (R.remaining source.old) (R.remaining source.new) result }
     ensures counted { (result ≡ Err BodyFault.Read → R.failures source.new ≡ R.failures source.old + 1)
         × (result ≢ Err BodyFault.Read → R.failures source.new ≡ R.failures source.old) }
@@ -53,7 +53,7 @@ pub(crate) fn feed_body<H: Handler, R: Source>(
 ) -> Result<(), BodyFault>
     requires failures { R.failures source.old < 2 ^ 64 - 1 }
     requires front { length front.now ≤ size }
-    ensures feeds { FeedsBody H.holds body.old body.new front.now size R.gives source.old source.new
+    ensures feeds { FeedsBody H.holds H.takes_memory body.old body.new front.now size R.gives source.old source.new
         (R.remaining source.old) (R.remaining source.new) result }
     ensures counted { (result ≡ Err BodyFault.Read → R.failures source.new ≡ R.failures source.old + 1)
         × (result ≢ Err BodyFault.Read → R.failures source.new ≡ R.failures source.old) }

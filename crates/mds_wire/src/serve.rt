@@ -39,13 +39,13 @@ pub trait Handler {
     /// What is kept is the same in both states.
     ghost same: { Self → Self → Type 0 };
 
-    /// What a route, a target and a body ask for takes memory to read.
-    ghost takes_memory: { Route → List ℕ → List ℕ → Type 0 };
+    /// A route, a target and a body of so many bytes take memory before a step.
+    ghost takes_memory: { Route → List ℕ → ℕ → Type 0 };
 
     /// It was begun for a route and a target, and was fed these bytes.
     ghost holds: { Self.Body → Route → List ℕ → List ℕ → Type 0 };
 
-    /// Begins a body of so many bytes, of which nothing has come.
+    /// Begins a body of so many bytes, of which nothing has come. It fails only where memory is taken.
     fn begin(
         &self,
         alloc: Global,
@@ -53,13 +53,17 @@ pub trait Handler {
         target: &[u8],
         size: usize,
     ) -> Result<Self::Body, Unavailable>
-        ensures { IfOk result (λ body. holds body route target.now []) };
+        ensures begun { IfOk result (λ body. holds body route target.now []) }
+        ensures only { OnErr result (takes_memory route target.now size) };
 
-    /// Takes more of a body. All that it is fed has at most 8,388,608 bytes.
+    /// Takes more of a body. All that it is fed has at most 8,388,608 bytes. It fails only where any body with these bytes
+    /// takes memory.
     fn feed(body: &mut Self::Body, piece: &[u8]) -> Result<(), Unavailable>
-        ensures { (route : Route) (target bytes : List ℕ) → holds body.old route target bytes
+        ensures fed { (route : Route) (target bytes : List ℕ) → holds body.old route target bytes
             → length (bytes ++ piece.now) ≤ longest_body
-            → IfOk result (λ _. holds body.new route target (bytes ++ piece.now)) };
+            → IfOk result (λ _. holds body.new route target (bytes ++ piece.now)) }
+        ensures only { (route : Route) (target bytes : List ℕ) (size : ℕ) → holds body.old route target bytes
+            → length (bytes ++ piece.now) ≤ size → OnErr result (takes_memory route target size) };
 
     /// Makes a step with a body that is whole, and writes the answer's body. There is room for 768 bytes of it. Where
     /// memory or what is kept is unavailable, nothing has changed. Whatever was written then counts for nothing, and
@@ -78,7 +82,7 @@ pub trait Handler {
             step self.old route target.now bytes told.0 told.1 answer.new.items self.new) }
         ensures same { OnErr result (same self.old self.new) }
         ensures only { (bytes : List ℕ) → holds body route target.now bytes
-            → OnErr result (takes_memory route target.now bytes) };
+            → OnErr result (takes_memory route target.now (length bytes)) };
 }
 
 /// What is answered. It is a refusal, and whether the request's method is `HEAD`, or what the handler tells.
@@ -169,7 +173,7 @@ fn is_head(method: &[u8]) -> bool
     method == b"HEAD".as_slice()
 }
 
-/// Feeds the body of a request whose head is whole to the handler, and does what it asks.
+/// Feeds the body of a request whose head is whole to the handler, and does what it asks. Where the handler fails it answers 503.
 fn perform<F: RouteFinder, H: Handler, R: Source>(
     alloc: Global,
     routes: &F,
@@ -184,7 +188,7 @@ fn perform<F: RouteFinder, H: Handler, R: Source>(
     requires empty { answer.old.items ≡ [] }
     requires room { short_answer ≤ vec_capacity answer.old }
     requires whole { IsWhole bytes.now fields.now read.spans }
-    ensures does { Performs H.step H.same bytes.now R.gives reader.old reader.new
+    ensures does { Performs H.step H.same H.takes_memory bytes.now R.gives reader.old reader.new
         (R.remaining reader.old) (R.remaining reader.new) handler.old handler.new answer.new.items result }
     ensures counted { (result ≡ Err Unread.Read → R.failures reader.new ≡ R.failures reader.old + 1)
         × (result ≢ Err Unread.Read → R.failures reader.new ≡ R.failures reader.old) }
@@ -227,7 +231,7 @@ fn understand<F: RouteFinder, H: Handler, R: Source>(
     requires fields { length fields.old ≡ most_fields }
     requires empty { answer.old.items ≡ [] }
     requires room { short_answer ≤ vec_capacity answer.old }
-    ensures understands { Understands H.step H.same R.gives reader.old reader.new
+    ensures understands { Understands H.step H.same H.takes_memory R.gives reader.old reader.new
         (R.remaining reader.old) (R.remaining reader.new) handler.old handler.new answer.new.items result }
     ensures counted { (result ≡ Err Unread.Read → R.failures reader.new ≡ R.failures reader.old + 1)
         × (result ≢ Err Unread.Read → R.failures reader.new ≡ R.failures reader.old) }
@@ -322,7 +326,7 @@ pub fn serve_one<F: RouteFinder, H: Handler, R: Source, W: Sink>(
 ) -> Result<Status, WireFault>
     requires reader { R.failures reader.old < 2 ^ 64 - 1 }
     requires writer { W.failures writer.old < 2 ^ 64 - 1 }
-    ensures serves { Serves H.step H.same R.gives reader.old reader.new
+    ensures serves { Serves H.step H.same H.takes_memory R.gives reader.old reader.new
         (R.remaining reader.old) (R.remaining reader.new) (W.contents writer.old) (W.contents writer.new) handler.old handler.new result }
     ensures reader { (result ≡ Err WireFault.Read → R.failures reader.new ≡ R.failures reader.old + 1)
         × (result ≢ Err WireFault.Read → R.failures reader.new ≡ R.failures reader.old) }

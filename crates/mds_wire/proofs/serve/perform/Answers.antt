@@ -12,7 +12,7 @@ returns-in-Refused-clause-does g c = record {
   more = [];
   few = omega arith;
   read = read_none _ _ _ _;
-  is = means_refused g.H.Handler.step g.H.Handler.same c.args.bytes.now c.args.fields.now c.args.read.spans c.requires.whole c.in-Refused.status c.is_head-is_head.result c.args.handler.now
+  is = means_refused g.H.Handler.step g.H.Handler.same g.H.Handler.takes_memory c.args.bytes.now c.args.fields.now c.args.read.spans c.requires.whole c.in-Refused.status c.is_head-is_head.result c.args.handler.now
       (sym c.in-Refused.is ∙ c.judge_head.ensures.value) (c.is_head-is_head.ensures ∙ ap (λ m. bytes_eq m (codes "HEAD")) c.of.ensures);
 }
 
@@ -21,8 +21,8 @@ returns-in_default-clause-does g c = record {
   more = [];
   few = omega arith;
   read = read_none _ _ _ _;
-  is = means_unavailable g.H.Handler.step g.H.Handler.same c.args.bytes.now [] c.args.fields.now c.args.read.spans c.requires.whole c.in-Wanted.route c.in-Wanted.size c.args.handler.now c.args.handler.now
-      (sym c.in-Wanted.is ∙ c.judge_head.ensures.value) (inl refl);
+  is = means_unavailable g.H.Handler.step g.H.Handler.same g.H.Handler.takes_memory c.args.bytes.now [] c.args.fields.now c.args.read.spans c.requires.whole c.in-Wanted.route c.in-Wanted.size c.args.handler.now c.args.handler.now c.of-target.result.now
+      (sym c.in-Wanted.is ∙ c.judge_head.ensures.value) c.of-target.ensures c.in_default.ensures.only (inl refl);
 }
 
 pub returns-in-Ok-handle-clause-does : goal.returns-in-Ok-handle-clause-does
@@ -31,12 +31,12 @@ returns-in-Ok-handle-clause-does g c =
     let judged = sym c.in-Wanted.is ∙ c.judge_head.ensures.value in
     let front = c.front_of-front.ensures.value ∙ ap (take c.in-Wanted.size) (take_rest c.args.bytes.now c.args.read.spans.len) in
     let size : length (c.front_of-front.result.now ++ r.bytes) ≤ longest_body = omega (arith, length-append c.front_of-front.result.now r.bytes, r.few, c.judge_head.ensures.few _ _ c.in-Wanted.is) in
-    let whole = r.is.0 c.in-Wanted.route c.of-target.result.now [] c.in-Ok.ensures size in
+    let whole = r.is.0 c.in-Wanted.route c.of-target.result.now [] c.in-Ok.ensures.begun size in
     record {
       more = r.bytes;
       few = omega (arith, r.few, c.judge_head.ensures.few _ _ c.in-Wanted.is);
       read = read_for _ _ _ _ _ _ _ _ _ (awaits_body c.args.bytes.now c.args.fields.now c.args.read.spans c.requires.whole c.in-Wanted.route c.in-Wanted.size c.front_of-front.result.now judged front) r.read;
-      is = means_step g.H.Handler.step g.H.Handler.same c.args.bytes.now r.bytes c.args.fields.now c.args.read.spans c.requires.whole c.in-Wanted.route c.in-Wanted.size c.args.handler.now c.handle.new.self c.of-target.result.now (c.front_of-front.result.now ++ r.bytes) (answer_of (Told c.in-Ok-handle.status c.in-Ok-handle.kind) c.handle.new.answer.items)
+      is = means_step g.H.Handler.step g.H.Handler.same g.H.Handler.takes_memory c.args.bytes.now r.bytes c.args.fields.now c.args.read.spans c.requires.whole c.in-Wanted.route c.in-Wanted.size c.args.handler.now c.handle.new.self c.of-target.result.now (c.front_of-front.result.now ++ r.bytes) (answer_of (Told c.in-Ok-handle.status c.in-Ok-handle.kind) c.handle.new.answer.items)
           judged
           (subst (λ (xs : List ℕ). length xs + length r.bytes ≡ c.in-Wanted.size) front r.is.1)
           c.of-target.ensures
@@ -50,12 +50,16 @@ returns-in-Ok-feed_body-clause-does g c =
     let r = c.in-Ok-feed_body.ensures.feeds in
     let judged = sym c.in-Wanted.is ∙ c.judge_head.ensures.value in
     let front = c.front_of-front.ensures.value ∙ ap (take c.in-Wanted.size) (take_rest c.args.bytes.now c.args.read.spans.len) in
+    let size : length (c.front_of-front.result.now ++ r.bytes) ≡ c.in-Wanted.size = length-append c.front_of-front.result.now r.bytes ∙ r.is.1 in
+    let whole = r.is.0 c.in-Wanted.route c.of-target.result.now [] c.in-Ok.ensures.begun (omega (arith, size, c.judge_head.ensures.few _ _ c.in-Wanted.is)) in
+    let takes = subst (λ (n : ℕ). g.H.Handler.takes_memory c.in-Wanted.route c.of-target.result.now n) size
+    (c.in-Err.ensures.only (c.front_of-front.result.now ++ r.bytes) whole) in
     record {
       more = r.bytes;
       few = omega (arith, r.few, c.judge_head.ensures.few _ _ c.in-Wanted.is);
       read = read_for _ _ _ _ _ _ _ _ _ (awaits_body c.args.bytes.now c.args.fields.now c.args.read.spans c.requires.whole c.in-Wanted.route c.in-Wanted.size c.front_of-front.result.now judged front) r.read;
-      is = means_unavailable g.H.Handler.step g.H.Handler.same c.args.bytes.now r.bytes c.args.fields.now c.args.read.spans c.requires.whole c.in-Wanted.route c.in-Wanted.size c.args.handler.now c.handle.new.self
-          judged (inr c.in-Err.ensures.same);
+      is = means_unavailable g.H.Handler.step g.H.Handler.same g.H.Handler.takes_memory c.args.bytes.now r.bytes c.args.fields.now c.args.read.spans c.requires.whole c.in-Wanted.route c.in-Wanted.size c.args.handler.now c.handle.new.self c.of-target.result.now
+          judged c.of-target.ensures takes (inr c.in-Err.ensures.same);
     }
 
 pub returns-in-Err-Unavailable-clause-does : goal.returns-in-Err-Unavailable-clause-does
@@ -63,12 +67,14 @@ returns-in-Err-Unavailable-clause-does g c =
     let r = rw c.in-Err-Unavailable.field-0-is at c.in-Err-Unavailable.ensures.feeds in
     let judged = sym c.in-Wanted.is ∙ c.judge_head.ensures.value in
     let front = c.front_of-front.ensures.value ∙ ap (take c.in-Wanted.size) (take_rest c.args.bytes.now c.args.read.spans.len) in
+    let takes = r.is c.in-Wanted.route c.of-target.result.now [] c.in-Wanted.size c.in-Ok.ensures.begun
+    (omega (arith, r.few, length-append c.front_of-front.result.now r.bytes)) (c.judge_head.ensures.few _ _ c.in-Wanted.is) in
     record {
       more = r.bytes;
       few = omega (arith, r.few, c.judge_head.ensures.few _ _ c.in-Wanted.is);
       read = read_for _ _ _ _ _ _ _ _ _ (awaits_body c.args.bytes.now c.args.fields.now c.args.read.spans c.requires.whole c.in-Wanted.route c.in-Wanted.size c.front_of-front.result.now judged front) r.read;
-      is = means_unavailable g.H.Handler.step g.H.Handler.same c.args.bytes.now r.bytes c.args.fields.now c.args.read.spans c.requires.whole c.in-Wanted.route c.in-Wanted.size c.args.handler.now c.args.handler.now
-          judged (inl refl);
+      is = means_unavailable g.H.Handler.step g.H.Handler.same g.H.Handler.takes_memory c.args.bytes.now r.bytes c.args.fields.now c.args.read.spans c.requires.whole c.in-Wanted.route c.in-Wanted.size c.args.handler.now c.args.handler.now c.of-target.result.now
+          judged c.of-target.ensures takes (inl refl);
     }
 
 pub returns-in-Err-Closed-clause-does : goal.returns-in-Err-Closed-clause-does

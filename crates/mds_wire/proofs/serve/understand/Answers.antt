@@ -14,7 +14,7 @@ pub returns-in-Ok-clause-understands : goal.returns-in-Ok-clause-understands
 returns-in-Ok-clause-understands g c =
     let r = c.in-Ok.ensures.read in
     let came = ap (λ n. take n c.read_head.new.buffer) r.is.0 ∙ r.kept in
-    let p = subst (λ (xs : List ℕ). Performs g.H.Handler.step g.H.Handler.same xs g.R.Source.gives c.read_head.new.source c.perform.new.reader
+    let p = subst (λ (xs : List ℕ). Performs g.H.Handler.step g.H.Handler.same g.H.Handler.takes_memory xs g.R.Source.gives c.read_head.new.source c.perform.new.reader
     (g.R.Source.remaining c.read_head.new.source) (g.R.Source.remaining c.perform.new.reader) c.args.handler.now c.perform.new.handler c.perform.new.answer.items c.perform.result)
     came c.perform.ensures.does in
     record {
