@@ -4,6 +4,7 @@ pub mod Faultless
 pub mod Longer
 pub mod Numbered
 pub mod Parts
+pub mod Seeks
 pub mod Sources
 pub mod Steps
 pub mod Stops

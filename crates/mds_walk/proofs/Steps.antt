@@ -5,11 +5,10 @@ use Rattle.std.proofs.lemmas.List.{append-nil, length-map, length_push, nil_from
 use Rattle.std.proofs.lemmas.List.Elements.{All-nil, All-same}
 use Rattle.memchr.specs.Find.{IsFirstByte, is_byte}
 use Rattle.mds_lines.specs.Lines.{line_feed, line_pieces, line_text, longest_line}
-use Rattle.mds_lines.proofs.Lefts.{around}
-use Rattle.mds_lines.proofs.Seeks.{IsFound, seen_all, seen_found}
+use Rattle.mds_walk.proofs.Seeks.{IsFound, around, seen_all, seen_found}
 use Rattle.mds_records.specs.declared.file.FaultCode.TheVariants as code
 use Rattle.mds_records.specs.declared.file.FileFault.{FileFault}
-use Rattle.mds_walk.specs.Answers.{HasWalked, IsEndFault, IsRefusal, Takes}
+use Rattle.mds_walk.specs.Answers.{HasWalked, IsEndFault, IsRefusal}
 use Rattle.mds_walk.specs.Faults.{Judge, at_line, end_fault, fault_of, faults_of, first_of, line_fault, lines_of, text_fault}
 use Rattle.mds_walk.specs.declared.fault.TakeFault.{TakeFault}
 use Rattle.mds_walk.specs.declared.fault.TakeFault.TheVariants.{File, Memory}
@@ -212,12 +211,6 @@ module _ {T : Type 0} {judge : Judge} {taken : T → List (List ℕ) → Type 0}
       (append_assoc text i.fed left ∙ ap (λ t. text ++ t) (sym i.is)) (step (text ++ i.fed) (i.has text h) apart)
 
 -- Where memory may be wanting.
-
--- for a line that a walk takes
-pub takes_wanting : {T : Type 0} {U : Type 0} (taken : T → List (List ℕ) → Type 0) (may_lack : List (List ℕ) → List ℕ → Option FileFault → Type 0)
-    (before : List (List ℕ)) (line : List ℕ) (found : Option FileFault) (r : Result U TakeFault) (new : T)
-    → Takes taken may_lack before line found r new → r ≡ Err Memory → may_lack before line found
-takes_wanting {U = U} taken may_lack before line found r new h e = subst (λ (it : Result U TakeFault). Takes taken may_lack before line found it new) e h
 
 module _ {T : Type 0} {judge : Judge} {taken : T → List (List ℕ) → Type 0} (may_lack : List (List ℕ) → List ℕ → Option FileFault → Type 0) (Wanting : Type 0) where
   -- for the line in hand and these bytes

@@ -17,7 +17,7 @@ use crate::sink::RecordSink;
 use mds_lines::Source;
 use std::alloc::{AllocError, Global};
 
-/// How many bytes are read at a time. With a line in hand they are as many as a reader of lines has.
+/// How many bytes are read at a time. With a line in hand they are 131,072 at most.
 const BLOCK: usize = (1 << 17) - 16_384;
 
 /// Reads a file from a source, and gives its records to a sink, which has taken none yet. It holds a block

@@ -1,10 +1,9 @@
--- How far the pending bytes have no line feed.
-use Rattle.std.proofs.Common.{◌≡◌, ◌≢◌, ℕ, ◌+◌, ◌-◌, ◌<◌, ◌≤◌, Bool, true, false, ltb, List, ◌++◌, length, take, drop, get_or, Option, Some, None, refl, sym, ◌∙◌, ap, subst, arith}
+-- How far some bytes have no line feed, and what stands around one.
+use Rattle.std.proofs.Common.{◌≡◌, ◌≢◌, ℕ, ◌+◌, ◌-◌, ◌<◌, ◌≤◌, Bool, true, false, ltb, List, ◌∷◌, ◌++◌, length, take, drop, get_or, Some, None, refl, sym, ◌∙◌, ap, arith}
 use Rattle.std.specs.List.{All}
 use Rattle.std.proofs.lemmas.Bool.Decides.{nat_tests}
-use Rattle.std.proofs.lemmas.List.{take_at, get_or-take, get_or-drop, length-take-le, length-drop, take_all, take_rest}
+use Rattle.std.proofs.lemmas.List.{get_or-take, get_or-drop, length-take-le, length-drop, take-append-drop, drop_more}
 use Rattle.std.proofs.lemmas.List.Elements.{All-from_get_or, All-same}
-use Rattle.mds_lines.specs.Reads.{IsNeeded}
 use Rattle.memchr.specs.Find.{IsFirstByte, Nowhere, Passes, is_byte}
 
 -- a byte that fails the search's test
@@ -33,11 +32,6 @@ seen_more xs seen more within apart nowhere =
           let same = get_or-drop seen xs (i - seen) 0 ∙ ap (λ k. get_or xs k 0) here ∙ sym (get_or-take (seen + more) xs i 0 lt) in
           λ e. fails _ (nowhere (i - seen) (omega arith) (omega arith)) (same ∙ e)
 
--- where a source goes on, and the bytes have no line feed and aren't too many, it has to be read
-pub needed : (is_ended : Bool) (xs : List ℕ) → All (λ x. x ≢ 10) (take (length xs) xs) → length xs ≤ 16_384 → is_ended ≡ false → IsNeeded xs is_ended
-needed is_ended xs apart few goes_on =
-    record { no_line = subst (λ (ys : List ℕ). All (λ x. x ≢ 10) ys) (take_all (length xs) xs (omega arith)) apart; no_fault = few; goes_on = goes_on }
-
 -- the search found a line feed
 pub record IsFound (xs : List ℕ) (n : ℕ) : Type 0 where
   pub within : n < length xs
@@ -64,15 +58,6 @@ seen_all xs seen within apart h =
     All-same (λ x. x ≢ 10) (take (length xs) xs) (take (seen + (length xs - seen)) xs) (ap (λ k. take k xs) (sym e))
     (seen_more xs seen (length xs - seen) (omega arith) apart (λ k low high. h k low (omega arith)))
 
--- bytes that were seen, before more
-pub seen_before : (xs now more : List ℕ) → now ≡ xs ++ more → All (λ x. x ≢ 10) (take (length xs) xs) → All (λ x. x ≢ 10) (take (length xs) now)
-seen_before xs now more e apart =
-    All-same (λ x. x ≢ 10) (take (length xs) now) (take (length xs) xs) (ap (take (length xs)) e ∙ take_at xs more (length xs) refl ∙ sym (take_all (length xs) xs (omega arith))) apart
-
--- what was searched is what was not seen yet
-pub searched : (ps xs : List ℕ) (seen : ℕ) (r : Option ℕ) → ps ≡ xs → IsFirstByte (is_byte 10) (take (length ps - seen) (drop seen ps)) r → IsFirstByte (is_byte 10) (drop seen xs) r
-searched ps xs seen r e h = subst (λ (hay : List ℕ). IsFirstByte (is_byte 10) hay r) (take_rest ps seen ∙ ap (drop seen) e) h
-
--- the same place, in the words of another length
-pub apart_at : (xs : List ℕ) (m n : ℕ) → m ≡ n → All (λ x. x ≢ 10) (take n xs) → All (λ x. x ≢ 10) (take m xs)
-apart_at xs m n e h = All-same (λ x. x ≢ 10) (take m xs) (take n xs) (ap (λ k. take k xs) e) h
+-- a line feed, what stands before it and what behind it
+pub around : (xs : List ℕ) (n : ℕ) → n < length xs → get_or xs n 0 ≡ 10 → xs ≡ take n xs ++ 10 ∷ drop (n + 1) xs
+around xs n within here = sym (take-append-drop n xs) ∙ ap (λ t. take n xs ++ t) (drop_more xs n 0 within ∙ ap (λ x. x ∷ drop (n + 1) xs) here)
