@@ -1,5 +1,5 @@
 -- What the arguments of a query ask for (profile).
-use Rattle.std.specs.Prelude.{◌≡◌, ℕ, List, [], ◌∷◌, map, codes, Bool, if◌then◌else◌, Option, Some, None, is_some}
+use Rattle.std.specs.Prelude.{◌≡◌, ◌+◌, ◌<◌, ℕ, List, [], ◌∷◌, length, map, take, codes, Bool, if◌then◌else◌, Option, Some, None, is_some}
 use Rattle.std.specs.List.{list_all}
 use Rattle.mds_calendar.specs.Calendar.{date_time_of, day_of}
 use Rattle.mds_marks.specs.Digits.{interval_number_of}
@@ -62,10 +62,14 @@ export_tests nmi from to moment sender receiver suffixes =
 abbrev pub IsFirstBad : List (Argument × Bool) → Argument → Type 0
 IsFirstBad tests argument = first_bad tests ≡ Some argument
 
--- Why they ask for no export. Of want of memory nothing is said.
-abbrev pub IsExportFault : List (Argument × Bool) → ArgumentsFault → Type 0
-IsExportFault tests (fault.Bad argument) = IsFirstBad tests argument
-IsExportFault tests fault.Memory = Unit {0}
+-- Why they ask for no export. Memory is wanted only for what is copied: the sender, the receiver and the suffixes. No text in
+-- front of these is bad then.
+abbrev pub IsExportFault : (nmi from to moment sender receiver : List ℕ) → List (List ℕ) → ArgumentsFault → Type 0
+IsExportFault nmi from to moment sender receiver suffixes (fault.Bad argument) =
+    IsFirstBad (export_tests nmi from to moment sender receiver suffixes) argument
+IsExportFault nmi from to moment sender receiver suffixes fault.Memory =
+    (first_bad (take 4 (export_tests nmi from to moment sender receiver suffixes)) ≡ None)
+    × (0 < length sender + length receiver + length suffixes)
 
 -- texts spell a stream
 abbrev pub SpellStream : (nmi suffix : List ℕ) → Stream → Type 0

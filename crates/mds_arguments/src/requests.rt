@@ -1,10 +1,10 @@
 //! The requests that arguments ask for.
 
-ghost use Rattle.std.specs.Prelude.{◌≡◌, false, map, IfOk, MatchOption, MatchResult, Some, None, is_some};
+ghost use Rattle.std.specs.Prelude.{◌≡◌, ◌<◌, false, length, map, IfOk, OnErr, MatchOption, MatchResult, Some, None, is_some};
 ghost use Rattle.std.specs.List.{list_all};
 ghost use Rattle.mds_calendar.specs.Calendar.{day_of};
 ghost use Rattle.mds_names.specs.Names.{suffix_of};
-ghost use Rattle.mds_arguments.specs.Arguments.{AskForDay, AskForExport, AskForFinals, AskForGaps, AskForPeriods, AskForVersions, IsExportFault, IsFirstBad, SpellStream, day_tests, export_tests, interval_tests, range_tests, stream_tests};
+ghost use Rattle.mds_arguments.specs.Arguments.{AskForDay, AskForExport, AskForFinals, AskForGaps, AskForPeriods, AskForVersions, IsExportFault, IsFirstBad, SpellStream, day_tests, interval_tests, range_tests, stream_tests};
 
 use crate::arguments::{Argument, ExportArguments, RangeArguments};
 use mds_marks::interval_number;
@@ -130,7 +130,7 @@ fn read_range(words: &RangeArguments<'_>) -> Result<StreamRange, Argument>
     })
 }
 
-/// The request for an export.
+/// The request for an export. It takes memory only for the sender, the receiver and the suffixes.
 pub fn export_request(
     alloc: Global,
     arguments: &ExportArguments<'_>,
@@ -138,9 +138,8 @@ pub fn export_request(
     ensures { MatchResult result
         (AskForExport arguments.now.nmi.now arguments.now.from.now arguments.now.to.now arguments.now.moment.now
         arguments.now.sender.now arguments.now.receiver.now (map (λ suffix. suffix.now) arguments.now.suffixes.items))
-        (IsExportFault (export_tests arguments.now.nmi.now arguments.now.from.now arguments.now.to.now
-        arguments.now.moment.now arguments.now.sender.now arguments.now.receiver.now
-        (map (λ suffix. suffix.now) arguments.now.suffixes.items))) }
+        (IsExportFault arguments.now.nmi.now arguments.now.from.now arguments.now.to.now arguments.now.moment.now
+        arguments.now.sender.now arguments.now.receiver.now (map (λ suffix. suffix.now) arguments.now.suffixes.items)) }
 {
     let Some(nmi) = Nmi::read(arguments.nmi) else {
         return Err(ArgumentsFault::Bad(Argument::Nmi));
@@ -183,11 +182,12 @@ pub fn export_request(
     })
 }
 
-/// The suffixes that texts are, or `None` where one of them is none.
+/// The suffixes that texts are, or `None` where one of them is none. It takes memory only where there is a text.
 fn read_suffixes(alloc: Global, texts: &[&[u8]]) -> Result<Option<Vec<Suffix>>, AllocError>
-    ensures { IfOk result (λ found. MatchOption found
+    ensures value { IfOk result (λ found. MatchOption found
         (list_all (λ text. is_some (suffix_of text)) (map (λ text. text.now) texts.now) ≡ false)
         (λ suffixes. map suffix_of (map (λ text. text.now) texts.now) ≡ map (λ suffix. Some suffix) suffixes.items)) }
+    ensures full { OnErr result (0 < length texts.now) }
 {
     let mut suffixes = Vec::new(alloc);
     for text in texts {

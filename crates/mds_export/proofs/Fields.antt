@@ -1,5 +1,5 @@
 -- The texts of fields, and rows as lines of them.
-use Rattle.std.proofs.Common.{◌≡◌, ℕ, ◌<◌, ◌+◌, ◌*◌, ◌/◌, ◌%◌, ◌==◌, inl, inr, true, false, List, [], ◌∷◌, ◌++◌, length, length-append, append_assoc, codes, take, drop, map, refl, sym, ap, ◌∙◌, arith, Option, Some, get_or, decimal}
+use Rattle.std.proofs.Common.{◌≡◌, ℕ, ◌<◌, ◌≤◌, ◌+◌, ◌*◌, ◌/◌, ◌%◌, ◌==◌, inl, inr, true, false, List, [], ◌∷◌, ◌++◌, length, length-append, append_assoc, codes, take, drop, map, refl, sym, ap, ◌∙◌, arith, Option, Some, get_or, decimal}
 use Rattle.std.specs.Char.{is_ascii_digit}
 use Rattle.std.specs.List.{All, list_all}
 use Rattle.std.proofs.lemmas.List.Elements.{All-append, All-cons, All-nil, All-same}
@@ -110,43 +110,88 @@ values_line (r ∷ readings) tail h =
     ∙ sym (append_assoc (closed (value_field r)) (value_texts readings) (line_of tail))
 
 -- a row, appended piece by piece
-pub header_row : (moment : ℕ) (sender receiver made a b old new : List ℕ) → IsHeaderMoment moment made → a ≡ sender → b ≡ receiver
-    → Appends old new (line_of (codes "100" ∷ codes "NEM12" ∷ made ∷ a ∷ b ∷ []))
-    → (text : List ℕ) × IsRowText (HeaderRow moment sender receiver) text × Appends old new text
-header_row moment sender receiver made a b old new m ea eb e = (
+pub header_row : (P : List ℕ → Type 0) (moment : ℕ) (sender receiver made a b : List ℕ) → IsHeaderMoment moment made → a ≡ sender → b ≡ receiver
+    → P (line_of (codes "100" ∷ codes "NEM12" ∷ made ∷ a ∷ b ∷ []))
+    → (text : List ℕ) × IsRowText (HeaderRow moment sender receiver) text × P text
+header_row P moment sender receiver made a b m ea eb e = (
   line_of (codes "100" ∷ codes "NEM12" ∷ made ∷ a ∷ b ∷ []),
   (codes "100" ∷ codes "NEM12" ∷ made ∷ a ∷ b ∷ [], (made, m, ap (λ x. codes "100" ∷ codes "NEM12" ∷ made ∷ x ∷ b ∷ []) ea ∙ ap (λ x. codes "100" ∷ codes "NEM12" ∷ made ∷ sender ∷ x ∷ []) eb), refl),
   e,
 )
 
-pub day_row : (date update : ℕ) (readings : List ReadingValue) (mark : Option Mark) (old a b c new day : List ℕ) → day_of day ≡ Some date
-    → Appends old a (closed (codes "300")) → Appends a b (closed day) → Appends b c (value_texts readings)
-    → ((updated : List ℕ) × (moment_of updated ≡ Some update) × Appends c new (line_of (own_fields mark ++ updated ∷ [] ∷ [])))
-    → (text : List ℕ) × IsRowText (DayRow date readings mark update) text × Appends old new text
-day_row date update readings mark old a b c new day d ea eb ec own =
-    let tail = own_fields mark ++ own.0 ∷ [] ∷ [] in
-    let size : 0 < length tail = omega (arith, length-append (own_fields mark) (own.0 ∷ [] ∷ [])) in
+-- the line of a 300, piece by piece
+day_line : (readings : List ReadingValue) (day : List ℕ) (tail : List (List ℕ)) → 0 < length tail
+    → line_of (codes "300" ∷ day ∷ map value_field readings ++ tail) ≡ closed (codes "300") ++ (closed day ++ (value_texts readings ++ line_of tail))
+day_line readings day tail size =
     let values = map value_field readings ++ tail in
-    let fields = codes "300" ∷ day ∷ values in
-    let first = closed (codes "300") in
     let more : 0 < length values = omega (arith, length-append (map value_field readings) tail) in
-    let line : line_of fields ≡ closed (codes "300") ++ (closed day ++ (value_texts readings ++ line_of tail)) =
     line_more (codes "300") (day ∷ values) (omega arith)
-    ∙ ap (λ t. closed (codes "300") ++ t) (line_more day values more ∙ ap (λ t. closed day ++ t) (values_line readings tail size)) in (
+    ∙ ap (λ t. closed (codes "300") ++ t) (line_more day values more ∙ ap (λ t. closed day ++ t) (values_line readings tail size))
+
+-- what follows its values
+abbrev pub own_line : Option Mark → List ℕ → List ℕ
+own_line mark updated = line_of (own_fields mark ++ updated ∷ [] ∷ [])
+
+some_own : (mark : Option Mark) (updated : List ℕ) → 0 < length (own_fields mark ++ updated ∷ [] ∷ [])
+some_own mark updated = omega (arith, length-append (own_fields mark) (updated ∷ [] ∷ []))
+
+pub day_row : (date update : ℕ) (readings : List ReadingValue) (mark : Option Mark) (old a b c new day updated : List ℕ) → day_of day ≡ Some date
+    → moment_of updated ≡ Some update → Appends old a (closed (codes "300")) → Appends a b (closed day) → Appends b c (value_texts readings)
+    → Appends c new (own_line mark updated)
+    → (text : List ℕ) × IsRowText (DayRow date readings mark update) text × Appends old new text
+day_row date update readings mark old a b c new day updated d u ea eb ec own =
+    let tail = own_fields mark ++ updated ∷ [] ∷ [] in
+    let fields = codes "300" ∷ day ∷ map value_field readings ++ tail in
+    let first = closed (codes "300") in
+    let line = day_line readings day tail (some_own mark updated) in (
       line_of fields,
-      (fields, (day, own.0, d, own.1, refl), refl),
-      own.2 ∙ ap (λ t. t ++ line_of tail) (ec ∙ ap (λ t. t ++ value_texts readings) (eb ∙ ap (λ t. t ++ closed day) ea))
+      (fields, (day, updated, d, u, refl), refl),
+      own ∙ ap (λ t. t ++ line_of tail) (ec ∙ ap (λ t. t ++ value_texts readings) (eb ∙ ap (λ t. t ++ closed day) ea))
           ∙ (append_assoc (old ++ first ++ closed day) (value_texts readings) (line_of tail)
           ∙ append_assoc (old ++ first) (closed day) (value_texts readings ++ line_of tail)
           ∙ append_assoc old first (closed day ++ (value_texts readings ++ line_of tail))
           ∙ ap (λ t. old ++ t) (sym line)),
     )
 
-pub details_row : (stream : Stream) (details : DetailsValue) (unit : MeasureUnit) (minutes : ℕ) (nmi suffix name digits next old new : List ℕ)
+-- a text of it, and how long that is
+pub day_text : (date update : ℕ) (readings : List ReadingValue) (mark : Option Mark) (day updated : List ℕ) → day_of day ≡ Some date
+    → moment_of updated ≡ Some update
+    → (text : List ℕ) × IsRowText (DayRow date readings mark update) text
+    × (length text ≡ length (closed (codes "300")) + length (closed day) + length (value_texts readings) + length (own_line mark updated))
+day_text date update readings mark day updated d u =
+    let tail = own_fields mark ++ updated ∷ [] ∷ [] in
+    let fields = codes "300" ∷ day ∷ map value_field readings ++ tail in
+    let rest = value_texts readings ++ line_of tail in (
+      line_of fields,
+      (fields, (day, updated, d, u, refl), refl),
+      ap length (day_line readings day tail (some_own mark updated))
+          ∙ omega (arith, length-append (closed (codes "300")) (closed day ++ rest), length-append (closed day) rest, length-append (value_texts readings) (line_of tail)),
+    )
+
+-- how long the text of one reading more is, and that it is a part of the text of all
+pub values_length : (readings : List ReadingValue) (i : ℕ) (r : ReadingValue) → i < length readings → r ≡ get_or readings i r
+    → length (value_texts (take (i + 1) readings)) ≡ length (value_texts (take i readings)) + length (value_field r) + 1
+values_length readings i r h is =
+    let front = value_texts (take i readings) in
+    let more : length (value_texts (take (i + 1) readings)) ≡ length (front ++ closed (value_field r)) =
+    ap length (values_more readings i r h ∙ ap (λ x. front ++ closed (value_field x)) (sym is)) in
+    omega (arith, more, length-append front (closed (value_field r)), length-append (value_field r) (44 ∷ []))
+
+pub values_long : (readings : List ReadingValue) (i : ℕ) (r : ReadingValue) → i < length readings → r ≡ get_or readings i r
+    → length (value_texts (take i readings)) + length (value_field r) + 1 ≤ length (value_texts readings)
+values_long readings i r h is =
+    let front = take (i + 1) readings in
+    let rest = drop (i + 1) readings in
+    let whole : length (value_texts readings) ≡ length (value_texts front ++ value_texts rest) =
+    ap (λ l. length (value_texts l)) (sym (take-append-drop (i + 1) readings))
+    ∙ ap length (flat_map-append (λ reading. closed (value_field reading)) front rest) in
+    omega (arith, whole, values_length readings i r h is, length-append (value_texts front) (value_texts rest))
+
+pub details_row : (P : List ℕ → Type 0) (stream : Stream) (details : DetailsValue) (unit : MeasureUnit) (minutes : ℕ) (nmi suffix name digits next : List ℕ)
     → optional day_of next ≡ Some details.next → nmi ≡ stream.nmi → suffix ≡ stream.suffix → name ≡ unit_text unit → digits ≡ decimal minutes
-    → Appends old new (line_of (codes "200" ∷ nmi ∷ details.configuration ∷ details.register ∷ suffix ∷ details.datastream ∷ details.meter ∷ name ∷ digits ∷ next ∷ []))
-    → (text : List ℕ) × IsRowText (DetailsRow stream details unit minutes) text × Appends old new text
-details_row stream details unit minutes nmi suffix name digits next old new day en es eu ed e =
+    → P (line_of (codes "200" ∷ nmi ∷ details.configuration ∷ details.register ∷ suffix ∷ details.datastream ∷ details.meter ∷ name ∷ digits ∷ next ∷ []))
+    → (text : List ℕ) × IsRowText (DetailsRow stream details unit minutes) text × P text
+details_row P stream details unit minutes nmi suffix name digits next day en es eu ed e =
     let fields : (nmi suffix name digits : List ℕ) → List (List ℕ) =
     λ nmi suffix name digits. codes "200" ∷ nmi ∷ details.configuration ∷ details.register ∷ suffix ∷ details.datastream ∷ details.meter ∷ name ∷ digits ∷ next ∷ [] in (
       line_of (fields nmi suffix name digits),

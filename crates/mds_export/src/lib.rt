@@ -11,9 +11,6 @@ mod value;
 mod writer;
 
 pub use laws::{export_reads_back, one_export_text};
-pub use row::{
-    DayRow, DetailsRow, HeaderRow, Row, RunRow, write_day, write_details, write_end, write_header,
-    write_record, write_run,
-};
+pub use row::{DayRow, DetailsRow, HeaderRow, Row, RunRow, write_record, write_run};
 pub use row_laws::rows_read_back;
 pub use writer::write_nem12;

@@ -63,13 +63,16 @@ pub struct RunRow<'a> {
     pub mark: &'a Mark,
 }
 
-/// Appends the one line of a row: every field written, joined by commas, CR and LF. It fails only for want of
-/// memory, and then nothing is appended. The parts of a row that was written are lawful, as their types hold.
+/// Appends the one line of a row: every field written, joined by commas, CR and LF. It fails only where `out` has no room
+/// for all of it and can't grow, and then nothing is appended. The parts of a row that was written are lawful, as their types
+/// hold.
 pub fn write_record(row: &Row<'_>, out: &mut Vec<u8>) -> Result<(), AllocError>
     ensures done { OnOk result ((text : List ℕ) × IsRowText (row_value row.now) text
         × Appends out.old.items out.new.items text) }
     ensures kept { OnErr result (out.new.items ≡ out.old.items) }
     ensures lawful { OnOk result (IsLawful (row_value row.now)) }
+    ensures full { OnErr result ((text : List ℕ) × IsRowText (row_value row.now) text
+        × (vec_capacity out.old < vec_len out.old + length text)) }
 {
     let start = out.len();
     let Ok(()) = write_row(row, out) else {
@@ -79,8 +82,8 @@ pub fn write_record(row: &Row<'_>, out: &mut Vec<u8>) -> Result<(), AllocError>
     Ok(())
 }
 
-ghost use Rattle.std.specs.Prelude.{◌∷◌, [], ◌≤◌, take, codes, decimal, option_map, Some, IfSome, IsTrue};
-ghost use Rattle.mds_calendar.specs.Calendar.{day_of, moment_of};
+ghost use Rattle.std.specs.Prelude.{◌∷◌, [], ◌+◌, ◌<◌, ◌≤◌, length, vec_capacity, vec_len, take, codes, decimal, option_map, Some, IfSome, IsTrue};
+ghost use Rattle.mds_calendar.specs.Calendar.{day_of};
 ghost use Rattle.mds_marks.specs.Mark.{is_mark};
 ghost use Rattle.mds_marks.specs.Reason.{code_text};
 ghost use Rattle.mds_terms.specs.Details.{is_details};
@@ -94,6 +97,8 @@ fn write_row(row: &Row<'_>, out: &mut Vec<u8>) -> Result<(), AllocError>
         × Appends out.old.items out.new.items text) }
     ensures lawful { OnOk result (IsLawful (row_value row.now)) }
     ensures grown { OnErr result (Begins out.old.items out.new.items) }
+    ensures full { OnErr result ((text : List ℕ) × IsRowText (row_value row.now) text
+        × (vec_capacity out.old < vec_len out.old + length text)) }
 {
     match row {
         Row::Header(header) => write_header(header, out),
@@ -105,11 +110,13 @@ fn write_row(row: &Row<'_>, out: &mut Vec<u8>) -> Result<(), AllocError>
 }
 
 /// Appends the line of a 100, or after an error something of it.
-pub fn write_header(row: &HeaderRow<'_>, out: &mut Vec<u8>) -> Result<(), AllocError>
+pub(crate) fn write_header(row: &HeaderRow<'_>, out: &mut Vec<u8>) -> Result<(), AllocError>
     ensures done { OnOk result ((text : List ℕ) × IsRowText (row_value (Row.Header row.now)) text
         × Appends out.old.items out.new.items text) }
     ensures lawful { OnOk result (IsLawful (row_value (Row.Header row.now))) }
     ensures grown { OnErr result (Begins out.old.items out.new.items) }
+    ensures full { OnErr result ((text : List ℕ) × IsRowText (row_value (Row.Header row.now)) text
+        × (vec_capacity out.old < vec_len out.old + length text)) }
 {
     let (digits, count) = moment_digits(row.moment);
     write_line(
@@ -136,11 +143,13 @@ fn moment_digits(moment: Moment) -> ([u8; 14], usize)
 }
 
 /// Appends the line of a 200, or after an error something of it.
-pub fn write_details(row: &DetailsRow<'_>, out: &mut Vec<u8>) -> Result<(), AllocError>
+pub(crate) fn write_details(row: &DetailsRow<'_>, out: &mut Vec<u8>) -> Result<(), AllocError>
     ensures done { OnOk result ((text : List ℕ) × IsRowText (row_value (Row.Details row.now)) text
         × Appends out.old.items out.new.items text) }
     ensures lawful { OnOk result (IsLawful (row_value (Row.Details row.now))) }
     ensures grown { OnErr result (Begins out.old.items out.new.items) }
+    ensures full { OnErr result ((text : List ℕ) × IsRowText (row_value (Row.Details row.now)) text
+        × (vec_capacity out.old < vec_len out.old + length text)) }
 {
     let (stream, _) = (row.stream, row.length.minutes());
     let (next, count) = day_digits(row.details.next());
@@ -170,6 +179,9 @@ fn write_details_of<'a>(
         ∷ unit.now ∷ minutes.now ∷ next.now ∷ []))) }
     ensures lawful { IsTrue (is_details details.now) }
     ensures grown { OnErr result (Begins out.old.items out.new.items) }
+    ensures full { OnErr result (vec_capacity out.old < vec_len out.old + length (line_of (codes "200" ∷ nmi.now
+        ∷ details.now.configuration ∷ details.now.register ∷ suffix.now ∷ details.now.datastream ∷ details.now.meter
+        ∷ unit.now ∷ minutes.now ∷ next.now ∷ []))) }
 {
     write_line(
         out,
@@ -215,29 +227,31 @@ fn length_text(length: Length) -> &'static str
 }
 
 /// Appends the line of a 300, or after an error something of it.
-pub fn write_day(row: &DayRow<'_>, out: &mut Vec<u8>) -> Result<(), AllocError>
+pub(crate) fn write_day(row: &DayRow<'_>, out: &mut Vec<u8>) -> Result<(), AllocError>
     ensures done { OnOk result ((text : List ℕ) × IsRowText (row_value (Row.Day row.now)) text
         × Appends out.old.items out.new.items text) }
     ensures lawful { OnOk result (IsLawful (row_value (Row.Day row.now))) }
     ensures grown { OnErr result (Begins out.old.items out.new.items) }
+    ensures full { OnErr result ((text : List ℕ) × IsRowText (row_value (Row.Day row.now)) text
+        × (vec_capacity out.old < vec_len out.old + length text)) }
 {
+    let (date, update) = (row.date.digits(), row.update.digits());
     write_field(out, b"300")?;
-    write_field(out, &row.date.digits())?;
+    write_field(out, &date)?;
     write_values(row.readings, out)?;
-    write_own(row.mark, row.update, out)
+    write_own(row.mark, &update, out)
 }
 
 /// Appends what follows the values of a 300, of one mark or of variable quality, or after an error something of it.
-fn write_own(mark: Option<&Mark>, update: Moment, out: &mut Vec<u8>) -> Result<(), AllocError>
-    ensures done { OnOk result ((updated : List ℕ) × (moment_of updated ≡ Some update)
-        × Appends out.old.items out.new.items
-        (line_of (own_fields (option_map (λ mark. mark.now) mark.entry) ++ updated ∷ [] ∷ []))) }
+fn write_own(mark: Option<&Mark>, update: &[u8], out: &mut Vec<u8>) -> Result<(), AllocError>
+    ensures done { OnOk result (Appends out.old.items out.new.items
+        (line_of (own_fields (option_map (λ mark. mark.now) mark.entry) ++ update.now ∷ [] ∷ []))) }
     ensures lawful { IfSome mark.entry (λ mark. IsTrue (is_mark mark.now)) }
     ensures grown { OnErr result (Begins out.old.items out.new.items) }
+    ensures full { OnErr result (vec_capacity out.old < vec_len out.old + length (line_of (own_fields (option_map (λ mark. mark.now) mark.entry) ++ update.now ∷ [] ∷ []))) }
 {
-    let update = update.digits();
     let Some(mark) = mark else {
-        return write_line(out, &[b"V", b"", b"", &update, b""]);
+        return write_line(out, &[b"V", b"", b"", update, b""]);
     };
     mark.parts_are_lawful();
     let (letters, count) = mark.quality.letters();
@@ -248,7 +262,7 @@ fn write_own(mark: Option<&Mark>, update: Moment, out: &mut Vec<u8>) -> Result<(
             &letters[..count],
             code_digits(mark.reason.code(), &mut buffer),
             mark.reason.text().as_bytes(),
-            &update,
+            update,
             b"",
         ],
     )
@@ -264,12 +278,15 @@ fn code_digits(code: Option<u16>, buffer: &mut Buffer) -> &[u8]
     }
 }
 
-/// Appends the line of a 400, or after an error something of it.
+/// Appends the line of a 400, or after an error something of it. It fails only where `out` has no room for all of it and can't
+/// grow.
 pub fn write_run(row: &RunRow<'_>, out: &mut Vec<u8>) -> Result<(), AllocError>
     ensures done { OnOk result ((text : List ℕ) × IsRowText (row_value (Row.Run row.now)) text
         × Appends out.old.items out.new.items text) }
     ensures lawful { OnOk result (IsLawful (row_value (Row.Run row.now))) }
     ensures grown { OnErr result (Begins out.old.items out.new.items) }
+    ensures full { OnErr result ((text : List ℕ) × IsRowText (row_value (Row.Run row.now)) text
+        × (vec_capacity out.old < vec_len out.old + length text)) }
 {
     let (mut first, mut last) = (Buffer::new(), Buffer::new());
     row.mark.parts_are_lawful();
@@ -289,10 +306,12 @@ pub fn write_run(row: &RunRow<'_>, out: &mut Vec<u8>) -> Result<(), AllocError>
 }
 
 /// Appends the line of a 900, or after an error something of it.
-pub fn write_end(out: &mut Vec<u8>) -> Result<(), AllocError>
+pub(crate) fn write_end(out: &mut Vec<u8>) -> Result<(), AllocError>
     ensures done { OnOk result ((text : List ℕ) × IsRowText (row_value Row.End) text
         × Appends out.old.items out.new.items text) }
     ensures grown { OnErr result (Begins out.old.items out.new.items) }
+    ensures full { OnErr result ((text : List ℕ) × IsRowText (row_value Row.End) text
+        × (vec_capacity out.old < vec_len out.old + length text)) }
 {
     write_line(out, &[b"900"])
 }

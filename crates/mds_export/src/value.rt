@@ -1,6 +1,6 @@
 //! Values, as they are appended to a text.
 
-ghost use Rattle.std.specs.Prelude.{◌≡◌, ◌++◌, ◌^◌, ◌<◌, ◌≤◌, pos, unsigned_abs, unwrap_or, IsTrue, OnOk, OnErr};
+ghost use Rattle.std.specs.Prelude.{◌≡◌, ◌+◌, ◌++◌, ◌^◌, ◌<◌, ◌≤◌, length, vec_capacity, vec_len, pos, unsigned_abs, unwrap_or, IsTrue, OnOk, OnErr};
 ghost use Rattle.mds_quantity.specs.Append.{Appends};
 ghost use Rattle.mds_quantity.specs.Quantity.{limit, point_and_decimals, sign_of, written};
 ghost use Rattle.std.specs.List.{All};
@@ -21,6 +21,9 @@ pub(crate) fn write_values(readings: &[Reading], out: &mut Vec<u8>) -> Result<()
     ensures done { OnOk result (Appends out.old.items out.new.items (value_texts readings.now)) }
     ensures lawful { OnOk result (All (λ reading. IsTrue (is_lawful reading)) readings.now) }
     ensures grown { OnErr result (Begins out.old.items out.new.items) }
+    ensures full { OnErr result (vec_capacity out.old < vec_len out.old + length (value_texts readings.now)) }
+    ensures grows { vec_capacity out.old ≤ vec_capacity out.new }
+    ensures len { OnOk result (vec_len out.new ≡ vec_len out.old + length (value_texts readings.now)) }
 {
     for reading in readings {
         write_quantity(millionths_of(reading), out)?;
@@ -46,6 +49,9 @@ fn write_quantity(millionths: i64, out: &mut Vec<u8>) -> Result<(), AllocError>
     requires { unsigned_abs millionths < limit }
     ensures done { OnOk result (Appends out.old.items out.new.items (written millionths)) }
     ensures grown { OnErr result (Begins out.old.items out.new.items) }
+    ensures full { OnErr result (vec_capacity out.old < vec_len out.old + length (written millionths)) }
+    ensures grows { vec_capacity out.old ≤ vec_capacity out.new }
+    ensures len { OnOk result (vec_len out.new ≡ vec_len out.old + length (written millionths)) }
 {
     write_sign(millionths, out)?;
     let magnitude = millionths.unsigned_abs();
@@ -58,6 +64,9 @@ fn write_quantity(millionths: i64, out: &mut Vec<u8>) -> Result<(), AllocError>
 fn write_sign(millionths: i64, out: &mut Vec<u8>) -> Result<(), AllocError>
     ensures done { OnOk result (Appends out.old.items out.new.items (sign_of millionths)) }
     ensures grown { OnErr result (Begins out.old.items out.new.items) }
+    ensures full { OnErr result (vec_capacity out.old < vec_len out.old + length (sign_of millionths)) }
+    ensures grows { vec_capacity out.old ≤ vec_capacity out.new }
+    ensures len { OnOk result (vec_len out.new ≡ vec_len out.old + length (sign_of millionths)) }
 {
     let has_minus = millionths < 0;
     if has_minus {
@@ -75,6 +84,9 @@ fn write_decimals(part: u32, out: &mut Vec<u8>) -> Result<(), AllocError>
     requires { part < 10 ^ 6 }
     ensures done { OnOk result (Appends out.old.items out.new.items (point_and_decimals part)) }
     ensures grown { OnErr result (Begins out.old.items out.new.items) }
+    ensures full { OnErr result (vec_capacity out.old < vec_len out.old + length (point_and_decimals part)) }
+    ensures grows { vec_capacity out.old ≤ vec_capacity out.new }
+    ensures len { OnOk result (vec_len out.new ≡ vec_len out.old + length (point_and_decimals part)) }
 {
     if part == 0 {
         return Ok(());

@@ -173,3 +173,9 @@ pub fewer_left : (text : List ℕ) (start reader : Reader (Bor (List ℕ))) (row
 fewer_left text start reader rows row number none so_far counted =
     let bound = rows_bound text start reader (rows ++ row ∷ []) none so_far in
     omega (arith, length-append rows (row ∷ []))
+
+-- an empty text has no row
+pub no_rows : (text : List ℕ) → length text ≡ 0 → rows_of text ≡ []
+unfolding next_record Reached strip_bom
+no_rows [] none = all_rows st.StartRecord [] [] [] (refl, refl) refl
+no_rows (c ∷ text) none = absurd (omega arith)

@@ -1,5 +1,5 @@
 -- What a file asks for that comes with a command (profile).
-use Rattle.std.specs.Prelude.{◌≡◌, ℕ, List}
+use Rattle.std.specs.Prelude.{◌≡◌, ◌<◌, ℕ, List, IsUtf8, length}
 use Rattle.mds_jobs.specs.declared.job.Job.{Job}
 use Rattle.mds_requests.specs.JobObjects.{IsJobText}
 use Rattle.mds_requests.specs.Holidays.{DiffersFirst, IsListOf, rows_of}
@@ -17,11 +17,11 @@ Asks command.Substitute text (asked.Substitute job) = IsJobText text job
 Asks command.Holidays text (asked.Holidays days) = IsListOf (rows_of text) days.items
 Asks what text request = ⊥
 
--- Why it says none: it is no job, or no list of holidays from a row on. Of want of memory nothing is said, but that an
--- import takes none.
+-- Why it says none: it is no job, or no list of holidays from a row on. Memory is wanted only for a file that isn't empty, and
+-- for a job only where it is UTF-8. An import takes none.
 abbrev pub AsksNothing : FileCommand → List ℕ → RequestFault → Type 0
 AsksNothing command.Substitute text fault.BadJob = (job : Job) → ¬ IsJobText text job
-AsksNothing command.Substitute text fault.Memory = Unit {0}
+AsksNothing command.Substitute text fault.Memory = IsUtf8 text × (0 < length text)
 AsksNothing command.Holidays text (fault.BadHolidays row) = DiffersFirst (rows_of text) row
-AsksNothing command.Holidays text fault.Memory = Unit {0}
+AsksNothing command.Holidays text fault.Memory = 0 < length text
 AsksNothing what text reason = ⊥

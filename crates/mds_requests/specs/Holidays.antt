@@ -1,6 +1,6 @@
 -- Lists of public holidays (profile): a CSV text with a head row and a row for each day. What is a row, and what its
 -- fields are, is what the library csv reads: `records`, behind a byte order mark.
-use Rattle.std.specs.Prelude.{◌≡◌, ◌≢◌, ◌⊎◌, ℕ, ◌+◌, List, [], ◌∷◌, map, codes, slice_get, position, is_none, Option, Some, None, option_and_then, ⊤}
+use Rattle.std.specs.Prelude.{◌≡◌, ◌≢◌, ◌<◌, ◌⊎◌, ℕ, ◌+◌, List, [], ◌∷◌, length, map, codes, slice_get, position, is_none, Option, Some, None, option_and_then}
 use Rattle.csv.specs.Reading.{default_config, records, strip_bom}
 use Rattle.mds_calendar.specs.Calendar.{day_of}
 use Rattle.mds_requests.specs.declared.holidays.HolidaysFault.{HolidaysFault}
@@ -36,7 +36,7 @@ DiffersFirst rows number =
     ⊎ ((others : List (List (List ℕ))) × (rows ≡ head_row ∷ others) × (place : ℕ)
     × (position (λ row. is_none (day_in row)) others ≡ Some place) × (number ≡ 2 + place))
 
--- why a text is refused; of want of memory nothing is said
+-- why a text is refused; memory is wanted only where it isn't empty
 abbrev pub IsRefusal : List ℕ → HolidaysFault → Type 0
 IsRefusal text (BadHolidays number) = DiffersFirst (rows_of text) number
-IsRefusal text Memory = ⊤
+IsRefusal text Memory = 0 < length text

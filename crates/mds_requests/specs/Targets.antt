@@ -1,7 +1,7 @@
 -- What a target and a body ask for, by their route (profile). The parts of a path aren't decoded. Each name that a query
 -- has stands in it once, save that a kind may be left out, and that an export has any number of suffixes; no other name
 -- stands in it.
-use Rattle.std.specs.Prelude.{◌≡◌, ◌≢◌, ℕ, true, if◌then◌else◌, List, [], ◌∷◌, codes, bytes_eq, Option, Some, None}
+use Rattle.std.specs.Prelude.{◌≡◌, ◌≢◌, ◌<◌, ◌⊎◌, ℕ, true, if◌then◌else◌, List, [], ◌∷◌, codes, bytes_eq, IsUtf8, length, Option, Some, None}
 use Rattle.mds_requests.specs.Holidays.{DiffersFirst, rows_of}
 use Rattle.mds_records.specs.declared.file.FileKind.{FileKind}
 use Rattle.mds_records.specs.declared.file.FileKind.TheVariants.{Nem12, Nem13}
@@ -94,11 +94,11 @@ AsksBy Gaps path pairs body request = AskForGapsBy pairs request
 AsksBy Finals path pairs body request = AskForFinalsBy pairs request
 AsksBy Exports path pairs body request = AskForExportBy pairs request
 
--- what takes memory: a query that has a pair, a job, and a list of holidays
-abbrev pub TakesMemory : Route → List (List ℕ × List ℕ) → Type 0
-TakesMemory Substitutions pairs = Unit {0}
-TakesMemory Holidays pairs = Unit {0}
-TakesMemory route pairs = pairs ≢ []
+-- what takes memory: a query that has a pair, a job in UTF-8, and a list of holidays; an empty body takes none
+abbrev pub TakesMemory : Route → List (List ℕ × List ℕ) → (body : List ℕ) → Type 0
+TakesMemory Substitutions pairs body = (pairs ≢ []) ⊎ (IsUtf8 body × (0 < length body))
+TakesMemory Holidays pairs body = (pairs ≢ []) ⊎ (0 < length body)
+TakesMemory route pairs body = pairs ≢ []
 
 -- Why there is no request that is asked for. Memory is wanting only where some is taken.
 abbrev pub AsksNothing : (takes : Type 0) → (Request → Type 0) → TargetFault → Type 0
@@ -106,9 +106,9 @@ AsksNothing takes AsksFor fault.Memory = takes
 AsksNothing takes AsksFor fault.Bad = (request : Request) → ¬ AsksFor request
 AsksNothing takes AsksFor (fault.BadHolidays row) = ⊥
 
--- A list of holidays differs from a row on, where there is no query. Of want of memory nothing is said.
+-- A list of holidays differs from a row on, where there is no query.
 abbrev pub ListsNothing : List (List ℕ × List ℕ) → (body : List ℕ) → TargetFault → Type 0
-ListsNothing pairs body fault.Memory = Unit {0}
+ListsNothing pairs body fault.Memory = TakesMemory Holidays pairs body
 ListsNothing pairs body fault.Bad = pairs ≢ []
 ListsNothing pairs body (fault.BadHolidays row) = (pairs ≡ []) × DiffersFirst (rows_of body) row
 
@@ -126,7 +126,7 @@ ExportsNothing pairs (fault.BadHolidays row) = ⊥
 abbrev pub IsFaultBy : Route → (path : List ℕ) → List (List ℕ × List ℕ) → (body : List ℕ) → TargetFault → Type 0
 IsFaultBy Holidays path pairs body reason = ListsNothing pairs body reason
 IsFaultBy Exports path pairs body reason = ExportsNothing pairs reason
-IsFaultBy route path pairs body reason = AsksNothing (TakesMemory route pairs) (AsksBy route path pairs body) reason
+IsFaultBy route path pairs body reason = AsksNothing (TakesMemory route pairs body) (AsksBy route path pairs body) reason
 
 -- what a target and a body ask for
 abbrev pub AsksAt : Route → (target body : List ℕ) → Request → Type 0

@@ -31,7 +31,8 @@ pub enum RequestFault {
     Memory,
 }
 
-/// The request that a file says which comes with a command. The bytes of an import may be any.
+/// The request that a file says which comes with a command. The bytes of an import may be any. It wants memory only for a job or
+/// a list of holidays that isn't empty, and for a job only where it is UTF-8.
 pub fn request_in(
     alloc: Global,
     command: FileCommand,

@@ -1,6 +1,6 @@
 //! The reader of a list of public holidays.
 
-ghost use Rattle.std.specs.Prelude.{◌≡◌, ◌↔◌, ◌++◌, ◌∷◌, [], ℕ, List, MatchBool, IsTrue, IfOk, IfErr, option_map};
+ghost use Rattle.std.specs.Prelude.{◌≡◌, ◌<◌, ◌↔◌, ◌++◌, ◌∷◌, [], ℕ, List, MatchBool, IsTrue, IfOk, IfErr, length, option_map};
 ghost use Rattle.csv.specs.Records.{fields_of};
 ghost use Rattle.mds_requests.specs.Holidays.{IsListOf, IsRefusal, day_in, head_row, only_field, rows_of};
 ghost use Rattle.mds_requests.specs.HolidaysSteps.{HasRead};
@@ -20,10 +20,14 @@ pub(crate) enum HolidaysFault {
 
 /// The days of a list of public holidays, in its order (profile). The list is a CSV text. Its head row has the one field
 /// `date`, and each other row the one field CCYYMMDD, a day. A day may stand twice. Row 1 differs where there is no row (H1).
+/// An empty text takes no memory.
 pub(crate) fn read_holidays(alloc: Global, text: &[u8]) -> Result<Vec<Day>, HolidaysFault>
     ensures days { IfOk result (λ days. IsListOf (rows_of text.now) days.items) }
     ensures refused { IfErr result (λ fault. IsRefusal text.now fault) }
 {
+    if text.is_empty() {
+        return Err(HolidaysFault::BadHolidays(1));
+    }
     let mut reader = reader_of(alloc, text);
     let mut row = ByteRecord::new(alloc);
     read_days(alloc, &mut reader, &mut row)
@@ -37,7 +41,7 @@ fn read_days(
 ) -> Result<Vec<Day>, HolidaysFault>
     requires { (text : List ℕ) × HasRead text reader.old [] }
     ensures days { (text : List ℕ) → HasRead text reader.old [] → IfOk result (λ days. IsListOf (rows_of text) days.items) }
-    ensures refused { (text : List ℕ) → HasRead text reader.old [] → IfErr result (λ fault. IsRefusal text fault) }
+    ensures refused { (text : List ℕ) → HasRead text reader.old [] → 0 < length text → IfErr result (λ fault. IsRefusal text fault) }
 {
     if !next_row(reader, row)? {
         return Err(HolidaysFault::BadHolidays(1));

@@ -1,6 +1,6 @@
 //! The reader of a substitution job.
 
-ghost use Rattle.std.specs.Prelude.{◌≡◌, IfOk, IfSome, IfNone, MatchOption};
+ghost use Rattle.std.specs.Prelude.{◌≡◌, ◌<◌, IfOk, IfSome, IfNone, IsUtf8, MatchOption, OnErr, length};
 ghost use Rattle.serde_json.specs.View.{view};
 ghost use Rattle.mds_jobs.specs.declared.job.Job.{Job};
 ghost use Rattle.mds_requests.specs.JobObjects.{IsJobObject, IsJobText};
@@ -18,11 +18,12 @@ use std::alloc::{AllocError, Global};
 use std::str;
 
 /// Reads a substitution job from a JSON text (profile): an object with exactly the keys of a job.
-/// `None` where the text is no such object. It fails where memory was refused.
+/// `None` where the text is no such object. It fails only where memory is refused: never where the text is empty or isn't UTF-8.
 pub(crate) fn job_from_json(alloc: Global, text: &[u8]) -> Result<Option<Job>, AllocError>
-    ensures { IfOk result (λ found. MatchOption found
+    ensures found { IfOk result (λ found. MatchOption found
         ((job : Job) → ¬ IsJobText text.now job)
         (λ job. IsJobText text.now job)) }
+    ensures memory { OnErr result (IsUtf8 text.now × (0 < length text.now)) }
 {
     let Ok(text) = str::from_utf8(text) else {
         return Ok(None);

@@ -50,7 +50,8 @@ impl From<RequestFault> for TargetFault {
     }
 }
 
-/// The request that a target and a body ask for, by the route of the target's path.
+/// The request that a target and a body ask for, by the route of the target's path. It wants memory only for a query that has a
+/// pair, a job in UTF-8 and a list of holidays. An empty body takes none.
 pub fn request_at(
     alloc: Global,
     route: Route,

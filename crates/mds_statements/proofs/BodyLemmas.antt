@@ -159,17 +159,32 @@ first_found text at inside is none = record {
 pub only_found : (text : List ℕ) → ((i : ℕ) → i < length text → get_or text i 0 ≢ 10) → IsFirstLine text text []
 only_found text none = record { whole = sym (append-nil text); plain = none_in 10 text none; ends = inl refl }
 
+-- a comma splits a line
+split_there : (line : List ℕ) (at : ℕ) → at < length line → get_or line at 0 ≡ 44 → line ≡ take at line ++ 44 ∷ drop (at + 1) line
+split_there line at inside is =
+    sym (take-append-drop at line) ∙ ap (λ t. take at line ++ t) (drop_more line at 0 inside ∙ ap (λ c. c ∷ drop (at + 1) line) is)
+
 -- what stands up to the last comma of the first line, and behind the line
 pub last_found : (body line rest : List ℕ) → IsFirstLine body line rest → (at : ℕ) → at < length line → get_or line at 0 ≡ 44
     → ((i : ℕ) → at < i → i < length line → get_or line i 0 ≢ 44) → content_of (take at line ++ rest) ≡ content_of_body body
 last_found body line rest first at inside is none =
-    without_said body line rest first (take at line) (drop (at + 1) line)
-    (sym (take-append-drop at line) ∙ ap (λ t. take at line ++ t) (drop_more line at 0 inside ∙ ap (λ c. c ∷ drop (at + 1) line) is))
+    without_said body line rest first (take at line) (drop (at + 1) line) (split_there line at inside is)
     (none_in 44 (drop (at + 1) line) (λ i within e.
     let place : at + 1 + i < length line = omega (arith, length-drop (at + 1) line) in
     none (at + 1 + i) (omega arith) place (sym (get_or-drop (at + 1) line i 0) ∙ e)))
     (All-take (λ c. is_line_feed c ≡ false) at line first.plain)
 
+-- with a comma there is more than one field
+pub some_found : (body line rest : List ℕ) → IsFirstLine body line rest → (at : ℕ) → at < length line → get_or line at 0 ≡ 44
+    → 1 < length (content_of body).fields
+some_found body line rest first at inside is =
+    let front = texts_of (take at line) in
+    let last = texts_of (drop (at + 1) line) in
+    let said : length (content_of body).fields ≡ length (front ++ last) =
+    ap length (fields_said body line rest first ∙ ap texts_of (split_there line at inside is) ∙ texts_both (take at line) (drop (at + 1) line)) in
+    omega (arith, said, length-append front last, length-slice_split is_comma (take at line), length-slice_split is_comma (drop (at + 1) line))
+
+-- and without one there is one alone
 pub one_found : (body line rest : List ℕ) → IsFirstLine body line rest → ((i : ℕ) → i < length line → get_or line i 0 ≢ 44)
     → length (content_of body).fields ≤ 1
 one_found body line rest first none = one_field body line rest first (none_in 44 line none)

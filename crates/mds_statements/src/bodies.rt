@@ -1,34 +1,42 @@
 //! The body in which an accumulation is kept: the text of its content, with its update behind the fields.
 
-ghost use Rattle.std.specs.Prelude.{◌≡◌, ◌<◌, ◌≤◌, ℕ, List, ◌++◌, IfOk, MatchOption, OnErr, OnOk, length, string_bytes};
+ghost use Rattle.std.specs.Prelude.{◌≡◌, ◌<◌, ◌≤◌, ◌+◌, ℕ, List, IfOk, MatchOption, OnErr, OnOk, length, string_bytes, string_capacity, string_len};
+ghost use Rattle.mds_quantity.specs.Append.{Appends, AppendsPart};
 ghost use Rattle.mds_statements.specs.Bodies.{IsPeriodBody, content_of_body};
 ghost use Rattle.mds_statements.specs.BodySteps.{IsFirstLine};
 ghost use Rattle.mds_statements.specs.Contents.{content_of};
 
 use crate::periods::{Period, PeriodContent};
 use std::alloc::{AllocError, Global};
+use std::str;
 
 impl Period {
-    /// Appends its body: the text of its content, where a comma and its update stand behind the fields.
+    /// Appends its body: the text of its content, where a comma and its update stand behind the fields. Fails only where `out`
+    /// had no room for all of it and can't grow; a front of it may be appended then.
     pub fn write_body(&self, out: &mut String) -> Result<(), AllocError>
-        ensures { OnOk result ((body : List ℕ) × IsPeriodBody self.now body
-            × (string_bytes out.new ≡ string_bytes out.old ++ body)) }
+        ensures done { OnOk result ((body : List ℕ) × IsPeriodBody self.now body
+            × Appends (string_bytes out.old) (string_bytes out.new) body) }
+        ensures part { OnErr result ((body : List ℕ) × IsPeriodBody self.now body
+            × AppendsPart (string_bytes out.old) (string_bytes out.new) body
+            × (string_capacity out.old < string_len out.old + length body)) }
     {
         let (fields, notes) = first_line(self.content.text());
+        let update = self.key.update.digits();
         out.push_str(fields)?;
         out.push(',')?;
-        self.key.update.write_to(out)?;
+        out.push_str(str::from_utf8(&update).unwrap())?;
         out.push_str(notes)
     }
 }
 
 impl PeriodContent {
     /// The content that a body says, whatever stands where the update does. `None` where there is one field alone. It fails only
-    /// where memory is refused, and never for an empty text.
+    /// where memory is refused: never where there is one field alone, and never for an empty text.
     pub fn from_body(alloc: Global, body: &str) -> Result<Option<PeriodContent>, AllocError>
         ensures ok { IfOk result (λ found. MatchOption found (length (content_of body.now).fields ≤ 1)
             (λ content. content ≡ content_of_body body.now)) }
         ensures err { OnErr result ((text : List ℕ) → content_of text ≡ content_of_body body.now → 0 < length text) }
+        ensures some { OnErr result (1 < length (content_of body.now).fields) }
     {
         let (line, notes) = first_line(body);
         let Some(end) = line.rfind(',') else {

@@ -1,6 +1,6 @@
 //! Copies of a delivery and of its parts.
 
-ghost use Rattle.std.specs.Prelude.{◌≡◌, ℕ, IfOk};
+ghost use Rattle.std.specs.Prelude.{◌≡◌, ◌+◌, ◌<◌, ℕ, IfOk, OnErr, length};
 ghost use Rattle.std.specs.List.{flat_map};
 ghost use Rattle.mds_statements.specs.Delivered.{block_statements, day_statements, delivery_statements};
 ghost use Rattle.mds_statements.specs.declared.blocks.Block.{Block as ABlock};
@@ -11,9 +11,11 @@ use mds_terms::Event;
 use std::alloc::{AllocError, Global};
 
 impl Delivery {
-    /// A copy of the delivery: it states the same. It fails only where memory is refused.
+    /// A copy of the delivery: it states the same. It fails only where memory is refused: never where both texts of its header
+    /// are empty and it has no block.
     pub fn try_clone(&self) -> Result<Delivery, AllocError>
-        ensures { IfOk result (λ delivery. delivery_statements delivery ≡ delivery_statements self.now) }
+        ensures value { IfOk result (λ delivery. delivery_statements delivery ≡ delivery_statements self.now) }
+        ensures full { OnErr result (0 < length self.now.header.sender + length self.now.header.receiver + length self.now.blocks.items) }
     {
         let header = self.header.try_clone()?;
         let blocks = copy_blocks(*self.blocks.allocator(), &self.blocks)?;
@@ -22,9 +24,10 @@ impl Delivery {
 }
 
 impl Header {
-    /// A copy of the header. It fails only where memory is refused.
+    /// A copy of the header. It fails only where memory is refused: never where both texts are empty.
     pub fn try_clone(&self) -> Result<Header, AllocError>
-        ensures { IfOk result (λ header. header ≡ self.now) }
+        ensures value { IfOk result (λ header. header ≡ self.now) }
+        ensures full { OnErr result (0 < length self.now.sender + length self.now.receiver) }
     {
         Ok(Header {
             moment: self.moment,
@@ -35,9 +38,12 @@ impl Header {
 }
 
 impl Block {
-    /// A copy of the block with its days. It fails only where memory is refused.
+    /// A copy of the block with its days. It fails only where memory is refused: never where the texts of its details are empty
+    /// and it has no day.
     pub fn try_clone(&self) -> Result<Block, AllocError>
-        ensures { IfOk result (λ block. (moment : ℕ) → block_statements moment block ≡ block_statements moment self.now) }
+        ensures value { IfOk result (λ block. (moment : ℕ) → block_statements moment block ≡ block_statements moment self.now) }
+        ensures full { OnErr result (0 < length self.now.details.configuration + length self.now.details.register
+            + length self.now.details.datastream + length self.now.details.meter + length self.now.days.items) }
     {
         Ok(Block {
             line: self.line,
@@ -51,9 +57,10 @@ impl Block {
 }
 
 impl DeliveredDay {
-    /// A copy of the day with its readings and events. It fails only where memory is refused.
+    /// A copy of the day with its readings and events. It fails only where memory is refused: never where it has neither.
     pub fn try_clone(&self) -> Result<DeliveredDay, AllocError>
-        ensures { IfOk result (λ day. (moment : ℕ) (block : ABlock) → day_statements moment block day ≡ day_statements moment block self.now) }
+        ensures value { IfOk result (λ day. (moment : ℕ) (block : ABlock) → day_statements moment block day ≡ day_statements moment block self.now) }
+        ensures full { OnErr result (0 < length self.now.readings + length self.now.events.items) }
     {
         Ok(DeliveredDay {
             line: self.line,
@@ -65,10 +72,11 @@ impl DeliveredDay {
     }
 }
 
-/// Copies of blocks, in the same order.
+/// Copies of blocks, in the same order. It takes memory only where there is one.
 fn copy_blocks(alloc: Global, blocks: &[Block]) -> Result<Vec<Block>, AllocError>
-    ensures { IfOk result (λ copies. (moment : ℕ)
+    ensures value { IfOk result (λ copies. (moment : ℕ)
         → flat_map (block_statements moment) copies.items ≡ flat_map (block_statements moment) blocks.now) }
+    ensures full { OnErr result (0 < length blocks.now) }
 {
     let mut copies = Vec::with_capacity(alloc, blocks.len())?;
     for block in blocks {
@@ -77,10 +85,11 @@ fn copy_blocks(alloc: Global, blocks: &[Block]) -> Result<Vec<Block>, AllocError
     Ok(copies)
 }
 
-/// Copies of days, in the same order.
+/// Copies of days, in the same order. It takes memory only where there is one.
 fn copy_days(alloc: Global, days: &[DeliveredDay]) -> Result<Vec<DeliveredDay>, AllocError>
-    ensures { IfOk result (λ copies. (moment : ℕ) (block : ABlock)
+    ensures value { IfOk result (λ copies. (moment : ℕ) (block : ABlock)
         → flat_map (day_statements moment block) copies.items ≡ flat_map (day_statements moment block) days.now) }
+    ensures full { OnErr result (0 < length days.now) }
 {
     let mut copies = Vec::with_capacity(alloc, days.len())?;
     for day in days {
@@ -89,9 +98,10 @@ fn copy_days(alloc: Global, days: &[DeliveredDay]) -> Result<Vec<DeliveredDay>, 
     Ok(copies)
 }
 
-/// Copies of events, in the same order.
+/// Copies of events, in the same order. It takes memory only where there is one.
 fn copy_events(alloc: Global, events: &[Event]) -> Result<Vec<Event>, AllocError>
-    ensures { IfOk result (λ copies. copies.items ≡ events.now) }
+    ensures value { IfOk result (λ copies. copies.items ≡ events.now) }
+    ensures full { OnErr result (0 < length events.now) }
 {
     let mut copies = Vec::with_capacity(alloc, events.len())?;
     for event in events {

@@ -1,6 +1,6 @@
 //! Accumulations: what a register of a meter counted from one read to another.
 
-ghost use Rattle.std.specs.Prelude.{◌≡◌, ◌+◌, ◌<◌, ◌↔◌, IfOk, IsTrue, OnErr, length, string_bytes};
+ghost use Rattle.std.specs.Prelude.{◌≡◌, ◌+◌, ◌<◌, ◌↔◌, ℕ, List, IfOk, IsTrue, OnErr, length, string_bytes};
 ghost use Rattle.mds_statements.specs.Contents.{content_of};
 
 use mds_terms::{Moment, PrintableString, Stream};
@@ -70,9 +70,10 @@ impl PeriodContent {
         self.text.as_str()
     }
 
-    /// A copy of the content.
+    /// A copy of the content. It fails only where memory is refused: never where its text is empty.
     pub fn try_clone(&self) -> Result<PeriodContent, AllocError>
-        ensures { IfOk result (λ content. content ≡ self.now) }
+        ensures value { IfOk result (λ content. content ≡ self.now) }
+        ensures full { OnErr result ((text : List ℕ) × (content_of text ≡ self.now) × (0 < length text)) }
     {
         let mut text = String::with_capacity(*self.text.allocator(), self.text.len())?;
         text.push_str(&self.text)?;

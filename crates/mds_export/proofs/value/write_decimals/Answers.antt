@@ -25,6 +25,8 @@ loop-place-preserved c =
     let before = c.loop-place.invariant in record {
       text = text_more _ _ _ part i _ _ c.requires c.loop-place-test.true before.rest refl before.text c.in_ok-push-2.ensures.items;
       rest = ap (λ r. r % get_or places i 0) before.rest ∙ sym (rest_more part i c.loop-place-test.true);
+      len = omega (arith, c.in_ok-push-2.ensures.len, before.len);
+      capacity = omega (arith, c.in_ok-push-2.ensures.capacity, before.capacity);
       some = prior_more part i (omega (arith, before.rest));
     }
 

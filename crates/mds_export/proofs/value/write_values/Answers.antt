@@ -1,10 +1,10 @@
-use Rattle.std.proofs.Common.{◌++◌, ◌∙◌, ap, arith}
+use Rattle.std.proofs.Common.{◌++◌, ◌∙◌, ap, arith, length}
 use Rattle.std.specs.Int.{w64}
 use Rattle.std.proofs.lemmas.Int.{to_z-of_z, fits_signed_from_abs}
 use Rattle.mds_quantity.specs.Quantity.{written}
 use Rattle.mds_quantity.proofs.Front.{on_err_from}
 use Rattle.mds_export.proofs.Begun.{begun_after, begun_kept}
-use Rattle.mds_export.proofs.Fields.{lawful_more, values_step}
+use Rattle.mds_export.proofs.Fields.{lawful_more, values_length, values_long, values_step}
 use Rattle.mds_export.proofs.value.write_values.Goals as goal
 
 pub returns-in_err-write_quantity-clause-grown : goal.returns-in_err-write_quantity-clause-grown
@@ -20,8 +20,33 @@ pub loop-reading-preserved : goal.loop-reading-preserved
 loop-reading-preserved c =
     let z = c.millionths_of.result in
     let back = to_z-of_z w64 z (fits_signed_from_abs w64 z (omega (arith, c.millionths_of.ensures.small))) in
+    let more = values_length c.args.readings.now c.loop-reading.reading-index c.reading-item.result (omega arith) c.reading-item.is in
+    let field = ap (λ k. length (written k)) back ∙ ap length c.millionths_of.ensures.value in
+    let wrote = c.in_ok-write_quantity.ensures in
     record {
       text = values_step c.args.readings.now c.loop-reading.reading-index c.reading-item.result _ c.loop-reading.out.items c.write_quantity.new.out.items _ _
           (omega arith) c.reading-item.is c.millionths_of.ensures.value c.loop-reading.invariant.text (c.in_ok-write_quantity.ensures.done ∙ ap (λ k. c.loop-reading.out.items ++ written k) back) c.in_ok-push.ensures.items;
+      len = omega (arith, c.loop-reading.invariant.len, c.in_ok-push.ensures.len, wrote.len, field, more);
+      capacity = omega (arith, c.loop-reading.invariant.capacity, c.in_ok-push.ensures.capacity, wrote.grows);
       lawful = lawful_more c.args.readings.now c.loop-reading.reading-index c.reading-item.result (omega arith) c.reading-item.is c.loop-reading.invariant.lawful c.millionths_of.ensures.lawful;
     }
+
+pub returns-in_err-write_quantity-clause-full : goal.returns-in_err-write_quantity-clause-full
+returns-in_err-write_quantity-clause-full c =
+    let z = c.millionths_of.result in
+    let back = to_z-of_z w64 z (fits_signed_from_abs w64 z (omega (arith, c.millionths_of.ensures.small))) in
+    let field = ap (λ k. length (written k)) back ∙ ap length c.millionths_of.ensures.value in
+    let long = values_long c.args.readings.now c.loop-reading.reading-index c.reading-item.result (omega arith) c.reading-item.is in
+    let before = c.loop-reading.invariant in
+    on_err_from c.from_residual.result _ (omega (arith, c.in_err-write_quantity.ensures.full, before.len, before.capacity, field, long))
+
+pub returns-in_err-push-clause-full : goal.returns-in_err-push-clause-full
+returns-in_err-push-clause-full c =
+    let z = c.millionths_of.result in
+    let back = to_z-of_z w64 z (fits_signed_from_abs w64 z (omega (arith, c.millionths_of.ensures.small))) in
+    let field = ap (λ k. length (written k)) back ∙ ap length c.millionths_of.ensures.value in
+    let long = values_long c.args.readings.now c.loop-reading.reading-index c.reading-item.result (omega arith) c.reading-item.is in
+    let before = c.loop-reading.invariant in
+    let wrote = c.in_ok-write_quantity.ensures in
+    on_err_from c.from_residual-in_err-push.result _
+    (omega (arith, c.in_err-push.ensures.full, before.len, before.capacity, wrote.len, wrote.grows, field, long))

@@ -17,7 +17,7 @@ loop-key-preserved c =
     step period_at (IsOf c.args.stream) (from c.args.periods.now c.args.stream) _ c.next.new.self _ c.push.new.self.items _
     (c.in-Some.key.now, c.in-Some.kept.now) c.loop-key.invariant c.in-Some.ensures.steps of
     (of_copy c.in-Some.key.now _ c.in-Some.kept.now _ _ c.in-Some-kept.is c.in_ok-try_clone.ensures.value
-    c.in_ok-try_clone-2.ensures) c.in_ok-push.ensures.items
+    c.in_ok-try_clone-2.ensures.value) c.in_ok-push.ensures.items
 
 pub returns : goal.returns
 returns c =

@@ -9,12 +9,12 @@ use Rattle.mds_requests.proofs.HolidayRows.{front_read, fewer_left}
 use Rattle.mds_requests.proofs.holidays.read_days.Goals as goal
 
 pub returns-then-not-branch-clause-refused : goal.returns-then-not-branch-clause-refused
-returns-then-not-branch-clause-refused c = λ text start.
+returns-then-not-branch-clause-refused c = λ text start some.
     let none = rw c.if-not-branch.true at (c.in_ok-next_row.ensures.reads text [] start) in
     no_head _ none
 
 pub returns-then-not-is_head-clause-refused : goal.returns-then-not-is_head-clause-refused
-returns-then-not-is_head-clause-refused c = λ text start.
+returns-then-not-is_head-clause-refused c = λ text start some.
     let read = rw c.if-not-branch.false at (c.in_ok-next_row.ensures.reads text [] start) in
     let front = front_read _ _ _ read in
     let other = rw c.if-not-is_head.true at c.is_head.ensures in
@@ -32,7 +32,7 @@ loop-days-init c = λ text start.
     }
 
 pub returns-in_default-clause-refused : goal.returns-in_default-clause-refused
-returns-in_default-clause-refused c = λ text start.
+returns-in_default-clause-refused c = λ text start some.
     let inv = c.loop-days.invariant text start in
     let read = rw c.if-branch.true at (c.in_ok-next_row-2.ensures.reads text (head_row ∷ inv.others) inv.so_far) in
     let front = front_read _ _ _ read in

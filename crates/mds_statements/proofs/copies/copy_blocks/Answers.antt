@@ -5,4 +5,4 @@ use Rattle.mds_statements.proofs.copies.copy_blocks.Goals as goal
 pub loop-block-preserved : goal.loop-block-preserved
 loop-block-preserved c moment =
     copied_more (block_statements moment) c.args.blocks.now c.loop-block.copies.items c.push.new.self.items c.loop-block.block-index c.block-item.result c.in_ok-try_clone.field-0
-    c.loop-block-test.true c.block-item.is (c.in_ok-try_clone.ensures moment) c.in_ok-push.ensures.items (c.loop-block.invariant moment)
+    c.loop-block-test.true c.block-item.is (c.in_ok-try_clone.ensures.value moment) c.in_ok-push.ensures.items (c.loop-block.invariant moment)

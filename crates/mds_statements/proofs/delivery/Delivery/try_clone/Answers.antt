@@ -7,5 +7,5 @@ use Rattle.mds_statements.proofs.delivery.Delivery.try_clone.Goals as goal
 pub invariant_of-result : goal.invariant_of-result
 invariant_of-result c = record {
   orderly = orderly_copies c.args.self.now.blocks.items c.in_ok-blocks.blocks.items
-      (λ moment. c.in_ok-blocks.ensures moment ∙ ap (flat_map (block_statements moment)) c.deref.ensures.value) c.args.self.now.orderly;
+      (λ moment. c.in_ok-blocks.ensures.value moment ∙ ap (flat_map (block_statements moment)) c.deref.ensures.value) c.args.self.now.orderly;
 }

@@ -2,7 +2,7 @@ use Rattle.std.proofs.Common.{◌≡◌, ◌++◌, ◌∙◌, Some, None, ap, ar
 use Rattle.std.proofs.lemmas.Result.{err_from_is_err_and}
 use Rattle.std.proofs.lemmas.Str.Pattern.{rfind_char}
 use Rattle.mds_statements.specs.Contents.{content_of}
-use Rattle.mds_statements.proofs.BodyLemmas.{last_found, one_found, some_wanted}
+use Rattle.mds_statements.proofs.BodyLemmas.{last_found, one_found, some_found, some_wanted}
 use Rattle.mds_statements.proofs.periods.PeriodContent.from_body.Goals as goal
 
 pub returns-in_default-clause-ok : goal.returns-in_default-clause-ok
@@ -19,6 +19,13 @@ returns-in_err-reserve_exact-clause-err c =
     let p = err_from_is_err_and c.from_residual.result c.from_residual.ensures.1 in
     rw (p.1) (λ text is. some_wanted c.split_at.result.0.now rest text c.args.body.now (rw (c.split_at.ensures.front) said)
     (omega (arith, c.in_err-reserve_exact.ensures.full)) is)
+
+pub returns-in_err-reserve_exact-clause-some : goal.returns-in_err-reserve_exact-clause-some
+returns-in_err-reserve_exact-clause-some c =
+    let line = c.first_line.result.0.now in
+    let found = rfind_char 44 line (Some c.in-Some.end) c.in-Some.ensures.cases (omega arith) in
+    let p = err_from_is_err_and c.from_residual.result c.from_residual.ensures.1 in
+    rw (p.1) (some_found c.args.body.now line c.first_line.result.1.now c.first_line.ensures c.in-Some.end found.0 found.1)
 
 pub returns-clause-ok : goal.returns-clause-ok
 returns-clause-ok c =
