@@ -19,7 +19,8 @@ use std::alloc::{AllocError, Global};
 
 /// The body in a column. `None` where it has another kind of value.
 pub fn blob_at<'a>(row: &'a Row, at: usize) -> Option<&'a [u8]>
-    ensures { IfSome result (λ body. column row.now at ≡ Blob body.now) }
+    ensures some { IfSome result (λ body. column row.now at ≡ Blob body.now) }
+    ensures none { IfNone result ((body : List ℕ) → column row.now at ≢ Blob body) }
 {
     match row.get_ref(at) {
         Ok(ValueRef::Blob(body)) => Some(body),
@@ -61,7 +62,7 @@ pub fn unpack_for(
 }
 
 /// Unpacks a body for a whole day with intervals of this length, as its readings lie. `None` where these bytes are no body of
-/// such a day, or an interval has no reading.
+/// such a day, or an interval has no reading, and nowhere else.
 pub fn unpack_whole(
     alloc: Global,
     length: Length,
@@ -69,6 +70,8 @@ pub fn unpack_whole(
 ) -> Result<Option<DayReadings>, AllocError>
     ensures says { IfOk result (λ o. IfSome o (λ readings. readings_in body.now ≡ Some (map (λ reading. Some reading) readings))) }
     ensures len { IfOk result (λ o. IfSome o (λ readings. minutes_of (list_length readings) ≡ length)) }
+    ensures none { IfOk result (λ o. IfNone o ((readings : List ReadingValue)
+        → unpacked (count_of length) body.now ≡ Some (map (λ reading. Some reading) readings) → ⊥)) }
 {
     // For the proof: a length is 5, 15 or 30 minutes.
     let _ = length.minutes();

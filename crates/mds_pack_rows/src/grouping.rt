@@ -34,8 +34,10 @@ pub(crate) fn put_each_day<S: Alter>(
     Ok(())
 }
 
-/// Puts versions of a day. Those of one update that lie together go into its row at once. It is unavailable where a version is kept
-/// already, or where one has an interval that its length doesn't have. So it is where those of one update have two lengths.
+/// Puts versions of a day. Those of one update that lie together go into its row at once.
+///
+/// When it is unavailable is no promise. As it stands, it refuses a version that is kept already, and one with an interval that its
+/// length doesn't have. It also refuses two lengths of one update.
 pub fn put_day<S: Alter>(
     alloc: Global,
     tx: &mut Transaction<'_, S>,

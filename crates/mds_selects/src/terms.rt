@@ -8,7 +8,7 @@ ghost use Rattle.mds_calendar.specs.Length.{is_length};
 ghost use Rattle.mds_names.specs.Names.{is_name, nmi_length, suffix_length};
 ghost use Rattle.mds_names.specs.declared.stream.Stream.{Stream as StreamValue};
 ghost use Rattle.mds_quantity.specs.Quantity.{limit};
-ghost use Rattle.mds_quantity.specs.Unit.{unit_text};
+ghost use Rattle.mds_quantity.specs.Unit.{unit_of, unit_text};
 ghost use Rattle.mds_quantity.specs.declared.unit.Unit.{Unit as UnitValue};
 ghost use Rattle.mds_marks.specs.Quality.{QualityValue, is_quality, null, quality_text};
 ghost use Rattle.mds_marks.specs.Reading.{ReadingValue};
@@ -111,6 +111,7 @@ pub fn length_at(row: &Row, at: usize) -> Option<Length>
 /// The unit in a column.
 pub fn unit_at(row: &Row, at: usize) -> Option<Unit>
     ensures some { IfSome result (λ unit. unit_named (bytes_in row.now at) ≡ unit) }
+    ensures read { IfSome result (λ unit. unit_of (bytes_in row.now at) ≡ Some unit) }
     ensures none { IfNone result ((unit : UnitValue) → column row.now at ≢ Text (unit_text unit)) }
 {
     // For the proof: the text of each unit is read as that unit.

@@ -20,5 +20,5 @@ returns c =
     ap (list_any (λ reading. is_some reading)) (sym c.as_slice.ensures.value) ∙ sym c.has_some.ensures ∙ has in
     if_ok c.add_held.result _ _
     (row_adds c.args.form.now c.args.pack.now head.0 head.1 body readings c.args.versions.now.items c.add_held.new.versions.items
-    c.in-Some.ensures.update c.in-Some.ensures.length c.in-Some.ensures.pack c.in-Some-blob_at.ensures says many some)
+    c.in-Some.ensures.update c.in-Some.ensures.length c.in-Some.ensures.pack c.in-Some-blob_at.ensures.some says many some)
     c.add_held.ensures

@@ -18,4 +18,4 @@ returns c =
     subst (λ o. IfSome o (λ readings. minutes_of (length readings) ≡ head.1)) c.in-Some-2.is c.in_ok-readings.ensures.len in
     whole_under c.args.forms.now c.args.packs.now form pack head.1 head.0 body readings (one_row c.args.forms.now form (omega arith) c.form-item.is)
     (one_row c.args.packs.now pack (omega arith) c.pack-item.is) c.in-Some.ensures.update c.in-Some.ensures.length c.in-Some.ensures.pack
-    c.in-Some-blob_at.ensures says many (some_minutes c.count.result head.1 c.count.ensures.whole)
+    c.in-Some-blob_at.ensures.some says many (some_minutes c.count.result head.1 c.count.ensures.whole)

@@ -10,7 +10,7 @@ use Rattle.mds_migrate.proofs.forming.form_in.Goals as goal
 pub returns-clause-says : goal.returns-clause-says
 returns-clause-says c =
     let readings = c.in-Some-unpacked.readings.items in
-    let body : text_at c.args.pack.now 1 ≡ c.in-Some-blob_at.body.now = ap bytes c.in-Some-blob_at.ensures in
+    let body : text_at c.args.pack.now 1 ≡ c.in-Some-blob_at.body.now = ap bytes c.in-Some-blob_at.ensures.some in
     let said : readings_in c.in-Some-blob_at.body.now ≡ Some readings = rw c.in-Some-unpacked.is at c.in-Ok.ensures.says in
     let some : list_any (λ reading. is_some reading) readings ≡ true =
     subst (λ rs. list_any (λ reading. is_some reading) rs ≡ true) c.as_slice.ensures.value (sym c.has_some-has_reading.ensures ∙ c.if-not-has_reading.false) in

@@ -31,5 +31,5 @@ returns-clause-ok g c =
     let same : to_z w64 (of_z w64 c.in-Some.id) ≡ c.in-Some.id = to_z-of_z {w = w64} {z = c.in-Some.id} (search rules) in
     if_ok c.replace_body.result _ _
     (lays_there (state g.S.Store c.args.tx.now.conn.now) (state g.S.Store c.replace_body.new.tx.conn.now) c.in-Some.id c.args.shown.now
-    c.in-Some-blob_at.old.now c.as_slice-3.result.now olds news all c.in-Some.ensures.some c.in-Some-blob_at.ensures was is made c.requires.some)
+    c.in-Some-blob_at.old.now c.as_slice-3.result.now olds news all c.in-Some.ensures.some c.in-Some-blob_at.ensures.some was is made c.requires.some)
     (rw same at c.replace_body.ensures.ok)
