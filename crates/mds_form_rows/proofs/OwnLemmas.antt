@@ -29,7 +29,7 @@ use Rattle.mds_pack_rows.specs.PackTables.{pack_tree}
 use Rattle.mds_pack_rows.specs.Putting.{ChangesPacks, NamesMore, PutsFacts}
 use Rattle.mds_pack_rows.proofs.NameLemmas.{named_on}
 use Rattle.mds_form_rows.specs.Committing.{KeepsUnits, PutsDays, PutsDaysThere}
-use Rattle.mds_form_rows.specs.FormPutting.{HasFormed, IsThereFormed, SayUnits, form_part}
+use Rattle.mds_form_rows.specs.FormPutting.{GainsForms, IsThereFormed, SayUnits, form_part}
 use Rattle.mds_form_rows.specs.Units.{AsksThere}
 use Rattle.mds_form_rows.proofs.FormLemmas.{forms_more}
 use Rattle.mds_form_rows.proofs.KeepLemmas.{heads_keep}
@@ -90,7 +90,7 @@ days_kept a b c heads first next there =
 -- ---- all of them
 
 -- what is told of them reads mds_head, mds_pack, mds_daydetail and mds_form alone
-pub steady_forms : IsSteady formed HasFormed
+pub steady_forms : IsSteady formed GainsForms
 steady_forms a b c d additions heads _ first has heads_then _ last = (
   gains_kept head_tree (map unit_cells additions.new_days.items) a c d
       (kept_gains head_tree (map unit_cells additions.new_days.items) a b c heads has.0) heads_then,
@@ -109,7 +109,7 @@ module _ (a b c d e : State) (additions : Additions) where
   -- under the tables of schema 4
   own_put : IsSound schema_4 a.now.trees → PutsDays a b additions
       → ChangesPacks b c × NamesMore b.now.trees c.now.trees version_facts → Puts schema_4 form_part c d (heads_of additions)
-      → Puts schema_4 detail_part d e (details_of additions.details.items) → PutsOwn forms_layout HasFormed a e additions
+      → Puts schema_4 detail_part d e (details_of additions.details.items) → PutsOwn forms_layout GainsForms a e additions
   own_put sound days packs forms details =
       let one = a.now.trees in
       let two = b.now.trees in
@@ -187,7 +187,7 @@ module _ (a b c d e : State) (additions : Additions) where
   -- What these steps do is what a commit asks of heads, versions and details.
   pub own_there : doubt b.is_clean ≤ doubt c.is_clean → doubt c.is_clean ≤ doubt d.is_clean → doubt d.is_clean ≤ doubt e.is_clean
       → PutsDaysThere a b additions → PutsFacts b c version_facts → PutsThere schema_4 form_part c d (heads_of additions)
-      → PutsDetails d e (details_of additions.details.items) → PutsOwnThere forms_layout HasFormed a e additions
+      → PutsDetails d e (details_of additions.details.items) → PutsOwnThere forms_layout GainsForms a e additions
   own_there bc cd de days packs heads dated =
       let details = dated forms in
       record {

@@ -58,8 +58,8 @@ SayUnits heads trees =
 
 -- mds_head has a row for each new day, mds_form one for each head, mds_pack says the versions, and mds_daydetail has a row for the
 -- details of each day: all of these beside what was there.
-abbrev pub HasFormed : Gained
-HasFormed old new additions =
+abbrev pub GainsForms : Gained
+GainsForms old new additions =
     Gains head_tree (map unit_cells additions.new_days.items) old new
     × Gains form_tree (map form_cells (heads_of additions)) old new
     × NamesMore old new (map version_fact (versions_of additions.days.items))

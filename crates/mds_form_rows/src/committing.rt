@@ -10,7 +10,7 @@ ghost use Rattle.mds_inserts.specs.Writing.{LeavesWrittenOf, PutsAllOf, PutsOwnT
 ghost use Rattle.mds_pack_rows.specs.FormLayout.{forms_layout};
 ghost use Rattle.mds_pack_rows.specs.FormTables.{schema_4};
 ghost use Rattle.mds_form_rows.specs.Committing.{PutsDaysThere};
-ghost use Rattle.mds_form_rows.specs.FormPutting.{HasFormed, IsThereFormed, form_part};
+ghost use Rattle.mds_form_rows.specs.FormPutting.{GainsForms, IsThereFormed, form_part};
 
 use crate::putting::put_forms;
 use crate::units::have_units;
@@ -60,7 +60,7 @@ fn put_own<S: Alter>(
     additions: &Additions,
 ) -> Result<(), Unavailable>
     ensures same_reference { tx.new.conn.ghost_name ≡ tx.old.conn.ghost_name }
-    ensures ok { OnOk result (PutsOwnThere forms_layout HasFormed (state S.Store tx.old.conn.now) (state S.Store tx.new.conn.now) additions.now) }
+    ensures ok { OnOk result (PutsOwnThere forms_layout GainsForms (state S.Store tx.old.conn.now) (state S.Store tx.new.conn.now) additions.now) }
     ensures kept { IsThereFormed (state S.Store tx.old.conn.now) (state S.Store tx.new.conn.now) → KeepsCommit (state S.Store tx.old.conn.now) (state S.Store tx.new.conn.now) }
     ensures survives { Survives (state S.Store tx.old.conn.now) (state S.Store tx.new.conn.now) (λ _. ⊥) }
 {
@@ -87,7 +87,7 @@ fn put_all<S: Alter>(
     requires periods { AreRowsOf IsRowOfPeriod additions.now.periods.items periods.now }
     requires jobs { AreRowsOf IsRowOfJob additions.now.jobs.items jobs.now }
     ensures same_reference { tx.new.conn.ghost_name ≡ tx.old.conn.ghost_name }
-    ensures ok { OnOk result (PutsAllOf forms_layout HasFormed (state S.Store tx.old.conn.now) (state S.Store tx.new.conn.now) additions.now) }
+    ensures ok { OnOk result (PutsAllOf forms_layout GainsForms (state S.Store tx.old.conn.now) (state S.Store tx.new.conn.now) additions.now) }
     ensures kept { IsThereFormed (state S.Store tx.old.conn.now) (state S.Store tx.new.conn.now) → KeepsCommit (state S.Store tx.old.conn.now) (state S.Store tx.new.conn.now) }
     ensures survives { Survives (state S.Store tx.old.conn.now) (state S.Store tx.new.conn.now) (λ _. ⊥) }
 {
@@ -109,10 +109,10 @@ fn write<S: Alter>(
     requires mode { conn.old.in_transaction ≡ false }
     requires periods { AreRowsOf IsRowOfPeriod additions.now.periods.items periods.now }
     requires jobs { AreRowsOf IsRowOfJob additions.now.jobs.items jobs.now }
-    ensures ok { HasCleanDisk (state S.Store conn.new) → OnOk result (WritesOf forms_layout HasFormed (state S.Store conn.old) (state S.Store conn.new) additions.now) }
+    ensures ok { HasCleanDisk (state S.Store conn.new) → OnOk result (WritesOf forms_layout GainsForms (state S.Store conn.old) (state S.Store conn.new) additions.now) }
     ensures err { IsThereFormed (state S.Store conn.old) (state S.Store conn.new) → OnErr result (KeepsCommit (state S.Store conn.old) (state S.Store conn.new)) }
     ensures mode { conn.new.in_transaction ≡ false }
-    ensures survives { Survives (state S.Store conn.old) (state S.Store conn.new) (LeavesWrittenOf forms_layout HasFormed (state S.Store conn.old) additions.now) }
+    ensures survives { Survives (state S.Store conn.old) (state S.Store conn.new) (LeavesWrittenOf forms_layout GainsForms (state S.Store conn.old) additions.now) }
 {
     let mut tx = conn.transaction();
     put_all(alloc, &mut tx, additions, periods, jobs)?;
@@ -136,12 +136,12 @@ pub fn commit<S: Alter>(
     requires periods { AreRowsOf IsRowOfPeriod additions.now.periods.items periods.now }
     requires jobs { AreRowsOf IsRowOfJob additions.now.jobs.items jobs.now }
     ensures ok { HasCleanDisk (state S.Store conn.new) → HoldsOf forms_layout (state S.Store conn.old)
-        → OnOk result (CommitsOf forms_layout HasFormed (state S.Store conn.old) (state S.Store conn.new) additions.now) }
+        → OnOk result (CommitsOf forms_layout GainsForms (state S.Store conn.old) (state S.Store conn.new) additions.now) }
     ensures err { HasCleanDisk (state S.Store conn.new) → HoldsOf forms_layout (state S.Store conn.old)
         → OnErr result (KeepsCommit (state S.Store conn.old) (state S.Store conn.new)) }
     ensures mode { conn.new.in_transaction ≡ false }
     ensures survives { HoldsOf forms_layout (state S.Store conn.old)
-        → Survives (state S.Store conn.old) (state S.Store conn.new) (LeavesAddedOf forms_layout HasFormed (state S.Store conn.old) additions.now) }
+        → Survives (state S.Store conn.old) (state S.Store conn.new) (LeavesAddedOf forms_layout GainsForms (state S.Store conn.old) additions.now) }
 {
     let Ok(_) = ready(conn) else {
         return Err(Unavailable);

@@ -17,7 +17,7 @@ use Rattle.mds_pack_rows.specs.PacksLayout.{packs_layout}
 use Rattle.mds_pack_rows.proofs.TwoSchemas.{not_of}
 use Rattle.mds_pack_store.specs.Daily.{AreDaily, IsDailyStore}
 use Rattle.mds_pack_store.specs.Formed.{AreFormed, IsFormedStore}
-use Rattle.mds_pack_store.specs.Packed.{ArePacked, IsPackStore}
+use Rattle.mds_pack_store.specs.Packed.{ArePacked, IsPackedStore}
 use Rattle.mds_migrate.specs.declared.outcome.Migrated.{Migrated}
 use Rattle.mds_migrate.specs.declared.outcome.Migrated.TheVariants.{Done}
 use Rattle.mds_migrate.specs.declared.outcome.MigrateFault.{MigrateFault}
@@ -81,7 +81,7 @@ module _ (old mid : State) (kept : HasCleanDisk mid → KeepsCommit old mid) (on
   }
 
   pub is_packed : HoldsTablesOf packs_layout old → (HasCleanDisk mid → ArePacked old.committed.trees)
-      → HasCleanDisk mid → IsTrue mid.is_open → IsPackStore old.committed
+      → HasCleanDisk mid → IsTrue mid.is_open → IsPackedStore old.committed
   is_packed held are clean is_open =
       let it = are clean in
       record {
@@ -117,7 +117,7 @@ module _ (old mid : State) (kept : HasCleanDisk mid → KeepsCommit old mid) (on
 
 -- a database of one schema, which isn't a store of it, is none of any
 abbrev IsNone : Database → Type 0
-IsNone db = (IsStore db → ⊥) × (IsPackStore db → ⊥) × (IsDailyStore db → ⊥) × (IsFormedStore db → ⊥)
+IsNone db = (IsStore db → ⊥) × (IsPackedStore db → ⊥) × (IsDailyStore db → ⊥) × (IsFormedStore db → ⊥)
 
 pub none_of_1 : (db : Database) → db.schema ≡ schema_1 → (versions_said db.trees ≡ pos 1 ∷ [] → ⊥) → IsNone db
 none_of_1 db has other = (

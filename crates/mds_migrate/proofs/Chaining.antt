@@ -7,7 +7,7 @@ use Rattle.sqlite_schema.specs.declared.schema.Schema.{Schema}
 use Rattle.sqlite_trees.specs.Tree.{Trees}
 use Rattle.mds_pack_store.specs.Daily.{IsDailyStore}
 use Rattle.mds_pack_store.specs.Formed.{IsFormedStore}
-use Rattle.mds_pack_store.specs.Packed.{IsPackStore}
+use Rattle.mds_pack_store.specs.Packed.{IsPackedStore}
 use Rattle.mds_migrate.specs.declared.outcome.Migrated.{Migrated}
 use Rattle.mds_migrate.specs.declared.outcome.Migrated.TheVariants.{AlreadyCurrent, Done}
 use Rattle.mds_migrate.specs.declared.outcome.MigrateFault.{MigrateFault}
@@ -68,7 +68,7 @@ IsSettled s e = e ≡ OtherSchema → IsTrue s.is_open → s.now ≡ s.committed
 -- A step leaves a store of the next schema, so no further one is refused as none of any.
 stands : (a b c : State) → IsMigrated a b → IsSettled b OtherSchema → IsRefused b c OtherSchema → ⊥
 stands a b c (inl p) settled refused =
-    refused.2 (subst IsPackStore (sym (settled refl p.is_open)) (record {
+    refused.2 (subst IsPackedStore (sym (settled refl p.is_open)) (record {
       store = record { schema = p.schema; version = p.taken.version };
       unversioned = p.taken.unversioned;
     }))

@@ -29,7 +29,7 @@ use Rattle.mds_pack_rows.specs.PackTables.{pack_table, pack_tree, schema_2}
 use Rattle.mds_pack_rows.specs.PacksLayout.{world_2}
 use Rattle.mds_pack_store.specs.Daily.{IsDailyStore}
 use Rattle.mds_pack_store.specs.Formed.{IsFormedStore}
-use Rattle.mds_pack_store.specs.Packed.{IsPackStore}
+use Rattle.mds_pack_store.specs.Packed.{IsPackedStore}
 use Rattle.mds_migrate.specs.Migrating.{without_length}
 use Rattle.mds_migrate.specs.OldDetails.{Becomes}
 use Rattle.mds_migrate.specs.OldHeads.{IsFormedOf}
@@ -97,7 +97,7 @@ abbrev pub packing : Step
 packing = record { From = IsStore; under = schema_1; fits = λ db store. store.schema; to = schema_2; Has = HasPacked }
 
 abbrev pub dating : Step
-dating = record { From = IsPackStore; under = schema_2; fits = λ db is. is.store.schema; to = schema_3; Has = HasDated }
+dating = record { From = IsPackedStore; under = schema_2; fits = λ db is. is.store.schema; to = schema_3; Has = HasDated }
 
 abbrev pub forming : Step
 forming = record { From = IsDailyStore; under = schema_3; fits = λ db is. is.store.schema; to = schema_4; Has = HasFormed }
@@ -155,19 +155,19 @@ Both First Second old new = (between : Trees) × First old between × Second bet
 -- what one step makes of a store
 abbrev pub TakesOne : Database → Trees → Type 0
 TakesOne old new =
-    (IsDailyStore old × HasFormed old.trees new) ⊎ ((IsPackStore old × HasDated old.trees new) ⊎ (IsStore old × HasPacked old.trees new))
+    (IsDailyStore old × HasFormed old.trees new) ⊎ ((IsPackedStore old × HasDated old.trees new) ⊎ (IsStore old × HasPacked old.trees new))
 
 -- what two steps make of one
 abbrev pub TakesTwo : Database → Trees → Type 0
 TakesTwo old new =
-    (IsPackStore old × Both HasDated HasFormed old.trees new) ⊎ (IsStore old × Both HasPacked HasDated old.trees new)
+    (IsPackedStore old × Both HasDated HasFormed old.trees new) ⊎ (IsStore old × Both HasPacked HasDated old.trees new)
 
 -- What all steps make of a store: the days of one of schema 3 were given heads of updates. Those of one of schema 2 were given details
 -- before, and those of one of schema 1 were packed before that.
 abbrev pub TakesSteps : Database → Trees → Type 0
 TakesSteps old new =
     (IsDailyStore old × HasFormed old.trees new)
-    ⊎ ((IsPackStore old × Both HasDated HasFormed old.trees new)
+    ⊎ ((IsPackedStore old × Both HasDated HasFormed old.trees new)
     ⊎ (IsStore old × Both HasPacked (Both HasDated HasFormed) old.trees new))
 
 abbrev pub LeavesMigrated : State → Trees → Type 0
@@ -186,5 +186,5 @@ Answered old new AlreadyCurrent = IsFormedStore old.committed × AreOpen old new
 -- Nothing was changed. U3 only where the database is a store of none of the schemas.
 abbrev pub IsRefused : State → State → MigrateFault → Type 0
 IsRefused old new OtherSchema =
-    KeepsCommit old new × (IsStore old.now → ⊥) × (IsPackStore old.now → ⊥) × (IsDailyStore old.now → ⊥) × (IsFormedStore old.now → ⊥)
+    KeepsCommit old new × (IsStore old.now → ⊥) × (IsPackedStore old.now → ⊥) × (IsDailyStore old.now → ⊥) × (IsFormedStore old.now → ⊥)
 IsRefused old new Unavailable = KeepsCommit old new

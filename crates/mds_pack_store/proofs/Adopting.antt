@@ -21,7 +21,7 @@ use Rattle.mds_pack_rows.specs.FormLayout.{forms_layout}
 use Rattle.mds_store.proofs.Adopting.{is_adopted, still_holds}
 use Rattle.mds_pack_store.specs.Daily.{AreBare, AreDaily, IsDailyStore}
 use Rattle.mds_pack_store.specs.Formed.{AreFormed, IsFormedAdopted, IsFormedStore}
-use Rattle.mds_pack_store.specs.Packed.{ArePacked, IsPackStore}
+use Rattle.mds_pack_store.specs.Packed.{ArePacked, IsPackedStore}
 
 -- ---- that a table has no row
 
@@ -140,7 +140,7 @@ module _ (layout : Layout) (old new : State) (held : HoldsTablesOf layout old) (
       other (subst (λ (db : Database). AreThese db.trees) same these)
 
 -- a store of schema 2 has these tables, and so has one of schema 3 or 4
-pub of_pack : (db : Database) → IsPackStore db → ArePacked db.trees
+pub of_pack : (db : Database) → IsPackedStore db → ArePacked db.trees
 of_pack db is = record { version = is.store.version; unversioned = is.unversioned }
 
 pub of_daily : (db : Database) → IsDailyStore db → AreDaily db.trees

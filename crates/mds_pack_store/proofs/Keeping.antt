@@ -9,7 +9,7 @@ use Rattle.mds_tables.specs.Making.{KeepsNothingOf}
 use Rattle.mds_tables.specs.Queries.{Answers}
 use Rattle.mds_tables.specs.Stores.{AddsOf, CommitsOf, HoldsOf, LeavesAddedOf}
 use Rattle.mds_pack_rows.specs.FormLayout.{forms_layout}
-use Rattle.mds_form_rows.specs.FormPutting.{HasFormed}
+use Rattle.mds_form_rows.specs.FormPutting.{GainsForms}
 use Rattle.mds_pack_store.specs.Daily.{AreBare}
 use Rattle.mds_pack_store.specs.Formed.{AreFormed, HoldsFormed, IsFormedStore}
 use Rattle.mds_pack_store.proofs.Adopting.{of_formed}
@@ -53,12 +53,12 @@ formed_on {old = old} {new = new} holds answered =
     }
 
 -- a commit puts no row into either table
-still_bare : (old new : Trees) (additions : Additions) → AddsOf HasFormed old new additions → AreBare old → AreBare new
+still_bare : (old new : Trees) (additions : Additions) → AddsOf GainsForms old new additions → AreBare old → AreBare new
 still_bare old new additions adds bare = (adds.unfilled ∙ bare.0, adds.undated ∙ bare.1)
 
 module _ {A E : Type 0} {old new : State} {additions : Additions} (holds : HoldsFormed old)
-    (survives : Survives old new (LeavesAddedOf forms_layout HasFormed old additions)) where
-  committed : (r : Result A E) → HasCleanDisk old → OnOk r (CommitsOf forms_layout HasFormed old new additions)
+    (survives : Survives old new (LeavesAddedOf forms_layout GainsForms old additions)) where
+  committed : (r : Result A E) → HasCleanDisk old → OnOk r (CommitsOf forms_layout GainsForms old new additions)
       → OnErr r (KeepsCommit old new) → IsTrue new.is_open → IsFormedStore new.committed
   committed (Ok x) clean made kept is_open = record {
     store = made.store;
@@ -67,7 +67,7 @@ module _ {A E : Type 0} {old new : State} {additions : Additions} (holds : Holds
   committed (Err e) clean made kept is_open = stays_formed old new holds clean kept is_open
 
   -- it is made, or nothing is changed
-  pub formed_with : (r : Result A E) → (HasCleanDisk new → OnOk r (CommitsOf forms_layout HasFormed old new additions))
+  pub formed_with : (r : Result A E) → (HasCleanDisk new → OnOk r (CommitsOf forms_layout GainsForms old new additions))
       → (HasCleanDisk new → OnErr r (KeepsCommit old new)) → HoldsFormed new
   formed_with r ok err = record {
     committed = λ clean. committed r (was_clean _ survives clean) (ok clean) (err clean);

@@ -7,7 +7,7 @@ use Rattle.mds_tables.specs.Stores.{IsStore, IsStoreOf, versions_said}
 use Rattle.mds_pack_rows.specs.FormLayout.{forms_layout}
 use Rattle.mds_store.specs.Starting.{IsAdopted}
 use Rattle.mds_pack_store.specs.Daily.{AreBare, IsDailyStore}
-use Rattle.mds_pack_store.specs.Packed.{IsPackStore}
+use Rattle.mds_pack_store.specs.Packed.{IsPackedStore}
 
 -- mds_schema says 4, and neither a version nor details of a stream have a row of their own
 pub record AreFormed (trees : Trees) : Type 0 where
@@ -27,7 +27,7 @@ pub record HoldsFormed (s : State) : Type 0 where
 
 -- a store of an earlier schema, which is to be migrated first
 abbrev pub IsEarlierStore : Database → Type 0
-IsEarlierStore db = IsStore db ⊎ (IsPackStore db ⊎ IsDailyStore db)
+IsEarlierStore db = IsStore db ⊎ (IsPackedStore db ⊎ IsDailyStore db)
 
 -- The database was one, and keeps what it kept.
 pub record IsFormedAdopted (old new : State) : Type 0 where

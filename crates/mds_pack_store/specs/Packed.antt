@@ -12,6 +12,6 @@ pub record ArePacked (trees : Trees) : Type 0 where
   pub unversioned : trees version_tree ≡ []
 
 -- such a store
-pub record IsPackStore (db : Database) : Type 0 where
+pub record IsPackedStore (db : Database) : Type 0 where
   pub store : IsStoreOf packs_layout db
   pub unversioned : db.trees version_tree ≡ []

@@ -8,7 +8,7 @@ use sqlite::Error;
 use sqlite_schema::schema::Schema;
 
 /// Why a database isn't a store that can be used.
-#[derive(Clone, Copy, Debug, PartialEq, Eq)]
+#[derive(Clone, Copy, Debug)]
 pub enum StoreFault {
     /// The connection is in a transaction, which is the caller's (U1).
     InTransaction,

@@ -4,7 +4,7 @@ use Rattle.sqlite.specs.State.{HasCleanDisk}
 use Rattle.mds_inserts.proofs.CommitLemmas.{commits, leaves}
 use Rattle.mds_inserts.proofs.PutLemmas.{if_ok}
 use Rattle.mds_pack_rows.specs.FormLayout.{forms_layout}
-use Rattle.mds_form_rows.specs.FormPutting.{HasFormed, IsThereFormed}
+use Rattle.mds_form_rows.specs.FormPutting.{GainsForms, IsThereFormed}
 use Rattle.mds_form_rows.proofs.CommitLemmas.{there_ready}
 use Rattle.mds_form_rows.proofs.committing.commit.Goals as goal
 
@@ -12,12 +12,12 @@ pub returns-clause-ok : goal.returns-clause-ok
 returns-clause-ok g c clean holds =
     let early : HasCleanDisk (state g.S.Store c.ready.new.conn) = omega (arith, c.write.ensures.survives.clean) in
     if_ok c.write.result _ _
-    (commits forms_layout HasFormed (state g.S.Store c.args.conn.now) (state g.S.Store c.ready.new.conn) (state g.S.Store c.write.new.conn)
+    (commits forms_layout GainsForms (state g.S.Store c.args.conn.now) (state g.S.Store c.ready.new.conn) (state g.S.Store c.write.new.conn)
     c.args.additions.now c.in-Ok.ensures.ok c.ready.ensures.survives holds early) (c.write.ensures.ok clean)
 
 pub returns-clause-survives : goal.returns-clause-survives
 returns-clause-survives g c holds =
-    leaves forms_layout HasFormed (state g.S.Store c.args.conn.now) (state g.S.Store c.ready.new.conn) (state g.S.Store c.write.new.conn)
+    leaves forms_layout GainsForms (state g.S.Store c.args.conn.now) (state g.S.Store c.ready.new.conn) (state g.S.Store c.write.new.conn)
     c.args.additions.now c.in-Ok.ensures.ok c.ready.ensures.survives holds c.write.ensures.survives
 
 pub returns-clause-err : goal.returns-clause-err

@@ -3,7 +3,7 @@ use Rattle.mds_tables.proofs.CallLemmas.{survives_more}
 use Rattle.mds_inserts.proofs.PutLemmas.{all_there}
 use Rattle.mds_pack_rows.specs.FormLayout.{forms_layout}
 use Rattle.mds_pack_rows.specs.FormTables.{formed}
-use Rattle.mds_form_rows.specs.FormPutting.{HasFormed}
+use Rattle.mds_form_rows.specs.FormPutting.{GainsForms}
 use Rattle.mds_form_rows.proofs.CommitLemmas.{kept_before}
 use Rattle.mds_form_rows.proofs.OwnLemmas.{steady_forms}
 use Rattle.mds_form_rows.proofs.committing.put_all.Goals as goal
@@ -11,7 +11,7 @@ use Rattle.mds_form_rows.proofs.committing.put_all.Goals as goal
 pub returns-in-Ok-clause-ok : goal.returns-in-Ok-clause-ok
 returns-in-Ok-clause-ok g c =
     let rest = c.in-Ok.ensures.puts formed in
-    all_there forms_layout HasFormed steady_forms (state g.S.Store c.args.tx.now.conn.now)
+    all_there forms_layout GainsForms steady_forms (state g.S.Store c.args.tx.now.conn.now)
     (state g.S.Store c.put_own.new.tx.conn.now) (state g.S.Store c.put_rest.new.tx.conn.now) c.args.additions.now c.args.periods.now c.args.jobs.now
     c.requires.periods c.requires.jobs rest.survives.clean c.in_ok-put_own.ensures.ok rest.ok
 

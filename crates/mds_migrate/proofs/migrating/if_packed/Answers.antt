@@ -4,7 +4,7 @@ use Rattle.sqlite.specs.State.{HasCleanDisk, KeepsCommit}
 use Rattle.mds_tables.specs.Stores.{HoldsTablesOf}
 use Rattle.mds_pack_rows.specs.PacksLayout.{packs_layout}
 use Rattle.mds_pack_rows.proofs.TwoSchemas.{tables_seen}
-use Rattle.mds_pack_store.specs.Packed.{ArePacked, IsPackStore}
+use Rattle.mds_pack_store.specs.Packed.{ArePacked, IsPackedStore}
 use Rattle.mds_migrate.specs.Migrated.{LeavesMigrated, dating}
 use Rattle.mds_migrate.proofs.Asking.{answered_since, holds_still, is_packed, isnt_seen, leaves_since, none_of_2, refused_since}
 use Rattle.mds_migrate.proofs.Taking.{leaves_none}
@@ -18,7 +18,7 @@ held g c = tables_seen packs_layout (state g.S.Store c.args.conn.now) c.requires
 
 -- and it is a store
 store : (g : Over) (c : In-Ok-true g) → HasCleanDisk (state g.S.Store c.are_packed.new.conn) → IsTrue (state g.S.Store c.are_packed.new.conn).is_open
-    → IsPackStore (state g.S.Store c.args.conn.now).committed
+    → IsPackedStore (state g.S.Store c.args.conn.now).committed
 store g c =
     let old = state g.S.Store c.args.conn.now in
     let mid = state g.S.Store c.are_packed.new.conn in

@@ -6,7 +6,7 @@ use Rattle.mds_pack_rows.specs.FormLayout.{forms_layout}
 use Rattle.mds_pack_rows.specs.PackTables.{schema_2}
 use Rattle.mds_pack_rows.specs.PacksLayout.{packs_layout}
 use Rattle.mds_pack_rows.proofs.TwoSchemas.{not_first, not_of, tables_seen}
-use Rattle.mds_pack_store.specs.Packed.{ArePacked, IsPackStore}
+use Rattle.mds_pack_store.specs.Packed.{ArePacked, IsPackedStore}
 use Rattle.mds_pack_store.proofs.Adopting.{isnt_seen, of_pack}
 use Rattle.mds_pack_store.proofs.starting.refusal_of_second.Goals as goal
 
@@ -17,7 +17,7 @@ returns-in-Ok-true-clause-err g c clean =
     let are : ArePacked old.committed.trees = let it = c.in-Ok-true.ensures.answers.found clean held in search rules in
     let same = c.requires.settled (c.in-Ok-true.ensures.answers.open clean held).was_open in
     let now : ArePacked old.now.trees = subst (λ (db : Database). ArePacked db.trees) (sym same) are in
-    let store : IsPackStore old.now =
+    let store : IsPackedStore old.now =
     record { store = record { schema = c.requires.schema; version = now.version }; unversioned = now.unversioned } in
     (c.are_packed.ensures.answers.kept clean held, inr (inl store))
 
