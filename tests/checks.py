@@ -41,8 +41,21 @@ def check(what, got, wanted, most=None):
 
 
 def finish():
-    """Ends the script, with status 1 where a check has failed."""
+    """Ends the script: with a line that says so where all checks have passed, and else with status 1."""
+    if not failed:
+        print(f"{SCRIPT}: all as it has to be")
     sys.exit(1 if failed else 0)
+
+
+def not_run(name, packages):
+    """Ends a script that can't run without a program or a library, which these packages have. `tools/run_scripts` knows the status."""
+    print(f"{SCRIPT}: not run, there is no {name}: install {packages}")
+    sys.exit(77)
+
+
+def left_out(part, name, packages):
+    """Prints which part of the script isn't run without a program or a library, which these packages have."""
+    print(f"{SCRIPT}: {part} is left out, there is no {name}: install {packages}")
 
 
 def mdstore(*words, given=None, **more):

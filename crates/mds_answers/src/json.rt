@@ -37,6 +37,23 @@ pub fn short_json(answer: &Answer, out: &mut Vec<u8>) -> Result<(), AllocError>
     out.extend_from_slice(line_of(answer).as_str().as_bytes())
 }
 
+/// Appends the JSON text of an answer that isn't a text of its own. Only an answer with a list takes memory where there is room for
+/// 160 bytes. If it is out of memory nothing is appended.
+pub fn answer_json(alloc: Global, answer: &Answer, out: &mut Vec<u8>) -> Result<(), AllocError>
+    requires { has_text answer.now ≡ false }
+    ensures done { OnOk result ((text : List ℕ) × IsJson answer.now text × Appends out.old.items out.new.items text) }
+    ensures kept { OnErr result (out.new.items ≡ out.old.items) }
+    ensures short { has_list answer.now ≡ false → vec_len out.old + short_room ≤ vec_capacity out.old → is_ok result ≡ true }
+{
+    match answer {
+        Answer::Day(_) | Answer::Versions(_) | Answer::Period(_) | Answer::Streams(_) => {
+            let text = list_json(alloc, answer)?;
+            out.extend_from_slice(&text)
+        }
+        _ => short_json(answer, out),
+    }
+}
+
 /// The value that tells an answer with a list.
 fn value_of(alloc: Global, answer: &Answer) -> Result<Value, AllocError>
     requires { has_list answer.now ≡ true }

@@ -8,4 +8,4 @@ mod short;
 mod streams;
 mod told;
 
-pub use json::{holidays_json, list_json, one_json, short_json};
+pub use json::{answer_json, holidays_json, list_json, one_json, short_json};

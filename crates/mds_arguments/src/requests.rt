@@ -22,6 +22,16 @@ pub enum ArgumentsFault {
     Memory,
 }
 
+impl From<AllocError> for ArgumentsFault {
+    ghost use Rattle.mds_arguments.specs.declared.requests.ArgumentsFault.TheVariants as fault;
+
+    ghost from_gives = { λ _ reason. reason ≡ fault.Memory };
+
+    fn from(_: AllocError) -> ArgumentsFault {
+        ArgumentsFault::Memory
+    }
+}
+
 /// The request for the accumulations of a stream.
 pub fn periods_request(nmi: &[u8], suffix: &[u8]) -> Result<Request, Argument>
     ensures { MatchResult result (AskForPeriods nmi.now suffix.now) (IsFirstBad (stream_tests nmi.now suffix.now)) }
@@ -153,20 +163,14 @@ pub fn export_request(
     let Some(moment) = Moment::read_date_time(arguments.moment) else {
         return Err(ArgumentsFault::Bad(Argument::Moment));
     };
-    let sender = match PrintableString::read(alloc, arguments.sender) {
-        Ok(Some(sender)) => sender,
-        Ok(None) => return Err(ArgumentsFault::Bad(Argument::Sender)),
-        Err(_) => return Err(ArgumentsFault::Memory),
+    let Some(sender) = PrintableString::read(alloc, arguments.sender)? else {
+        return Err(ArgumentsFault::Bad(Argument::Sender));
     };
-    let receiver = match PrintableString::read(alloc, arguments.receiver) {
-        Ok(Some(receiver)) => receiver,
-        Ok(None) => return Err(ArgumentsFault::Bad(Argument::Receiver)),
-        Err(_) => return Err(ArgumentsFault::Memory),
+    let Some(receiver) = PrintableString::read(alloc, arguments.receiver)? else {
+        return Err(ArgumentsFault::Bad(Argument::Receiver));
     };
-    let suffixes = match read_suffixes(alloc, &arguments.suffixes) {
-        Ok(Some(suffixes)) => suffixes,
-        Ok(None) => return Err(ArgumentsFault::Bad(Argument::Suffix)),
-        Err(_) => return Err(ArgumentsFault::Memory),
+    let Some(suffixes) = read_suffixes(alloc, &arguments.suffixes)? else {
+        return Err(ArgumentsFault::Bad(Argument::Suffix));
     };
     let header = Header {
         moment,

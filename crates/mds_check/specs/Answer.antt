@@ -3,10 +3,14 @@ use Rattle.std.specs.Prelude.{◌⊎◌, ◌<◌, ℕ, Bool, true, false, List, 
 use Rattle.std.specs.List.{concat}
 use Rattle.mds_records.specs.declared.file.FileFault.{FileFault}
 use Rattle.mds_records.specs.declared.file.FileKind.{FileKind}
-use Rattle.mds_nem12.specs.Answers.{MeetsEnd}
+use Rattle.mds_records.specs.declared.file.FileKind.TheVariants.{Nem12, Nem13}
+use Rattle.mds_nem12.specs.Answers.{MayLackGiven, MayLackMemory, MeetsEnd}
+use Rattle.mds_nem12.specs.Faults.{nem12}
+use Rattle.mds_nem13.specs.Answers.{MayLackMemory as MayLackMemory_13}
+use Rattle.mds_nem13.specs.Faults.{nem13}
 use Rattle.mds_check.specs.Report.{IsFaultOf, IsReportOf}
 use Rattle.mds_check.specs.declared.checking.CheckFault.{CheckFault}
-use Rattle.mds_check.specs.declared.checking.CheckFault.TheVariants.{File, Read, Write}
+use Rattle.mds_check.specs.declared.checking.CheckFault.TheVariants.{File, Memory, Read, Write}
 
 -- it answers that the reader failed, and that the writer did
 abbrev pub is_read_fault : {T : Type 0} → Result T CheckFault → Bool
@@ -24,11 +28,17 @@ abbrev pub IsFaultRead : FileKind → List (List ℕ) → FileFault → Type 0
 IsFaultRead kind given fault =
     (MeetsEnd given × IsFaultOf kind (concat given) fault) ⊎ ((more : List ℕ) → IsFaultOf kind (concat given ++ more) fault)
 
--- What is to be printed is of all that the reader's calls brought, up to the end. Else the fault is of what they brought. Where the
--- reader failed, or memory was wanting, nothing is said.
+-- It may run out of memory at what the reader's calls brought of a file of a kind.
+abbrev pub MayLackOf : FileKind → List (List ℕ) → Type 0
+MayLackOf Nem12 given = MayLackGiven MayLackMemory nem12 given
+MayLackOf Nem13 given = MayLackGiven MayLackMemory_13 nem13 given
+
+-- What is to be printed is of all that the reader's calls brought, up to the end. Else the fault is of what they brought, or it ran
+-- out of memory at that. Where the reader failed, nothing is said.
 abbrev pub IsReportRead : {T : Type 0} → FileKind → (T → List ℕ) → List (List ℕ) → Result T CheckFault → Type 0
 IsReportRead kind text_of given (Ok out) = MeetsEnd given × IsReportOf kind (concat given) (text_of out)
 IsReportRead kind text_of given (Err (File fault)) = IsFaultRead kind given fault
+IsReportRead kind text_of given (Err Memory) = MayLackOf kind given
 IsReportRead kind text_of given (Err reason) = Unit {0}
 
 -- Such a report was written, or a part of it where the writer failed.
@@ -37,4 +47,5 @@ IsCheckOf kind given Writes (Ok done) = MeetsEnd given × (report : List ℕ) ×
 IsCheckOf kind given Writes (Err (File fault)) = IsFaultRead kind given fault
 IsCheckOf kind given Writes (Err Write) =
     MeetsEnd given × (report : List ℕ) × (n : ℕ) × IsReportOf kind (concat given) report × (n < length report) × Writes (take n report)
-IsCheckOf kind given Writes (Err reason) = Unit {0}
+IsCheckOf kind given Writes (Err Memory) = MayLackOf kind given
+IsCheckOf kind given Writes (Err Read) = Unit {0}

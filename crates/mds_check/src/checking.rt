@@ -70,7 +70,8 @@ pub fn check<R: Source, W: Sink>(
     ensures writer { W.failures writer.new ≡ W.failures writer.old + (if is_write_fault result then 1 else 0) }
 
     // What was written, or answered, is of what the reader's calls brought, whatever that is. They brought no more than the lines
-    // that a file may have, and a block. Each call was needed: none comes behind the end, a failure, or a piece with a fault.
+    // that a file may have, and a block. Each call was needed: none comes behind the end, a failure, or a piece with a fault. It runs
+    // out of memory only at a line before which none has a fault.
     ensures given { (given : List (List ℕ)) × Reads R.gives reader.old given reader.new
         × (length (concat given) ≤ most_lines * (longest_line + 1) + block)
         × AreCallsNeeded (fault_by_now kind) [] false given

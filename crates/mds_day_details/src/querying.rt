@@ -22,7 +22,7 @@ use crate::rows::{days_with_rows, details_rows, nearest_rows, range_rows};
 use crate::terms::{details_at, is_detail_row};
 use mds_keeper::{DetailDays, Unavailable};
 use mds_selects::{day_at, in_order};
-use mds_tables::ready;
+use mds_tables::{or_unavailable, ready, told};
 use mds_terms::{Day, Details, Stream};
 use mds_world::empty_details;
 use sqlite::{Alter, Connection, Row};
@@ -42,27 +42,19 @@ pub fn current_details<S: Alter>(
     ensures { Answers (HoldsOf forms_layout) (state S.Store conn.old) (state S.Store conn.new) result
         (λ trees. IsCurrentDetails (world_4 trees) stream.now day) }
 {
-    let Ok(_) = ready(conn) else {
-        return Err(Unavailable);
-    };
+    or_unavailable(ready(conn))?;
     // For the proof: a day's number is at most that of the last day.
     let _ = day.number();
-    let Ok(own) = details_rows(conn, stream, day) else {
-        return Err(Unavailable);
-    };
+    let own = or_unavailable(details_rows(conn, stream, day))?;
     if !own.is_empty() {
         return first_details(alloc, &own);
     }
-    let Ok(found) = nearest_rows(conn, stream, day) else {
-        return Err(Unavailable);
-    };
+    let found = or_unavailable(nearest_rows(conn, stream, day))?;
     let nearest = first_day(&found)?;
     let Some(of) = nearest else {
         return Ok(empty_details(alloc));
     };
-    let Ok(rows) = details_rows(conn, stream, of) else {
-        return Err(Unavailable);
-    };
+    let rows = or_unavailable(details_rows(conn, stream, of))?;
     first_details(alloc, &rows)
 }
 
@@ -73,10 +65,7 @@ fn first_day(rows: &[Row]) -> Result<Option<Day>, Unavailable>
         × ((day : ℕ) → IsDay day → column row 0 ≢ number_cell day)) }
 {
     match rows {
-        [first, ..] => match day_at(first, 0) {
-            Some(day) => Ok(Some(day)),
-            None => Err(Unavailable),
-        },
+        [first, ..] => Ok(Some(told(day_at(first, 0))?)),
         [] => Ok(None),
     }
 }
@@ -88,14 +77,24 @@ fn first_details(alloc: Global, rows: &[Row]) -> Result<Details, Unavailable>
     ensures err { OnErr result (All IsWritten rows.now → rows.now ≢ [] → (row : RowValue) × (later : List RowValue) × (rows.now ≡ row ∷ later)
         × ((moment : ℕ) (details : DetailsValue) → IsRowOf row moment details → 0 < text_length details)) }
 {
+    test_detail_rows(rows)?;
+    match rows {
+        [first, ..] => details_at(alloc, first),
+        // The query before has shown that the day has some.
+        [] => Err(Unavailable),
+    }
+}
+
+/// Tests that all rows are ones of details that the store can have written.
+fn test_detail_rows(rows: &[Row]) -> Result<(), Unavailable>
+    ensures ok { OnOk result (All (λ row. IsDetailRow row) rows.now) }
+    ensures err { OnErr result (¬ All IsWritten rows.now) }
+{
     let are_lawful = are_detail_rows(rows);
     if !are_lawful {
         return Err(Unavailable);
     }
-    match rows {
-        [first, ..] => details_at(alloc, first),
-        [] => Err(Unavailable),
-    }
+    Ok(())
 }
 
 /// Whether all rows are ones of details that the store can have written.
@@ -126,14 +125,10 @@ pub fn details_between<S: Alter>(
     ensures { Answers (HoldsOf forms_layout) (state S.Store conn.old) (state S.Store conn.new) result
         (λ trees rows. AreDetailsBetween (world_4 trees) stream.now first last rows.items) }
 {
-    let Ok(_) = ready(conn) else {
-        return Err(Unavailable);
-    };
+    or_unavailable(ready(conn))?;
     // For the proof: a day's number is at most that of the last day.
     let _ = last.number();
-    let Ok(rows) = range_rows(conn, stream, first, last) else {
-        return Err(Unavailable);
-    };
+    let rows = or_unavailable(range_rows(conn, stream, first, last))?;
     tell_days(alloc, &rows)
 }
 
@@ -142,37 +137,32 @@ fn tell_days(alloc: Global, rows: &[Row]) -> Result<Vec<(Day, Details)>, Unavail
     ensures told { IfOk result (λ told. AreByDay rows.now → TellsDays rows.now told.items) }
     ensures all { IfOk result (λ told. All (λ row. IsDetailRow row) rows.now) }
 {
-    let are_lawful = are_detail_rows(rows);
-    if !are_lawful {
-        return Err(Unavailable);
-    }
-    let mut told = Vec::new(alloc);
+    test_detail_rows(rows)?;
+    let mut days = Vec::new(alloc);
     for i in 0..rows.len() {
-        tell_row(alloc, &mut told, &rows[i])?;
+        tell_row(alloc, &mut days, &rows[i])?;
     }
-    Ok(told)
+    Ok(days)
 }
 
 /// Adds the day of a row with its details, unless the last entry is of that day.
-fn tell_row(alloc: Global, told: &mut Vec<(Day, Details)>, row: &Row) -> Result<(), Unavailable>
-    ensures { OnOk result (TellsRow told.old.items row.now told.new.items) }
+fn tell_row(alloc: Global, days: &mut Vec<(Day, Details)>, row: &Row) -> Result<(), Unavailable>
+    ensures { OnOk result (TellsRow days.old.items row.now days.new.items) }
 {
-    let Some(day) = day_at(row, 6) else {
-        return Err(Unavailable);
-    };
-    if ends_on(told, day) {
+    let day = told(day_at(row, 6))?;
+    if ends_on(days, day) {
         return Ok(());
     }
     let details = details_at(alloc, row)?;
-    told.push((day, details))?;
+    days.push((day, details))?;
     Ok(())
 }
 
 /// Whether the last entry is of the day.
-fn ends_on(told: &[(Day, Details)], day: Day) -> bool
-    ensures { IsTrue result ↔ EndsOn day told.now }
+fn ends_on(days: &[(Day, Details)], day: Day) -> bool
+    ensures { IsTrue result ↔ EndsOn day days.now }
 {
-    match told.last() {
+    match days.last() {
         Some(entry) => entry.0 == day,
         None => false,
     }
@@ -189,19 +179,13 @@ pub fn days_without<S: Alter>(
     ensures { Answers (HoldsOf forms_layout) (state S.Store conn.old) (state S.Store conn.new) result
         (λ trees days. AreDaysWithout (world_4 trees) details.now days.items) }
 {
-    let Ok(_) = ready(conn) else {
-        return Err(Unavailable);
-    };
-    let Ok(mut left) = set_of(alloc, &details.days) else {
-        return Err(Unavailable);
-    };
+    or_unavailable(ready(conn))?;
+    let mut left = set_of(alloc, &details.days)?;
     let Some(ends) = ends_of(&left) else {
         return Ok(Vec::new(alloc));
     };
     let (first, last) = ends;
-    let Ok(rows) = days_with_rows(conn, details, first, last) else {
-        return Err(Unavailable);
-    };
+    let rows = or_unavailable(days_with_rows(conn, details, first, last))?;
     // For the proof: a day's number is at most that of the last day, and the other numbers are below 2^63.
     let _ = last.number();
     are_small(details);
@@ -258,9 +242,7 @@ fn take_shown(left: &mut BTreeSet<Day>, rows: &[Row]) -> Result<(), Unavailable>
 fn take_day(left: &mut BTreeSet<Day>, row: &Row) -> Result<(), Unavailable>
     ensures { OnOk result (AreLeft left.old.keys (row.now ∷ []) left.new.keys) }
 {
-    let Some(day) = day_at(row, 0) else {
-        return Err(Unavailable);
-    };
+    let day = told(day_at(row, 0))?;
     left.remove(&day);
     Ok(())
 }

@@ -14,9 +14,10 @@ ghost use Rattle.mds_day_details.specs.Shown.{IsDetailRow, IsRowOf, shown_detail
 
 use mds_keeper::Unavailable;
 use mds_selects::{int_at, text_at};
+use mds_tables::told;
 use mds_terms::{Day, Details, DetailsRef, PrintableText};
 use sqlite::Row;
-use std::alloc::Global;
+use std::alloc::{AllocError, Global};
 
 /// Whether neither number of a row is below the least that the store writes.
 pub(crate) fn is_detail_row(row: &Row) -> bool
@@ -53,13 +54,20 @@ pub fn details_at(alloc: Global, row: &Row) -> Result<Details, Unavailable>
     ensures ok { IfOk result (λ details. shown_details row.now ≡ details) }
     ensures err { OnErr result ((moment : ℕ) (details : DetailsValue) → IsRowOf row.now moment details → 0 < text_length details) }
 {
-    let Some(details) = details_ref_in(row) else {
-        return Err(Unavailable);
+    told(details_read(alloc, row)?)
+}
+
+/// The details that a row tells, where they read.
+fn details_read(alloc: Global, row: &Row) -> Result<Option<Details>, AllocError>
+    ensures some { IfOk result (λ read. IfSome read (λ details. shown_details row.now ≡ details)) }
+    ensures none { IfOk result (λ read. IfNone read ((moment : ℕ) (details : DetailsValue) → ¬ IsRowOf row.now moment details)) }
+    ensures err { OnErr result ((moment : ℕ) (details : DetailsValue) → IsRowOf row.now moment details → 0 < text_length details) }
+{
+    let Some(it) = details_ref_in(row) else {
+        return Ok(None);
     };
-    match details.to_details(alloc) {
-        Ok(details) => Ok(details),
-        Err(_) => Err(Unavailable),
-    }
+    let details = it.to_details(alloc)?;
+    Ok(Some(details))
 }
 
 /// The details of a row, borrowed from it.

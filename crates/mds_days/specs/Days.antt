@@ -1,8 +1,9 @@
 -- A day as its 300 and its 400 records give it. MDFF Specification, the 300 and 400 records; that an interval whose
 -- quality is neither N nor V has a value is this project's profile.
-use Rattle.std.specs.Prelude.{◌≡◌, ℕ, Bool, false, not, ◌&&◌, ◌==◌, List, length, All, ℤ, Option, is_none}
+use Rattle.std.specs.Prelude.{◌≡◌, ℕ, Bool, false, not, ◌&&◌, ◌==◌, List, [], length, All, ℤ, Option, None, is_none}
 use Rattle.std.specs.List.{list_any}
 use Rattle.mds_marks.specs.BorrowedMarks.{mark_value}
+use Rattle.mds_marks.specs.Mark.{bare_null}
 use Rattle.mds_marks.specs.Quality.{null, variable}
 use Rattle.mds_marks.specs.declared.mark.Mark.{Mark}
 use Rattle.mds_records.specs.declared.interval_event.IntervalEventRecord.{IntervalEventRecord}
@@ -18,6 +19,10 @@ pub record DayValue : Type 0 where
   pub mark : Mark
   pub values : List (Option ℤ)
   pub runs : List Run
+
+-- no day yet: one without intervals
+abbrev pub no_day : DayValue
+no_day = record { line = 0; date = 0; update = None; mark = bare_null; values = []; runs = [] }
 
 -- a mark under which an interval has a value: any but N and V
 abbrev pub needs_value : Mark → Bool

@@ -6,7 +6,7 @@ ghost use Rattle.mds_marks.specs.BorrowedMarks.{mark_value};
 ghost use Rattle.mds_marks.specs.Quality.{variable};
 ghost use Rattle.mds_marks.specs.Reading.{is_reading};
 ghost use Rattle.mds_runs.specs.Runs.{is_in_range};
-ghost use Rattle.mds_days.specs.Days.{AreValuesOf, IsWhole, run_value};
+ghost use Rattle.mds_days.specs.Days.{AreValuesOf, IsWhole, no_day, run_value};
 ghost use Rattle.mds_days.specs.Readings.{amounts, leaves_gap, reading_by, readings_of, total};
 ghost use Rattle.mds_days.specs.RunFaults.{lacks_value, run_fault};
 
@@ -72,7 +72,7 @@ impl Model for DayData {
 impl DayData {
     /// No day yet: one without intervals. It takes the memory for a day's values.
     pub fn new(alloc: Global) -> Result<DayData, AllocError>
-        ensures { IfOk result (λ day. (day.values ≡ []) × (day.runs ≡ [])) }
+        ensures { IfOk result (λ day. day ≡ no_day) }
     {
         Ok(DayData {
             alloc,

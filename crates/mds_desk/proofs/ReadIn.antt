@@ -7,7 +7,7 @@ use Rattle.mds_records.specs.declared.file.FileKind.TheVariants.{Nem12}
 use Rattle.mds_statements.specs.Delivered.{delivery_statements}
 use Rattle.mds_statements.specs.Statements.{Statement}
 use Rattle.mds_statements.specs.declared.delivery.Delivery.{Delivery}
-use Rattle.mds_walk.specs.Given.{IsOfGiven}
+use Rattle.mds_walk.specs.Given.{IsOfGiven, MayLackGiven}
 use Rattle.mds_walk.specs.declared.fault.ReadFault.{ReadFault}
 use Rattle.mds_walk.specs.declared.fault.ReadFault.TheVariants as unread
 use Rattle.mds_world.specs.World.{World}
@@ -15,8 +15,8 @@ use Rattle.mds_keeper.specs.Kept.{Kept}
 use Rattle.mds_messages.specs.Answers.{has_list}
 use Rattle.mds_messages.specs.declared.answer.Answer.{Answer}
 use Rattle.mds_messages.specs.declared.answer.Answer.TheVariants as told
-use Rattle.mds_nem12.specs.Answers.{IsReadOf}
-use Rattle.mds_nem12.specs.Faults.{fault_of}
+use Rattle.mds_nem12.specs.Answers.{IsReadOf, MayLackMemory}
+use Rattle.mds_nem12.specs.Faults.{fault_of, nem12}
 use Rattle.mds_nem12.specs.Statements.{statements_of}
 use Rattle.mds_service.specs.Crashes.{GoesBy}
 use Rattle.mds_service.specs.Machine.{ImportStep, TakesIn}
@@ -85,9 +85,9 @@ module _ {a b : Kept} {answer : Answer} (read : Result Delivery ReadFault) (goes
   of_known (Some text) h = goes text h
 
   -- it is what the calls brought
-  pub of_given : (given : List (List ℕ)) → IsOfGiven (λ delivery text. delivery_statements delivery ≡ statements_of text) fault_of given read → IsImportOf a b answer given
+  pub of_given : (given : List (List ℕ)) → IsOfGiven (λ delivery text. delivery_statements delivery ≡ statements_of text) fault_of (MayLackGiven MayLackMemory nem12) given read → IsImportOf a b answer given
   of_given given h = at read h goes where
-    at : (it : Result Delivery ReadFault) → IsOfGiven (λ delivery text. delivery_statements delivery ≡ statements_of text) fault_of given it
+    at : (it : Result Delivery ReadFault) → IsOfGiven (λ delivery text. delivery_statements delivery ≡ statements_of text) fault_of (MayLackGiven MayLackMemory nem12) given it
         → ((text : List ℕ) → IsReadOf text it → GoesByText a b answer text) → IsImportOf a b answer given
     at (Ok delivery) h goes = inl (h.0, goes (concat given) (h.1, h.2))
     at (Err (unread.File fault)) (inl h) goes = inl (h.0, goes (concat given) h.1)

@@ -328,9 +328,9 @@ What to do: see the known streams by `mdstore streams`, and the missing days by 
 ## M11: No store can do this job
 
 Its method is none of 14, 15, 17 and 19, or its flag none of E, F and S. Or its intervals end before
-they begin, or reach beyond the day.
+they begin, or reach beyond the day. The first interval is 1.
 
-Usual causes: `first` after `last`; an interval beyond the day; flag `A`.
+Usual causes: `first` is 0 or after `last`; an interval beyond the day; flag `A`.
 
 Example: a job with `"first":47`, `"last":49` and `"length":30` prints `M11`.
 

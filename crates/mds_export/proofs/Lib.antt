@@ -1,4 +1,5 @@
 pub mod Begun
+pub mod Fronts
 pub mod Bounds
 pub mod Counts
 pub mod Fields

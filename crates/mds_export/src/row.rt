@@ -1,7 +1,7 @@
 //! The rows of a NEM12 file.
 
 ghost use Rattle.std.specs.Prelude.{◌≡◌, ◌++◌, ℕ, List, OnOk, OnErr};
-ghost use Rattle.mds_quantity.specs.Append.{Appends};
+ghost use Rattle.mds_quantity.specs.Append.{Appends, AppendsPart};
 ghost use Rattle.mds_export.specs.ReadBack.{IsLawful};
 ghost use Rattle.mds_export.specs.Rows.{IsRowText, row_value};
 
@@ -278,12 +278,14 @@ fn code_digits(code: Option<u16>, buffer: &mut Buffer) -> &[u8]
     }
 }
 
-/// Appends the line of a 400, or after an error something of it. It fails only where `out` has no room for all of it and can't
+/// Appends the line of a 400, or after an error a front of it. It fails only where `out` has no room for all of it and can't
 /// grow.
 pub fn write_run(row: &RunRow<'_>, out: &mut Vec<u8>) -> Result<(), AllocError>
     ensures done { OnOk result ((text : List ℕ) × IsRowText (row_value (Row.Run row.now)) text
         × Appends out.old.items out.new.items text) }
     ensures lawful { OnOk result (IsLawful (row_value (Row.Run row.now))) }
+    ensures part { OnErr result ((text : List ℕ) × IsRowText (row_value (Row.Run row.now)) text
+        × AppendsPart out.old.items out.new.items text) }
     ensures grown { OnErr result (Begins out.old.items out.new.items) }
     ensures full { OnErr result ((text : List ℕ) × IsRowText (row_value (Row.Run row.now)) text
         × (vec_capacity out.old < vec_len out.old + length text)) }

@@ -61,19 +61,13 @@ fn readings(
         × LacksLikeDay w (content_of job.now))) }
 {
     let count = job.last + 1 - job.first;
-    let Ok(mut readings) = Vec::with_capacity(alloc, usize::from(count)) else {
-        return Err(Stop::Memory);
-    };
+    let mut readings = Vec::with_capacity(alloc, usize::from(count))?;
     for interval in job.first..job.last + 1 {
         let Some(value) = value_at(job, context, source, interval) else {
             return Err(Stop::Refused(Refusal::of_request(RefusalCode::NoLikeDay)));
         };
-        let Ok(reading) = substitute(job, value) else {
-            return Err(Stop::Memory);
-        };
-        let Ok(()) = readings.push(reading) else {
-            return Err(Stop::Memory);
-        };
+        let reading = substitute(job, value)?;
+        readings.push(reading)?;
     }
     Ok(readings)
 }

@@ -11,14 +11,16 @@ ghost use Rattle.mds_form_rows.specs.FormRows.{AddsRow, AreUnder, IsBookOf};
 
 use mds_keeper::{DayBook, Unavailable, Version, VersionRows};
 use mds_marks::Reading;
-use mds_pack_rows::{blob_at, has_some, unpack_for, unpack_whole};
+use mds_pack_rows::{blob_at, readings_for, unpack_whole};
 use mds_quantity::Unit;
 use mds_selects::{length_at, moment_at};
+use mds_tables::told;
 use mds_terms::{Day, Length, Moment, Stream};
 use sqlite::Row;
 use std::alloc::Global;
 
-/// The book of a day with this unit. Each row of mds_form says a head of it, and each row of mds_pack the versions under one.
+/// The book of a day with this unit. Each row of mds_form says a head of it, and each row of mds_pack the versions under one, in
+/// pairs. Unavailable where the versions aren't those of a day.
 pub(crate) fn book_of(
     alloc: Global,
     stream: &Stream,
@@ -27,7 +29,8 @@ pub(crate) fn book_of(
     forms: &[Row],
     packs: &[Row],
 ) -> Result<DayBook, Unavailable>
-    ensures { IfOk result (IsBookOf stream.now day unit forms.now packs.now) }
+    ensures made { IfOk result (IsBookOf stream.now day unit forms.now packs.now) }
+    ensures paired { OnOk result (list_length forms.now ≡ list_length packs.now) }
 {
     let versions = versions_in(alloc, forms, packs)?;
     let book = DayBook::of_rows(alloc, *stream, day, Some(unit), versions)?;
@@ -39,7 +42,8 @@ pub(crate) fn book_of(
 
 /// The versions that rows of a day hold. Those of a whole day under one update stay as they lie.
 fn versions_in(alloc: Global, forms: &[Row], packs: &[Row]) -> Result<VersionRows, Unavailable>
-    ensures { IfOk result (λ versions. AreUnder forms.now packs.now (rows_of versions)) }
+    ensures under { IfOk result (λ versions. AreUnder forms.now packs.now (rows_of versions)) }
+    ensures paired { OnOk result (list_length forms.now ≡ list_length packs.now) }
 {
     match whole_in(alloc, forms, packs)? {
         Some(versions) => Ok(versions),
@@ -49,7 +53,8 @@ fn versions_in(alloc: Global, forms: &[Row], packs: &[Row]) -> Result<VersionRow
 
 /// The versions of an update that is alone and has a reading of each interval, as they lie. `None` where there is no such update.
 fn whole_in(alloc: Global, forms: &[Row], packs: &[Row]) -> Result<Option<VersionRows>, Unavailable>
-    ensures { IfOk result (λ o. IfSome o (λ versions. AreUnder forms.now packs.now (rows_of versions))) }
+    ensures under { IfOk result (λ o. IfSome o (λ versions. AreUnder forms.now packs.now (rows_of versions))) }
+    ensures paired { IfOk result (λ o. IfSome o (λ _. list_length forms.now ≡ list_length packs.now)) }
 {
     let [form] = forms else {
         return Ok(None);
@@ -72,9 +77,10 @@ fn whole_in(alloc: Global, forms: &[Row], packs: &[Row]) -> Result<Option<Versio
     Ok(Some(VersionRows::Whole(length, update, readings)))
 }
 
-/// The versions that rows of a day hold, one by one.
+/// The versions that rows of a day hold, one by one. Unavailable where one table has more rows than the other.
 fn each_in(alloc: Global, forms: &[Row], packs: &[Row]) -> Result<Vec<(u16, Version)>, Unavailable>
-    ensures { IfOk result (λ versions. AreUnder forms.now packs.now versions.items) }
+    ensures under { IfOk result (λ versions. AreUnder forms.now packs.now versions.items) }
+    ensures paired { OnOk result (list_length forms.now ≡ list_length packs.now) }
 {
     if forms.len() != packs.len() {
         return Err(Unavailable);
@@ -95,19 +101,9 @@ fn add_row(
 ) -> Result<(), Unavailable>
     ensures { OnOk result (AddsRow form.now pack.now versions.old.items versions.new.items) }
 {
-    let Some(head) = head_in(form, pack) else {
-        return Err(Unavailable);
-    };
+    let head = told(head_in(form, pack))?;
     let (update, length) = head;
-    let Some(body) = blob_at(pack, 1) else {
-        return Err(Unavailable);
-    };
-    let Some(readings) = unpack_for(alloc, length, body)? else {
-        return Err(Unavailable);
-    };
-    if !has_some(readings.as_slice()) {
-        return Err(Unavailable);
-    }
+    let readings = told(readings_for(alloc, length, pack, 1)?)?;
     add_held(length, update, readings, versions)
 }
 

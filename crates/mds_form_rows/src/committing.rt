@@ -17,7 +17,7 @@ use crate::units::have_units;
 use mds_inserts::{JobRow, PeriodRow, put_heads, put_rest};
 use mds_keeper::{Additions, Unavailable};
 use mds_pack_rows::{put_days, put_details};
-use mds_tables::ready;
+use mds_tables::{or_unavailable, ready};
 use sqlite::{Alter, Connection, Transaction};
 use std::alloc::Global;
 
@@ -32,9 +32,7 @@ fn put_new_days<S: Alter>(
     ensures kept { IsThereFormed (state S.Store tx.old.conn.now) (state S.Store tx.new.conn.now) → KeepsCommit (state S.Store tx.old.conn.now) (state S.Store tx.new.conn.now) }
     ensures survives { Survives (state S.Store tx.old.conn.now) (state S.Store tx.new.conn.now) (λ _. ⊥) }
 {
-    let Ok(_) = put_heads(tx, &additions.new_days) else {
-        return Err(Unavailable);
-    };
+    or_unavailable(put_heads(tx, &additions.new_days))?;
     have_units(tx, &additions.new_days)?;
     have_units(tx, &additions.heads)
 }
@@ -92,10 +90,7 @@ fn put_all<S: Alter>(
     ensures survives { Survives (state S.Store tx.old.conn.now) (state S.Store tx.new.conn.now) (λ _. ⊥) }
 {
     put_own(alloc, tx, additions)?;
-    match put_rest(tx, additions, periods, jobs) {
-        Ok(()) => Ok(()),
-        Err(_) => Err(Unavailable),
-    }
+    or_unavailable(put_rest(tx, additions, periods, jobs))
 }
 
 /// Puts all of them in a transaction of its own.
@@ -116,10 +111,8 @@ fn write<S: Alter>(
 {
     let mut tx = conn.transaction();
     put_all(alloc, &mut tx, additions, periods, jobs)?;
-    match tx.commit() {
-        Ok(()) => Ok(()),
-        Err(_) => Err(Unavailable),
-    }
+    or_unavailable(tx.commit())?;
+    Ok(())
 }
 
 /// Commits additions to the World that a store of schema 4 keeps: all of them, or nothing. A crash leaves what was kept, or that
@@ -143,8 +136,6 @@ pub fn commit<S: Alter>(
     ensures survives { HoldsOf forms_layout (state S.Store conn.old)
         → Survives (state S.Store conn.old) (state S.Store conn.new) (LeavesAddedOf forms_layout GainsForms (state S.Store conn.old) additions.now) }
 {
-    let Ok(_) = ready(conn) else {
-        return Err(Unavailable);
-    };
+    or_unavailable(ready(conn))?;
     write(alloc, conn, additions, periods, jobs)
 }

@@ -1,6 +1,6 @@
 //! A day, asked of a store. A store that can't answer is unavailable (U1). So is one that holds a row that it didn't write.
 
-ghost use Rattle.std.specs.Prelude.{◌≡◌, ◌∷◌, [], false, IfOk, IfSome};
+ghost use Rattle.std.specs.Prelude.{◌≡◌, ◌∷◌, [], false, IfOk};
 ghost use Rattle.sqlite.specs.Held.{state};
 ghost use Rattle.sqlite_value.specs.Order.{Row as RowValue};
 ghost use Rattle.mds_quantity.specs.declared.unit.Unit.{Unit as MeasureUnit};
@@ -12,11 +12,11 @@ ghost use Rattle.mds_pack_rows.specs.FormLayout.{forms_layout, world_4};
 ghost use Rattle.mds_form_rows.specs.FormRows.{IsBookOf};
 
 use crate::books::book_of;
+use crate::ranges::are_none;
 use crate::statements::{form_rows, pack_rows, unit_rows};
 use mds_keeper::{DayBook, Unavailable};
-use mds_quantity::Unit;
 use mds_selects::unit_at;
-use mds_tables::ready;
+use mds_tables::{or_unavailable, ready, told};
 use mds_terms::{Day, Stream};
 use sqlite::{Alter, Connection, Row};
 use std::alloc::Global;
@@ -33,42 +33,26 @@ pub fn day_of<S: Alter>(
         (λ trees book. IsDay (world_4 trees) book) }
     ensures of_day { IfOk result (λ book. (book.stream ≡ stream.now) × (book.day ≡ day)) }
 {
-    let Ok(_) = ready(conn) else {
-        return Err(Unavailable);
-    };
-    let Ok(forms) = form_rows(conn, stream, day) else {
-        return Err(Unavailable);
-    };
-    let Ok(packs) = pack_rows(conn, stream, day) else {
-        return Err(Unavailable);
-    };
+    or_unavailable(ready(conn))?;
+    let forms = or_unavailable(form_rows(conn, stream, day))?;
+    let packs = or_unavailable(pack_rows(conn, stream, day))?;
     // For the proof: a day's number is at most that of the last day.
     let _ = day.number();
-    if forms.is_empty() {
-        return unknown_day(alloc, stream, day, &packs);
+    if are_none(&forms, &packs) {
+        return Ok(unknown_day(alloc, stream, day));
     }
-    let Ok(units) = unit_rows(conn, stream, day) else {
-        return Err(Unavailable);
-    };
+    let units = or_unavailable(unit_rows(conn, stream, day))?;
     known_day(alloc, stream, day, &units, &forms, &packs)
 }
 
-/// The book of a day without a head. Unavailable where it has a row of mds_pack.
-fn unknown_day(
-    alloc: Global,
-    stream: &Stream,
-    day: Day,
-    packs: &[Row],
-) -> Result<DayBook, Unavailable>
-    ensures { IfOk result (λ book. (unit : MeasureUnit) → IsBookOf stream.now day unit [] packs.now book) }
+/// The book of a day without a row of either table.
+fn unknown_day(alloc: Global, stream: &Stream, day: Day) -> DayBook
+    ensures { (unit : MeasureUnit) → IsBookOf stream.now day unit [] [] result }
 {
-    if !packs.is_empty() {
-        return Err(Unavailable);
-    }
-    Ok(DayBook::unknown(alloc, *stream, day))
+    DayBook::unknown(alloc, *stream, day)
 }
 
-/// The book of a day with heads, whose unit the one row of mds_head says.
+/// The book of a day with such rows, whose unit the one row of mds_head says. Unavailable where there isn't just one.
 fn known_day(
     alloc: Global,
     stream: &Stream,
@@ -80,18 +64,9 @@ fn known_day(
     ensures { IfOk result (λ book. (row : RowValue) × (units.now ≡ row ∷ [])
         × IsBookOf stream.now day (unit_named (text_at row 0)) forms.now packs.now book) }
 {
-    let Some(unit) = only_unit(units) else {
+    let [row] = units else {
         return Err(Unavailable);
     };
+    let unit = told(unit_at(row, 0))?;
     book_of(alloc, stream, day, unit, forms, packs)
-}
-
-/// The unit of the only row.
-fn only_unit(rows: &[Row]) -> Option<Unit>
-    ensures { IfSome result (λ unit. (row : RowValue) × (rows.now ≡ row ∷ []) × (unit_named (text_at row 0) ≡ unit)) }
-{
-    let [row] = rows else {
-        return None;
-    };
-    unit_at(row, 0)
 }

@@ -19,7 +19,7 @@ ghost use Rattle.mds_form_rows.specs.StreamRows.{AreStreamsIn, SaysStream};
 use crate::statements::{first_day_rows, form_stream_rows, last_day_rows, period_stream_rows};
 use mds_keeper::Unavailable;
 use mds_selects::{day_at, in_order, put, stream_in};
-use mds_tables::ready;
+use mds_tables::{or_unavailable, ready, told};
 use mds_terms::{Day, Stream};
 use sqlite::{Alter, Connection, Row};
 use std::alloc::Global;
@@ -34,15 +34,9 @@ pub fn last_day<S: Alter>(
     ensures { Answers (HoldsOf forms_layout) (state S.Store conn.old) (state S.Store conn.new) result
         (λ trees. IsLastDayOf (world_4 trees) stream.now) }
 {
-    let Ok(_) = ready(conn) else {
-        return Err(Unavailable);
-    };
-    let Ok(first) = first_day_rows(conn, stream) else {
-        return Err(Unavailable);
-    };
-    let Ok(last) = last_day_rows(conn, stream) else {
-        return Err(Unavailable);
-    };
+    or_unavailable(ready(conn))?;
+    let first = or_unavailable(first_day_rows(conn, stream))?;
+    let last = or_unavailable(last_day_rows(conn, stream))?;
     last_of(&first, &last)
 }
 
@@ -51,9 +45,7 @@ fn last_of(first: &[Row], last: &[Row]) -> Result<Option<Day>, Unavailable>
     ensures first { IfOk result (λ _. (day : Option ℕ) × SaysDay first.now day) }
     ensures last { IfOk result (SaysDay last.now) }
 {
-    let Ok(_) = first_day(first) else {
-        return Err(Unavailable);
-    };
+    first_day(first)?;
     first_day(last)
 }
 
@@ -64,10 +56,7 @@ fn first_day(rows: &[Row]) -> Result<Option<Day>, Unavailable>
         × ((day : ℕ) → IsDay day → column row 0 ≢ number_cell day)) }
 {
     match rows {
-        [first, ..] => match day_at(first, 0) {
-            Some(day) => Ok(Some(day)),
-            None => Err(Unavailable),
-        },
+        [first, ..] => Ok(Some(told(day_at(first, 0))?)),
         [] => Ok(None),
     }
 }
@@ -81,15 +70,9 @@ pub fn streams<S: Alter>(
     ensures { Answers (HoldsOf forms_layout) (state S.Store conn.old) (state S.Store conn.new) result
         (λ trees streams. AreKnownStreams (world_4 trees) streams.items) }
 {
-    let Ok(_) = ready(conn) else {
-        return Err(Unavailable);
-    };
-    let Ok(heads) = form_stream_rows(conn) else {
-        return Err(Unavailable);
-    };
-    let Ok(periods) = period_stream_rows(conn) else {
-        return Err(Unavailable);
-    };
+    or_unavailable(ready(conn))?;
+    let heads = or_unavailable(form_stream_rows(conn))?;
+    let periods = or_unavailable(period_stream_rows(conn))?;
     all_streams(alloc, &heads, &periods)
 }
 
@@ -118,8 +101,6 @@ fn add_streams(found: &mut BTreeSet<Stream>, rows: &[Row]) -> Result<(), Unavail
 fn add_stream(found: &mut BTreeSet<Stream>, row: &Row) -> Result<(), Unavailable>
     ensures { OnOk result (IsAdded SaysStream found.old.keys row.now found.new.keys) }
 {
-    let Some(stream) = stream_in(row) else {
-        return Err(Unavailable);
-    };
+    let stream = told(stream_in(row))?;
     put(found, stream)
 }

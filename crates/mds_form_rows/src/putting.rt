@@ -12,7 +12,7 @@ ghost use Rattle.mds_form_rows.specs.FormPutting.{form_part};
 
 use mds_inserts::TOGETHER;
 use mds_keeper::Unavailable;
-use mds_tables::form_cells;
+use mds_tables::{form_cells, or_unavailable};
 use mds_world::Head;
 use sqlite::types::ValueRef;
 use sqlite::{Alter, Transaction};
@@ -56,13 +56,11 @@ fn put_eight<S: Alter>(
     ensures survives { Survives (state S.Store tx.old.conn.now) (state S.Store tx.new.conn.now) (λ _. ⊥) }
 {
     let cells = eight_cells(heads);
-    match tx.execute(
+    or_unavailable(tx.execute(
         "INSERT INTO mds_form (nmi, suffix, day, moment, length) VALUES (?1, ?2, ?3, ?4, ?5), (?6, ?7, ?8, ?9, ?10), (?11, ?12, ?13, ?14, ?15), (?16, ?17, ?18, ?19, ?20), (?21, ?22, ?23, ?24, ?25), (?26, ?27, ?28, ?29, ?30), (?31, ?32, ?33, ?34, ?35), (?36, ?37, ?38, ?39, ?40)",
         cells.as_flattened(),
-    ) {
-        Ok(_) => Ok(()),
-        Err(_) => Err(Unavailable),
-    }
+    ))?;
+    Ok(())
 }
 
 /// The columns of eight heads.
@@ -97,11 +95,9 @@ pub fn put_form<S: Alter>(tx: &mut Transaction<'_, S>, head: &Head) -> Result<()
     ensures kept { HasCleanDisk (state S.Store tx.new.conn.now) → KeepsCommit (state S.Store tx.old.conn.now) (state S.Store tx.new.conn.now) }
     ensures survives { Survives (state S.Store tx.old.conn.now) (state S.Store tx.new.conn.now) (λ _. ⊥) }
 {
-    match tx.execute(
+    or_unavailable(tx.execute(
         "INSERT INTO mds_form (nmi, suffix, day, moment, length) VALUES (?1, ?2, ?3, ?4, ?5)",
         &form_cells(head),
-    ) {
-        Ok(_) => Ok(()),
-        Err(_) => Err(Unavailable),
-    }
+    ))?;
+    Ok(())
 }

@@ -19,7 +19,7 @@ use crate::statements::{form_range_rows, head_range_rows, pack_range_rows};
 use mds_keeper::{DayBook, Unavailable};
 use mds_quantity::Unit;
 use mds_selects::{day_at, unit_at};
-use mds_tables::ready;
+use mds_tables::{or_unavailable, ready, told};
 use mds_terms::{Day, Stream};
 use sqlite::{Alter, Connection, Row};
 use std::alloc::Global;
@@ -36,18 +36,10 @@ pub fn days_of<S: Alter>(
     ensures { Answers (HoldsOf forms_layout) (state S.Store conn.old) (state S.Store conn.new) result
         (λ trees books. AreDaysOf (world_4 trees) stream.now first last books.items) }
 {
-    let Ok(_) = ready(conn) else {
-        return Err(Unavailable);
-    };
-    let Ok(heads) = head_range_rows(conn, stream, first, last) else {
-        return Err(Unavailable);
-    };
-    let Ok(forms) = form_range_rows(conn, stream, first, last) else {
-        return Err(Unavailable);
-    };
-    let Ok(packs) = pack_range_rows(conn, stream, first, last) else {
-        return Err(Unavailable);
-    };
+    or_unavailable(ready(conn))?;
+    let heads = or_unavailable(head_range_rows(conn, stream, first, last))?;
+    let forms = or_unavailable(form_range_rows(conn, stream, first, last))?;
+    let packs = or_unavailable(pack_range_rows(conn, stream, first, last))?;
     // For the proof: a day's number is at most that of the last day.
     let _ = last.number();
     all_books(alloc, stream, &heads, &forms, &packs)
@@ -78,9 +70,7 @@ fn days_in(alloc: Global, rows: &[Row]) -> Result<Vec<(Day, Unit)>, Unavailable>
 {
     let mut days = Vec::with_capacity(alloc, rows.len())?;
     for row in rows {
-        let Some(day) = day_in(row) else {
-            return Err(Unavailable);
-        };
+        let day = told(day_in(row))?;
         days.push(day)?;
     }
     Ok(days)
@@ -122,20 +112,20 @@ fn cut_by_day(
         forms_left = later_forms;
         packs_left = later_packs;
     }
-    if !none_left(forms_left, packs_left) {
+    if !are_none(forms_left, packs_left) {
         return Err(Unavailable);
     }
     Ok(books)
 }
 
-/// Whether no row is left of either table.
-fn none_left(forms: &[Row], packs: &[Row]) -> bool
-    ensures { IsTrue result → (forms.now ≡ []) × (packs.now ≡ []) }
+/// Whether there is no row of either table.
+pub(crate) fn are_none(forms: &[Row], packs: &[Row]) -> bool
+    ensures { IsTrue result ↔ ((forms.now ≡ []) × (packs.now ≡ [])) }
 {
     forms.is_empty() && packs.is_empty()
 }
 
-/// Adds the book of a day. One without a row of mds_form isn't known, and has no book. Unavailable where it has one of mds_pack.
+/// Adds the book of a day. One without a row of either table isn't known, and has no book.
 fn add_day(
     alloc: Global,
     stream: &Stream,
@@ -147,11 +137,8 @@ fn add_day(
 ) -> Result<(), Unavailable>
     ensures { OnOk result (AddsDay stream.now day unit forms.now packs.now books.old.items books.new.items) }
 {
-    if forms.is_empty() {
-        if packs.is_empty() {
-            return Ok(());
-        }
-        return Err(Unavailable);
+    if are_none(forms, packs) {
+        return Ok(());
     }
     let book = book_of(alloc, stream, day, unit, forms, packs)?;
     books.push(book)?;

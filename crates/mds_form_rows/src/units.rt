@@ -13,7 +13,7 @@ use mds_inserts::TOGETHER;
 use mds_keeper::Unavailable;
 use mds_quantity::Unit;
 use mds_selects::unit_at;
-use mds_tables::range_cells;
+use mds_tables::{or_unavailable, range_cells};
 use mds_terms::{Day, Stream};
 use mds_world::Head;
 use sqlite::{Alter, Row, Transaction};
@@ -140,11 +140,8 @@ fn unit_rows<S: Alter>(
 {
     // For the proof: a day's number is at most that of the last day there is.
     let _ = last.number();
-    match tx.query_all(
+    or_unavailable(tx.query_all(
         "SELECT unit FROM mds_head WHERE nmi = ?1 AND suffix = ?2 AND day >= ?3 AND day <= ?4",
         &range_cells(stream, first, last),
-    ) {
-        Ok(rows) => Ok(rows),
-        Err(_) => Err(Unavailable),
-    }
+    ))
 }

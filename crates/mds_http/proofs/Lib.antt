@@ -1,3 +1,4 @@
 pub mod Fed
+pub mod Rests
 pub mod Runs
 pub mod Served

@@ -33,6 +33,10 @@ module _ {K : Type 0} (kept : K → Kept) where
   one_served gives reader_old reader_new old_left new_left held holds old new result serves =
       answered new_left held holds serves.bytes old new result serves.is
 
+  -- a connection that was let go
+  pub none_served : (a : StoreHandler K) → HasServed kept a 1 a
+  none_served a = ([], omega arith, refl)
+
   served_on : (a b c : StoreHandler K) (xs ys : List (List ℕ × Answer)) → AreServed kept a xs b → AreServed kept b ys c
       → AreServed kept a (xs ++ ys) c
   served_on a b c [] ys first more = subst (λ s. AreServed kept s ys c) first more

@@ -1,21 +1,38 @@
 -- What is made of the body of a request while it comes (profile).
-use Rattle.std.specs.Prelude.{◌≡◌, ◌≢◌, ◌⊎◌, ◌<◌, ◌≤◌, ℕ, List, [], length}
-use Rattle.mds_nem12.specs.Reader.{HasRead}
+use Rattle.std.specs.Prelude.{◌≡◌, ◌≢◌, ◌⊎◌, ◌<◌, ◌≤◌, ℕ, List, [], length, None, IfSome, vec_capacity}
+use Rattle.mds_nem12.specs.Answers.{MayLackMemory, fault_so_far}
+use Rattle.mds_nem12.specs.Faults.{nem12}
+use Rattle.mds_nem12.specs.Reader.{HasRead, reader_fault}
+use Rattle.mds_nem12.specs.declared.delivery.DeliveryBuilder.{DeliveryBuilder}
+use Rattle.mds_nem12.specs.declared.file_reader.FileReader.{FileReader}
 use Rattle.mds_requests.specs.Queries.{pairs_of}
-use Rattle.mds_requests.specs.Targets.{ImportsIntervalData}
+use Rattle.mds_requests.specs.Targets.{ImportsIntervalData, IsFaultAt}
+use Rattle.mds_requests.specs.declared.targets.TargetFault.TheVariants as fault
+use Rattle.mds_walk.specs.Feeding.{MayLackFor}
+use Rattle.mds_walk.specs.declared.fault.TakeFault.TheVariants.{Memory}
+use Rattle.mds_walk.specs.declared.feeder.LineFeeder.{LineFeeder}
 use Rattle.mds_wire.specs.Judging.{longest_body, query_of}
 use Rattle.mds_wire.specs.declared.route.Route.{Route}
 use Rattle.mds_http.specs.declared.body.Body.{Body}
 use Rattle.mds_http.specs.declared.body.Body.TheVariants.{IntervalData, Whole}
 
--- A body was begun for a route and a target, and was fed these bytes: a reader where they ask for an import of interval data, and
--- the bytes themselves where they don't.
-abbrev pub HoldsBody : Body → Route → (target bytes : List ℕ) → Type 0
-HoldsBody (IntervalData reader) route target bytes =
-    ImportsIntervalData route target × HasRead bytes reader × (length bytes ≤ longest_body)
-HoldsBody (Whole held) route target bytes = (ImportsIntervalData route target → ⊥) × (held.items ≡ bytes)
+-- a reader hasn't answered that memory is wanting
+abbrev pub HadMemory : LineFeeder (FileReader DeliveryBuilder) → Type 0
+HadMemory reader = IfSome (reader_fault reader) (λ found. found ≢ Memory)
 
--- What takes memory before a step: a body that has bytes, a reader of interval data, and a query that has a pair.
-abbrev pub TakesMemoryAt : Route → (target : List ℕ) → (size : ℕ) → Type 0
-TakesMemoryAt route target size =
-    (0 < size) ⊎ (ImportsIntervalData route target ⊎ (pairs_of (query_of target) ≢ []))
+-- A body was begun for a route, a target and so many bytes, and was fed these: a reader where they ask for an import of interval
+-- data, and the bytes themselves where they don't, or where there are none. For them there is room.
+abbrev pub HoldsBody : Body → Route → (target : List ℕ) → (size : ℕ) → (bytes : List ℕ) → Type 0
+HoldsBody (IntervalData reader) route target size bytes =
+    ImportsIntervalData route target × HasRead bytes reader × HadMemory reader × (length bytes ≤ longest_body)
+HoldsBody (Whole held) route target size bytes =
+    (ImportsIntervalData route target → size ≡ 0) × (held.items ≡ bytes) × (size ≤ vec_capacity held)
+
+-- What takes memory before a step: a query that has a pair, a body with bytes before they come, a piece of interval data for
+-- which its reader may lack memory, and a whole body of which a request takes memory.
+abbrev pub TakesMemoryAt : Route → (target : List ℕ) → (size : ℕ) → (came piece : List ℕ) → Type 0
+TakesMemoryAt route target size came piece =
+    (pairs_of (query_of target) ≢ [])
+    ⊎ (((came ≡ []) × (piece ≡ []) × (0 < size))
+    ⊎ ((ImportsIntervalData route target × (fault_so_far nem12 came ≡ None) × MayLackFor MayLackMemory nem12 came piece)
+    ⊎ ((length came ≡ size) × IsFaultAt route target came fault.Memory)))

@@ -1,9 +1,11 @@
 -- What bytes mean to a store, and what a call that serves one request of them does, in the words of `mds_wire`.
-use Rattle.std.specs.Prelude.{◌≡◌, ℕ, List, Option, Result}
+use Rattle.std.specs.Prelude.{◌≡◌, ◌≤◌, ℕ, Bool, false, List, length, Option, Result, Ok, Err}
 use Rattle.mds_keeper.specs.Kept.{Kept}
+use Rattle.mds_wire.specs.Calls.{HasRead}
 use Rattle.mds_wire.specs.Meaning.{Answer, Means}
 use Rattle.mds_wire.specs.Serving.{Serves}
 use Rattle.mds_wire.specs.declared.answer.Status.{Status}
+use Rattle.mds_wire.specs.declared.answer.Status.TheVariants.{Success}
 use Rattle.mds_wire.specs.declared.serve.WireFault.{WireFault}
 use Rattle.mds_http.specs.declared.handling.StoreHandler.{StoreHandler}
 use Rattle.mds_http.specs.Bodies.{TakesMemoryAt}
@@ -24,3 +26,23 @@ module _ {K : Type 0} (kept : K → Kept) where
   ServesOver gives reader_old reader_new old_left new_left held holds old new result =
       Serves (Handles kept) IsSame TakesMemoryAt gives reader_old reader_new old_left new_left held holds old new
       result
+
+-- each call reads up to so many bytes of a rest
+abbrev pub WantsRest : List ℕ → ℕ → Type 0
+WantsRest bytes count = count ≡ 16384
+
+-- A rest was read: to its end, until a call failed, or by 1,024 calls, which is 16 MB at most.
+pub record HasReadRest {E : Type 0} (gives : E → List ℕ → E → Type 0) (old new : E)
+    (old_left new_left : Option (List ℕ)) : Type 0 where
+  pub bytes : List ℕ
+  pub is_ended : Bool
+  pub few : length bytes ≤ 16777216
+  pub read : HasRead WantsRest gives old new old_left new_left bytes is_ended
+  pub most : is_ended ≡ false → length read.calls ≡ 1024
+
+-- The rest is read behind a refusal that was answered, and else nothing of it.
+abbrev pub ReadsRest : {E : Type 0} → (E → List ℕ → E → Type 0) → (old new : E)
+    → (old_left new_left : Option (List ℕ)) → Result Status WireFault → Type 0
+ReadsRest gives old new old_left new_left (Ok Success) = new ≡ old
+ReadsRest gives old new old_left new_left (Ok refusal) = HasReadRest gives old new old_left new_left
+ReadsRest gives old new old_left new_left (Err fault) = new ≡ old

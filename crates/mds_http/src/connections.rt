@@ -1,96 +1,113 @@
-//! Connections, one after the other.
+//! Connections, served one after the other.
 
 ghost use Rattle.mds_http.specs.Connections.{HasServed};
 
 use crate::handling::StoreHandler;
-use crate::serving::serve_one;
-use crate::timely::{Timely, TimelyRequest};
+use crate::logging::{Log, Served};
+use crate::request_line::RequestLine;
+use crate::serving::serve_connection;
+use crate::timely::{AnswerWrites, RequestReads, RestReads};
+use crate::waiting::{Accepted, Turn, WaitingRoom};
 use mds_keeper::Keeper;
 use mds_lines::Counted;
-use mds_wire::{RouteFinder, Status};
-use std::io::Read;
-use std::net::{Ipv4Addr, Shutdown, SocketAddr, TcpListener, TcpStream};
+use mds_wire::RouteFinder;
+use std::io::ErrorKind;
 use std::time::Duration;
-use std::{io, thread};
 
-/// How many seconds a peer may take for the answer.
-const ANSWER_SECONDS: u64 = 60;
-
-/// For how many seconds the service reads what a peer still sends after a refusal.
-const REST_SECONDS: u64 = 1;
-
-/// How many times in a row `accept` may fail before the service ends.
-const MOST_FAILURES: u32 = 1_000;
-
-/// How many milliseconds it waits after each such failure.
-const FAILURE_PAUSE: u64 = 100;
-
-/// Listens to a port of 127.0.0.1.
-pub fn listen(rt: &HostRuntime, port: u16) -> io::Result<TcpListener> {
-    TcpListener::bind(rt, SocketAddr::from((Ipv4Addr::LOCALHOST, port)))
+/// Why no more connections are served.
+#[derive(Clone, Copy, Debug, PartialEq, Eq)]
+pub enum Ended {
+    /// As many were as were asked for.
+    Counted,
+    /// The port can't be had, or no connection can be accepted any more.
+    CannotAccept,
+    /// There was no memory for connections that wait. None was accepted.
+    Unavailable,
 }
 
-/// Serves so many connections, one after the other. A fault ends its connection alone. A connection that can't be accepted counts
-/// for nothing. Where that goes on for too long, the service ends.
+/// Serves so many connections to a port of 127.0.0.1, one after the other. Up to 64 that were accepted wait side by side, and who says something first is
+/// served first. One that says nothing in its time is let go, and counts. A fault ends its connection alone. A connection that
+/// can't be accepted counts for nothing. Where none could be for ten seconds, the service ends.
 ///
 /// Nothing changes the store but what the bytes of these connections mean. So all of it is one run of the machine (`laws_of`).
 pub fn serve_connections<F: RouteFinder, K: Keeper>(
     rt: &HostRuntime,
     routes: &F,
     handler: &mut StoreHandler<K>,
-    listener: &TcpListener,
+    port: u16,
     count: u32,
-)
+    log: Log,
+) -> Ended
     ensures { HasServed K.kept handler.old count handler.new }
 {
+    let mut room = match WaitingRoom::new(rt, port, count) {
+        Ok(room) => room,
+        Err(error) if error.kind() == ErrorKind::OutOfMemory => return Ended::Unavailable,
+        Err(_) => return Ended::CannotAccept,
+    };
     for _ in 0..count {
-        match accept(rt, listener) {
-            Some(stream) => serve_connection(rt, routes, handler, &stream),
-            None => return,
+        match serve_next(rt, routes, handler, &mut room) {
+            Some(served) => log.connection(rt, &served),
+            None => {
+                log.end(rt);
+                return Ended::CannotAccept;
+            }
         }
     }
+    Ended::Counted
 }
 
-/// The next connection. `None` where too many calls in a row failed, each with a pause behind it.
-fn accept(rt: &HostRuntime, listener: &TcpListener) -> Option<TcpStream> {
-    for _ in 0..MOST_FAILURES {
-        match listener.accept() {
-            Ok((stream, _)) => return Some(stream),
-            Err(_) => thread::sleep(rt, Duration::from_millis(FAILURE_PAUSE)),
-        }
-    }
-    None
-}
-
-/// Serves the one request of a connection.
-fn serve_connection<F: RouteFinder, K: Keeper>(
+/// Serves the next connection, or lets it go where nothing came from it, and says what became of it. It is closed then. `None` where no
+/// connection can be accepted any more.
+fn serve_next<F: RouteFinder, K: Keeper>(
     rt: &HostRuntime,
     routes: &F,
     handler: &mut StoreHandler<K>,
-    stream: &TcpStream,
-)
+    room: &mut WaitingRoom<'_>,
+) -> Option<Served>
     ensures { HasServed K.kept handler.old 1 handler.new }
 {
-    let mut reader = Counted::new(TimelyRequest::new(rt, stream));
-    let mut writer = Counted::new(Timely::new(rt, stream, ANSWER_SECONDS));
-    match serve_one(rt.alloc(), routes, handler, &mut reader, &mut writer) {
-        Ok(Status::Success) | Err(_) => (),
-        Ok(_) => read_rest(rt, stream),
+    match room.next() {
+        Turn::Serve(accepted) => Some(serve_accepted(rt, routes, handler, &accepted)),
+        Turn::LetGo(accepted) => Some(nothing_of(rt, &accepted)),
+        Turn::CannotAccept => None,
     }
 }
 
-/// Reads what a peer still sends whose request was refused, up to 16 MB of it. If the connection were closed before, the peer
-/// might never see the answer.
-fn read_rest(rt: &HostRuntime, stream: &TcpStream) {
-    if stream.shutdown(Shutdown::Write).is_err() {
-        return;
+/// Serves a connection from which something came, and says what became of it.
+fn serve_accepted<'x, F: RouteFinder, K: Keeper>(
+    rt: &'x HostRuntime,
+    routes: &F,
+    handler: &mut StoreHandler<K>,
+    accepted: &'x Accepted,
+) -> Served
+    ensures { HasServed K.kept handler.old 1 handler.new }
+{
+    let mut reads = RequestReads::new(rt, &accepted.stream, accepted.since);
+    let mut writes = AnswerWrites::new(rt, &accepted.stream);
+    let status = serve_connection(
+        rt.alloc(),
+        routes,
+        handler,
+        &mut Counted::new(&mut reads),
+        &mut Counted::new(&mut writes),
+        &mut Counted::new(RestReads::new(rt, &accepted.stream)),
+    );
+    Served {
+        line: *reads.line(),
+        status: status.ok(),
+        written: writes.written(),
+        ..nothing_of(rt, accepted)
     }
-    let mut rest = Timely::new(rt, stream, REST_SECONDS);
-    let mut buffer = [0; 16_384];
-    for _ in 0..1_024 {
-        match rest.read(&mut buffer) {
-            Ok(0) | Err(_) => return,
-            Ok(_) => (),
-        }
+}
+
+/// What became of a connection from which nothing came, and to which nothing was written.
+fn nothing_of(rt: &HostRuntime, accepted: &Accepted) -> Served {
+    Served {
+        peer: accepted.peer,
+        line: RequestLine::new(),
+        status: None,
+        written: 0,
+        took: accepted.since.elapsed(rt).unwrap_or(Duration::ZERO),
     }
 }

@@ -1,15 +1,22 @@
 //! The ends of a connection. They give a peer so much time and no more.
 
+use crate::request_line::RequestLine;
 use std::io;
 use std::io::{ErrorKind, Read, Write};
-use std::net::TcpStream;
+use std::net::{Shutdown, TcpStream};
 use std::time::{Duration, Instant};
 
-/// A connection whose reads, or whose writes, have a time in which they have to be done. It begins with the first of them, and
-/// once it is up each further one fails. So a peer that sends or takes nothing, or a byte now and then, doesn't hold the service
-/// up.
+/// How many seconds a peer may take for the answer.
+const ANSWER_SECONDS: u64 = 60;
+
+/// For how many seconds the service reads what a peer still sends after a refusal.
+const REST_SECONDS: u64 = 1;
+
+/// A connection whose reads, or whose writes, have a time in which they have to be done. It begins with the first of them, if it
+/// hasn't begun before. Once it is up each further one fails. So a peer that sends or takes nothing, or a byte now and then,
+/// doesn't hold the service up.
 #[derive(Drop)]
-pub(crate) struct Timely<'a> {
+struct Timely<'a> {
     rt: &'a HostRuntime,
     stream: &'a TcpStream,
     limit: Duration,
@@ -19,9 +26,24 @@ pub(crate) struct Timely<'a> {
 /// The reads of a request, whose time grows with what has come of it. A peer that only connects is let go soon, and one that
 /// sends a large body has the whole time.
 #[derive(Drop)]
-pub(crate) struct TimelyRequest<'a> {
+pub(crate) struct RequestReads<'a> {
     reads: Timely<'a>,
     stage: Stage,
+    line: RequestLine,
+}
+
+/// The writes of an answer, and how many bytes of it were written.
+#[derive(Drop)]
+pub(crate) struct AnswerWrites<'a> {
+    writes: Timely<'a>,
+    written: u64,
+}
+
+/// The reads of what a peer still sends behind a refusal. Before the first of them the service ends its own side.
+#[derive(Drop)]
+pub(crate) struct RestReads<'a> {
+    reads: Timely<'a>,
+    is_ended: bool,
 }
 
 /// How much of a request has come.
@@ -38,8 +60,8 @@ enum Stage {
 }
 
 impl Stage {
-    /// How many seconds the next byte may take, from the first read on.
-    fn seconds(self) -> u64 {
+    /// How many seconds the next byte may take, from when the connection was accepted.
+    const fn seconds(self) -> u64 {
         match self {
             Stage::Nothing => 1,
             Stage::InLine | Stage::LineEnd => 2,
@@ -71,17 +93,12 @@ impl Stage {
     }
 }
 
-impl<'a> Timely<'a> {
-    /// An end of a connection, with so many seconds.
-    pub(crate) fn new(rt: &'a HostRuntime, stream: &'a TcpStream, seconds: u64) -> Timely<'a> {
-        Timely {
-            rt,
-            stream,
-            limit: Duration::from_secs(seconds),
-            begun: None,
-        }
-    }
+/// How long a peer may say nothing, from when its connection was accepted.
+pub(crate) fn silence() -> Duration {
+    Duration::from_secs(Stage::Nothing.seconds())
+}
 
+impl Timely<'_> {
     /// How much of the time is left.
     fn left(&mut self) -> io::Result<Duration> {
         let begun = match self.begun {
@@ -96,13 +113,62 @@ impl<'a> Timely<'a> {
     }
 }
 
-impl<'a> TimelyRequest<'a> {
-    /// The reads of a request of which nothing has come.
-    pub(crate) fn new(rt: &'a HostRuntime, stream: &'a TcpStream) -> TimelyRequest<'a> {
-        let stage = Stage::Nothing;
-        TimelyRequest {
-            reads: Timely::new(rt, stream, stage.seconds()),
-            stage,
+impl<'a> RequestReads<'a> {
+    /// The reads of a request of which nothing has come. Their time began when the connection was accepted.
+    pub(crate) fn new(
+        rt: &'a HostRuntime,
+        stream: &'a TcpStream,
+        accepted: Instant,
+    ) -> RequestReads<'a> {
+        RequestReads {
+            reads: Timely {
+                rt,
+                stream,
+                limit: silence(),
+                begun: Some(accepted),
+            },
+            stage: Stage::Nothing,
+            line: RequestLine::new(),
+        }
+    }
+
+    /// As much as has come of the first line.
+    pub(crate) fn line(&self) -> &RequestLine {
+        &self.line
+    }
+}
+
+impl<'a> AnswerWrites<'a> {
+    /// The writes of an answer of which nothing was written.
+    pub(crate) fn new(rt: &'a HostRuntime, stream: &'a TcpStream) -> AnswerWrites<'a> {
+        AnswerWrites {
+            writes: Timely {
+                rt,
+                stream,
+                limit: Duration::from_secs(ANSWER_SECONDS),
+                begun: None,
+            },
+            written: 0,
+        }
+    }
+
+    /// How many bytes were written.
+    pub(crate) fn written(&self) -> u64 {
+        self.written
+    }
+}
+
+impl<'a> RestReads<'a> {
+    /// The reads of a rest of which nothing was read.
+    pub(crate) fn new(rt: &'a HostRuntime, stream: &'a TcpStream) -> RestReads<'a> {
+        RestReads {
+            reads: Timely {
+                rt,
+                stream,
+                limit: Duration::from_secs(REST_SECONDS),
+                begun: None,
+            },
+            is_ended: false,
         }
     }
 }
@@ -116,12 +182,23 @@ impl Read for Timely<'_> {
     }
 }
 
-impl Read for TimelyRequest<'_> {
+impl Read for RequestReads<'_> {
     fn read(&mut self, buf: &mut [u8]) -> io::Result<usize> {
         let count = self.reads.read(buf)?;
         self.stage = self.stage.with_all(&buf[..count]);
         self.reads.limit = Duration::from_secs(self.stage.seconds());
+        self.line.take(&buf[..count]);
         Ok(count)
+    }
+}
+
+impl Read for RestReads<'_> {
+    fn read(&mut self, buf: &mut [u8]) -> io::Result<usize> {
+        if !self.is_ended {
+            self.reads.stream.shutdown(Shutdown::Write)?;
+            self.is_ended = true;
+        }
+        self.reads.read(buf)
     }
 }
 
@@ -131,6 +208,18 @@ impl Write for Timely<'_> {
         self.stream.set_write_timeout(Some(left))?;
         let mut stream = self.stream;
         stream.write(buf)
+    }
+
+    fn flush(&mut self) -> io::Result<()> {
+        Ok(())
+    }
+}
+
+impl Write for AnswerWrites<'_> {
+    fn write(&mut self, buf: &[u8]) -> io::Result<usize> {
+        let count = self.writes.write(buf)?;
+        self.written = self.written.saturating_add(count as u64);
+        Ok(count)
     }
 
     fn flush(&mut self) -> io::Result<()> {

@@ -1,6 +1,7 @@
 //! The rows of substitution jobs.
 
-ghost use Rattle.std.specs.Prelude.{◌≡◌, ◌<◌, IfOk, OnErr, length, string_bytes};
+ghost use Rattle.std.specs.Prelude.{◌≡◌, ◌<◌, ◌≤◌, ◌^◌, IfNone, IfOk, IfSome, IsTrue, OnErr, length, pos, string_bytes};
+ghost use Rattle.std.specs.Char.{is_ascii_uppercase};
 ghost use Rattle.mds_jobs.specs.Bodies.{IsJobBody, job_in, parts_of};
 ghost use Rattle.mds_jobs.specs.Jobs.{content_of};
 ghost use Rattle.mds_tables.specs.Stores.{AreRowsOf};
@@ -24,16 +25,10 @@ pub fn job_rows(alloc: Global, jobs: &[(Job, u64)]) -> Result<Vec<JobRow>, Unava
     ensures rows { IfOk result (λ rows. AreRowsOf IsRowOfJob jobs.now rows.items) }
     ensures none { OnErr result (0 < length jobs.now) }
 {
-    let Ok(mut rows) = Vec::with_capacity(alloc, jobs.len()) else {
-        return Err(Unavailable);
-    };
+    let mut rows = Vec::with_capacity(alloc, jobs.len())?;
     for i in 0..jobs.len() {
-        let Ok(row) = job_row(alloc, &jobs[i]) else {
-            return Err(Unavailable);
-        };
-        let Ok(_) = rows.push(row) else {
-            return Err(Unavailable);
-        };
+        let row = job_row(alloc, &jobs[i])?;
+        rows.push(row)?;
     }
     Ok(rows)
 }
@@ -42,12 +37,10 @@ pub fn job_rows(alloc: Global, jobs: &[(Job, u64)]) -> Result<Vec<JobRow>, Unava
 fn job_row(alloc: Global, job: &(Job, u64)) -> Result<JobRow, Unavailable>
     ensures { IfOk result (IsRowOfJob job.now) }
 {
-    let Ok(count) = i64::try_from(job.1) else {
+    let Some(count) = count_cell(job) else {
         return Err(Unavailable);
     };
-    let Ok(body) = body_of(alloc, &job.0) else {
-        return Err(Unavailable);
-    };
+    let body = body_of(alloc, &job.0)?;
     Ok(JobRow {
         id: job.0.id,
         body,
@@ -55,18 +48,25 @@ fn job_row(alloc: Global, job: &(Job, u64)) -> Result<JobRow, Unavailable>
     })
 }
 
+/// The count of a job, where a row can hold the job: its flag is a capital letter, and the count is below 2^63.
+fn count_cell(job: &(Job, u64)) -> Option<i64>
+    ensures some { IfSome result (λ count. (count ≡ pos job.now.1) × IsTrue (is_ascii_uppercase job.now.0.flag)) }
+    ensures none { IfNone result (IsTrue (is_ascii_uppercase job.now.0.flag) → 2 ^ 63 ≤ job.now.1) }
+{
+    let is_letter = job.0.flag.is_ascii_uppercase();
+    if !is_letter {
+        return None;
+    }
+    i64::try_from(job.1).ok()
+}
+
 /// The body of a job, which reads back.
 fn body_of(alloc: Global, job: &Job) -> Result<String, Unavailable>
+    requires { IsTrue (is_ascii_uppercase job.now.flag) }
     ensures is { IfOk result (λ body. IsJobBody (content_of job.now) (string_bytes body)) }
     ensures says { IfOk result (λ body. job_in (parts_of (string_bytes body)) ≡ content_of job.now) }
 {
-    let is_letter = job.flag.is_ascii_uppercase();
-    if !is_letter {
-        return Err(Unavailable);
-    }
     let mut body = String::new(alloc);
-    match job.write_body(&mut body) {
-        Ok(()) => Ok(body),
-        Err(_) => Err(Unavailable),
-    }
+    job.write_body(&mut body)?;
+    Ok(body)
 }

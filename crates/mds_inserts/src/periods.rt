@@ -21,16 +21,10 @@ pub fn period_rows(alloc: Global, periods: &[Period]) -> Result<Vec<PeriodRow>, 
     ensures rows { IfOk result (λ rows. AreRowsOf IsRowOfPeriod periods.now rows.items) }
     ensures none { OnErr result (0 < length periods.now) }
 {
-    let Ok(mut rows) = Vec::with_capacity(alloc, periods.len()) else {
-        return Err(Unavailable);
-    };
+    let mut rows = Vec::with_capacity(alloc, periods.len())?;
     for i in 0..periods.len() {
-        let Ok(row) = period_row(alloc, &periods[i]) else {
-            return Err(Unavailable);
-        };
-        let Ok(_) = rows.push(row) else {
-            return Err(Unavailable);
-        };
+        let row = period_row(alloc, &periods[i])?;
+        rows.push(row)?;
     }
     Ok(rows)
 }
@@ -39,12 +33,8 @@ pub fn period_rows(alloc: Global, periods: &[Period]) -> Result<Vec<PeriodRow>, 
 fn period_row(alloc: Global, period: &Period) -> Result<PeriodRow, Unavailable>
     ensures { IfOk result (IsRowOfPeriod period.now) }
 {
-    let Ok(key) = period.key.try_clone() else {
-        return Err(Unavailable);
-    };
-    let Ok(body) = body_of(alloc, period) else {
-        return Err(Unavailable);
-    };
+    let key = period.key.try_clone()?;
+    let body = body_of(alloc, period)?;
     Ok(PeriodRow { key, body })
 }
 
@@ -53,8 +43,6 @@ fn body_of(alloc: Global, period: &Period) -> Result<String, Unavailable>
     ensures { IfOk result (λ body. IsPeriodBody period.now (string_bytes body)) }
 {
     let mut body = String::new(alloc);
-    match period.write_body(&mut body) {
-        Ok(()) => Ok(body),
-        Err(_) => Err(Unavailable),
-    }
+    period.write_body(&mut body)?;
+    Ok(body)
 }

@@ -10,12 +10,13 @@ use Rattle.mds_jobs.specs.declared.job.Job.{Job}
 use Rattle.mds_world.specs.declared.facts.Detail.{Detail}
 use Rattle.mds_world.specs.declared.facts.Head.{Head}
 use Rattle.mds_world.specs.declared.facts.Key.{Key}
+use Rattle.mds_world.specs.declared.facts.StreamDay.{StreamDay}
 use Rattle.mds_world.specs.Facts.{Fact, detail_at, key_at}
 use Rattle.mds_statements.specs.declared.periods.Period.{Period}
 use Rattle.mds_world.specs.Facts.Fact.{HeadIs, VersionIs, DetailIs, EventIs, PeriodIs, HolidayIs, JobIs}
 use Rattle.mds_world.specs.Lists.{Apart, Member}
 use Rattle.mds_world.specs.Sets.{◌∈◌}
-use Rattle.mds_world.specs.World.{World}
+use Rattle.mds_world.specs.World.{IsKnownDay, World}
 use Rattle.mds_keeper.specs.declared.additions.Additions.{Additions}
 use Rattle.mds_keeper.specs.declared.additions.DayVersions.{DayVersions}
 use Rattle.mds_keeper.specs.declared.additions.DetailDays.{DetailDays}
@@ -95,3 +96,19 @@ content additions = set.from_list (content_facts additions)
 pub record AreNew (w : World) (additions : Additions) : Type 0 where
   pub apart : Apart (content_facts additions)
   pub absent : (f : Fact) → Member f (content_facts additions) → f ∈ w → ⊥
+
+-- the stream and the day of a head
+abbrev pub place_of : Head → StreamDay
+place_of head = record { stream = head.stream; day = head.day }
+
+-- Heads that are added, those of new days apart. A day that isn't known has one there, and no known day has any.
+pub record AreOfNewDays (w : World) (new_days heads : List Head) : Type 0 where
+  pub new : (head : Head) → Member head new_days → IsKnownDay w head.stream head.day → ⊥
+  pub once : Apart (map place_of new_days)
+  pub further : (head : Head) → Member head heads → (IsKnownDay w head.stream head.day → ⊥)
+      → Member (place_of head) (map place_of new_days)
+
+-- Each addition is in its place: the first head of a day that isn't known is apart, and the versions of each day are well formed.
+pub record AreInPlace (w : World) (additions : Additions) : Type 0 where
+  pub first : AreOfNewDays w additions.new_days.items additions.heads.items
+  pub days : (day : DayVersions) → Member day additions.days.items → AreWellFormed day.rows

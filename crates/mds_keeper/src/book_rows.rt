@@ -53,10 +53,8 @@ impl BookRows {
         ensures { IfOk result (λ rows. (kept_rows rows ≡ whole_rows length update 1 readings)
             × (kept_whole rows ≡ Some (length, size readings))) }
     {
-        match Rc::new(alloc, readings) {
-            Ok(readings) => Ok(BookRows::Whole(length, update, readings)),
-            Err(_) => Err(AllocError),
-        }
+        let readings = Rc::new(alloc, readings)?;
+        Ok(BookRows::Whole(length, update, readings))
     }
 
     /// The rows, as they lie.
@@ -78,10 +76,10 @@ impl BookRows {
         ensures { IfOk result (λ rows. (kept_rows rows ≡ kept_rows self) × (kept_whole rows ≡ kept_whole self)) }
     {
         match self {
-            BookRows::Own(rows) => match Rc::new(alloc, rows) {
-                Ok(rows) => Ok(BookRows::Shared(rows)),
-                Err(_) => Err(AllocError),
-            },
+            BookRows::Own(rows) => {
+                let rows = Rc::new(alloc, rows)?;
+                Ok(BookRows::Shared(rows))
+            }
             BookRows::Shared(rows) => Ok(BookRows::Shared(rows)),
             BookRows::Whole(length, update, readings) => {
                 Ok(BookRows::Whole(length, update, readings))

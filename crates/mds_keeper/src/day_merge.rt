@@ -26,6 +26,7 @@ use crate::book_rows::LentRows;
 use crate::claim::Claim;
 use crate::claimed::{ClaimedReadings, ClaimedUpdate, ClaimedUpdates};
 use crate::day_book::{DayBook, Version};
+use crate::keeper::Unavailable;
 use crate::refusal::{Refusal, RefusalCode};
 use mds_marks::Reading;
 use mds_quantity::Unit;
@@ -41,7 +42,7 @@ use std::marker::Model;
 pub enum Stop {
     /// It breaks a rule.
     Refused(Refusal),
-    /// There was no memory.
+    /// There was no memory, or the keeper can't answer.
     Memory,
 }
 
@@ -57,6 +58,14 @@ impl<T: Drop> From<AllocFailed<T>> for Stop {
     ghost from_gives = { λ _ stop. stop ≡ Memory };
 
     fn from(_: AllocFailed<T>) -> Stop {
+        Stop::Memory
+    }
+}
+
+impl From<Unavailable> for Stop {
+    ghost from_gives = { λ _ stop. stop ≡ Memory };
+
+    fn from(_: Unavailable) -> Stop {
         Stop::Memory
     }
 }

@@ -6,7 +6,7 @@ ghost use Rattle.mds_world.specs.Facts.Fact.{EventIs};
 ghost use Rattle.mds_world.specs.Sets.{◌∈◌};
 ghost use Rattle.mds_world.specs.World.{World, IsLawful, union};
 ghost use Rattle.mds_keeper.specs.Books.{IsDay};
-ghost use Rattle.mds_keeper.specs.Content.{AreNew, content};
+ghost use Rattle.mds_keeper.specs.Content.{AreInPlace, AreNew, content};
 ghost use Rattle.mds_keeper.specs.Kept.{Adds, Asks, Kept};
 ghost use Rattle.mds_keeper.specs.Queries.{AreEventsOf, AreDaysOf, AreDaysWithout, AreDetailsBetween, AreHolidays, AreKnownStreams, ArePeriodsOf, IsContentOf, IsJobOf, IsLastDayOf};
 
@@ -107,6 +107,7 @@ pub trait Keeper {
         requires new { (kept self.old).sound → IsLawful (kept self.old).world → AreNew (kept self.old).world additions }
         requires lawful { (kept self.old).sound → IsLawful (kept self.old).world
             → IsLawful (union (kept self.old).world (content additions)) }
+        requires placed { (kept self.old).sound → IsLawful (kept self.old).world → AreInPlace (kept self.old).world additions }
         ensures { Adds (kept self.old) (kept self.new) result (content additions) };
 
     /// What is sound is honest.

@@ -1,6 +1,12 @@
+pub mod Gathered
+pub mod HasTakens
 pub mod KindFacts
+pub mod Lefts
 pub mod Pieces
+pub mod Ranges
 pub mod Rests
+pub mod Seeks
 pub mod Splits
 pub mod StreamFacts
 pub mod StreamSteps
+pub mod Taken

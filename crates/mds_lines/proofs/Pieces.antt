@@ -3,7 +3,7 @@ use Rattle.std.proofs.Common.{◌≡◌, ◌≢◌, ℕ, suc, ◌-◌, ◌<◌, 
 use Rattle.std.specs.List.{onto_first, All}
 use Rattle.std.proofs.lemmas.Bool.Decides.{nat_tests}
 use Rattle.std.proofs.lemmas.List.Elements.{All-head, All-tail}
-use Rattle.std.proofs.lemmas.List.Splits.{slice_split_none, length-slice_split, slice_split-cons_no}
+use Rattle.std.proofs.lemmas.List.Splits.{slice_split_none, slice_split_at, length-slice_split, slice_split-cons_no}
 use Rattle.mds_lines.specs.Lines.{line_pieces, without_empty_last, split}
 use Rattle.mds_lines.proofs.Splits.{apart_false}
 
@@ -34,6 +34,13 @@ pieces_one p some =
     let here : length (p ∷ []) - 1 ≡ 0 = omega arith in
     let test : eqb (length p) 0 ≡ false = grind (arith, nat_tests) in
     ap (λ n. without_at n (p ∷ [])) here ∙ ap (λ b. cond b (take 0 (p ∷ [])) (p ∷ [])) test
+
+-- the piece before the first line feed
+pub pieces_at : (piece rest : List ℕ) → All (λ x. x ≢ 10) piece → line_pieces (piece ++ 10 ∷ rest) ≡ piece ∷ line_pieces rest
+pieces_at piece rest apart =
+    let some = length-slice_split (λ c. eqb c 10) rest in
+    ap without_empty_last (slice_split_at (λ c. eqb c 10) piece 10 rest (apart_false 10 piece apart) refl)
+    ∙ pieces_more piece (split 10 rest) (omega arith)
 
 -- the piece after the last line feed
 pub pieces_last : (piece : List ℕ) → 0 < length piece → All (λ x. x ≢ 10) piece → line_pieces piece ≡ piece ∷ []

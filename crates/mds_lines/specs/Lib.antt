@@ -1,7 +1,10 @@
+pub mod Buffered
+pub mod BufferedSteps
 pub mod Counted
 pub mod Kinds
 pub mod Lines
 pub mod Numbered
+pub mod Readers
 pub mod Reads
 pub mod Rest
 pub mod Streams

@@ -4,6 +4,7 @@
 
 mod fields;
 mod line;
+mod reader;
 mod rest;
 mod source;
 mod streams;
@@ -11,6 +12,7 @@ mod text_source;
 
 pub use fields::Fields;
 pub use line::{Kind, KindFault, Line, one_split};
+pub use reader::{LineBuffer, LineFault, LineReader};
 pub use rest::{is_blank_from, next_field};
 pub use source::{Counted, Sink, Source};
 pub use streams::{read_more, write_whole};

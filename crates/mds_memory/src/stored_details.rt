@@ -115,16 +115,10 @@ fn insert_days(
     if let Some(days) = kept.get_mut(&more.meter) {
         return add_days(days, &more.days);
     }
-    let Ok(meter) = more.meter.try_clone() else {
-        return Err(AllocError);
-    };
-    let Ok(days) = in_order(alloc, &more.days) else {
-        return Err(AllocError);
-    };
-    match kept.insert(meter, days) {
-        Ok(_) => Ok(()),
-        Err(_) => Err(AllocError),
-    }
+    let meter = more.meter.try_clone()?;
+    let days = in_order(alloc, &more.days)?;
+    kept.insert(meter, days)?;
+    Ok(())
 }
 
 /// Adds days that aren't there yet: all, or none where there is no memory.

@@ -90,13 +90,9 @@ fn insert_copy(notes: &mut BTreeSet<Note>, note: &Note) -> Result<(), AllocError
     ensures ok { OnOk result ((q : ANote) → Member q notes.new.keys ↔ (Member q notes.old.keys ⊎ (q ≡ note.now))) }
     ensures err { OnErr result (notes.new.keys ≡ notes.old.keys) }
 {
-    let Ok(copy) = note.try_clone() else {
-        return Err(AllocError);
-    };
-    match notes.insert(copy) {
-        Ok(_) => Ok(()),
-        Err(_) => Err(AllocError),
-    }
+    let copy = note.try_clone()?;
+    notes.insert(copy)?;
+    Ok(())
 }
 
 /// Takes notes out, which needs no memory.

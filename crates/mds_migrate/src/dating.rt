@@ -20,7 +20,7 @@ use mds_day_details::{are_detail_rows, details_at};
 use mds_keeper::{DetailDays, Unavailable};
 use mds_pack_rows::{make_daydetail, put_on};
 use mds_selects::{head_in, moment_at};
-use mds_tables::stream_cells;
+use mds_tables::{or_unavailable, stream_cells, told};
 use mds_terms::{Day, Stream};
 use sqlite::{Alter, Row, Transaction};
 use std::alloc::Global;
@@ -32,9 +32,7 @@ impl Stage for Dating {
     ghost step = { dating };
 
     fn take_on<S: Alter>(alloc: Global, tx: &mut Transaction<'_, S>) -> Result<(), Unavailable> {
-        let Ok(_) = make_daydetail(tx) else {
-            return Err(Unavailable);
-        };
+        or_unavailable(make_daydetail(tx))?;
         date_days(alloc, tx)?;
         clear_details(tx)?;
         raise_version(tx, 3)
@@ -79,9 +77,7 @@ fn date_day<S: Alter>(
         → KeepsCommit (state S.Store tx.old.conn.now) (state S.Store tx.new.conn.now) }
     ensures survives { Survives (state S.Store tx.old.conn.now) (state S.Store tx.new.conn.now) (λ _. ⊥) }
 {
-    let Some(head) = head_in(row) else {
-        return Err(Unavailable);
-    };
+    let head = told(head_in(row))?;
     know(alloc, tx, known, head.stream)?;
     put_known(tx, known, head.day)
 }
@@ -185,22 +181,17 @@ fn details_rows<S: Alter>(
         → KeepsCommit (state S.Store tx.old.conn.now) (state S.Store tx.new.conn.now) }
     ensures survives { Survives (state S.Store tx.old.conn.now) (state S.Store tx.new.conn.now) (λ _. ⊥) }
 {
-    match tx.query_all(
+    or_unavailable(tx.query_all(
         "SELECT moment, configuration, register, datastream, meter, next FROM mds_detail WHERE nmi = ?1 AND suffix = ?2 ORDER BY moment DESC, configuration DESC, register DESC, datastream DESC, meter DESC, next DESC",
         &stream_cells(stream),
-    ) {
-        Ok(rows) => Ok(rows),
-        Err(_) => Err(Unavailable),
-    }
+    ))
 }
 
 /// The details that a row shows, of a stream and on no day yet.
 fn details_in(alloc: Global, shown: &Row, stream: Stream) -> Result<DetailDays, Unavailable>
     ensures { IfOk result (SaysDetails shown.now stream) }
 {
-    let Some(moment) = moment_at(shown, 0) else {
-        return Err(Unavailable);
-    };
+    let moment = told(moment_at(shown, 0))?;
     let details = details_at(alloc, shown)?;
     Ok(DetailDays {
         stream,

@@ -14,8 +14,9 @@ use crate::statements::{clear_lengths, raise_version};
 use crate::step::Stage;
 use mds_form_rows::{make_form, put_form};
 use mds_keeper::{Head, StreamDay, Unavailable};
-use mds_pack_rows::{blob_at, has_some, packs_of_day, unpack_for};
+use mds_pack_rows::{packs_of_day, readings_for};
 use mds_selects::{head_in, moment_at};
+use mds_tables::{or_unavailable, told};
 use sqlite::{Alter, Row, Transaction};
 use std::alloc::Global;
 
@@ -26,9 +27,7 @@ impl Stage for Forming {
     ghost step = { forming };
 
     fn take_on<S: Alter>(alloc: Global, tx: &mut Transaction<'_, S>) -> Result<(), Unavailable> {
-        let Ok(_) = make_form(tx) else {
-            return Err(Unavailable);
-        };
+        or_unavailable(make_form(tx))?;
         form_days(alloc, tx)?;
         clear_lengths(tx)?;
         raise_version(tx, 4)
@@ -103,9 +102,7 @@ fn form_day<S: Alter>(
         → KeepsCommit (state S.Store tx.old.conn.now) (state S.Store tx.new.conn.now) }
     ensures survives { Survives (state S.Store tx.old.conn.now) (state S.Store tx.new.conn.now) (λ _. ⊥) }
 {
-    let Some(head) = head_in(row) else {
-        return Err(Unavailable);
-    };
+    let head = told(head_in(row))?;
     let packs = packs_of_day(tx, &head.stream, head.day)?;
     // For the proof: a day's number is at most that of the last day.
     let _ = head.day.number();
@@ -137,22 +134,8 @@ fn form_in(alloc: Global, head: &Head, pack: &Row) -> Result<Head, Unavailable>
     ensures is { IfOk result (λ form. form ≡ form_of head.now pack.now) }
     ensures says { OnOk result (SaysForm head.now pack.now) }
 {
-    let Some(update) = moment_at(pack, 0) else {
-        return Err(Unavailable);
-    };
-    let Some(body) = blob_at(pack, 1) else {
-        return Err(Unavailable);
-    };
-    let Ok(unpacked) = unpack_for(alloc, head.length, body) else {
-        return Err(Unavailable);
-    };
-    let Some(readings) = unpacked else {
-        return Err(Unavailable);
-    };
-    let has_reading = has_some(readings.as_slice());
-    if !has_reading {
-        return Err(Unavailable);
-    }
+    let update = told(moment_at(pack, 0))?;
+    told(readings_for(alloc, head.length, pack, 1)?)?;
     Ok(Head {
         stream: head.stream,
         day: head.day,

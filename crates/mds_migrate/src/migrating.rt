@@ -97,11 +97,11 @@ fn if_current<S: Alter>(conn: &mut Connection<S>) -> Result<Migrated, MigrateFau
     ensures mode { conn.new.in_transaction ≡ false }
     ensures survives { Survives (state S.Store conn.old) (state S.Store conn.new) (λ _. ⊥) }
 {
-    match are_formed(conn) {
-        Ok(true) => Ok(Migrated::AlreadyCurrent),
-        Ok(false) => Err(MigrateFault::OtherSchema),
-        Err(_) => Err(MigrateFault::Unavailable),
+    let is_current = are_formed(conn)?;
+    if !is_current {
+        return Err(MigrateFault::OtherSchema);
     }
+    Ok(Migrated::AlreadyCurrent)
 }
 
 /// What is answered where the tables are those of schema 3: its updates are given heads, or it is no store (U3).
@@ -114,11 +114,11 @@ fn if_daily<S: Alter>(alloc: Global, conn: &mut Connection<S>) -> Result<Migrate
     ensures mode { conn.new.in_transaction ≡ false }
     ensures survives { Survives (state S.Store conn.old) (state S.Store conn.new) (LeavesMigrated (state S.Store conn.old)) }
 {
-    match are_daily(conn) {
-        Ok(true) => take_step::<Forming, S>(alloc, conn),
-        Ok(false) => Err(MigrateFault::OtherSchema),
-        Err(_) => Err(MigrateFault::Unavailable),
+    let is_daily = are_daily(conn)?;
+    if !is_daily {
+        return Err(MigrateFault::OtherSchema);
     }
+    take_step::<Forming, S>(alloc, conn)
 }
 
 /// What is answered where the tables are those of schema 2: its days are given details, or it is no store (U3).
@@ -131,11 +131,11 @@ fn if_packed<S: Alter>(alloc: Global, conn: &mut Connection<S>) -> Result<Migrat
     ensures mode { conn.new.in_transaction ≡ false }
     ensures survives { Survives (state S.Store conn.old) (state S.Store conn.new) (LeavesMigrated (state S.Store conn.old)) }
 {
-    match are_packed(conn) {
-        Ok(true) => take_step::<Dating, S>(alloc, conn),
-        Ok(false) => Err(MigrateFault::OtherSchema),
-        Err(_) => Err(MigrateFault::Unavailable),
+    let is_packed = are_packed(conn)?;
+    if !is_packed {
+        return Err(MigrateFault::OtherSchema);
     }
+    take_step::<Dating, S>(alloc, conn)
 }
 
 /// What is answered where the tables are those of schema 1: its days are packed, or mds_schema says something else (U3).
@@ -148,9 +148,9 @@ fn if_first<S: Alter>(alloc: Global, conn: &mut Connection<S>) -> Result<Migrate
     ensures mode { conn.new.in_transaction ≡ false }
     ensures survives { Survives (state S.Store conn.old) (state S.Store conn.new) (LeavesMigrated (state S.Store conn.old)) }
 {
-    match is_version(conn, 1) {
-        Ok(true) => take_step::<Packing, S>(alloc, conn),
-        Ok(false) => Err(MigrateFault::OtherSchema),
-        Err(_) => Err(MigrateFault::Unavailable),
+    let is_first = is_version(conn, 1)?;
+    if !is_first {
+        return Err(MigrateFault::OtherSchema);
     }
+    take_step::<Packing, S>(alloc, conn)
 }

@@ -1,5 +1,11 @@
 //! What a migration comes to.
 
+ghost use Rattle.std.specs.Prelude.{◌≡◌};
+ghost use Rattle.mds_migrate.specs.declared.outcome.MigrateFault.TheVariants.{Unavailable as CannotAnswer};
+
+use mds_keeper::Unavailable;
+use sqlite::Error;
+
 /// What a migration did.
 #[derive(Clone, Copy, Debug)]
 pub enum Migrated {
@@ -16,4 +22,20 @@ pub enum MigrateFault {
     Unavailable,
     /// The database is a store of none of the schemas (U3).
     OtherSchema,
+}
+
+impl From<Error> for MigrateFault {
+    ghost from_gives = { λ _ fault. fault ≡ CannotAnswer };
+
+    fn from(_: Error) -> MigrateFault {
+        MigrateFault::Unavailable
+    }
+}
+
+impl From<Unavailable> for MigrateFault {
+    ghost from_gives = { λ _ fault. fault ≡ CannotAnswer };
+
+    fn from(_: Unavailable) -> MigrateFault {
+        MigrateFault::Unavailable
+    }
 }

@@ -17,7 +17,7 @@ use crate::step::Stage;
 use mds_keeper::{DayVersions, Unavailable, VersionRows};
 use mds_pack_rows::{make_pack, put_day};
 use mds_selects::{all_versions, head_in};
-use mds_tables::day_cells;
+use mds_tables::{day_cells, or_unavailable, told};
 use mds_terms::{Day, Stream};
 use sqlite::{Alter, Row, Transaction};
 use std::alloc::Global;
@@ -29,9 +29,7 @@ impl Stage for Packing {
     ghost step = { packing };
 
     fn take_on<S: Alter>(alloc: Global, tx: &mut Transaction<'_, S>) -> Result<(), Unavailable> {
-        let Ok(_) = make_pack(tx) else {
-            return Err(Unavailable);
-        };
+        or_unavailable(make_pack(tx))?;
         pack_days(alloc, tx)?;
         clear_versions(tx)?;
         raise_version(tx, 2)
@@ -70,13 +68,10 @@ pub(crate) fn all_heads<S: Alter>(tx: &mut Transaction<'_, S>) -> Result<Vec<Row
         → KeepsCommit (state S.Store tx.old.conn.now) (state S.Store tx.new.conn.now) }
     ensures survives { Survives (state S.Store tx.old.conn.now) (state S.Store tx.new.conn.now) (λ _. ⊥) }
 {
-    match tx.query_all(
+    or_unavailable(tx.query_all(
         "SELECT nmi, suffix, day, length, unit FROM mds_head ORDER BY nmi, suffix, day",
         &[],
-    ) {
-        Ok(rows) => Ok(rows),
-        Err(_) => Err(Unavailable),
-    }
+    ))
 }
 
 /// The versions of a day, as rows of mds_version. Those of one update lie together, so that they are packed at once.
@@ -94,13 +89,10 @@ fn version_rows<S: Alter>(
         → KeepsCommit (state S.Store tx.old.conn.now) (state S.Store tx.new.conn.now) }
     ensures survives { Survives (state S.Store tx.old.conn.now) (state S.Store tx.new.conn.now) (λ _. ⊥) }
 {
-    match tx.query_all(
+    or_unavailable(tx.query_all(
         "SELECT nmi, suffix, day, slot, moment, quality, code, note, amount FROM mds_version WHERE nmi = ?1 AND suffix = ?2 AND day = ?3 ORDER BY moment",
         &day_cells(stream, day),
-    ) {
-        Ok(rows) => Ok(rows),
-        Err(_) => Err(Unavailable),
-    }
+    ))
 }
 
 /// Packs the versions of the day of which a head is shown. They have its length.
@@ -115,9 +107,7 @@ fn pack_day_of<S: Alter>(
         → KeepsCommit (state S.Store tx.old.conn.now) (state S.Store tx.new.conn.now) }
     ensures survives { Survives (state S.Store tx.old.conn.now) (state S.Store tx.new.conn.now) (λ _. ⊥) }
 {
-    let Some(head) = head_in(row) else {
-        return Err(Unavailable);
-    };
+    let head = told(head_in(row))?;
     let rows = version_rows(tx, &head.stream, head.day)?;
     let added = DayVersions {
         stream: head.stream,

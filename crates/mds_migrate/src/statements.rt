@@ -1,6 +1,6 @@
 //! The statements that leave a schema behind.
 
-ghost use Rattle.std.specs.Prelude.{◌≡◌, ℤ, [], ◌∷◌, OnOk};
+ghost use Rattle.std.specs.Prelude.{◌≡◌, ◌≢◌, ℤ, [], ◌∷◌, OnErr, OnOk};
 ghost use Rattle.sqlite.specs.Held.{state};
 ghost use Rattle.sqlite.specs.State.{HasCleanDisk, KeepsCommit, Survives};
 ghost use Rattle.sqlite.specs.Values.{bound};
@@ -12,6 +12,7 @@ ghost use Rattle.mds_pack_rows.specs.Putting.{GoesOn, IsThere};
 
 use mds_keeper::Unavailable;
 use mds_selects::int_at;
+use mds_tables::{or_unavailable, told};
 use sqlite::types::ValueRef;
 use sqlite::{Alter, Row, Transaction};
 
@@ -25,17 +26,9 @@ pub(crate) fn clear_versions<S: Alter>(tx: &mut Transaction<'_, S>) -> Result<()
         → KeepsCommit (state S.Store tx.old.conn.now) (state S.Store tx.new.conn.now) }
     ensures survives { Survives (state S.Store tx.old.conn.now) (state S.Store tx.new.conn.now) (λ _. ⊥) }
 {
-    let Ok(_) = tx.execute("DELETE FROM mds_version", &[]) else {
-        return Err(Unavailable);
-    };
-    let Ok(left) = tx.query_all("SELECT slot FROM mds_version", &[]) else {
-        return Err(Unavailable);
-    };
-    if left.is_empty() {
-        Ok(())
-    } else {
-        Err(Unavailable)
-    }
+    or_unavailable(tx.execute("DELETE FROM mds_version", &[]))?;
+    let left = or_unavailable(tx.query_all("SELECT slot FROM mds_version", &[]))?;
+    none_left(&left)
 }
 
 /// Takes all rows away from mds_detail. Unavailable where one is left.
@@ -48,13 +41,17 @@ pub(crate) fn clear_details<S: Alter>(tx: &mut Transaction<'_, S>) -> Result<(),
         → KeepsCommit (state S.Store tx.old.conn.now) (state S.Store tx.new.conn.now) }
     ensures survives { Survives (state S.Store tx.old.conn.now) (state S.Store tx.new.conn.now) (λ _. ⊥) }
 {
-    let Ok(_) = tx.execute("DELETE FROM mds_detail", &[]) else {
-        return Err(Unavailable);
-    };
-    let Ok(left) = tx.query_all("SELECT moment FROM mds_detail", &[]) else {
-        return Err(Unavailable);
-    };
-    if left.is_empty() {
+    or_unavailable(tx.execute("DELETE FROM mds_detail", &[]))?;
+    let left = or_unavailable(tx.query_all("SELECT moment FROM mds_detail", &[]))?;
+    none_left(&left)
+}
+
+/// Unavailable where a row is left.
+fn none_left(rows: &[Row]) -> Result<(), Unavailable>
+    ensures ok { OnOk result (rows.now ≡ []) }
+    ensures err { OnErr result (rows.now ≢ []) }
+{
+    if rows.is_empty() {
         Ok(())
     } else {
         Err(Unavailable)
@@ -70,10 +67,8 @@ pub(crate) fn clear_lengths<S: Alter>(tx: &mut Transaction<'_, S>) -> Result<(),
     ensures kept { HasCleanDisk (state S.Store tx.new.conn.now) → KeepsCommit (state S.Store tx.old.conn.now) (state S.Store tx.new.conn.now) }
     ensures survives { Survives (state S.Store tx.old.conn.now) (state S.Store tx.new.conn.now) (λ _. ⊥) }
 {
-    match tx.execute("UPDATE mds_head SET length = 0", &[]) {
-        Ok(_) => Ok(()),
-        Err(_) => Err(Unavailable),
-    }
+    or_unavailable(tx.execute("UPDATE mds_head SET length = 0", &[]))?;
+    Ok(())
 }
 
 /// Lets mds_schema say this number where it says one. Unavailable where it has not just one row.
@@ -90,9 +85,7 @@ pub(crate) fn raise_version<S: Alter>(
         → KeepsCommit (state S.Store tx.old.conn.now) (state S.Store tx.new.conn.now) }
     ensures survives { Survives (state S.Store tx.old.conn.now) (state S.Store tx.new.conn.now) (λ _. ⊥) }
 {
-    let Ok(rows) = tx.query_all("SELECT rowid FROM mds_schema", &[]) else {
-        return Err(Unavailable);
-    };
+    let rows = or_unavailable(tx.query_all("SELECT rowid FROM mds_schema", &[]))?;
     match rows.as_slice() {
         [row] => replace_version(tx, row, number),
         _ => Err(Unavailable),
@@ -119,15 +112,11 @@ fn replace_version<S: Alter>(
     ensures kept { HasCleanDisk (state S.Store tx.new.conn.now) → KeepsCommit (state S.Store tx.old.conn.now) (state S.Store tx.new.conn.now) }
     ensures survives { Survives (state S.Store tx.old.conn.now) (state S.Store tx.new.conn.now) (λ _. ⊥) }
 {
-    let Some(id) = int_at(shown, 0) else {
-        return Err(Unavailable);
-    };
-    let Ok(count) = tx.execute(
+    let id = told(int_at(shown, 0))?;
+    let count = or_unavailable(tx.execute(
         "UPDATE mds_schema SET version = ?2 WHERE rowid = ?1",
         &id_cells(id, number),
-    ) else {
-        return Err(Unavailable);
-    };
+    ))?;
     let is_replaced = count == 1;
     if !is_replaced {
         return Err(Unavailable);

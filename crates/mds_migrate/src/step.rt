@@ -7,7 +7,7 @@ ghost use Rattle.mds_migrate.specs.Migrated.{HoldsFrom, IsFor, IsTaken, LeavesTa
 
 use crate::outcome::{MigrateFault, Migrated};
 use mds_keeper::Unavailable;
-use mds_tables::ready;
+use mds_tables::{or_unavailable, ready};
 use sqlite::{Alter, Connection, Transaction};
 use std::alloc::Global;
 
@@ -36,10 +36,8 @@ fn write<T: Stage, S: Alter>(alloc: Global, conn: &mut Connection<S>) -> Result<
 {
     let mut tx = conn.transaction();
     T::take_on(alloc, &mut tx)?;
-    match tx.commit() {
-        Ok(()) => Ok(()),
-        Err(_) => Err(Unavailable),
-    }
+    or_unavailable(tx.commit())?;
+    Ok(())
 }
 
 /// Takes it with a store that it is for. It is whole, or nothing is changed.
@@ -56,11 +54,7 @@ pub(crate) fn take_step<T: Stage, S: Alter>(
     ensures survives { HoldsFrom T.step (state S.Store conn.old)
         → Survives (state S.Store conn.old) (state S.Store conn.new) (LeavesTaken T.step (state S.Store conn.old)) }
 {
-    let Ok(_) = ready(conn) else {
-        return Err(MigrateFault::Unavailable);
-    };
-    match write::<T, S>(alloc, conn) {
-        Ok(()) => Ok(Migrated::Done),
-        Err(_) => Err(MigrateFault::Unavailable),
-    }
+    ready(conn)?;
+    write::<T, S>(alloc, conn)?;
+    Ok(Migrated::Done)
 }

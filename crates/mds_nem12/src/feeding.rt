@@ -1,8 +1,8 @@
 //! A NEM12 file that is fed in pieces.
 
-ghost use Rattle.std.specs.Prelude.{◌≡◌, ◌≢◌, ℕ, List, [], ◌++◌, map, None, Some, Err, IfSome, IfOk, IfErr, MatchResult};
+ghost use Rattle.std.specs.Prelude.{◌≡◌, ◌≢◌, ℕ, List, [], ◌++◌, map, None, Some, Err, IfSome, IfOk, IfErr, MatchResult, is_ok, true};
 ghost use Rattle.std.specs.List.{concat};
-ghost use Rattle.mds_walk.specs.Feeding.{MayLackFor, MayLackHere};
+ghost use Rattle.mds_walk.specs.Feeding.{MayLackFor, MayLackForAll, MayLackForOne, MayLackHere};
 ghost use Rattle.mds_walk.specs.SoFar.{fault_so_far, open_piece};
 ghost use Rattle.mds_walk.specs.Answers.{IsRefusal};
 ghost use Rattle.mds_statements.specs.Delivered.{delivery_statements};
@@ -41,15 +41,24 @@ impl Model for Reader {
 impl Reader {
     ghost use Rattle.mds_nem12.specs.Reader.{HasRead, reader_fault};
 
-    /// Before the first piece of a file. It takes the memory for a day's values.
+    /// Before the first piece of a file. It takes no memory, and never fails.
     pub fn new(alloc: Global) -> Result<Reader, AllocError>
         ensures read { IfOk result (HasRead []) }
         ensures fresh { IfOk result (λ reader. reader_fault reader ≡ None) }
+        ensures made { is_ok result ≡ true }
     {
-        let file = FileReader::new(alloc, DeliveryBuilder::new(alloc))?;
-        Ok(Reader {
+        Ok(Reader::begin(alloc))
+    }
+
+    /// Before the first piece of a file.
+    pub(crate) fn begin(alloc: Global) -> Reader
+        ensures read { HasRead [] result }
+        ensures fresh { reader_fault result ≡ None }
+    {
+        let file = FileReader::new(alloc, DeliveryBuilder::new(alloc));
+        Reader {
             feeder: LineFeeder::new(alloc, file),
-        })
+        }
     }
 
     /// Takes the next piece, or answers the fault that the file so far has, whatever follows. Pieces may end anywhere, also
@@ -78,6 +87,10 @@ impl Reader {
         ensures answer { (text : List ℕ) → HasRead text self.old → fault_so_far nem12 text ≡ None
             → MatchResult result (λ _. fault_so_far nem12 (text ++ concat (map (λ piece. piece.now) pieces.now)) ≡ None)
             (IsRefusal (fault_so_far nem12 (text ++ concat (map (λ piece. piece.now) pieces.now)))) }
+        ensures stays { (text : List ℕ) → HasRead text self.old → reader_fault self.old ≡ None
+            → IfOk result (λ _. reader_fault self.new ≡ None) }
+        ensures memory { (text : List ℕ) → HasRead text self.old → reader_fault self.old ≡ None
+            → result ≡ Err TakeFault.Memory → MayLackForOne MayLackMemory nem12 text (map (λ piece. piece.now) pieces.now) }
     {
         feed_all(&mut self.feeder, pieces)
     }
@@ -108,14 +121,15 @@ impl Reader {
 /// Reads a NEM12 file that lies in pieces, one behind the other: what it states, or its first fault. How it is cut changes
 /// nothing.
 pub fn read_pieces(alloc: Global, pieces: &[&[u8]]) -> Result<Delivery, TakeFault>
-    ensures { MatchResult result
+    ensures answer { MatchResult result
         (λ delivery. (fault_of (concat (map (λ piece. piece.now) pieces.now)) ≡ None)
         × (delivery_statements delivery ≡ statements_of (concat (map (λ piece. piece.now) pieces.now))))
         (IsRefusal (fault_of (concat (map (λ piece. piece.now) pieces.now)))) }
+
+    // It runs out of memory only at a piece before which no line has a fault, or at a last line without its line feed.
+    ensures memory { result ≡ Err TakeFault.Memory → MayLackForAll MayLackMemory nem12 (map (λ piece. piece.now) pieces.now) }
 {
-    let Ok(mut reader) = Reader::new(alloc) else {
-        return Err(TakeFault::Memory);
-    };
+    let mut reader = Reader::begin(alloc);
     match reader.feed_pieces(pieces) {
         Ok(()) => reader.finish(),
         Err(fault) => Err(fault),

@@ -5,9 +5,10 @@ ghost use Rattle.std.specs.List.{concat};
 ghost use Rattle.mds_lines.specs.Lines.{longest_line, most_lines};
 ghost use Rattle.mds_lines.specs.Reads.{Reads, block};
 ghost use Rattle.mds_records.specs.declared.file.FileFault.{FileFault};
-ghost use Rattle.mds_walk.specs.Given.{AreCallsNeeded, IsOfGiven};
+ghost use Rattle.mds_walk.specs.Feeding.{MayLackFor};
+ghost use Rattle.mds_walk.specs.Given.{AreCallsNeeded, IsOfGiven, MayLackGiven};
 ghost use Rattle.mds_walk.specs.SoFar.{fault_so_far};
-ghost use Rattle.mds_nem12.specs.Answers.{IsReadOf, is_read_fault};
+ghost use Rattle.mds_nem12.specs.Answers.{IsReadOf, MayLackMemory, is_read_fault};
 ghost use Rattle.mds_statements.specs.Delivered.{delivery_statements};
 ghost use Rattle.mds_nem12.specs.Faults.{fault_of, nem12};
 ghost use Rattle.mds_nem12.specs.Statements.{statements_of};
@@ -45,16 +46,15 @@ pub fn read_lines<R: Source, T: StatementSink + Drop>(
     ensures counted { R.failures source.new ≡ R.failures source.old + (if is_read_fault result then 1 else 0) }
 
     // What it made is of what the source's calls brought, whatever that is. They brought no more than the lines that a file may
-    // have, and a block. Each call was needed: none comes behind the end, a failure, or a piece with a fault.
+    // have, and a block. Each call was needed: none comes behind the end, a failure, or a piece with a fault. It runs out
+    // of memory only at a line before which none has a fault.
     ensures given { (given : List (List ℕ)) × Reads R.gives source.old given source.new
         × (length (concat given) ≤ most_lines * (longest_line + 1) + block)
         × AreCallsNeeded (fault_so_far nem12) [] false given
-        × IsOfGiven (λ out text. T.told out (statements_of text) × (is_headed (statements_of text) ≡ true)) fault_of given result }
+        × IsOfGiven (λ out text. T.told out (statements_of text) × (is_headed (statements_of text) ≡ true)) fault_of
+        (MayLackGiven MayLackMemory nem12) given result }
 {
-    let Ok(file) = FileReader::new(alloc, sink) else {
-        return Err(ReadFault::Memory);
-    };
-    read_file(alloc, source, file)
+    read_file(alloc, source, FileReader::new(alloc, sink))
 }
 
 /// Reads a NEM12 file from a source: what it states, or its first fault. It holds a line, and what the lines before it state.
@@ -68,11 +68,13 @@ pub fn read_delivery<R: Source>(alloc: Global, source: &mut R) -> Result<Deliver
     ensures counted { R.failures source.new ≡ R.failures source.old + (if is_read_fault result then 1 else 0) }
 
     // What is read is of what the source's calls brought, whatever that is. They brought no more than the lines that a file may
-    // have, and a block. Each call was needed: none comes behind the end, a failure, or a piece with a fault.
+    // have, and a block. Each call was needed: none comes behind the end, a failure, or a piece with a fault. It runs out
+    // of memory only at a line before which none has a fault.
     ensures given { (given : List (List ℕ)) × Reads R.gives source.old given source.new
         × (length (concat given) ≤ most_lines * (longest_line + 1) + block)
         × AreCallsNeeded (fault_so_far nem12) [] false given
-        × IsOfGiven (λ delivery text. delivery_statements delivery ≡ statements_of text) fault_of given result }
+        × IsOfGiven (λ delivery text. delivery_statements delivery ≡ statements_of text) fault_of
+        (MayLackGiven MayLackMemory nem12) given result }
 {
     match read_lines(alloc, source, DeliveryBuilder::new(alloc)) {
         Ok(builder) => match builder.into_delivery() {
@@ -88,12 +90,13 @@ pub fn read_nem12(alloc: Global, text: &[u8]) -> Result<Delivery, TakeFault>
     ensures done { IfOk result (λ delivery. (fault_of text.now ≡ None)
         × (delivery_statements delivery ≡ statements_of text.now)) }
     ensures fault { (fault : FileFault) → result ≡ Err (TakeFault.File fault) → fault_of text.now ≡ Some fault }
+
+    // It runs out of memory only at a line before which none has a fault.
+    ensures memory { result ≡ Err TakeFault.Memory → MayLackFor MayLackMemory nem12 [] text.now }
 {
-    let Ok(mut reader) = Reader::new(alloc) else {
-        return Err(TakeFault::Memory);
-    };
-    match reader.feed(text) {
-        Ok(()) => reader.finish(),
-        Err(fault) => Err(fault),
+    let mut reader = Reader::begin(alloc);
+    if let Err(fault) = reader.feed(text) {
+        return Err(fault);
     }
+    reader.finish()
 }

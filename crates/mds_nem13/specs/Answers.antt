@@ -15,3 +15,7 @@ is_told kind = false
 -- memory may be wanting for a line: it has no fault, and the sink is told of it
 abbrev pub MayLack : List ℕ → Option FileFault → Type 0
 MayLack line found = (found ≡ None) × (is_told (record_kind line) ≡ true)
+
+-- the same of a line after these lines that has this fault, if it has one
+abbrev pub MayLackMemory : List (List ℕ) → List ℕ → Option FileFault → Type 0
+MayLackMemory before line found = MayLack line found

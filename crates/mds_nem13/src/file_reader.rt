@@ -3,7 +3,7 @@
 ghost use Rattle.std.specs.Prelude.{◌≡◌, ◌+◌, ℕ, List, [], length, true, Ok};
 ghost use Rattle.mds_lines.specs.Kinds.{kind_of};
 ghost use Rattle.mds_lines.specs.Numbered.{number_of, text_of};
-ghost use Rattle.mds_nem13.specs.Answers.{MayLack};
+ghost use Rattle.mds_nem13.specs.Answers.{MayLackMemory};
 ghost use Rattle.mds_nem13.specs.Faults.{fields_fault, nem13};
 ghost use Rattle.mds_nem13.specs.FileReaderSteps.{HasTaken, HasTold, Takes};
 
@@ -191,7 +191,7 @@ impl<T: PeriodSink + Drop> RecordSink for FileReader<T> {
 
     ghost made = { HasTold T.told };
 
-    ghost may_lack = { λ _ line found. MayLack line found };
+    ghost may_lack = { MayLackMemory };
 
     fn take_empty(&mut self) {}
 

@@ -1,5 +1,7 @@
 -- What a query does in a transaction, and finds, whatever tables stand behind mds_pack.
-use Rattle.std.proofs.Common.{◌≡◌, ◌⊎◌, inl, inr, ℕ, List, [], None, Some, IsTrue, codes, false, refl, subst, ◌∙◌}
+use Rattle.std.proofs.Common.{◌≡◌, ◌⊎◌, inl, inr, ℕ, List, [], None, Some, Ok, Err, IfErr, IfOk, IsTrue, Result, codes, false, refl, subst, ◌∙◌}
+use Rattle.std.specs.declared.alloc.Global.{Global}
+use Rattle.std.specs.declared.vec.Vec.{Vec}
 use Rattle.sqlite_value.specs.Order.{Row}
 use Rattle.sqlite_value.specs.declared.keys.Key.{Key}
 use Rattle.sqlite_sql.specs.Term.{Term}
@@ -60,6 +62,12 @@ module _ (schema : Schema) (sql : List ℕ) (plain : IsPlain (understood schema 
       → KeepsCommit old new
   fails_kept has e (inl h) = unchanged_keeps old new (fails_same sql params old new schema has plain e h)
   fails_kept has e (inr h) = unchanged_keeps old new (inl h.5)
+
+  -- whatever it answers
+  pub asked_kept : old.now.schema ≡ schema → (r : Result (Vec Row Global) Error) → IfOk r (λ rows. Shown sql params old new rows.items)
+      → IfErr r (λ e. FailsToQuery sql params old new e ⊎ IsTooLate sql params old new e) → KeepsCommit old new
+  asked_kept has (Ok rows) ok err = shown_kept has rows.items ok
+  asked_kept has (Err e) ok err = fails_kept has e err
 
 -- ---- what is found
 

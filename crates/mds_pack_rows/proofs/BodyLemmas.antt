@@ -3,6 +3,8 @@ use Rattle.std.proofs.Common.{◌≡◌, ℕ, Bool, true, false, cond, not, ◌&
 use Rattle.std.specs.Int.{w16}
 use Rattle.std.proofs.lemmas.Bool.{eqb-true}
 use Rattle.std.proofs.lemmas.List.{length-map}
+use Rattle.sqlite.specs.declared.types.Value.TheVariants.{Blob}
+use Rattle.sqlite_value.specs.Order.{Row, bytes, column}
 use Rattle.mds_calendar.specs.Length.{count_of, is_length}
 use Rattle.mds_calendar.proofs.Lengths.{cases_length}
 use Rattle.mds_marks.specs.Reading.{ReadingValue}
@@ -12,7 +14,7 @@ use Rattle.mds_packs.specs.Body.{IsDay}
 use Rattle.mds_packs.specs.Unpacked.{◌>>=◌, head_at, number_at, readings_at, runs_at, unpacked}
 use Rattle.mds_packs.proofs.Fields.{IsBytes, bind_some}
 use Rattle.mds_packs.proofs.Whole.{readings_takes}
-use Rattle.mds_pack_rows.specs.PackFacts.{minutes_of, readings_in}
+use Rattle.mds_pack_rows.specs.PackFacts.{IsSaidAt, minutes_of, readings_in}
 
 -- ---- the steps of a head behind its version, and those behind the head
 
@@ -87,6 +89,20 @@ pub all_whole : {E : Type 0} (count : ℕ) (body : List ℕ) (r : Result (Option
 all_whole count body (Ok (Some readings)) is = says count body (map (λ reading. Some reading) readings) is
 all_whole count body (Ok None) is = tt
 all_whole count body (Err e) is = tt
+
+-- ---- the body in a column
+
+-- what a call gives that reads the body in a column
+pub said_at : {V E : Type 0} (view : V → List (Option ReadingValue)) (row : Row) (at : ℕ) (body : List ℕ) → column row at ≡ Blob body
+    → (r : Result (Option V) E) → IfOk r (λ o. IfSome o (λ v. readings_in body ≡ Some (view v)))
+    → IfOk r (λ o. IfSome o (λ v. IsSaidAt row at (view v)))
+said_at view row at body has (Ok (Some v)) is = (body, has, is)
+said_at view row at body has (Ok None) is = tt
+said_at view row at body has (Err e) is = tt
+
+-- a column has one body
+pub one_body : (row : Row) (at : ℕ) (one other : List ℕ) → column row at ≡ Blob one → column row at ≡ Blob other → one ≡ other
+one_body row at one other a b = ap bytes (sym a ∙ b)
 
 -- ---- as many as they are, so long are their intervals
 

@@ -6,6 +6,7 @@ pub mod LaidLemmas
 pub mod MakingTexts
 pub mod NameLemmas
 pub mod PackTexts
+pub mod PassLemmas
 pub mod PutLemmas
 pub mod RefusedLemmas
 pub mod SpreadLemmas

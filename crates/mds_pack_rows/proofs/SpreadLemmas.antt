@@ -1,5 +1,5 @@
 -- Versions of one update that are spread over the intervals of a day.
-use Rattle.std.proofs.Common.{◌≡◌, ◌≢◌, ◌<◌, ℕ, ◌+◌, zero, suc, List, [], ◌∷◌, ◌++◌, length, map, get_or, slice_set, slice_index_or, replicate, take, true, Option, Some, None, refl, sym, ap, ◌∙◌, arith}
+use Rattle.std.proofs.Common.{◌≡◌, ◌≢◌, ◌<◌, ℕ, ◌+◌, zero, suc, List, [], ◌∷◌, ◌++◌, length, map, get_or, slice_set, slice_index_or, replicate, take, true, false, Option, Some, None, refl, sym, ap, ◌∙◌, arith}
 use Rattle.std.proofs.lemmas.List.{map-append, take_more}
 use Rattle.mds_names.specs.declared.stream.Stream.{Stream}
 use Rattle.mds_marks.specs.Reading.{ReadingValue}
@@ -38,6 +38,12 @@ module _ (s : Stream) (day minutes update : ℕ) where
   some_said interval [] some = absurd cc
   some_said interval (None ∷ readings) some = some_said (interval + 1) readings some
   some_said interval (Some r ∷ readings) some = λ none. absurd cc
+
+  -- and where none has, they say none
+  pub none_held : (interval : ℕ) (readings : List Held) → any_held readings ≡ false → facts_from s day minutes update interval readings ≡ []
+  none_held interval [] none = refl
+  none_held interval (None ∷ readings) none = none_held (interval + 1) readings none
+  none_held interval (Some r ∷ readings) none = absurd cc
 
   -- an interval that gets its reading says that more
   pub interval_said : (readings : List Held) (k interval : ℕ) (r : ReadingValue) → k < length readings → get_or readings k None ≡ None

@@ -1,10 +1,11 @@
 -- What the rows of mds_pack say, as facts (profile). Each row names the versions of its body, whoever wrote it. A body that
 -- can't be read says none, so any tables name a World.
-use Rattle.std.specs.Prelude.{ℕ, ◌+◌, ◌==◌, if◌then◌else◌, List, [], ◌∷◌, drop, length, Option, Some, None, unwrap_or}
+use Rattle.std.specs.Prelude.{◌≡◌, ℕ, ◌+◌, ◌==◌, if◌then◌else◌, List, [], ◌∷◌, drop, length, Option, Some, None, unwrap_or}
 use Rattle.std.specs.Int.{w16}
 use Rattle.std.specs.List.{flat_map}
+use Rattle.sqlite.specs.declared.types.Value.TheVariants.{Blob}
 use Rattle.sqlite_trees.specs.Tree.{Trees}
-use Rattle.sqlite_value.specs.Order.{Row}
+use Rattle.sqlite_value.specs.Order.{Row, column}
 use Rattle.mds_names.specs.declared.stream.Stream.{Stream}
 use Rattle.mds_marks.specs.Reading.{ReadingValue}
 use Rattle.mds_packs.specs.Unpacked.{◌>>=◌, number_at, unpacked}
@@ -34,6 +35,10 @@ abbrev pub readings_in : List ℕ → Option (List (Option ReadingValue))
 readings_in body = do
   count ← number_at w16 (drop 1 body)
   unpacked count.0 body
+
+-- a column has a body, and these are its readings
+abbrev pub IsSaidAt : Row → ℕ → List (Option ReadingValue) → Type 0
+IsSaidAt row at readings = (body : List ℕ) × (column row at ≡ Blob body) × (readings_in body ≡ Some readings)
 
 -- the versions of one update that a body says
 abbrev pub body_facts : Stream → ℕ → ℕ → List ℕ → List Fact

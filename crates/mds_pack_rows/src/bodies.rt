@@ -1,13 +1,14 @@
 //! The body in a row, and the readings that it says.
 
-ghost use Rattle.std.specs.Prelude.{◌≡◌, ◌≢◌, ◌<◌, ◌^◌, ℕ, List, Option, IfNone, IfOk, IfSome, IsTrue, Some, drop, length as list_length, map, option_map};
+ghost use Rattle.std.specs.Prelude.{◌≡◌, ◌≢◌, ◌<◌, ◌^◌, ℕ, List, Option, IfNone, IfOk, IfSome, IsTrue, Some, drop, is_some, length as list_length, map, option_map};
+ghost use Rattle.std.specs.List.{list_any};
 ghost use Rattle.std.specs.Int.{w16};
 ghost use Rattle.sqlite.specs.Order.{column};
 ghost use Rattle.sqlite.specs.declared.types.Value.TheVariants.{Blob};
 ghost use Rattle.mds_calendar.specs.Length.{count_of, is_length};
 ghost use Rattle.mds_marks.specs.Reading.{ReadingValue};
 ghost use Rattle.mds_packs.specs.Unpacked.{number_at, unpacked};
-ghost use Rattle.mds_pack_rows.specs.PackFacts.{minutes_of, readings_in};
+ghost use Rattle.mds_pack_rows.specs.PackFacts.{IsSaidAt, minutes_of, readings_in};
 
 use mds_marks::Reading;
 use mds_packs::{unpack_day, unpack_readings};
@@ -28,8 +29,63 @@ pub fn blob_at<'a>(row: &'a Row, at: usize) -> Option<&'a [u8]>
     }
 }
 
+/// The readings in a row's body, for as many intervals as it says. `None` where the column has another kind of value, or these bytes
+/// are no body of a day.
+pub(crate) fn readings_at(
+    alloc: Global,
+    row: &Row,
+    at: usize,
+) -> Result<Option<Vec<Option<Reading>>>, AllocError>
+    ensures says { IfOk result (λ o. IfSome o (λ readings. IsSaidAt row.now at readings.items)) }
+    ensures few { IfOk result (λ o. IfSome o (λ readings. list_length readings.items < 2 ^ 16)) }
+    ensures only { IfOk result (λ o. (body : List ℕ) (minutes : ℕ) (readings : List (Option ReadingValue)) → column row.now at ≡ Blob body
+        → IsTrue (is_length minutes) → unpacked (count_of minutes) body ≡ Some readings → option_map (λ v. v.items) o ≡ Some readings) }
+{
+    let Some(body) = blob_at(row, at) else {
+        return Ok(None);
+    };
+    unpack(alloc, body)
+}
+
+/// The readings in a row's body, of a day with intervals of this length. `None` where the column has another kind of value, these
+/// bytes are no body of such a day, or no interval has a reading, and nowhere else.
+pub fn readings_for(
+    alloc: Global,
+    length: Length,
+    row: &Row,
+    at: usize,
+) -> Result<Option<Vec<Option<Reading>>>, AllocError>
+    ensures says { IfOk result (λ o. IfSome o (λ readings. IsSaidAt row.now at readings.items)) }
+    ensures few { IfOk result (λ o. IfSome o (λ readings. list_length readings.items < 2 ^ 16)) }
+    ensures len { IfOk result (λ o. IfSome o (λ readings. minutes_of (list_length readings.items) ≡ length)) }
+    ensures some { IfOk result (λ o. IfSome o (λ readings. IsTrue (list_any (λ reading. is_some reading) readings.items))) }
+    ensures none { IfOk result (λ o. IfNone o ((body : List ℕ) (readings : List (Option ReadingValue)) → column row.now at ≡ Blob body
+        → unpacked (count_of length) body ≡ Some readings → IsTrue (list_any (λ reading. is_some reading) readings) → ⊥)) }
+{
+    let Some(body) = blob_at(row, at) else {
+        return Ok(None);
+    };
+    let Some(readings) = unpack_for(alloc, length, body)? else {
+        return Ok(None);
+    };
+    if !has_some(readings.as_slice()) {
+        return Ok(None);
+    }
+    Ok(Some(readings))
+}
+
+/// Whether an interval has a reading.
+pub fn has_some(readings: &[Option<Reading>]) -> bool
+    ensures { result ≡ list_any (λ reading. is_some reading) readings.now }
+{
+    match readings {
+        [] => false,
+        [first, rest @ ..] => first.is_some() || has_some(rest),
+    }
+}
+
 /// Unpacks a body for as many intervals as it says. `None` where these bytes are no body of a day.
-pub(crate) fn unpack(alloc: Global, body: &[u8]) -> Result<Option<Vec<Option<Reading>>>, AllocError>
+fn unpack(alloc: Global, body: &[u8]) -> Result<Option<Vec<Option<Reading>>>, AllocError>
     ensures says { IfOk result (λ o. IfSome o (λ readings. readings_in body.now ≡ Some readings.items)) }
     ensures few { IfOk result (λ o. IfSome o (λ readings. list_length readings.items < 2 ^ 16)) }
     ensures only { IfOk result (λ o. (minutes : ℕ) (readings : List (Option ReadingValue)) → IsTrue (is_length minutes)

@@ -11,7 +11,7 @@ ghost use Rattle.mds_pack_rows.specs.DailyPutting.{PutsDetails};
 
 use mds_inserts::TOGETHER;
 use mds_keeper::{DetailDays, Unavailable};
-use mds_tables::detail_cells;
+use mds_tables::{detail_cells, or_unavailable};
 use mds_terms::Day;
 use sqlite::types::ValueRef;
 use sqlite::{Alter, Transaction};
@@ -75,13 +75,11 @@ fn put_on_eight<S: Alter>(
     ensures survives { Survives (state S.Store tx.old.conn.now) (state S.Store tx.new.conn.now) (λ _. ⊥) }
 {
     let cells = eight_cells(details, days);
-    match tx.execute(
+    or_unavailable(tx.execute(
         "INSERT INTO mds_daydetail (nmi, suffix, day, moment, configuration, register, datastream, meter, next) VALUES (?1, ?2, ?3, ?4, ?5, ?6, ?7, ?8, ?9), (?10, ?11, ?12, ?13, ?14, ?15, ?16, ?17, ?18), (?19, ?20, ?21, ?22, ?23, ?24, ?25, ?26, ?27), (?28, ?29, ?30, ?31, ?32, ?33, ?34, ?35, ?36), (?37, ?38, ?39, ?40, ?41, ?42, ?43, ?44, ?45), (?46, ?47, ?48, ?49, ?50, ?51, ?52, ?53, ?54), (?55, ?56, ?57, ?58, ?59, ?60, ?61, ?62, ?63), (?64, ?65, ?66, ?67, ?68, ?69, ?70, ?71, ?72)",
         cells.as_flattened(),
-    ) {
-        Ok(_) => Ok(()),
-        Err(_) => Err(Unavailable),
-    }
+    ))?;
+    Ok(())
 }
 
 /// The columns of details, on each of eight days.
@@ -120,11 +118,9 @@ pub fn put_on<S: Alter>(
     ensures kept { HasCleanDisk (state S.Store tx.new.conn.now) → KeepsCommit (state S.Store tx.old.conn.now) (state S.Store tx.new.conn.now) }
     ensures survives { Survives (state S.Store tx.old.conn.now) (state S.Store tx.new.conn.now) (λ _. ⊥) }
 {
-    match tx.execute(
+    or_unavailable(tx.execute(
         "INSERT INTO mds_daydetail (nmi, suffix, day, moment, configuration, register, datastream, meter, next) VALUES (?1, ?2, ?3, ?4, ?5, ?6, ?7, ?8, ?9)",
         &detail_cells(details, day),
-    ) {
-        Ok(_) => Ok(()),
-        Err(_) => Err(Unavailable),
-    }
+    ))?;
+    Ok(())
 }

@@ -10,7 +10,8 @@ ghost use Rattle.mds_keeper.specs.Content.{version_fact, versions_of, whole_rows
 ghost use Rattle.mds_pack_rows.specs.Eights.{SayDays, SaySome, SaysDay, said_by};
 ghost use Rattle.mds_pack_rows.specs.Putting.{IsThere, PutsFacts};
 
-use crate::grouping::{has_some, put_each_day, spread};
+use crate::bodies::has_some;
+use crate::grouping::{put_each_day, spread};
 use crate::statements::{PackRow, insert_eight};
 use mds_inserts::TOGETHER;
 use mds_keeper::{DayVersions, Unavailable, Version, VersionRows};

@@ -1,7 +1,6 @@
 //! The versions of days, put update by update.
 
-ghost use Rattle.std.specs.Prelude.{◌≡◌, ◌<◌, ◌≤◌, ◌^◌, IfOk, IfSome, IsTrue, None, OnOk, Some, is_some, length as list_length, map, replicate};
-ghost use Rattle.std.specs.List.{list_any};
+ghost use Rattle.std.specs.Prelude.{◌≡◌, ◌<◌, ◌≤◌, ◌^◌, IfOk, IfSome, IsTrue, None, OnOk, Some, length as list_length, map, replicate};
 ghost use Rattle.sqlite.specs.Held.{state};
 ghost use Rattle.sqlite.specs.State.{KeepsCommit, Survives};
 ghost use Rattle.mds_keeper.specs.Books.{row_fact};
@@ -110,9 +109,6 @@ fn put_whole<S: Alter>(
         return Err(Unavailable);
     }
     let places = places_of(alloc, readings)?;
-    if !has_some(places.as_slice()) {
-        return Err(Unavailable);
-    }
     put_readings(alloc, tx, stream, day, update, places.as_slice())
 }
 
@@ -159,20 +155,7 @@ fn put_run<S: Alter>(
     let Some(readings) = spread(alloc, length, update, rows)? else {
         return Err(Unavailable);
     };
-    if !has_some(readings.as_slice()) {
-        return Err(Unavailable);
-    }
     put_readings(alloc, tx, stream, day, update, readings.as_slice())
-}
-
-/// Whether an interval has a reading.
-pub fn has_some(readings: &[Option<Reading>]) -> bool
-    ensures { result ≡ list_any (λ reading. is_some reading) readings.now }
-{
-    match readings {
-        [] => false,
-        [first, rest @ ..] => first.is_some() || has_some(rest),
-    }
 }
 
 /// The readings of versions of one length and update, each at its interval. `None` where a version has another length or update,

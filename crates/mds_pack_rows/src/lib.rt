@@ -13,10 +13,10 @@ mod making;
 mod putting;
 mod statements;
 
-pub use bodies::{blob_at, unpack_for, unpack_whole};
+pub use bodies::{blob_at, has_some, readings_for, unpack_for, unpack_whole};
 pub use details::{put_details, put_on};
 pub use eights::put_days;
-pub use grouping::{has_some, put_day};
+pub use grouping::put_day;
 pub use known::{are_daily_indexes, are_daily_tables, has_schema_2, has_schema_3};
 pub use making::{make_daydetail, make_pack};
 pub use statements::packs_of_day;

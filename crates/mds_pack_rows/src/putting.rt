@@ -7,20 +7,21 @@ ghost use Rattle.sqlite.specs.State.{HasCleanDisk, KeepsCommit, Survives};
 ghost use Rattle.mds_pack_rows.specs.PackFacts.{readings_facts};
 ghost use Rattle.mds_pack_rows.specs.Putting.{IsThere, PutsBeside, PutsFacts};
 
-use crate::bodies::{blob_at, unpack};
+use crate::bodies::{has_some, readings_at};
 use crate::laying::lay;
 use crate::statements::{body_rows, insert_body, replace_body};
 use mds_keeper::Unavailable;
 use mds_marks::Reading;
 use mds_packs::pack_day;
 use mds_selects::int_at;
+use mds_tables::told;
 use mds_terms::{Day, Moment, Stream};
 use sqlite::{Alter, Row, Transaction};
 use std::alloc::Global;
 
-/// Puts a day's readings of one update, one place for each interval. At least one is held. Where the day has a row of this
-/// update, they go beside the readings of that. It is unavailable where an interval has a reading there already, or the row
-/// has another count of intervals, or no body of a day.
+/// Puts a day's readings of one update, one place for each interval. Where none is held, nothing is put. Where the day has a row of
+/// this update, they go beside the readings of that. It is unavailable where an interval has a reading there already, or the row has
+/// another count of intervals, or no body of a day. So it is where the day has two rows of this update.
 pub(crate) fn put_readings<S: Alter>(
     alloc: Global,
     tx: &mut Transaction<'_, S>,
@@ -30,12 +31,14 @@ pub(crate) fn put_readings<S: Alter>(
     readings: &[Option<Reading>],
 ) -> Result<(), Unavailable>
     requires few { length readings.now < 2 ^ 16 }
-    requires some { IsTrue (list_any (λ reading. is_some reading) readings.now) }
     ensures same_reference { tx.new.conn.ghost_name ≡ tx.old.conn.ghost_name }
     ensures ok { OnOk result (PutsFacts (state S.Store tx.old.conn.now) (state S.Store tx.new.conn.now) (readings_facts stream.now day update readings.now)) }
     ensures kept { IsThere (state S.Store tx.old.conn.now) (state S.Store tx.new.conn.now) → KeepsCommit (state S.Store tx.old.conn.now) (state S.Store tx.new.conn.now) }
     ensures survives { Survives (state S.Store tx.old.conn.now) (state S.Store tx.new.conn.now) (λ _. ⊥) }
 {
+    if !has_some(readings) {
+        return Ok(());
+    }
     let rows = body_rows(tx, stream, day, update)?;
     match rows.as_slice() {
         [] => add_row(alloc, tx, stream, day, update, readings),
@@ -78,15 +81,8 @@ fn lay_over<S: Alter>(
     ensures kept { HasCleanDisk (state S.Store tx.new.conn.now) → KeepsCommit (state S.Store tx.old.conn.now) (state S.Store tx.new.conn.now) }
     ensures survives { Survives (state S.Store tx.old.conn.now) (state S.Store tx.new.conn.now) (λ _. ⊥) }
 {
-    let Some(id) = int_at(shown, 0) else {
-        return Err(Unavailable);
-    };
-    let Some(old) = blob_at(shown, 1) else {
-        return Err(Unavailable);
-    };
-    let Some(olds) = unpack(alloc, old)? else {
-        return Err(Unavailable);
-    };
+    let id = told(int_at(shown, 0))?;
+    let olds = told(readings_at(alloc, shown, 1)?)?;
     let Some(all) = lay(alloc, olds.as_slice(), readings)? else {
         return Err(Unavailable);
     };

@@ -1,6 +1,6 @@
 //! The statements of SQL.
 
-ghost use Rattle.std.specs.Prelude.{◌≡◌, ◌≢◌, [], ◌∷◌, IfOk, IsTrue, OnOk, false, length};
+ghost use Rattle.std.specs.Prelude.{◌≡◌, ◌≢◌, [], ◌∷◌, Err, IfErr, IfOk, IsOk, IsTrue, MatchResult, OnOk, false, length};
 ghost use Rattle.std.specs.List.{flat_map};
 ghost use Rattle.sqlite.specs.Held.{state};
 ghost use Rattle.sqlite.specs.State.{HasCleanDisk, KeepsCommit, Survives};
@@ -17,7 +17,7 @@ ghost use Rattle.mds_pack_rows.specs.PackTables.{body_columns, pack_tree, packs_
 ghost use Rattle.mds_pack_rows.specs.Putting.{FindsThere, GoesOn, PutsBody, PutsFacts};
 
 use mds_keeper::Unavailable;
-use mds_tables::day_cells;
+use mds_tables::{day_cells, or_unavailable};
 use mds_terms::{Day, Moment, Stream};
 use sqlite::types::ValueRef;
 use sqlite::{Alter, Error, ErrorCode, Row, Transaction};
@@ -110,13 +110,10 @@ pub fn packs_of_day<S: Alter>(
         → KeepsCommit (state S.Store tx.old.conn.now) (state S.Store tx.new.conn.now) }
     ensures survives { Survives (state S.Store tx.old.conn.now) (state S.Store tx.new.conn.now) (λ _. ⊥) }
 {
-    match tx.query_all(
+    or_unavailable(tx.query_all(
         "SELECT moment, body FROM mds_pack WHERE nmi = ?1 AND suffix = ?2 AND day = ?3",
         &day_cells(stream, day),
-    ) {
-        Ok(rows) => Ok(rows),
-        Err(_) => Err(Unavailable),
-    }
+    ))
 }
 
 /// The rowid and the body of a day's row of an update, if it has one.
@@ -134,13 +131,10 @@ pub(crate) fn body_rows<S: Alter>(
         → KeepsCommit (state S.Store tx.old.conn.now) (state S.Store tx.new.conn.now) }
     ensures survives { Survives (state S.Store tx.old.conn.now) (state S.Store tx.new.conn.now) (λ _. ⊥) }
 {
-    match tx.query_all(
+    or_unavailable(tx.query_all(
         "SELECT rowid, body FROM mds_pack WHERE nmi = ?1 AND suffix = ?2 AND day = ?3 AND moment = ?4",
         &key_cells(stream, day, update),
-    ) {
-        Ok(rows) => Ok(rows),
-        Err(_) => Err(Unavailable),
-    }
+    ))
 }
 
 /// Puts a row. Its body says a version.
@@ -157,13 +151,11 @@ pub(crate) fn insert_body<S: Alter>(
     ensures kept { HasCleanDisk (state S.Store tx.new.conn.now) → KeepsCommit (state S.Store tx.old.conn.now) (state S.Store tx.new.conn.now) }
     ensures survives { Survives (state S.Store tx.old.conn.now) (state S.Store tx.new.conn.now) (λ _. ⊥) }
 {
-    match tx.execute(
+    or_unavailable(tx.execute(
         "INSERT INTO mds_pack (nmi, suffix, day, moment, body) VALUES (?1, ?2, ?3, ?4, ?5)",
         &pack_cells(stream, day, update, body),
-    ) {
-        Ok(_) => Ok(()),
-        Err(_) => Err(Unavailable),
-    }
+    ))?;
+    Ok(())
 }
 
 /// Whether an error says that the store failed, and not the statement.
@@ -184,6 +176,23 @@ fn is_failure(e: &Error) -> bool
     }
 }
 
+/// Whether the tables took the rows of a statement. Where the store failed, its error is passed on.
+fn are_taken(answer: Result<usize, Error>) -> Result<bool, Error>
+    ensures put { IfOk result (λ put. IsTrue put → IsOk answer) }
+    ensures none { IfOk result (λ put. put ≡ false → MatchResult answer (λ _. ⊥) (λ e. is_store_error e ≡ false)) }
+    ensures err { IfErr result (λ e. (answer ≡ Err e) × IsTrue (is_store_error e)) }
+{
+    match answer {
+        Ok(_) => Ok(true),
+        Err(e) => {
+            if is_failure(&e) {
+                return Err(e);
+            }
+            Ok(false)
+        }
+    }
+}
+
 /// Puts eight rows by one statement, each of which says a version. It tells whether the tables took them: where they refuse one, all
 /// stays as it was.
 pub(crate) fn insert_eight<S: Alter>(
@@ -199,18 +208,10 @@ pub(crate) fn insert_eight<S: Alter>(
     ensures survives { Survives (state S.Store tx.old.conn.now) (state S.Store tx.new.conn.now) (λ _. ⊥) }
 {
     let cells = eight_cells(rows);
-    match tx.execute(
+    or_unavailable(are_taken(tx.execute(
         "INSERT INTO mds_pack (nmi, suffix, day, moment, body) VALUES (?1, ?2, ?3, ?4, ?5), (?6, ?7, ?8, ?9, ?10), (?11, ?12, ?13, ?14, ?15), (?16, ?17, ?18, ?19, ?20), (?21, ?22, ?23, ?24, ?25), (?26, ?27, ?28, ?29, ?30), (?31, ?32, ?33, ?34, ?35), (?36, ?37, ?38, ?39, ?40)",
         cells.as_flattened(),
-    ) {
-        Ok(_) => Ok(true),
-        Err(e) => {
-            if is_failure(&e) {
-                return Err(Unavailable);
-            }
-            Ok(false)
-        }
-    }
+    )))
 }
 
 /// Replaces the body of the row that has this rowid. Unavailable where there isn't just one.
@@ -224,12 +225,10 @@ pub(crate) fn replace_body<S: Alter>(
     ensures kept { HasCleanDisk (state S.Store tx.new.conn.now) → KeepsCommit (state S.Store tx.old.conn.now) (state S.Store tx.new.conn.now) }
     ensures survives { Survives (state S.Store tx.old.conn.now) (state S.Store tx.new.conn.now) (λ _. ⊥) }
 {
-    let Ok(count) = tx.execute(
+    let count = or_unavailable(tx.execute(
         "UPDATE mds_pack SET body = ?2 WHERE rowid = ?1",
         &body_cells(id, body),
-    ) else {
-        return Err(Unavailable);
-    };
+    ))?;
     let is_replaced = count == 1;
     if !is_replaced {
         return Err(Unavailable);

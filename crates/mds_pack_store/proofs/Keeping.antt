@@ -2,13 +2,15 @@
 use Rattle.std.specs.Prelude.{◌≡◌, Ok, Err, IsTrue, OnErr, OnOk, Result}
 use Rattle.std.proofs.Common.{◌∙◌, arith, inl, inr, subst, sym}
 use Rattle.sqlite.specs.Effect.{Database}
-use Rattle.sqlite.specs.State.{HasCleanDisk, KeepsCommit, State, Survives}
+use Rattle.sqlite.specs.State.{HasCleanDisk, IsLive, KeepsCommit, State, Survives}
+use Rattle.sqlite_catalog.specs.Listing.{IsSound}
 use Rattle.sqlite_trees.specs.Tree.{Trees}
 use Rattle.mds_keeper.specs.declared.additions.Additions.{Additions}
 use Rattle.mds_tables.specs.Making.{KeepsNothingOf}
 use Rattle.mds_tables.specs.Queries.{Answers}
 use Rattle.mds_tables.specs.Stores.{AddsOf, CommitsOf, HoldsOf, LeavesAddedOf}
 use Rattle.mds_pack_rows.specs.FormLayout.{forms_layout}
+use Rattle.mds_pack_rows.specs.FormTables.{schema_4}
 use Rattle.mds_form_rows.specs.FormPutting.{GainsForms}
 use Rattle.mds_pack_store.specs.Daily.{AreBare}
 use Rattle.mds_pack_store.specs.Formed.{AreFormed, HoldsFormed, IsFormedStore}
@@ -22,12 +24,16 @@ pub of_nothing : (db : Database) → KeepsNothingOf forms_layout db → IsFormed
 of_nothing db none = record { store = none.store; bare = (none.bare.1.0, none.bare.1.1.0) }
 
 -- a crash leaves what is committed on an open connection
-pub of_open : (s : State) → (IsTrue s.is_open → (trees : Trees) → s.may_leave trees → trees ≡ s.committed.trees)
-    → (HasCleanDisk s → IsTrue s.is_open) → (HasCleanDisk s → IsTrue s.is_open → IsFormedStore s.committed) → HoldsFormed s
-of_open s settled opened store = record {
-  committed = store;
+pub of_open : (s : State) → IsLive s → (IsTrue s.is_open → (trees : Trees) → s.may_leave trees → trees ≡ s.committed.trees)
+    → (HasCleanDisk s → IsTrue s.is_open × IsFormedStore s.committed) → HoldsFormed s
+of_open s live settled holds = record {
+  committed = λ clean _. (holds clean).1;
   left = λ clean trees may.
-      subst AreFormed (sym (settled (opened clean) trees may)) (of_formed s.committed (store clean (opened clean)));
+      let it = holds clean in subst AreFormed (sym (settled it.0 trees may)) (of_formed s.committed it.1);
+  sound = λ clean trees may.
+      let it = holds clean in
+      let obeys : IsSound schema_4 s.committed.trees = subst (λ schema. IsSound schema s.committed.trees) it.1.store.schema (live it.0).1 in
+      ∣ subst (IsSound schema_4) (sym (settled it.0 trees may)) obeys ∣₁;
 }
 
 was_clean : {old new : State} (Commits : Trees → Type 0) → Survives old new Commits → HasCleanDisk new → HasCleanDisk old
@@ -48,6 +54,10 @@ formed_on {old = old} {new = new} holds answered =
       committed = λ clean. stays_formed old new holds (was_clean _ survives clean) (answered.kept clean store);
       left = λ clean trees may. elim (survives.crash clean trees may) [
         | inl was ↦ holds.left (was_clean _ survives clean) trees was
+        | inr none ↦ absurd none
+      ];
+      sound = λ clean trees may. elim (survives.crash clean trees may) [
+        | inl was ↦ holds.sound (was_clean _ survives clean) trees was
         | inr none ↦ absurd none
       ];
     }
@@ -78,5 +88,9 @@ module _ {A E : Type 0} {old new : State} {additions : Additions} (holds : Holds
         bare = still_bare old.committed.trees trees additions adds.rows
             (holds.committed (was_clean _ survives clean) adds.was_open).bare;
       }
+    ];
+    sound = λ clean trees may. elim (survives.crash clean trees may) [
+      | inl was ↦ holds.sound (was_clean _ survives clean) trees was
+      | inr adds ↦ ∣ adds.sound ∣₁
     ];
   }

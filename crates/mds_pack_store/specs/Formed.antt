@@ -2,9 +2,11 @@
 use Rattle.std.specs.Prelude.{◌≡◌, ◌⊎◌, [], ◌∷◌, pos, IsTrue}
 use Rattle.sqlite.specs.Effect.{Database}
 use Rattle.sqlite.specs.State.{HasCleanDisk, State}
+use Rattle.sqlite_catalog.specs.Listing.{IsSound}
 use Rattle.sqlite_trees.specs.Tree.{Trees}
 use Rattle.mds_tables.specs.Stores.{IsStore, IsStoreOf, versions_said}
 use Rattle.mds_pack_rows.specs.FormLayout.{forms_layout}
+use Rattle.mds_pack_rows.specs.FormTables.{schema_4}
 use Rattle.mds_store.specs.Starting.{IsAdopted}
 use Rattle.mds_pack_store.specs.Daily.{AreBare, IsDailyStore}
 use Rattle.mds_pack_store.specs.Packed.{IsPackedStore}
@@ -19,11 +21,12 @@ pub record IsFormedStore (db : Database) : Type 0 where
   pub store : IsStoreOf forms_layout db
   pub bare : AreBare db.trees
 
--- While the disk is honest, what is committed is such a store where the connection is open. What a crash may leave says 4 and has no
--- such row, open or not.
+-- While the disk is honest, what is committed is such a store where the connection is open. What a crash may leave says 4, has no
+-- such row, and obeys schema 4, open or not. So an open finds such a store there.
 pub record HoldsFormed (s : State) : Type 0 where
   pub committed : HasCleanDisk s → IsTrue s.is_open → IsFormedStore s.committed
   pub left : HasCleanDisk s → (trees : Trees) → s.may_leave trees → AreFormed trees
+  pub sound : HasCleanDisk s → (trees : Trees) → s.may_leave trees → ∥ IsSound schema_4 trees ∥₁
 
 -- a store of an earlier schema, which is to be migrated first
 abbrev pub IsEarlierStore : Database → Type 0

@@ -1,6 +1,7 @@
 -- What a keeper's connection keeps true has at most one proof.
 use Rattle.std.specs.Prelude.{List}
 use Rattle.std.specs.Coded.{Coded, Coded-set, coded_list, coded_ℤ, ×_prop, Π_prop}
+use Rattle.std.proofs.Math.Logic.{∥∥₁_prop}
 use Rattle.sqlite.specs.Effect.{Database}
 use Rattle.sqlite.specs.State.{State}
 use Rattle.sqlite_trees.specs.Tree.{Trees}
@@ -33,4 +34,5 @@ pub HoldsFormed-prop : (s : State) → IsProp (HoldsFormed s)
 HoldsFormed-prop s a b = λ i. record {
   committed = Π_prop (λ _. Π_prop (λ _. IsFormedStore-prop s.committed)) a.committed b.committed i;
   left = Π_prop (λ _. Π_prop (λ trees. Π_prop (λ _. AreFormed-prop trees))) a.left b.left i;
+  sound = Π_prop (λ _. Π_prop (λ trees. Π_prop (λ _. ∥∥₁_prop))) a.sound b.sound i;
 }

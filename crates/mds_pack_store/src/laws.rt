@@ -3,9 +3,11 @@
 ghost use Rattle.std.specs.Prelude.{◌≡◌, ◌↔◌, IsTrue};
 ghost use Rattle.sqlite.specs.Held.{state};
 ghost use Rattle.sqlite.specs.State.{HasCleanDisk};
+ghost use Rattle.sqlite_catalog.specs.Listing.{IsSound};
 ghost use Rattle.sqlite_trees.specs.Tree.{Trees};
 ghost use Rattle.mds_tables.specs.Stores.{world_kept};
 ghost use Rattle.mds_pack_rows.specs.FormLayout.{forms_layout, world_4};
+ghost use Rattle.mds_pack_rows.specs.FormTables.{schema_4};
 ghost use Rattle.mds_pack_store.specs.Formed.{AreFormed, IsFormedStore};
 ghost use Rattle.mds_world.specs.World.{World};
 
@@ -15,7 +17,8 @@ use sqlite::Alter;
 
 /// It keeps the World that the rows of its tables name. It is honest while its disk is, and sound while its connection is open
 /// too. A crash may leave any World that is named by tables which the library's store may leave. While it is sound, what is committed
-/// is a store that `adopt` takes. While it is honest, any tables that a crash may leave say 4, and have no row that would stand unseen.
+/// is a store that `adopt` takes. While it is honest, any tables that a crash may leave are one too, also where a fault shut the
+/// connection. They obey schema 4, say 4, and have no row that would stand unseen.
 pub fn a_keeper_is_its_tables<S: Alter>(_keeper: &PackKeeper<S>)
     ensures world { (⟦<PackKeeper<S> as Keeper>⟧.kept _keeper.now).world ≡ world_kept forms_layout (state S.Store _keeper.now.conn) }
     ensures honest { (⟦<PackKeeper<S> as Keeper>⟧.kept _keeper.now).honest ↔ HasCleanDisk (state S.Store _keeper.now.conn) }
@@ -26,5 +29,5 @@ pub fn a_keeper_is_its_tables<S: Alter>(_keeper: &PackKeeper<S>)
     ensures store { HasCleanDisk (state S.Store _keeper.now.conn) → IsTrue (state S.Store _keeper.now.conn).is_open
         → IsFormedStore (state S.Store _keeper.now.conn).committed }
     ensures left { HasCleanDisk (state S.Store _keeper.now.conn) → (trees : Trees) → (state S.Store _keeper.now.conn).may_leave trees
-        → AreFormed trees }
+        → AreFormed trees × ∥ IsSound schema_4 trees ∥₁ }
 {}

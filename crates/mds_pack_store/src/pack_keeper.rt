@@ -1,11 +1,12 @@
 //! A keeper over tables, whose days are packed.
 
-ghost use Rattle.std.specs.Prelude.{◌≡◌, false};
+ghost use Rattle.std.specs.Prelude.{◌≡◌, IsTrue, false};
 ghost use Rattle.sqlite.specs.Held.{state};
+ghost use Rattle.sqlite.specs.State.{HasCleanDisk};
 ghost use Rattle.mds_pack_rows.specs.FormLayout.{forms_layout};
 ghost use Rattle.mds_store.specs.KeptRows.{kept_in};
 ghost use Rattle.mds_store.specs.Props.{settles};
-ghost use Rattle.mds_pack_store.specs.Formed.{HoldsFormed};
+ghost use Rattle.mds_pack_store.specs.Formed.{HoldsFormed, IsFormedStore};
 ghost use Rattle.mds_pack_store.specs.Props.{HoldsFormed-prop};
 
 use mds_day_details::{current_details, days_without, details_between};
@@ -28,17 +29,19 @@ pub struct PackKeeper<S: Alter> {
     conn: Connection<S>,
     // It is in no transaction.
     pub ghost autocommit: { conn.in_transaction ≡ false },
-    // While the disk is honest, what is committed is a store that `adopt` takes, and a crash leaves no row that would stand unseen.
+    // While the disk is honest, what is committed is a store that `adopt` takes, and so is what a crash may leave.
     pub ghost holds: { HoldsFormed (state S.Store conn) } by { HoldsFormed-prop (state S.Store conn) },
 }
 
 impl<S: Alter> PackKeeper<S> {
-    /// A keeper over a connection that is in no transaction and holds a store that `adopt` takes.
+    /// A keeper over an open connection that is in no transaction and holds a store that `adopt` takes.
     pub(crate) fn over(alloc: Global, conn: Connection<S>) -> PackKeeper<S>
         requires autocommit { conn.in_transaction ≡ false }
-        requires holds { HoldsFormed (state S.Store conn) }
+        requires holds { HasCleanDisk (state S.Store conn) → IsTrue (state S.Store conn).is_open × IsFormedStore (state S.Store conn).committed }
         ensures { result.conn ≡ conn }
     {
+        // For the proof: what is committed obeys its schema.
+        let _ = conn.schema();
         PackKeeper { alloc, conn }
     }
 

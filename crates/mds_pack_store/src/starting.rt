@@ -59,7 +59,7 @@ pub fn create<S: Alter>(
     }
     match make_tables(&mut conn) {
         Ok(()) => Ok(PackKeeper::over(alloc, conn)),
-        Err(error) => Err((StoreFault::Unavailable(error), conn)),
+        Err(error) => Err((StoreFault::from(error), conn)),
     }
 }
 
@@ -103,7 +103,7 @@ pub fn adopt<S: Alter>(
     match are_formed(&mut conn) {
         Ok(true) => Ok(PackKeeper::over(alloc, conn)),
         Ok(false) => Err((StoreFault::OtherSchema, conn)),
-        Err(error) => Err((StoreFault::Unavailable(error), conn)),
+        Err(error) => Err((StoreFault::from(error), conn)),
     }
 }
 
@@ -219,7 +219,7 @@ fn refusal_of_first<S: Alter>(conn: Connection<S>) -> (StoreFault, Connection<S>
     match is_version(&mut conn, 1) {
         Ok(true) => (StoreFault::EarlierSchema, conn),
         Ok(false) => (StoreFault::OtherSchema, conn),
-        Err(error) => (StoreFault::Unavailable(error), conn),
+        Err(error) => (StoreFault::from(error), conn),
     }
 }
 
@@ -238,7 +238,7 @@ fn refusal_of_second<S: Alter>(conn: Connection<S>) -> (StoreFault, Connection<S
     match are_packed(&mut conn) {
         Ok(true) => (StoreFault::EarlierSchema, conn),
         Ok(false) => (StoreFault::OtherSchema, conn),
-        Err(error) => (StoreFault::Unavailable(error), conn),
+        Err(error) => (StoreFault::from(error), conn),
     }
 }
 
@@ -257,6 +257,6 @@ fn refusal_of_third<S: Alter>(conn: Connection<S>) -> (StoreFault, Connection<S>
     match are_daily(&mut conn) {
         Ok(true) => (StoreFault::EarlierSchema, conn),
         Ok(false) => (StoreFault::OtherSchema, conn),
-        Err(error) => (StoreFault::Unavailable(error), conn),
+        Err(error) => (StoreFault::from(error), conn),
     }
 }

@@ -1,3 +1,4 @@
 pub mod Body
 pub mod LoopSteps
+pub mod Sizes
 pub mod Unpacked

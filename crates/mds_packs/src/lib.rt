@@ -4,6 +4,7 @@
 
 mod layout;
 mod packing;
+mod sizes;
 mod unpacking;
 mod whole_days;
 

@@ -1,6 +1,6 @@
 //! The readings of a day, from their body.
 
-ghost use Rattle.std.specs.Prelude.{nat_lt, nat_le, ◌&&◌, ◌≡◌, ◌+◌, ◌-◌, ◌<◌, ◌≤◌, ◌^◌, IsTrue, IfOk, OnOk, IfSome, IfNone, false, Some, None, [], ◌++◌, length as list_length, option_map, replicate, List, Option};
+ghost use Rattle.std.specs.Prelude.{nat_lt, nat_le, ◌&&◌, ◌≡◌, ◌+◌, ◌-◌, ◌<◌, ◌≤◌, ◌^◌, IsTrue, IfOk, OnOk, OnErr, IfSome, IfNone, IsSome, false, Some, None, [], ◌++◌, length as list_length, option_map, replicate, List, Option};
 ghost use Rattle.std.specs.Int.{w16, w64};
 ghost use Rattle.mds_calendar.specs.Length.{count_of};
 ghost use Rattle.mds_marks.specs.Reading.{ReadingValue};
@@ -10,8 +10,10 @@ ghost use Rattle.mds_runs.specs.GapSteps.{are_parted, follows, marks_after, touc
 ghost use Rattle.mds_packs.specs.Body.{IsDay, body_of};
 ghost use Rattle.mds_packs.specs.Unpacked.{number_at, byte_at, text_at, parts_at, run_in, runs_at, value_at, reading_at, readings_at, head_at, unpacked, PartsValue, code_in};
 ghost use Rattle.mds_packs.specs.LoopSteps.{parts_value, with_front, held_front};
+ghost use Rattle.mds_packs.specs.Sizes.{values_size as size_in};
 
 use crate::layout::{NO_CODE, VERSION};
+use crate::sizes::values_size;
 use mds_calendar::Length;
 use mds_marks::flags::NULL;
 use mds_marks::{Mark, Quality, Reading, Reason};
@@ -23,17 +25,17 @@ use std::str;
 /// The fields of a run, as they were read. Its text is borrowed.
 #[derive(Clone, Copy)]
 pub struct Parts<'a> {
-    first: u16,
-    last: u16,
-    flag: u8,
+    pub(crate) first: u16,
+    pub(crate) last: u16,
+    pub(crate) flag: u8,
     method: u8,
     code: u16,
     text: &'a [u8],
 }
 
 /// Unpacks the body of a day with intervals of this length: a place for each interval, with its reading where one is
-/// held. `None` where these bytes are no body. So bytes that give readings are what `pack_day` makes of them. It fails
-/// only for want of memory.
+/// held. `None` where these bytes are no body. So bytes that give readings are what `pack_day` makes of them. It takes
+/// memory only for bytes that have the head and the size of such a body.
 pub fn unpack_day(
     alloc: Global,
     length: Length,
@@ -44,6 +46,7 @@ pub fn unpack_day(
     ensures only { IfOk result (λ o. (readings : List (Option ReadingValue)) → IsDay (count_of length) readings
         → body.now ≡ body_of readings → option_map (λ v. v.items) o ≡ Some readings) }
     ensures value { IfOk result (λ o. option_map (λ v. v.items) o ≡ unpacked (count_of length) body.now) }
+    ensures memory { OnErr result (IsSome (size_in (count_of length) body.now)) }
 {
     read_all(alloc, intervals_of(length), body)
 }
@@ -56,15 +59,19 @@ pub(crate) fn intervals_of(length: Length) -> u16
     length.count() as u16
 }
 
-/// Reads all of a body.
+/// Reads all of a body, where it has the size of one.
 #[tactic(auto, unfolding(crate::specs::Unpacked::unpacked))]
 fn read_all(
     alloc: Global,
     count: u16,
     body: &[u8],
 ) -> Result<Option<Vec<Option<Reading>>>, AllocError>
-    ensures { IfOk result (λ o. option_map (λ v. v.items) o ≡ unpacked count body.now) }
+    ensures value { IfOk result (λ o. option_map (λ v. v.items) o ≡ unpacked count body.now) }
+    ensures memory { OnErr result (IsSome (size_in count body.now)) }
 {
+    if values_size(count, body).is_none() {
+        return Ok(None);
+    }
     let mut runs = Vec::new(alloc);
     let Some(rest) = read_head(&mut runs, count, body)? else {
         return Ok(None);
@@ -73,6 +80,7 @@ fn read_all(
     let Some(rest) = read_readings(&mut readings, count, runs.as_slice(), rest)? else {
         return Ok(None);
     };
+    // For the proof: the size was tested, so nothing is left.
     if !rest.is_empty() {
         return Ok(None);
     }
@@ -80,7 +88,7 @@ fn read_all(
 }
 
 /// Reads a number of two bytes. Behind it stand the bytes that are left, here and below.
-fn u16_at(bytes: &[u8]) -> Option<(u16, &[u8])>
+pub(crate) fn u16_at(bytes: &[u8]) -> Option<(u16, &[u8])>
     ensures { option_map (λ x. (x.0, x.1.now)) result ≡ number_at w16 bytes.now }
 {
     if bytes.len() < 2 {
@@ -106,7 +114,7 @@ fn u64_at(bytes: &[u8]) -> Option<(u64, &[u8])>
 }
 
 /// Reads a byte.
-fn u8_at(bytes: &[u8]) -> Option<(u8, &[u8])>
+pub(crate) fn u8_at(bytes: &[u8]) -> Option<(u8, &[u8])>
     ensures { option_map (λ x. (x.0, x.1.now)) result ≡ byte_at bytes.now }
 {
     match bytes {
@@ -130,7 +138,7 @@ fn bytes_at(bytes: &[u8]) -> Option<(&[u8], &[u8])>
 
 /// Reads the fields of a run.
 #[tactic(auto, unfolding(crate::specs::Unpacked::parts_at))]
-fn read_parts(bytes: &[u8]) -> Option<(Parts<'_>, &[u8])>
+pub(crate) fn read_parts(bytes: &[u8]) -> Option<(Parts<'_>, &[u8])>
     ensures { option_map (λ x. (parts_value x.0, x.1.now)) result ≡ parts_at bytes.now }
 {
     let (first, rest) = u16_at(bytes)?;

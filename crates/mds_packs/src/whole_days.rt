@@ -1,13 +1,15 @@
 //! The readings of a whole day, from their body.
 
-ghost use Rattle.std.specs.Prelude.{◌≡◌, ◌+◌, ◌-◌, ◌<◌, ◌≤◌, ◌^◌, ℕ, IsTrue, IfOk, IfSome, IfNone, None, Some, [], List, get_or, length as list_length, map, option_map, replicate};
+ghost use Rattle.std.specs.Prelude.{◌≡◌, ◌+◌, ◌-◌, ◌<◌, ◌≤◌, ◌^◌, ℕ, IsTrue, IfOk, IfSome, IfNone, IsSome, OnErr, None, Some, [], List, get_or, length as list_length, map, option_map, replicate};
 ghost use Rattle.mds_calendar.specs.Length.{count_of};
 ghost use Rattle.mds_marks.specs.Reading.{ReadingValue, is_reading};
 ghost use Rattle.mds_runs.specs.GapSteps.{are_parted, marks_after};
 ghost use Rattle.mds_runs.specs.Marked.{reading_by};
 ghost use Rattle.mds_packs.specs.LoopSteps.{ReadsWhole, held_by, with_front};
+ghost use Rattle.mds_packs.specs.Sizes.{values_size as size_in};
 ghost use Rattle.mds_packs.specs.Unpacked.{readings_at, unpacked};
 
+use crate::sizes::values_size;
 use crate::unpacking::{intervals_of, read_head, read_value};
 use mds_calendar::Length;
 use mds_marks::Mark;
@@ -17,7 +19,8 @@ use mds_runs::{DayReadings, Run};
 use std::alloc::{AllocError, Global};
 
 /// Unpacks the body of a whole day with intervals of this length, as its readings lie. `None` where these bytes are no
-/// body of such a day, or an interval has no reading. It fails only for want of memory.
+/// body of such a day, or an interval has no reading. It takes memory only for bytes that have the head and the size of
+/// such a body.
 pub fn unpack_readings(
     alloc: Global,
     length: Length,
@@ -27,8 +30,12 @@ pub fn unpack_readings(
         unpacked (count_of length) body.now ≡ Some (map (λ reading. Some reading) readings))) }
     ensures none { IfOk result (λ o. IfNone o ((readings : List ReadingValue)
         → unpacked (count_of length) body.now ≡ Some (map (λ reading. Some reading) readings) → ⊥)) }
+    ensures memory { OnErr result (IsSome (size_in (count_of length) body.now)) }
 {
     let count = intervals_of(length);
+    if values_size(count, body).is_none() {
+        return Ok(None);
+    }
     let mut runs = Vec::new(alloc);
     let Some(rest) = read_head(&mut runs, count, body)? else {
         return Ok(None);
@@ -37,6 +44,7 @@ pub fn unpack_readings(
     let Some(rest) = read_each(alloc, &mut readings, count, runs.as_slice(), rest)? else {
         return Ok(None);
     };
+    // For the proof: the size was tested, so nothing is left.
     if !rest.is_empty() {
         return Ok(None);
     }

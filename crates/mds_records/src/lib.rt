@@ -29,7 +29,9 @@ pub use header_name::HeaderName;
 pub use interval_data::{IntervalDataRecord, read_interval_data};
 pub use interval_event::{IntervalEventRecord, read_interval_event};
 pub use interval_values::IntervalValues;
-pub use mds_lines::{Counted, Fields, Kind, KindFault, Line, Sink, Source};
+pub use mds_lines::{
+    Counted, Fields, Kind, KindFault, Line, LineBuffer, LineFault, LineReader, Sink, Source,
+};
 pub use nmi_data_details::{NmiDataDetailsRecord, read_nmi_data_details};
 pub use record::{Record, read_end, read_record};
 pub use register_read::RegisterRead;

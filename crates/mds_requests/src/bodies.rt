@@ -25,10 +25,9 @@ pub(crate) fn import_asked(
     ensures { MatchResult result (AskForImportBy (texts_of query.now) body.items)
         (AsksNothing (texts_of query.now ≢ []) (AskForImportBy (texts_of query.now) body.items)) }
 {
-    match kind_asked(alloc, query) {
-        Ok(Some(kind)) => file_asked(alloc, FileCommand::Import(kind), body),
-        Ok(None) => Err(TargetFault::Bad),
-        Err(_) => Err(TargetFault::Memory),
+    match kind_asked(alloc, query)? {
+        Some(kind) => file_asked(alloc, FileCommand::Import(kind), body),
+        None => Err(TargetFault::Bad),
     }
 }
 

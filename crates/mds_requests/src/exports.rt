@@ -14,9 +14,7 @@ use std::alloc::Global;
 pub(crate) fn export_asked(alloc: Global, query: &Query<'_>) -> Result<Request, TargetFault>
     ensures { MatchResult result (AskForExportBy (texts_of query.now)) (ExportsNothing (texts_of query.now)) }
 {
-    let Ok(suffixes) = query.values(alloc, "suffix") else {
-        return Err(TargetFault::Memory);
-    };
+    let suffixes = query.values(alloc, "suffix")?;
     let Some(arguments) = export_in(query, suffixes) else {
         return Err(TargetFault::Bad);
     };

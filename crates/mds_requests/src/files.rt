@@ -1,13 +1,13 @@
 //! The request that a file says.
 
-ghost use Rattle.std.specs.Prelude.{MatchResult};
+ghost use Rattle.std.specs.Prelude.{◌≡◌, MatchResult};
 ghost use Rattle.mds_requests.specs.Asking.{Asks, AsksNothing};
 
 use crate::holidays::{HolidaysFault, read_holidays};
 use crate::job::job_from_json;
 use mds_messages::Request;
 use mds_records::FileKind;
-use std::alloc::Global;
+use std::alloc::{AllocError, Global};
 
 /// A command that takes a file to a store.
 #[derive(Clone, Copy)]
@@ -31,6 +31,29 @@ pub enum RequestFault {
     Memory,
 }
 
+impl From<AllocError> for RequestFault {
+    ghost use Rattle.mds_requests.specs.declared.files.RequestFault.TheVariants as fault;
+
+    ghost from_gives = { λ _ reason. reason ≡ fault.Memory };
+
+    fn from(_: AllocError) -> RequestFault {
+        RequestFault::Memory
+    }
+}
+
+impl From<HolidaysFault> for RequestFault {
+    ghost use Rattle.mds_requests.specs.TargetSteps.{of_holidays};
+
+    ghost from_gives = { λ of_list reason. reason ≡ of_holidays of_list };
+
+    fn from(of_list: HolidaysFault) -> RequestFault {
+        match of_list {
+            HolidaysFault::BadHolidays(row) => RequestFault::BadHolidays(row),
+            HolidaysFault::Memory => RequestFault::Memory,
+        }
+    }
+}
+
 /// The request that a file says which comes with a command. The bytes of an import may be any. It wants memory only for a job or
 /// a list of holidays that isn't empty, and for a job only where it is UTF-8.
 pub fn request_in(
@@ -51,10 +74,9 @@ pub fn request_in(
 fn substitution_in(alloc: Global, text: &[u8]) -> Result<Request, RequestFault>
     ensures { MatchResult result (Asks FileCommand.Substitute text.now) (AsksNothing FileCommand.Substitute text.now) }
 {
-    match job_from_json(alloc, text) {
-        Ok(Some(job)) => Ok(Request::Substitute(job)),
-        Ok(None) => Err(RequestFault::BadJob),
-        Err(_) => Err(RequestFault::Memory),
+    match job_from_json(alloc, text)? {
+        Some(job) => Ok(Request::Substitute(job)),
+        None => Err(RequestFault::BadJob),
     }
 }
 
@@ -62,9 +84,5 @@ fn substitution_in(alloc: Global, text: &[u8]) -> Result<Request, RequestFault>
 fn holidays_in(alloc: Global, text: &[u8]) -> Result<Request, RequestFault>
     ensures { MatchResult result (Asks FileCommand.Holidays text.now) (AsksNothing FileCommand.Holidays text.now) }
 {
-    match read_holidays(alloc, text) {
-        Ok(days) => Ok(Request::Holidays(days)),
-        Err(HolidaysFault::BadHolidays(row)) => Err(RequestFault::BadHolidays(row)),
-        Err(HolidaysFault::Memory) => Err(RequestFault::Memory),
-    }
+    Ok(Request::Holidays(read_holidays(alloc, text)?))
 }

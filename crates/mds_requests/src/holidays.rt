@@ -7,21 +7,31 @@ ghost use Rattle.mds_requests.specs.HolidaysSteps.{HasRead};
 
 use csv::{ByteRecord, Reader, ReaderBuilder};
 use mds_calendar::Day;
-use std::alloc::Global;
+use std::alloc::{AllocFailed, Global};
 
 /// Why a list of public holidays isn't read.
 #[derive(Clone, Copy)]
-pub(crate) enum HolidaysFault {
+pub enum HolidaysFault {
     /// The row of this number, from 1, is the first that differs from a list of holidays (H1).
     BadHolidays(u64),
     /// There was no memory.
     Memory,
 }
 
+impl<T: Drop> From<AllocFailed<T>> for HolidaysFault {
+    ghost use Rattle.mds_requests.specs.declared.holidays.HolidaysFault.TheVariants as fault;
+
+    ghost from_gives = { λ _ reason. reason ≡ fault.Memory };
+
+    fn from(_: AllocFailed<T>) -> HolidaysFault {
+        HolidaysFault::Memory
+    }
+}
+
 /// The days of a list of public holidays, in its order (profile). The list is a CSV text. Its head row has the one field
 /// `date`, and each other row the one field CCYYMMDD, a day. A day may stand twice. Row 1 differs where there is no row (H1).
 /// An empty text takes no memory.
-pub(crate) fn read_holidays(alloc: Global, text: &[u8]) -> Result<Vec<Day>, HolidaysFault>
+pub fn read_holidays(alloc: Global, text: &[u8]) -> Result<Vec<Day>, HolidaysFault>
     ensures days { IfOk result (λ days. IsListOf (rows_of text.now) days.items) }
     ensures refused { IfErr result (λ fault. IsRefusal text.now fault) }
 {
@@ -56,9 +66,7 @@ fn read_days(
         let Some(day) = day_in(row) else {
             return Err(HolidaysFault::BadHolidays(number));
         };
-        if days.push(day).is_err() {
-            return Err(HolidaysFault::Memory);
-        }
+        days.push(day)?;
     }
     Ok(days)
 }

@@ -19,7 +19,7 @@ use std::str;
 
 /// Reads a substitution job from a JSON text (profile): an object with exactly the keys of a job.
 /// `None` where the text is no such object. It fails only where memory is refused: never where the text is empty or isn't UTF-8.
-pub(crate) fn job_from_json(alloc: Global, text: &[u8]) -> Result<Option<Job>, AllocError>
+pub fn job_from_json(alloc: Global, text: &[u8]) -> Result<Option<Job>, AllocError>
     ensures found { IfOk result (λ found. MatchOption found
         ((job : Job) → ¬ IsJobText text.now job)
         (λ job. IsJobText text.now job)) }

@@ -15,4 +15,6 @@ mod targets;
 
 pub use bodies::imports_interval_data;
 pub use files::{FileCommand, RequestFault, request_in};
+pub use holidays::{HolidaysFault, read_holidays};
+pub use job::job_from_json;
 pub use targets::{TargetFault, request_at};

@@ -13,7 +13,7 @@ use crate::ranges::{finals_asked, gaps_asked};
 use mds_arguments::Argument;
 use mds_messages::Request;
 use mds_wire::{Route, path_of, query_of};
-use std::alloc::Global;
+use std::alloc::{AllocError, Global};
 
 /// Why a target and a body ask for nothing.
 #[derive(Clone, Copy)]
@@ -33,6 +33,16 @@ impl From<Argument> for TargetFault {
 
     fn from(_: Argument) -> TargetFault {
         TargetFault::Bad
+    }
+}
+
+impl From<AllocError> for TargetFault {
+    ghost use Rattle.mds_requests.specs.declared.targets.TargetFault.TheVariants as fault;
+
+    ghost from_gives = { λ _ reason. reason ≡ fault.Memory };
+
+    fn from(_: AllocError) -> TargetFault {
+        TargetFault::Memory
     }
 }
 
@@ -60,10 +70,8 @@ pub fn request_at(
 ) -> Result<Request, TargetFault>
     ensures { MatchResult result (AsksAt route target.now body.items) (IsFaultAt route target.now body.items) }
 {
-    match Query::read(alloc, query_of(target)) {
-        Ok(query) => request_by(alloc, route, path_of(target), &query, body),
-        Err(_) => Err(TargetFault::Memory),
-    }
+    let query = Query::read(alloc, query_of(target))?;
+    request_by(alloc, route, path_of(target), &query, body)
 }
 
 /// The request that a path, a query and a body ask for.

@@ -1,5 +1,5 @@
 -- A connection that is ready, and then queries: what is found of what is committed.
-use Rattle.std.specs.Prelude.{◌≡◌, ◌↔◌, List, false, IfOk, OnOk, Result, Ok, Err}
+use Rattle.std.specs.Prelude.{◌≡◌, ◌↔◌, List, false, IfOk, IsErr, IsErrAnd, OnOk, Result, Ok, Err}
 use Rattle.std.specs.declared.alloc.Global.{Global}
 use Rattle.std.specs.declared.vec.Vec.{Vec}
 use Rattle.std.proofs.Common.{inl, sym, ap, subst, ◌∙◌, arith}
@@ -146,6 +146,15 @@ unanswered {old = old} {mid = mid} {new = new} held before asked e = record {
   mode = asked.mode before.mode;
   survives = λ is. still_quiet before asked (held is);
 }
+
+-- so such a query refuses the call, whose exit hands on an error
+pub refused : {A E : Type 0} {layout : Layout} {IsHeld : State → Type 0} {Tells : Trees → A → Type 0} {old mid new : State}
+    {Known : Trees → Type 0} {Shows : Trees → List Row → Type 0} → (IsHeld old → HoldsTablesOf layout old)
+    → IsSteady layout old mid Known → (q : Result (Vec Row Global) Error) → QueriesOf layout mid new q Shows → IsErr q
+    → (r : Result A E) (Q : E → Type 0) → IsErrAnd r Q → Answers IsHeld old new r Tells
+refused held before (Ok rows) asked failed r Q handed = absurd cc
+refused held before (Err stop) asked failed (Ok x) Q handed = absurd handed
+refused held before (Err stop) asked failed (Err e) Q handed = unanswered held before asked e
 
 -- what is asked of rows is a fact of what they name
 pub either_way : (P Q R : Type 0) → P ↔ Q → Q ↔ R → P ↔ R

@@ -1,7 +1,7 @@
 -- A row that the store writes says what it was written from.
 use Rattle.std.proofs.Common.{◌≡◌, ◌&&◌, ◌<◌, ◌≤◌, ◌^◌, ℕ, ℤ, pos, Option, Some, None, IsTrue, ap, arith, sym, unsigned_abs, unwrap_or, ◌∙◌}
 use Rattle.std.proofs.lemmas.Bool.Decides.{nat_tests}
-use Rattle.std.specs.Prelude.{IfSome}
+use Rattle.std.specs.Prelude.{IfNone, IfSome, SomeIff}
 use Rattle.std.specs.Str.{chars, is_utf8}
 use Rattle.sqlite.specs.declared.types.Value.TheVariants.{Int, Null}
 use Rattle.sqlite_rules.specs.Edit.{id_in}
@@ -29,6 +29,11 @@ shown_back row key reading it =
     version_back Null key reading quality_reads_back it.lawful in
     let back : shown_reading cells ≡ reading = cc in
     ap shown_reading it.cells ∙ back
+
+-- what isn't made would have broken what it takes to make it
+pub made_only : {A : Type 0} (r : Option A) (P : Type 0) (x : A) {Q : Type 0} → SomeIff r P x → (¬ P → Q) → IfNone r Q
+made_only (Some y) P x is f = tt
+made_only None P x none f = f none
 
 -- what a lawful reading's parts are
 pub lawful_quality : (r : ReadingValue) → IsTrue (is_lawful r)

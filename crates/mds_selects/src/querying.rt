@@ -27,7 +27,7 @@ ghost use Rattle.mds_selects.specs.Added.{AreAdded, IsAdded, SaysEvent};
 use crate::rows::{event_rows, same_event_rows, version_numbers};
 use crate::terms::{event_at, int_at, version_in};
 use mds_keeper::{Unavailable, Version};
-use mds_tables::{letter_of, ready};
+use mds_tables::{letter_of, or_unavailable, ready};
 use mds_terms::{Day, Event, Length, Moment, Stream, TransCode};
 use sqlite::{Alter, Connection, Error, Row};
 use std::alloc::Global;
@@ -72,14 +72,10 @@ pub fn all_versions(
 ) -> Result<Vec<(u16, Version)>, Unavailable>
     ensures { IfOk result (λ versions. AreVersionsIn length rows.now versions.items) }
 {
-    let Ok(mut versions) = Vec::with_capacity(alloc, rows.len()) else {
-        return Err(Unavailable);
-    };
+    let mut versions = Vec::with_capacity(alloc, rows.len())?;
     for i in 0..rows.len() {
         let version = version_at(alloc, length, &rows[i])?;
-        let Ok(_) = versions.push(version) else {
-            return Err(Unavailable);
-        };
+        versions.push(version)?;
     }
     Ok(versions)
 }
@@ -111,12 +107,8 @@ pub fn events_of<S: Alter>(
     ensures { (layout : Layout) → Answers (HoldsOf layout) (state S.Store conn.old) (state S.Store conn.new) result
         (λ trees events. AreEventsOf (world_with layout trees) stream.now day events.items) }
 {
-    let Ok(_) = ready(conn) else {
-        return Err(Unavailable);
-    };
-    let Ok(rows) = event_rows(conn, stream, day) else {
-        return Err(Unavailable);
-    };
+    or_unavailable(ready(conn))?;
+    let rows = or_unavailable(event_rows(conn, stream, day))?;
     // For the proof: a day's number is at most that of the last day.
     let _ = day.number();
     all_events(alloc, &rows)
@@ -154,10 +146,8 @@ fn add_event(alloc: Global, found: &mut BTreeSet<Event>, row: &Row) -> Result<()
 pub fn put<T: Ord + Drop>(found: &mut BTreeSet<T>, item: T) -> Result<(), Unavailable>
     ensures { IsAntisymmetric T.cmp → OnOk result ((q : T) → Member q found.new.keys ↔ (Member q found.old.keys ⊎ (q ≡ item))) }
 {
-    match found.insert(item) {
-        Ok(_) => Ok(()),
-        Err(_) => Err(Unavailable),
-    }
+    found.insert(item)?;
+    Ok(())
 }
 
 /// All of a set, in order.
@@ -166,10 +156,8 @@ pub fn in_order<T: Ord + Drop>(alloc: Global, found: BTreeSet<T>) -> Result<Vec<
     ensures ascending { IfOk result (λ all. AllPairs (λ a b. T.cmp a b ≡ Less) all.items) }
     ensures apart { IfOk result (λ all. Apart all.items) }
 {
-    match found.into_iter().collect(alloc) {
-        Ok(all) => Ok(all),
-        Err(_) => Err(Unavailable),
-    }
+    let all = found.into_iter().collect(alloc)?;
+    Ok(all)
 }
 
 /// Whether the event is kept.
@@ -178,20 +166,16 @@ pub fn has_event<S: Alter>(conn: &mut Connection<S>, event: &Event) -> Result<bo
     ensures { (layout : Layout) → Answers (HoldsOf layout) (state S.Store conn.old) (state S.Store conn.new) result
         (λ trees has. IsTrue has ↔ (EventIs event.now ∈ world_with layout trees)) }
 {
-    let Ok(_) = ready(conn) else {
-        return Err(Unavailable);
-    };
+    or_unavailable(ready(conn))?;
     let (nmi, suffix) = (event.nmi(), event.suffix());
     let (letter, count) = letter_of(event);
-    let Ok(rows) = same_event_rows(
+    let rows = or_unavailable(same_event_rows(
         conn,
         event,
         nmi.text().as_bytes(),
         suffix.text().as_bytes(),
         &letter[..count],
-    ) else {
-        return Err(Unavailable);
-    };
+    ))?;
     // For the proof: its numbers are below 2^63.
     has_small_numbers(event);
     Ok(has_any(&rows))

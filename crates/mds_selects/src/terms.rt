@@ -27,13 +27,14 @@ use mds_keeper::Unavailable;
 use mds_marks::flags::NULL;
 use mds_marks::{Mark, Quality, Reading, Reason, qualities_read_back};
 use mds_quantity::{Quantity, Unit, units_read_back};
+use mds_tables::told;
 use mds_terms::{
     Day, Event, EventRef, Length, Moment, Nmi, PrintableText, Stream, Suffix, TransCode,
 };
 use mds_world::{Head, Key};
 use sqlite::Row;
 use sqlite::types::ValueRef;
-use std::alloc::Global;
+use std::alloc::{AllocError, Global};
 
 /// The text in a column.
 pub fn text_at<'a>(row: &'a Row, at: usize) -> Option<&'a [u8]>
@@ -201,29 +202,25 @@ fn reading_ref_in<'a>(row: &'a Row) -> Option<ReadingRef<'a>>
     })
 }
 
-/// The reading that the columns of a version from its quality on are. It takes memory only for a note.
-fn reading_in(alloc: Global, row: &Row) -> Result<Reading, Unavailable>
-    ensures ok { IfOk result (λ reading. shown_reading row.now ≡ reading) }
+/// The reading that the columns of a version from its quality on are, where they read. It takes memory only for a note.
+fn reading_read(alloc: Global, row: &Row) -> Result<Option<Reading>, AllocError>
+    ensures some { IfOk result (λ read. IfSome read (λ reading. shown_reading row.now ≡ reading)) }
+    ensures none { IfOk result (λ read. IfNone read ((key : KeyValue) (reading : ReadingValue) → ¬ IsRowOfVersion row.now key reading)) }
     ensures err { OnErr result ((key : KeyValue) (reading : ReadingValue) → IsRowOfVersion row.now key reading
         → 0 < list_length reading.mark.reason.text) }
 {
     let Some(it) = reading_ref_in(row) else {
-        return Err(Unavailable);
+        return Ok(None);
     };
-    let Ok(read) = Reason::new(alloc, it.code, it.note) else {
-        return Err(Unavailable);
-    };
+    let read = Reason::new(alloc, it.code, it.note)?;
     let Some(reason) = read else {
-        return Err(Unavailable);
+        return Ok(None);
     };
     let mark = Mark {
         quality: it.quality,
         reason,
     };
-    match Reading::new(mark, it.value) {
-        Some(reading) => Ok(reading),
-        None => Err(Unavailable),
-    }
+    Ok(Reading::new(mark, it.value))
 }
 
 /// The version that a row is, of a length that it doesn't say. It takes memory only for a note.
@@ -236,10 +233,8 @@ pub(crate) fn version_in(
     ensures err { OnErr result ((key : KeyValue) (reading : ReadingValue) → IsRowOfVersion row.now key reading
         → 0 < list_length reading.mark.reason.text) }
 {
-    let Some(key) = key_in(length, row) else {
-        return Err(Unavailable);
-    };
-    let reading = reading_in(alloc, row)?;
+    let key = told(key_in(length, row))?;
+    let reading = told(reading_read(alloc, row)?)?;
     Ok((key, reading))
 }
 
@@ -318,11 +313,19 @@ pub(crate) fn event_at(alloc: Global, row: &Row) -> Result<Event, Unavailable>
     ensures err { OnErr result ((event : EventValue) → IsRowOfEvent row.now event
         → 0 < list_length event.ticket + list_length event.reading) }
 {
-    let Some(event) = event_ref_in(row) else {
-        return Err(Unavailable);
+    told(event_read(alloc, row)?)
+}
+
+/// The event that a row is, where it reads.
+fn event_read(alloc: Global, row: &Row) -> Result<Option<Event>, AllocError>
+    ensures some { IfOk result (λ read. IfSome read (λ event. event_fact (Null ∷ row.now) ≡ EventIs event)) }
+    ensures none { IfOk result (λ read. IfNone read ((event : EventValue) → ¬ IsRowOfEvent row.now event)) }
+    ensures err { OnErr result ((event : EventValue) → IsRowOfEvent row.now event
+        → 0 < list_length event.ticket + list_length event.reading) }
+{
+    let Some(it) = event_ref_in(row) else {
+        return Ok(None);
     };
-    match event.to_event(alloc) {
-        Ok(event) => Ok(event),
-        Err(_) => Err(Unavailable),
-    }
+    let event = it.to_event(alloc)?;
+    Ok(Some(event))
 }

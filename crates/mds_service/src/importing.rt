@@ -5,16 +5,18 @@ ghost use Rattle.mds_nem12.specs.Reader.{HasRead};
 ghost use Rattle.mds_records.specs.declared.file.FileKind.TheVariants as kinds;
 ghost use Rattle.mds_statements.specs.Delivered.{delivery_statements};
 ghost use Rattle.mds_service.specs.Crashes.{GoesBy};
+ghost use Rattle.mds_service.specs.Halts.{answer_of};
 ghost use Rattle.mds_service.specs.Machine.{ImportStep, TakesIn};
 
 use crate::accumulating::import_nem13;
 use crate::details::new_details;
 use crate::gathering::{Gathered, gather};
+use crate::halt::{Halt, answer_of};
 use crate::news::new_events;
 use crate::settling::settle;
-use mds_keeper::{Keeper, MergeCounts, Stop};
+use mds_keeper::{Keeper, MergeCounts};
 use mds_messages::Answer;
-use mds_nem12::{Nem12Fault, Reader, read_nem12};
+use mds_nem12::{Reader, read_nem12};
 use mds_records::FileKind;
 use mds_statements::Delivery;
 use std::alloc::Global;
@@ -25,10 +27,10 @@ pub(crate) fn import<K: Keeper>(
     keeper: &mut K,
     kind: FileKind,
     text: &[u8],
-) -> Answer
+) -> Result<Answer, Halt>
     // It is a step of the machine. A crash leaves what it left before, or the World after it. Where the answer is
     // Unavailable, it may leave the World that another answer would have made.
-    ensures { GoesBy (K.kept keeper.old) (K.kept keeper.new) (λ w. ImportStep w kind text.now) result }
+    ensures { GoesBy (K.kept keeper.old) (K.kept keeper.new) (λ w. ImportStep w kind text.now) (answer_of result) }
 {
     match kind {
         FileKind::Nem12 => import_nem12(alloc, keeper, text),
@@ -37,14 +39,11 @@ pub(crate) fn import<K: Keeper>(
 }
 
 /// Takes in the days, details and events that a NEM12 file states: all of them by one commit, or none.
-fn import_nem12<K: Keeper>(alloc: Global, keeper: &mut K, text: &[u8]) -> Answer
-    ensures { GoesBy (K.kept keeper.old) (K.kept keeper.new) (λ w. ImportStep w kinds.Nem12 text.now) result }
+fn import_nem12<K: Keeper>(alloc: Global, keeper: &mut K, text: &[u8]) -> Result<Answer, Halt>
+    ensures { GoesBy (K.kept keeper.old) (K.kept keeper.new) (λ w. ImportStep w kinds.Nem12 text.now) (answer_of result) }
 {
-    match read_nem12(alloc, text) {
-        Ok(delivery) => import_delivery(alloc, keeper, delivery),
-        Err(Nem12Fault::File(fault)) => Answer::File(fault),
-        Err(Nem12Fault::Memory) => Answer::Unavailable,
-    }
+    let delivery = read_nem12(alloc, text)?;
+    taken_in(alloc, keeper, delivery)
 }
 
 /// Ends a NEM12 file that a reader was fed, and takes in what it states: all of it by one commit, or nothing. It is the step of an
@@ -53,11 +52,16 @@ pub fn import_fed<K: Keeper>(alloc: Global, keeper: &mut K, reader: Reader) -> A
     ensures { (text : List ℕ) → HasRead text reader
         → GoesBy (K.kept keeper.old) (K.kept keeper.new) (λ w. ImportStep w kinds.Nem12 text) result }
 {
-    match reader.finish() {
-        Ok(delivery) => import_delivery(alloc, keeper, delivery),
-        Err(Nem12Fault::File(fault)) => Answer::File(fault),
-        Err(Nem12Fault::Memory) => Answer::Unavailable,
-    }
+    answer_of(finished(alloc, keeper, reader))
+}
+
+/// Ends a NEM12 file that a reader was fed, and takes in what it states.
+fn finished<K: Keeper>(alloc: Global, keeper: &mut K, reader: Reader) -> Result<Answer, Halt>
+    ensures { (text : List ℕ) → HasRead text reader
+        → GoesBy (K.kept keeper.old) (K.kept keeper.new) (λ w. ImportStep w kinds.Nem12 text) (answer_of result) }
+{
+    let delivery = reader.finish()?;
+    taken_in(alloc, keeper, delivery)
 }
 
 /// Takes in a delivery: all that it states by one commit, or nothing. Whoever reads a NEM12 file in pieces has one in the
@@ -66,41 +70,44 @@ pub fn import_fed<K: Keeper>(alloc: Global, keeper: &mut K, reader: Reader) -> A
 pub fn apply_delivery<K: Keeper>(alloc: Global, keeper: &mut K, delivery: &Delivery) -> Answer
     ensures { GoesBy (K.kept keeper.old) (K.kept keeper.new) (λ w. TakesIn w (delivery_statements delivery.now)) result }
 {
-    let copy = match delivery.try_clone() {
-        Ok(copy) => copy,
-        Err(_) => return Answer::Unavailable,
-    };
-    import_delivery(alloc, keeper, copy)
+    answer_of(copied_in(alloc, keeper, delivery))
+}
+
+/// Takes in a copy of a delivery.
+fn copied_in<K: Keeper>(alloc: Global, keeper: &mut K, delivery: &Delivery) -> Result<Answer, Halt>
+    ensures { GoesBy (K.kept keeper.old) (K.kept keeper.new) (λ w. TakesIn w (delivery_statements delivery.now)) (answer_of result) }
+{
+    let copy = delivery.try_clone()?;
+    taken_in(alloc, keeper, copy)
 }
 
 /// Takes in a delivery as `apply_delivery` does, and moves its readings.
 pub fn import_delivery<K: Keeper>(alloc: Global, keeper: &mut K, delivery: Delivery) -> Answer
     ensures { GoesBy (K.kept keeper.old) (K.kept keeper.new) (λ w. TakesIn w (delivery_statements delivery)) result }
 {
-    let gathered = match gather(alloc, keeper, delivery) {
-        Ok(gathered) => gathered,
-        Err(Stop::Refused(refusal)) => return Answer::Refused(refusal),
-        Err(Stop::Memory) => return Answer::Unavailable,
-    };
+    answer_of(taken_in(alloc, keeper, delivery))
+}
+
+/// Takes in what a delivery states: all of it by one commit, or nothing.
+fn taken_in<K: Keeper>(alloc: Global, keeper: &mut K, delivery: Delivery) -> Result<Answer, Halt>
+    ensures { GoesBy (K.kept keeper.old) (K.kept keeper.new) (λ w. TakesIn w (delivery_statements delivery)) (answer_of result) }
+{
+    let gathered = gather(alloc, keeper, delivery)?;
     let Gathered {
         merges,
         details,
         events,
     } = gathered;
-    let Ok(details) = new_details(alloc, keeper, details) else {
-        return Answer::Unavailable;
-    };
-    let Ok(events) = new_events(alloc, keeper, events) else {
-        return Answer::Unavailable;
-    };
-    let Ok((mut additions, counts)) = settle(alloc, merges) else {
-        return Answer::Unavailable;
-    };
+    let details = new_details(alloc, keeper, details)?;
+    let events = new_events(alloc, keeper, events)?;
+    let settled = settle(alloc, merges)?;
+    let (mut additions, counts) = settled;
     let MergeCounts { added, known } = counts;
     additions.details = details;
     additions.events = events;
+    // Only what was committed is acknowledged.
     match keeper.commit(additions) {
-        Ok(()) => Answer::Imported { added, known },
-        Err(_) => Answer::Unavailable,
+        Ok(()) => Ok(Answer::Imported { added, known }),
+        Err(unavailable) => Err(Halt::from(unavailable)),
     }
 }

@@ -118,9 +118,7 @@ fn open_stretch<K: Keeper>(
     if first == last {
         return Ok(());
     }
-    let Ok(books) = keeper.days(*stream, first, last) else {
-        return Err(Stop::Memory);
-    };
+    let books = keeper.days(*stream, first, last)?;
     open_days(alloc, merges, stream, first, last, books)?;
     Ok(())
 }

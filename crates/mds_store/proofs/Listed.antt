@@ -1,5 +1,5 @@
 -- What rows that a query shows say of a World.
-use Rattle.std.specs.Prelude.{◌≡◌, ◌≢◌, ◌<◌, ◌≤◌, ℕ, List, [], ◌∷◌, length, slice_index_or, Option, Some, None, codes, refl, true}
+use Rattle.std.specs.Prelude.{◌≡◌, ◌≢◌, ◌<◌, ℕ, List, [], ◌∷◌, slice_index_or, Option, Some, None, codes, refl, true}
 use Rattle.std.proofs.Common.{sym, ap, subst, inl, ◌∙◌, arith}
 use Rattle.std.specs.List.{AllPairs}
 use Rattle.std.specs.FinSet.{IsAntisymmetric, nat_cmp-IsAntisymmetric}
@@ -37,12 +37,6 @@ day_exact = nat_cmp-IsAntisymmetric
 -- days in their order ascend
 pub rising : (days : List ℕ) → AllPairs (λ a b. nat_cmp a b ≡ Less) days → AllPairs (λ a b. a < b) days
 rising days up i j d l m = ranked (slice_index_or days i d) (slice_index_or days j d) Less (sym (up i j d l m))
-
--- a list of one
-pub one_row : (rows : List Row) (row : Row) → 1 ≤ length rows → length rows < 2 → row ≡ slice_index_or rows 0 row → rows ≡ row ∷ []
-one_row [] row some few is = absurd (omega arith)
-one_row (r ∷ []) row some few is = ap (λ x. x ∷ []) (sym is)
-one_row (r ∷ t ∷ more) row some few is = absurd (omega arith)
 
 -- a row says one holiday
 pub one_holiday : (row : Row) (a b : ℕ) → SaysHoliday row a → SaysHoliday row b → a ≡ b

@@ -16,11 +16,11 @@ ghost use Rattle.mds_tables.specs.Queries.{Answers};
 ghost use Rattle.mds_tables.specs.Stores.{HoldsOf};
 ghost use Rattle.mds_store.specs.Periods.{ArePeriodsIn, IsBodyAt, IsOnlyContent, IsRowOfPeriod, SaysContent, SaysPeriod, shown_key, text_length};
 
-use crate::rows::{content_rows, period_rows};
+use crate::rows::{content_rows, only_row, period_rows};
 use mds_keeper::Unavailable;
 use mds_selects::{moment_at, str_at, stream_in, text_at};
 use mds_statements::{Period, PeriodContent, PeriodKey};
-use mds_tables::ready;
+use mds_tables::{or_unavailable, ready, told};
 use mds_terms::{PrintableString, Stream};
 use sqlite::{Alter, Connection, Row};
 use std::alloc::Global;
@@ -36,12 +36,8 @@ pub fn periods_of<S: Alter>(
     ensures { (layout : Layout) → Answers (HoldsOf layout) (state S.Store conn.old) (state S.Store conn.new) result
         (λ trees periods. ArePeriodsOf (world_with layout trees) stream.now periods.items) }
 {
-    let Ok(_) = ready(conn) else {
-        return Err(Unavailable);
-    };
-    let Ok(rows) = period_rows(conn, stream) else {
-        return Err(Unavailable);
-    };
+    or_unavailable(ready(conn))?;
+    let rows = or_unavailable(period_rows(conn, stream))?;
     all_periods(alloc, &rows)
 }
 
@@ -50,9 +46,7 @@ fn all_periods(alloc: Global, rows: &[Row]) -> Result<Vec<Period>, Unavailable>
     ensures each { IfOk result (λ periods. ArePeriodsIn rows.now periods.items) }
     ensures ascending { IfOk result (λ periods. AllPairs (λ a b. period_cmp a.key b.key ≡ Less) periods.items) }
 {
-    let Ok(periods) = read_periods(alloc, rows) else {
-        return Err(Unavailable);
-    };
+    let periods = read_periods(alloc, rows)?;
     // The query gives them in this order, and there is one row of a key.
     if do_ascend(&periods) {
         Ok(periods)
@@ -65,16 +59,10 @@ fn all_periods(alloc: Global, rows: &[Row]) -> Result<Vec<Period>, Unavailable>
 fn read_periods(alloc: Global, rows: &[Row]) -> Result<Vec<Period>, Unavailable>
     ensures { IfOk result (λ periods. ArePeriodsIn rows.now periods.items) }
 {
-    let Ok(mut periods) = Vec::with_capacity(alloc, rows.len()) else {
-        return Err(Unavailable);
-    };
+    let mut periods = Vec::with_capacity(alloc, rows.len())?;
     for i in 0..rows.len() {
-        let Ok(period) = period_in(alloc, &rows[i]) else {
-            return Err(Unavailable);
-        };
-        let Ok(_) = periods.push(period) else {
-            return Err(Unavailable);
-        };
+        let period = period_in(alloc, &rows[i])?;
+        periods.push(period)?;
     }
     Ok(periods)
 }
@@ -103,12 +91,8 @@ fn period_in(alloc: Global, row: &Row) -> Result<Period, Unavailable>
     ensures ok { IfOk result (SaysPeriod row.now) }
     ensures err { OnErr result ((period : PeriodValue) → IsRowOfPeriod row.now period → 0 < text_length period) }
 {
-    let Ok(key) = key_in(alloc, row) else {
-        return Err(Unavailable);
-    };
-    let Ok(content) = content_at(alloc, row, 6) else {
-        return Err(Unavailable);
-    };
+    let key = key_in(alloc, row)?;
+    let content = content_at(alloc, row, 6)?;
     Ok(Period { key, content })
 }
 
@@ -117,21 +101,11 @@ fn key_in(alloc: Global, row: &Row) -> Result<PeriodKey, Unavailable>
     ensures ok { IfOk result (λ key. key ≡ shown_key row.now) }
     ensures err { OnErr result ((period : PeriodValue) → IsRowOfPeriod row.now period → 0 < length period.key.register) }
 {
-    let Some(stream) = stream_in(row) else {
-        return Err(Unavailable);
-    };
-    let Some(start) = moment_at(row, 3) else {
-        return Err(Unavailable);
-    };
-    let Some(finish) = moment_at(row, 4) else {
-        return Err(Unavailable);
-    };
-    let Some(update) = moment_at(row, 5) else {
-        return Err(Unavailable);
-    };
-    let Ok(register) = register_at(alloc, row, 2) else {
-        return Err(Unavailable);
-    };
+    let stream = told(stream_in(row))?;
+    let start = told(moment_at(row, 3))?;
+    let finish = told(moment_at(row, 4))?;
+    let update = told(moment_at(row, 5))?;
+    let register = register_at(alloc, row, 2)?;
     Ok(PeriodKey {
         stream,
         register,
@@ -146,13 +120,8 @@ fn register_at(alloc: Global, row: &Row, at: usize) -> Result<PrintableString, U
     ensures ok { IfOk result (λ register. column row.now at ≡ Text register) }
     ensures err { OnErr result ((register : List ℕ) → IsTrue (is_printable register) → column row.now at ≡ Text register → 0 < length register) }
 {
-    let Some(text) = text_at(row, at) else {
-        return Err(Unavailable);
-    };
-    match PrintableString::read(alloc, text) {
-        Ok(Some(register)) => Ok(register),
-        _ => Err(Unavailable),
-    }
+    let text = told(text_at(row, at))?;
+    told(PrintableString::read(alloc, text)?)
 }
 
 /// The content that the body in a column says. An empty one takes no memory.
@@ -160,15 +129,9 @@ fn content_at(alloc: Global, row: &Row, at: usize) -> Result<PeriodContent, Unav
     ensures ok { IfOk result (SaysContent row.now at) }
     ensures err { OnErr result ((period : PeriodValue) → IsBodyAt row.now at period → 0 < length (text_of period.content)) }
 {
-    let Some(body) = str_at(row, at) else {
-        return Err(Unavailable);
-    };
-    match PeriodContent::from_body(alloc, body) {
-        Ok(Some(content)) => Ok(content),
-        // The store never writes a body of one field alone.
-        Ok(None) => Err(Unavailable),
-        Err(_) => Err(Unavailable),
-    }
+    let body = told(str_at(row, at))?;
+    // The store never writes a body of one field alone, which has no content.
+    told(PeriodContent::from_body(alloc, body)?)
 }
 
 /// What is kept of the accumulation of a key. `None` where there is none.
@@ -181,12 +144,8 @@ pub fn content_of_period<S: Alter>(
     ensures { (layout : Layout) → Answers (HoldsOf layout) (state S.Store conn.old) (state S.Store conn.new) result
         (λ trees. IsContentOf (world_with layout trees) key.now) }
 {
-    let Ok(_) = ready(conn) else {
-        return Err(Unavailable);
-    };
-    let Ok(rows) = content_rows(conn, key) else {
-        return Err(Unavailable);
-    };
+    or_unavailable(ready(conn))?;
+    let rows = or_unavailable(content_rows(conn, key))?;
     // For the proof: its moments are below 2^63.
     has_small_moments(key);
     only_content(alloc, &rows)
@@ -196,14 +155,11 @@ pub fn content_of_period<S: Alter>(
 fn only_content(alloc: Global, rows: &[Row]) -> Result<Option<PeriodContent>, Unavailable>
     ensures { IfOk result (IsOnlyContent rows.now) }
 {
-    match rows {
-        [] => Ok(None),
-        [row] => match content_at(alloc, row, 0) {
-            Ok(content) => Ok(Some(content)),
-            Err(_) => Err(Unavailable),
-        },
-        _ => Err(Unavailable),
-    }
+    let Some(row) = only_row(rows)? else {
+        return Ok(None);
+    };
+    let content = content_at(alloc, row, 0)?;
+    Ok(Some(content))
 }
 
 /// The moments of a key are far below the greatest number that a column can hold. The function does nothing.

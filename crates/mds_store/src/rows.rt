@@ -1,6 +1,6 @@
 //! The queries, and the rows that they answer, whatever tables stand behind those that every schema has.
 
-ghost use Rattle.std.specs.Prelude.{[], ◌∷◌};
+ghost use Rattle.std.specs.Prelude.{◌≡◌, ◌<◌, [], ◌∷◌, IfOk, MatchOption, OnErr, length};
 ghost use Rattle.sqlite.specs.Held.{state};
 ghost use Rattle.sqlite.specs.declared.types.Value.TheVariants.{Text};
 ghost use Rattle.mds_tables.specs.Cells as row;
@@ -10,6 +10,7 @@ ghost use Rattle.mds_tables.specs.Stores.{Selects};
 ghost use Rattle.mds_tables.specs.Tables.{holiday_day, holiday_tree, job_body, job_total, job_tree, period_body, period_columns, period_tree};
 
 use mds_jobs::JobId;
+use mds_keeper::Unavailable;
 use mds_statements::PeriodKey;
 use mds_tables::{id_cells, period_key_cells, stream_cells};
 use mds_terms::Stream;
@@ -56,4 +57,16 @@ pub(crate) fn content_rows<S: Alter>(
         "SELECT body FROM mds_period WHERE nmi = ?1 AND suffix = ?2 AND register = ?3 AND start = ?4 AND finish = ?5 AND moment = ?6",
         &period_key_cells(key),
     )
+}
+
+/// The one row among rows. `None` where there is none. No key has two rows.
+pub(crate) fn only_row<'a>(rows: &'a [Row]) -> Result<Option<&'a Row>, Unavailable>
+    ensures ok { IfOk result (λ only. MatchOption only (rows.now ≡ []) (λ row. rows.now ≡ row.now ∷ [])) }
+    ensures err { OnErr result (1 < length rows.now) }
+{
+    match rows {
+        [] => Ok(None),
+        [row] => Ok(Some(row)),
+        _ => Err(Unavailable),
+    }
 }

@@ -3,6 +3,7 @@
 ghost use Rattle.std.specs.Prelude.{◌≡◌, ◌≢◌};
 ghost use Rattle.std.specs.Bool.{MatchBool};
 ghost use Rattle.mds_tables.specs.Tables.{no_schema};
+ghost use Rattle.mds_store.specs.declared.starting.StoreFault.TheVariants.{Unavailable};
 
 use sqlite::Error;
 use sqlite_schema::schema::Schema;
@@ -19,6 +20,14 @@ pub enum StoreFault {
     EarlierSchema,
     /// The database isn't a store (U3). Where a store was to be made, it isn't empty (U3).
     OtherSchema,
+}
+
+impl From<Error> for StoreFault {
+    ghost from_gives = { λ error fault. fault ≡ Unavailable error };
+
+    fn from(error: Error) -> StoreFault {
+        StoreFault::Unavailable(error)
+    }
 }
 
 /// Whether a database has nothing in it. In any other no store is made (U3).

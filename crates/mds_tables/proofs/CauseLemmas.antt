@@ -18,10 +18,9 @@ use Rattle.sqlite_resolve.specs.declared.error.CompileError.{CompileError}
 use Rattle.sqlite_schema.specs.declared.command.Returning.{Returning}
 use Rattle.sqlite_trees.specs.declared.error.StoreError.{StoreError}
 use Rattle.sqlite_trees.specs.declared.error.StoreError.TheVariants.{OutOfMemory, Io, Corrupt, Full, Broken, Unstorable}
-use Rattle.mds_tables.specs.Causes.{HasFailed, IsBehind, RanOut, StoreFails}
+use Rattle.mds_tables.specs.Causes.{HasFailed, IsBehind, StoreFails}
 
 behind : (old new : State) (TooBig : Type 0) (e : StoreError) → HasCause old new TooBig e → IsBehind old new TooBig e
-unfolding RanOut
 behind old new TooBig OutOfMemory h = tt
 behind old new TooBig Io h = h
 behind old new TooBig Corrupt h = h

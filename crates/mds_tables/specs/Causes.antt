@@ -7,15 +7,10 @@ use Rattle.sqlite.specs.State.{HasCause, State, store_error}
 use Rattle.sqlite_trees.specs.declared.error.StoreError.{StoreError}
 use Rattle.sqlite_trees.specs.declared.error.StoreError.TheVariants.{OutOfMemory}
 
--- Memory ran out in a call of the library. No state shows it, so nothing but the library's word that its call failed so
--- gives it, and it is kept closed.
-unfoldable pub RanOut : Type 0
-RanOut = ⊤
-
--- What stands behind a failure of the store between two moments. Memory ran out, the disk failed or refused, the store
--- was shut before, or something is too big to be kept.
+-- What stands behind a failure of the store between two moments. The disk failed or refused, the store was shut before, or
+-- something is too big to be kept. No state shows that memory ran out, so of that failure nothing is asked.
 abbrev pub IsBehind : State → State → Type 0 → StoreError → Type 0
-IsBehind old new too_big OutOfMemory = RanOut
+IsBehind old new too_big OutOfMemory = ⊤
 IsBehind old new too_big cause = HasCause old new too_big cause
 
 -- the store failed, with its error, and with a cause

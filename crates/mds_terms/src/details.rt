@@ -1,6 +1,6 @@
 //! What is known of a meter.
 
-ghost use Rattle.std.specs.Prelude.{◌≡◌, ◌<◌, ◌+◌, ◌↔◌, ℕ, List, [], ◌∷◌, length, IsTrue, true, IfOk, OnOk, OnErr, Some, string_bytes, string_capacity, string_len, refl};
+ghost use Rattle.std.specs.Prelude.{◌≡◌, ◌<◌, ◌+◌, ◌↔◌, ℕ, List, [], ◌∷◌, length, IsTrue, true, IfOk, IsSome, OnOk, OnErr, Some, string_bytes, string_capacity, string_len, refl};
 ghost use Rattle.std.specs.Cmp.{eq_by_cmp_equiv, partial_equiv_from_equiv, partial_order_from_total};
 ghost use Rattle.std.specs.List.{slice_split, list_all};
 ghost use Rattle.std.specs.Ordering.{as_partial_cmp, eq_by_cmp};
@@ -53,8 +53,8 @@ impl Model for Details {
 
 impl Details {
     /// Reads details from five texts, each empty where it is absent: four printable ones and a day (CCYYMMDD). `None`
-    /// where one of them isn't what it has to be. It fails only where memory is refused: never where the first four are
-    /// empty.
+    /// where one of them isn't what it has to be. It takes memory only for details with a text: never where the first
+    /// four are empty.
     pub fn read(
         alloc: Global,
         configuration: &[u8],
@@ -67,6 +67,8 @@ impl Details {
             ≡ details_of configuration.now register.now datastream.now meter.now next.now) }
         ensures full { OnErr result (0 < length configuration.now + length register.now + length datastream.now
             + length meter.now) }
+        ensures reads { OnErr result
+            (IsSome (details_of configuration.now register.now datastream.now meter.now next.now)) }
     {
         match DetailsRef::read(configuration, register, datastream, meter, next) {
             Some(details) => Ok(Some(details.to_details(alloc)?)),

@@ -1,6 +1,6 @@
 //! What happened to a stream on a day.
 
-ghost use Rattle.std.specs.Prelude.{◌≡◌, ◌<◌, ◌+◌, ◌↔◌, ℕ, List, [], ◌∷◌, length, IsTrue, true, IfOk, OnOk, OnErr, Some, string_bytes, string_capacity, string_len, refl};
+ghost use Rattle.std.specs.Prelude.{◌≡◌, ◌<◌, ◌+◌, ◌↔◌, ℕ, List, [], ◌∷◌, length, IsTrue, true, IfOk, IsSome, OnOk, OnErr, Some, string_bytes, string_capacity, string_len, refl};
 ghost use Rattle.std.specs.Cmp.{eq_by_cmp_equiv, partial_equiv_from_equiv, partial_order_from_total};
 ghost use Rattle.std.specs.List.{slice_split};
 ghost use Rattle.std.specs.Ordering.{as_partial_cmp, eq_by_cmp};
@@ -64,8 +64,8 @@ impl Model for Event {
 impl Event {
     /// Reads an event from seven texts. The first three are an NMI, a suffix and a day (CCYYMMDD). The others are a
     /// capital letter, a printable text, a moment (CCYYMMDDhhmmss) and a printable text, each empty where it is absent.
-    /// `None` where one of them isn't what it has to be. It fails only where memory is refused: never where the service
-    /// order and the index read are empty.
+    /// `None` where one of them isn't what it has to be. It takes memory only for an event with a text: never where the
+    /// service order and the index read are empty.
     pub fn read(
         alloc: Global,
         nmi: &[u8],
@@ -79,6 +79,8 @@ impl Event {
         ensures value { IfOk result (λ event. event
             ≡ event_of nmi.now suffix.now day.now trans.now ticket.now moment.now reading.now) }
         ensures full { OnErr result (0 < length ticket.now + length reading.now) }
+        ensures reads { OnErr result
+            (IsSome (event_of nmi.now suffix.now day.now trans.now ticket.now moment.now reading.now)) }
     {
         match EventRef::read(nmi, suffix, day, trans, ticket, moment, reading) {
             Some(event) => Ok(Some(event.to_event(alloc)?)),

@@ -32,12 +32,13 @@ impl Model for PrintableString {
 }
 
 impl PrintableString {
-    /// The printable text of these bytes, or `None` where they are none. It fails only where memory is refused: never where the
-    /// text is empty.
+    /// The printable text of these bytes, or `None` where they are none. It takes memory only for a printable text that isn't
+    /// empty.
     pub fn read(alloc: Global, text: &[u8]) -> Result<Option<PrintableString>, AllocError>
         ensures accepted { IfOk result (λ read. is_some read ≡ is_printable text.now) }
         ensures value { IfOk result (λ read. IfSome read (λ own. own ≡ text.now)) }
         ensures full { OnErr result (0 < length text.now) }
+        ensures reads { OnErr result (is_printable text.now ≡ true) }
     {
         match PrintableText::read(text) {
             Some(printable) => Ok(Some(PrintableString::of(alloc, &printable)?)),

@@ -2,7 +2,7 @@
 
 use crate::failing::Failing;
 use mds_lines::Counted;
-use mds_wire::{Handler, Kind, Method, Route, Routes, Status, Unavailable, WireFault, serve_one};
+use mds_wire::{Handler, Kind, Route, Routes, Status, Unavailable, WireFault, serve_one};
 use std::alloc::Global;
 use std::io::{Read, Write};
 use std::test::Fail;
@@ -55,7 +55,7 @@ const NO_ROUTE: Talk = Talk {
 const OTHER_METHOD: Talk = Talk {
     sent: b"GET /v1/imports HTTP/1.1\r\nHost: x\r\n\r\n, and more",
     size: 37,
-    status: Status::MethodNotAllowed(Method::Post),
+    status: Status::MethodNotAllowed(Route::Imports),
     answer: b"HTTP/1.1 405 Method Not Allowed\r\nContent-Type: application/json\r\nContent-Length: 15\r\n\
         Connection: close\r\nAllow: POST\r\n\r\n{\"error\":\"405\"}",
     again: b"{\"error\":\"405\"}",
@@ -112,9 +112,9 @@ impl Handler for Asked {
 
     ghost same = { λ old new. new ≡ old };
 
-    ghost takes_memory = { λ _ _ _. ⊤ };
+    ghost takes_memory = { λ _ _ _ _ _. ⊤ };
 
-    ghost holds = { λ body _ _ bytes. body.items ≡ bytes };
+    ghost holds = { λ body _ _ _ bytes. body.items ≡ bytes };
 
     fn begin(&self, alloc: Global, _: Route, _: &[u8], _: usize) -> Result<Vec<u8>, Unavailable> {
         Ok(Vec::new(alloc))

@@ -24,15 +24,16 @@ mod stops;
 
 use crate::pieces::{Cutter, hold_files};
 use crate::stops::stop_in_turn;
-use mds_answers::{list_json, short_json};
+use mds::records::FileKind;
+use mds::service::{Answer, Request, apply, run};
+use mds::terms::{Day, Stream};
+use mds::versions::MemoryKeeper;
+use mds_answers::answer_json;
 use mds_arguments::{ExportArguments, export_request};
-use mds_http::{StoreHandler, listen, serve_connections};
+use mds_http::{Ended, Log, StoreHandler, serve_connections};
 use mds_laws::a_file_comes_in_pieces;
-use mds_memory::MemoryKeeper;
 use mds_nem12::read_nem12;
-use mds_records::FileKind;
-use mds_service::{Answer, Request, apply, apply_delivery, run};
-use mds_terms::{Day, Stream};
+use mds_service::apply_delivery;
 use mds_wire::Routes;
 use std::alloc::{AllocError, Global};
 use std::io::Write;
@@ -126,10 +127,7 @@ fn print_answer(rt: &HostRuntime, answer: &Answer) -> io::Result<()> {
     let mut text = Vec::new(rt.alloc());
     match answer {
         Answer::Gaps(_) | Answer::Finals(_) | Answer::Exported(_) => (),
-        Answer::Day(_) | Answer::Versions(_) | Answer::Period(_) | Answer::Streams(_) => {
-            text = list_json(rt.alloc(), answer)?;
-        }
-        _ => short_json(answer, &mut text)?,
+        _ => answer_json(rt.alloc(), answer, &mut text)?,
     }
     text.push(b'\n')?;
     io::writer(rt).write_all(&text)
@@ -165,12 +163,11 @@ fn serve(rt: &HostRuntime, port: &str, count: &str) -> io::Result<bool> {
         return usage(rt);
     };
     let routes = Routes::new(rt.alloc())?;
-    let listener = listen(rt, port)?;
     let mut handler = StoreHandler {
         keeper: MemoryKeeper::new(rt.alloc()),
     };
-    serve_connections(rt, &routes, &mut handler, &listener, count);
-    Ok(true)
+    let ended = serve_connections(rt, &routes, &mut handler, port, count, Log::Nowhere);
+    Ok(ended == Ended::Counted)
 }
 
 /// Reads all that a file states, and prints how fast.

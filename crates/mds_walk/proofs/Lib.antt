@@ -4,7 +4,6 @@ pub mod Faultless
 pub mod Longer
 pub mod Numbered
 pub mod Parts
-pub mod Seeks
 pub mod Sources
 pub mod Steps
 pub mod Stops

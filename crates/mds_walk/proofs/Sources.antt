@@ -1,5 +1,5 @@
 -- A source that is fed, block by block.
-use Rattle.std.proofs.Common.{◌≡◌, ℕ, ◌+◌, ◌*◌, ◌≤◌, ◌<◌, Bool, false, ◌==◌, inl, inr, List, [], ◌∷◌, ◌++◌, length, take, Option, Some, None, IfSome, Result, Ok, Err, refl, sym, ◌∙◌, ap, subst, arith, length-append, append_assoc}
+use Rattle.std.proofs.Common.{◌≡◌, ℕ, ◌+◌, ◌*◌, ◌≤◌, ◌<◌, ◌≢◌, Bool, false, ◌==◌, inl, inr, List, [], ◌∷◌, ◌++◌, length, take, Option, Some, None, IfSome, Result, Ok, Err, refl, sym, ◌∙◌, ap, subst, arith, length-append, append_assoc}
 use Rattle.std.specs.Io.KnownBytes.{Consumes}
 use Rattle.std.proofs.lemmas.Bool.Decides.{nat_tests}
 use Rattle.std.proofs.lemmas.List.{append-nil, length-take-le}
@@ -15,10 +15,10 @@ use Rattle.mds_walk.specs.declared.fault.ReadFault.{ReadFault}
 use Rattle.mds_walk.specs.declared.fault.ReadFault.TheVariants as read
 use Rattle.mds_walk.specs.declared.fault.TakeFault.{TakeFault}
 use Rattle.mds_walk.specs.declared.fault.TakeFault.TheVariants.{File, Memory}
-use Rattle.mds_walk.specs.Feeding.{WasFed}
-use Rattle.mds_walk.specs.SoFar.{fault_so_far}
+use Rattle.mds_walk.specs.Feeding.{MayLackFor, MayLackHere, WasFed}
+use Rattle.mds_walk.specs.SoFar.{fault_so_far, open_piece}
 use Rattle.mds_walk.specs.FileSteps.{read_fault_of}
-use Rattle.mds_walk.specs.Given.{AreCallsNeeded, IsOfGiven}
+use Rattle.mds_walk.specs.Given.{AreCallsNeeded, IsOfGiven, MayLackGiven}
 use Rattle.mds_walk.specs.declared.feeder.LineFeeder.{LineFeeder}
 use Rattle.mds_walk.proofs.Bounds.{so_far_few}
 use Rattle.mds_walk.proofs.Stops.{fault_of_all}
@@ -29,6 +29,11 @@ pub record HasGiven {S : Type 0} (gives : S → List ℕ → S → Type 0) (foun
   pub needed : (more : List (List ℕ)) → AreCallsNeeded found bytes false more → AreCallsNeeded found [] false (given ++ more)
   pub reads : (more : List (List ℕ)) (last : S) → Reads gives now more last → Reads gives begin (given ++ more) last
   pub all : concat given ≡ bytes
+
+-- what they brought with one more
+pub brought_all : (before : List (List ℕ)) (more fed : List ℕ) → concat before ≡ fed → concat (before ++ more ∷ []) ≡ fed ++ more
+brought_all before more fed e =
+    concat-append before (more ∷ []) ∙ ap (λ t. concat before ++ t) (append-nil more) ∙ ap (λ t. t ++ more) e
 
 given_size : (given : List (List ℕ)) (more : List ℕ) → length (concat (given ++ more ∷ [])) ≡ length (concat given) + length more
 given_size given more =
@@ -41,6 +46,7 @@ pub record IsReading {T : Type 0} {S : Type 0} (gives : S → List ℕ → S →
   pub few : count ≤ 16_385_016_384
   pub none : fault_so_far judge fed ≡ None
   pub was : WasFed judge taken fed feeder
+  pub unrefused : feeder.walk.fault ≡ None
   pub consumed : Consumes first now fed
   pub given : HasGiven gives (fault_so_far judge) begin here fed
 
@@ -49,14 +55,15 @@ consumes_none None = tt
 consumes_none (Some xs) = refl
 
 module _ {T : Type 0} {S : Type 0} {gives : S → List ℕ → S → Type 0} {begin : S} {judge : Judge} {taken : T → List (List ℕ) → Type 0} {first : Option (List ℕ)} where
-  pub reading_none : (feeder : LineFeeder T) → fault_so_far judge [] ≡ None → WasFed judge taken [] feeder
+  pub reading_none : (feeder : LineFeeder T) → fault_so_far judge [] ≡ None → WasFed judge taken [] feeder → feeder.walk.fault ≡ None
       → IsReading gives begin begin judge taken first first 0 feeder
-  reading_none feeder none was = record {
+  reading_none feeder none was unrefused = record {
     fed = [];
     many = refl;
     few = omega arith;
     none = none;
     was = was;
+    unrefused = unrefused;
     consumed = consumes_none first;
     given = record { given = []; needed = λ more n. n; reads = λ more last r. r; all = refl };
   }
@@ -66,8 +73,9 @@ module _ {T : Type 0} {S : Type 0} {gives : S → List ℕ → S → Type 0} {be
       → IsReading gives begin here judge taken first b count old → size ≡ length piece → 0 < size → Consumes b c piece → gives here piece next
       → ((text : List ℕ) → WasFed judge taken text old → WasFed judge taken (text ++ piece) new)
       → ((text : List ℕ) → WasFed judge taken text old → fault_so_far judge (text ++ piece) ≡ None)
+      → ((text : List ℕ) → WasFed judge taken text old → new.walk.fault ≡ None)
       → IsReading gives begin next judge taken first c (count + size) new
-  reading_more {here = here} {next = next} {b = b} {c = c} {count = count} {size = size} {piece = piece} i e least consumed gave fed none =
+  reading_more {here = here} {next = next} {b = b} {c = c} {count = count} {size = size} {piece = piece} i e least consumed gave fed none stays =
       let found = none i.fed i.was in
       let some : (length piece == 0) ≡ false = grind (arith, nat_tests) in
       let all = length-append i.fed piece in
@@ -79,6 +87,7 @@ module _ {T : Type 0} {S : Type 0} {gives : S → List ℕ → S → Type 0} {be
         few = omega arith;
         none = found;
         was = fed i.fed i.was;
+        unrefused = stays i.fed i.was;
         consumed = consumes_both first b c i.fed piece i.consumed consumed;
         given = record {
           given = i.given.given ++ piece ∷ [];
@@ -86,7 +95,7 @@ module _ {T : Type 0} {S : Type 0} {gives : S → List ℕ → S → Type 0} {be
               (i.given.needed (piece ∷ more) (i.none, refl, subst (λ (b : Bool). AreCallsNeeded (fault_so_far judge) (i.fed ++ piece) b more) (sym some) n));
           reads = λ more last r. subst (λ (t : List (List ℕ)). Reads gives begin t last) (sym (append_assoc i.given.given (piece ∷ []) more))
               (i.given.reads (piece ∷ more) last (next, gave, r));
-          all = concat-append i.given.given (piece ∷ []) ∙ ap (λ t. concat i.given.given ++ t) (append-nil piece) ∙ ap (λ t. t ++ piece) i.given.all;
+          all = brought_all i.given.given piece i.fed i.given.all;
         };
       }
 
@@ -107,42 +116,48 @@ module _ {T : Type 0} {S : Type 0} {gives : S → List ℕ → S → Type 0} {be
   -- however it ends, few bytes were read, and all that was brought is what was fed and this
   pub brought : {here last : S} {b : Option (List ℕ)} {count : ℕ} {old : LineFeeder T} (more : List ℕ) (Says : List (List ℕ) → Type 0)
       (i : IsReading gives begin here judge taken first b count old) → gives here more last → length more ≤ 114_688
-      → ((before : List (List ℕ)) → concat (before ++ more ∷ []) ≡ i.fed ++ more → Says (before ++ more ∷ []))
+      → ((before : List (List ℕ)) → concat before ≡ i.fed → Says (before ++ more ∷ []))
       → (given : List (List ℕ)) × Reads gives begin given last × (length (concat given) ≤ most_lines * (longest_line + 1) + block)
       × AreCallsNeeded (fault_so_far judge) [] false given × Says given
   brought {last = last} more Says i gave short says =
       let before = i.given.given in
-      let all : concat (before ++ more ∷ []) ≡ i.fed ++ more =
-      concat-append before (more ∷ []) ∙ ap (λ t. concat before ++ t) (append-nil more) ∙ ap (λ t. t ++ more) i.given.all in
       let size = ap length i.given.all in
       let sum = given_size before more in
       let bound : length (concat (before ++ more ∷ [])) ≤ 16_385_131_072 = omega (arith, i.many, i.few) in
-      (before ++ more ∷ [], i.given.reads (more ∷ []) last (last, gave, refl), bound, i.given.needed (more ∷ []) (i.none, refl, tt), says before all)
+      (before ++ more ∷ [], i.given.reads (more ∷ []) last (last, gave, refl), bound, i.given.needed (more ∷ []) (i.none, refl, tt), says before i.given.all)
 
 -- what a whole text ends in
-abbrev pub IsEndOf : {U : Type 0} → (U → List ℕ → Type 0) → Judge → List ℕ → Result U ReadFault → Type 0
-IsEndOf Makes judge text (Ok out) = (fault_of judge text ≡ None) × Makes out text
-IsEndOf Makes judge text (Err (read.File fault)) = fault_of judge text ≡ Some fault
-IsEndOf Makes judge text (Err reason) = Unit {0}
+abbrev pub IsEndOf : {U : Type 0} → (U → List ℕ → Type 0) → Judge → (List (List ℕ) → List ℕ → Option FileFault → Type 0) → List ℕ
+    → Result U ReadFault → Type 0
+IsEndOf Makes judge may_lack text (Ok out) = (fault_of judge text ≡ None) × Makes out text
+IsEndOf Makes judge may_lack text (Err (read.File fault)) = fault_of judge text ≡ Some fault
+IsEndOf Makes judge may_lack text (Err read.Read) = Unit {0}
+IsEndOf Makes judge may_lack text (Err read.Memory) = (open_piece text ≢ []) × MayLackHere may_lack judge text
 
-module _ {U : Type 0} (Makes : U → List ℕ → Type 0) (judge : Judge) where
-  pub end_refused : (text : List ℕ) (answer : TakeFault) → IsRefusal (fault_of judge text) answer → IsEndOf Makes judge text (Err (read_fault_of answer))
-  end_refused text (File fault) h = h
-  end_refused text Memory h = tt
+module _ {U : Type 0} (Makes : U → List ℕ → Type 0) (judge : Judge) (may_lack : List (List ℕ) → List ℕ → Option FileFault → Type 0) where
+  pub end_refused : (text : List ℕ) (answer : TakeFault) → IsRefusal (fault_of judge text) answer
+      → (answer ≡ Memory → (open_piece text ≢ []) × MayLackHere may_lack judge text)
+      → IsEndOf Makes judge may_lack text (Err (read_fault_of answer))
+  end_refused text (File fault) h lack = h
+  end_refused text Memory h lack = lack refl
 
   -- the last call met the end
-  pub of_whole : (before : List (List ℕ)) (text : List ℕ) (r : Result U ReadFault) → concat (before ++ [] ∷ []) ≡ text → IsEndOf Makes judge text r
-      → IsOfGiven Makes (fault_of judge) (before ++ [] ∷ []) r
+  pub of_whole : (before : List (List ℕ)) (text : List ℕ) (r : Result U ReadFault) → concat (before ++ [] ∷ []) ≡ text → IsEndOf Makes judge may_lack text r
+      → IsOfGiven Makes (fault_of judge) (MayLackGiven may_lack judge) (before ++ [] ∷ []) r
   of_whole before text (Ok out) all h = ((before, refl), ap (fault_of judge) all ∙ h.0, subst (Makes out) (sym all) h.1)
   of_whole before text (Err (read.File fault)) all h = inl ((before, refl), ap (fault_of judge) all ∙ h)
   of_whole before text (Err read.Read) all h = tt
-  of_whole before text (Err read.Memory) all h = tt
+  of_whole before text (Err read.Memory) all h =
+      let lack = subst (λ (t : List ℕ). (open_piece t ≢ []) × MayLackHere may_lack judge t) (sym all) h in inr ((before, refl), lack.0, lack.1)
 
   -- what the last call brought was refused
-  pub of_front : (given : List (List ℕ)) (text : List ℕ) (answer : TakeFault) → concat given ≡ text → IsRefusal (fault_so_far judge text) answer
-      → IsOfGiven Makes (fault_of judge) given (Err (read_fault_of answer))
-  of_front given text (File fault) all h = inr (λ more. ap (λ t. fault_of judge (t ++ more)) all ∙ fault_of_all judge text more fault h)
-  of_front given text Memory all h = tt
+  pub of_front : (before : List (List ℕ)) (fed piece : List ℕ) (answer : TakeFault) → concat before ≡ fed
+      → IsRefusal (fault_so_far judge (fed ++ piece)) answer → (answer ≡ Memory → MayLackFor may_lack judge fed piece)
+      → IsOfGiven Makes (fault_of judge) (MayLackGiven may_lack judge) (before ++ piece ∷ []) (Err (read_fault_of answer))
+  of_front before fed piece (File fault) e h lack = inr (λ more.
+      ap (λ t. fault_of judge (t ++ more)) (brought_all before piece fed e) ∙ fault_of_all judge (fed ++ piece) more fault h)
+  of_front before fed piece Memory e h lack =
+      inl (before, piece, refl, subst (λ (t : List ℕ). MayLackFor may_lack judge t piece) (sym e) (lack refl))
 
 -- a piece as it lies in the buffer
 pub same_piece : (a b : Option (List ℕ)) (size : ℕ) (xs ys : List ℕ) → xs ≡ ys → Consumes a b (take size ys) → Consumes a b (take size xs)

@@ -5,7 +5,8 @@ use Rattle.std.proofs.lemmas.List.{append-nil, length-map, length_push, nil_from
 use Rattle.std.proofs.lemmas.List.Elements.{All-nil, All-same}
 use Rattle.memchr.specs.Find.{IsFirstByte, is_byte}
 use Rattle.mds_lines.specs.Lines.{line_feed, line_pieces, line_text, longest_line}
-use Rattle.mds_walk.proofs.Seeks.{IsFound, around, seen_all, seen_found}
+use Rattle.mds_lines.proofs.Lefts.{around}
+use Rattle.mds_lines.proofs.Seeks.{IsFound, seen_all, seen_found}
 use Rattle.mds_records.specs.declared.file.FaultCode.TheVariants as code
 use Rattle.mds_records.specs.declared.file.FileFault.{FileFault}
 use Rattle.mds_walk.specs.Answers.{HasWalked, IsEndFault, IsRefusal}
@@ -14,7 +15,7 @@ use Rattle.mds_walk.specs.declared.fault.TakeFault.{TakeFault}
 use Rattle.mds_walk.specs.declared.fault.TakeFault.TheVariants.{File, Memory}
 use Rattle.mds_walk.specs.declared.walk.Walk.{Walk}
 use Rattle.mds_walk.proofs.Faultless.{Faultless, fault_ends, faultless_none, faultless_push}
-use Rattle.mds_walk.specs.Feeding.{HasFed, MayLackFor, MayLackHere, WasFed}
+use Rattle.mds_walk.specs.Feeding.{HasFed, MayLackFor, MayLackForOne, MayLackHere, WasFed}
 use Rattle.mds_walk.specs.SoFar.{fault_so_far, open_piece, whole_pieces}
 use Rattle.mds_walk.specs.declared.feeder.LineFeeder.{LineFeeder}
 use Rattle.mds_walk.proofs.Parts.{ended, pieces_ended, pieces_whole, parts_line, parts_none, parts_open}
@@ -50,6 +51,11 @@ pub first_piece : (pieces : List (Bor (List ℕ))) (default : Bor (List ℕ)) �
     ≡ (get_or pieces 0 default).now ++ concat (map (λ piece. piece.now) (take (length pieces - 1) (drop 1 pieces)))
 first_piece [] default some = absurd (omega arith)
 first_piece (x ∷ xs) default some = ap (λ t. x.now ++ concat (map (λ piece. piece.now) t)) (sym (take_all _ xs (omega arith)))
+
+pub first_pieces : (pieces : List (Bor (List ℕ))) (default : Bor (List ℕ)) → 1 ≤ length pieces
+    → map (λ piece. piece.now) pieces ≡ (get_or pieces 0 default).now ∷ map (λ piece. piece.now) (take (length pieces - 1) (drop 1 pieces))
+first_pieces [] default some = absurd (omega arith)
+first_pieces (x ∷ xs) default some = ap (λ t. x.now ∷ map (λ piece. piece.now) t) (sym (take_all _ xs (omega arith)))
 
 -- an empty text has none
 pub nothing_none : (judge : Judge) → fault_so_far judge [] ≡ None
@@ -216,14 +222,17 @@ module _ {T : Type 0} {judge : Judge} {taken : T → List (List ℕ) → Type 0}
   -- for the line in hand and these bytes
   pub line_wanting : (old : LineFeeder T) (text front piece : List ℕ)
       → ((before : List (List ℕ)) → HasWalked taken old.walk before → old.lines ≡ length before → Wanting
-      → may_lack before (line_text piece) (text_fault judge before (line_text piece)))
+      → (length piece ≤ longest_line) × may_lack before (line_text piece) (text_fault judge before (line_text piece)))
       → HasFed judge taken text old → All (λ x. x ≢ 10) front → piece ≡ open_piece text ++ front → Wanting → MayLackHere may_lack judge (text ++ front)
   line_wanting old text front piece lacks h apart is wanting =
       let p = parts_open text front apart in
       let Lacks : List (List ℕ) → List ℕ → Type 0 = λ pieces last. may_lack (map line_text pieces) (line_text last) (text_fault judge (map line_text pieces) (line_text last)) in
-      subst (λ (pieces : List (List ℕ)). Lacks pieces (open_piece (text ++ front))) (sym p.whole)
-      (subst (Lacks (whole_pieces text)) (is ∙ sym p.open_is)
-      (lacks (map line_text (whole_pieces text)) h.walked (h.lines ∙ sym (length-map (whole_pieces text) line_text)) wanting))
+      let sound = none_found judge text h.none in
+      let lack = lacks (map line_text (whole_pieces text)) h.walked (h.lines ∙ sym (length-map (whole_pieces text) line_text)) wanting in (
+        so_far_none judge (text ++ front) (subst (Faultless judge) (sym p.whole) sound.faultless) (omega (arith, lack.0, ap length (is ∙ sym p.open_is))),
+        subst (λ (pieces : List (List ℕ)). Lacks pieces (open_piece (text ++ front))) (sym p.whole)
+            (subst (Lacks (whole_pieces text)) (is ∙ sym p.open_is) lack.1),
+      )
 
   -- for a line that ends in a piece
   pub feeding_wanting : (piece : List ℕ) (first : LineFeeder T) (left front behind : List ℕ) (old : LineFeeder T)
@@ -242,7 +251,7 @@ module _ {T : Type 0} {judge : Judge} {taken : T → List (List ℕ) → Type 0}
       ) where
         at : (i.fed ≡ []) ⊎ ((before : List ℕ) × (i.fed ≡ before ++ line_feed ∷ []))
             → (open_piece (text ++ i.fed) ≢ []) ⊎ MayLackHere may_lack judge ((text ++ i.fed) ++ front)
-            → (open_piece text ≢ []) ⊎ (open_piece (text ++ piece) ≢ [])
+            → (open_piece text ≢ []) ⊎ ((open_piece (text ++ piece) ≢ []) × (fault_so_far judge (text ++ piece) ≡ None))
             ⊎ ((front : List ℕ) × (behind : List ℕ) × (piece ≡ (front ++ line_feed ∷ []) ++ behind) × MayLackHere may_lack judge (text ++ front))
         at ends (inr here) = inr (inr (
           i.fed ++ front,
@@ -256,17 +265,52 @@ module _ {T : Type 0} {judge : Judge} {taken : T → List (List ℕ) → Type 0}
 
   -- for the one that a piece doesn't end
   pub keeping_wanting : (piece : List ℕ) (first : LineFeeder T) (left : List ℕ) (old : LineFeeder T)
-      → IsFeeding judge taken piece left first old → All (λ x. x ≢ 10) left → (Wanting → left ≢ [])
+      → IsFeeding judge taken piece left first old → All (λ x. x ≢ 10) left → (Wanting → (left ≢ []) × (length old.rest.items + length left ≤ longest_line))
       → (text : List ℕ) → HasFed judge taken text first → Wanting → MayLackFor may_lack judge text piece
   keeping_wanting piece first left old i apart lacks text h wanting =
       let some = lacks wanting in
       let p = parts_open (text ++ i.fed) left apart in
-      let open_is : open_piece (text ++ piece) ≡ open_piece (text ++ i.fed) ++ left =
-      ap open_piece (ap (λ t. text ++ t) i.is ∙ sym (append_assoc text i.fed left)) ∙ p.open_is in
+      let all : text ++ piece ≡ (text ++ i.fed) ++ left = ap (λ t. text ++ t) i.is ∙ sym (append_assoc text i.fed left) in
+      let open_is : open_piece (text ++ piece) ≡ open_piece (text ++ i.fed) ++ left = ap open_piece all ∙ p.open_is in
+      let had = i.has text h in
+      let sound = none_found judge (text ++ i.fed) had.none in
       let sum = length-append (open_piece (text ++ i.fed)) left in
       let whole = length-append i.fed left in (
-        λ none. some (nil_from_length left (omega (arith, whole, ap length none, ap length i.is))),
-        inr (inl (λ none. some (nil_from_length left (omega (arith, sum, ap length none, ap length open_is))))),
+        λ none. some.0 (nil_from_length left (omega (arith, whole, ap length none, ap length i.is))),
+        inr (inl (
+          λ none. some.0 (nil_from_length left (omega (arith, sum, ap length none, ap length open_is))),
+          ap (fault_so_far judge) all
+              ∙ so_far_none judge ((text ++ i.fed) ++ left) (subst (Faultless judge) (sym p.whole) sound.faultless)
+              (omega (arith, some.1, sum, ap length p.open_is, ap length had.rest)),
+        )),
+      )
+
+-- for a last line without its line feed, where a whole text was fed at once
+pub lack_alone : (may_lack : List (List ℕ) → List ℕ → Option FileFault → Type 0) (judge : Judge) (text : List ℕ)
+    → (open_piece text ≢ []) × MayLackHere may_lack judge text → MayLackFor may_lack judge [] text
+lack_alone may_lack judge text it = let p = parts_none in (λ none. it.0 (ap open_piece none ∙ p.open_is), inr (inl (it.0, it.1.0)))
+
+-- for one of several pieces
+module _ (may_lack : List (List ℕ) → List ℕ → Option FileFault → Type 0) (judge : Judge) (text first : List ℕ) (later all : List (List ℕ)) where
+  pub lack_first : all ≡ first ∷ later → fault_so_far judge text ≡ None → MayLackFor may_lack judge text first → MayLackForOne may_lack judge text all
+  lack_first e none lack = (
+    [],
+    first,
+    later,
+    e,
+    ap (fault_so_far judge) (append-nil text) ∙ none,
+    subst (λ (t : List ℕ). MayLackFor may_lack judge t first) (sym (append-nil text)) lack,
+  )
+
+  pub lack_later : all ≡ first ∷ later → MayLackForOne may_lack judge (text ++ first) later → MayLackForOne may_lack judge text all
+  lack_later e it =
+      let same : (text ++ first) ++ concat it.0 ≡ text ++ concat (first ∷ it.0) = append_assoc text first (concat it.0) in (
+        first ∷ it.0,
+        it.1,
+        it.2,
+        e ∙ ap (λ t. first ∷ t) it.3,
+        ap (fault_so_far judge) (sym same) ∙ it.4,
+        subst (λ (t : List ℕ). MayLackFor may_lack judge t it.1) same it.5,
       )
 
 -- for nothing at the end

@@ -1,5 +1,6 @@
 -- What a feeder of lines has done (profile).
 use Rattle.std.specs.Prelude.{◌≡◌, ◌≢◌, ◌⊎◌, ℕ, List, [], ◌∷◌, ◌++◌, length, map, Option, None, MatchOption}
+use Rattle.std.specs.List.{concat}
 use Rattle.mds_lines.specs.Lines.{line_feed, line_text}
 use Rattle.mds_records.specs.declared.file.FileFault.{FileFault}
 use Rattle.mds_walk.specs.Answers.{HasWalked, IsRefusal}
@@ -25,15 +26,27 @@ abbrev pub WasFed : {T : Type 0} → Judge → (T → List (List ℕ) → Type 0
 WasFed judge taken text feeder =
     MatchOption feeder.walk.fault (HasFed judge taken text feeder) (IsRefusal (fault_so_far judge text))
 
--- Memory may be wanting for the line that isn't whole yet, were it to end here.
+-- Memory may be wanting for the line that isn't whole yet, were it to end here. No line before it has a fault.
 abbrev pub MayLackHere : (List (List ℕ) → List ℕ → Option FileFault → Type 0) → Judge → List ℕ → Type 0
 MayLackHere may_lack judge text =
     let before = map line_text (whole_pieces text) in
     let line = line_text (open_piece text) in
-    may_lack before line (text_fault judge before line)
+    (fault_so_far judge text ≡ None) × may_lack before line (text_fault judge before line)
 
 -- Memory may be wanting for a piece behind a text. A line that lies in several pieces is copied: the one that was in hand, and the
--- one that the piece doesn't end. Each line that ends in the piece is taken.
+-- one that the piece doesn't end, where no line has a fault. Each line that ends in the piece is taken.
 abbrev pub MayLackFor : (List (List ℕ) → List ℕ → Option FileFault → Type 0) → Judge → List ℕ → List ℕ → Type 0
-MayLackFor may_lack judge text piece = (piece ≢ []) × ((open_piece text ≢ []) ⊎ (open_piece (text ++ piece) ≢ [])
+MayLackFor may_lack judge text piece = (piece ≢ []) × ((open_piece text ≢ [])
+    ⊎ ((open_piece (text ++ piece) ≢ []) × (fault_so_far judge (text ++ piece) ≡ None))
     ⊎ ((front : List ℕ) × (behind : List ℕ) × (piece ≡ (front ++ line_feed ∷ []) ++ behind) × MayLackHere may_lack judge (text ++ front)))
+
+-- Memory may be wanting for one of these pieces behind a text: what stands before that piece has no fault.
+abbrev pub MayLackForOne : (List (List ℕ) → List ℕ → Option FileFault → Type 0) → Judge → List ℕ → List (List ℕ) → Type 0
+MayLackForOne may_lack judge text pieces =
+    (before : List (List ℕ)) × (piece : List ℕ) × (behind : List (List ℕ)) × (pieces ≡ before ++ piece ∷ behind)
+    × (fault_so_far judge (text ++ concat before) ≡ None) × MayLackFor may_lack judge (text ++ concat before) piece
+
+-- Memory may be wanting for these pieces: for one of them, or at their end for a last line without its line feed.
+abbrev pub MayLackForAll : (List (List ℕ) → List ℕ → Option FileFault → Type 0) → Judge → List (List ℕ) → Type 0
+MayLackForAll may_lack judge pieces = MayLackForOne may_lack judge [] pieces
+    ⊎ ((open_piece (concat pieces) ≢ []) × MayLackHere may_lack judge (concat pieces))

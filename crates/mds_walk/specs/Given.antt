@@ -1,7 +1,10 @@
 -- What was made of the calls that read a source (profile).
-use Rattle.std.specs.Prelude.{◌≡◌, ◌⊎◌, ℕ, Bool, false, ◌==◌, length, List, [], ◌∷◌, ◌++◌, Option, Some, None, Result, Ok, Err}
+use Rattle.std.specs.Prelude.{◌≡◌, ◌≢◌, ◌⊎◌, ℕ, Bool, false, ◌==◌, length, List, [], ◌∷◌, ◌++◌, Option, Some, None, Result, Ok, Err}
 use Rattle.std.specs.List.{concat}
 use Rattle.mds_records.specs.declared.file.FileFault.{FileFault}
+use Rattle.mds_walk.specs.Faults.{Judge}
+use Rattle.mds_walk.specs.Feeding.{MayLackFor, MayLackHere}
+use Rattle.mds_walk.specs.SoFar.{open_piece}
 use Rattle.mds_walk.specs.declared.fault.ReadFault.{ReadFault}
 use Rattle.mds_walk.specs.declared.fault.ReadFault.TheVariants as read
 
@@ -21,9 +24,18 @@ abbrev pub IsFaultOfGiven : (List ℕ → Option FileFault) → List (List ℕ) 
 IsFaultOfGiven found given fault =
     (MeetsEnd given × (found (concat given) ≡ Some fault)) ⊎ ((more : List ℕ) → found (concat given ++ more) ≡ Some fault)
 
--- What was made is of all that the calls brought, up to the end, and that has no fault. Else the fault is of what they brought.
--- Where the source failed, or memory was wanting, nothing is said.
-abbrev pub IsOfGiven : {T : Type 0} → (T → List ℕ → Type 0) → (List ℕ → Option FileFault) → List (List ℕ) → Result T ReadFault → Type 0
-IsOfGiven Makes found given (Ok out) = MeetsEnd given × (found (concat given) ≡ None) × Makes out (concat given)
-IsOfGiven Makes found given (Err (read.File fault)) = IsFaultOfGiven found given fault
-IsOfGiven Makes found given (Err reason) = Unit {0}
+-- Memory may be wanting for what the calls brought: for what the last of them brought, behind the others. Where that met the end,
+-- it is for a last line without its line feed.
+abbrev pub MayLackGiven : (List (List ℕ) → List ℕ → Option FileFault → Type 0) → Judge → List (List ℕ) → Type 0
+MayLackGiven may_lack judge given =
+    ((before : List (List ℕ)) × (piece : List ℕ) × (given ≡ before ++ piece ∷ []) × MayLackFor may_lack judge (concat before) piece)
+    ⊎ (MeetsEnd given × (open_piece (concat given) ≢ []) × MayLackHere may_lack judge (concat given))
+
+-- What was made is of all that the calls brought, up to the end, and that has no fault. Else the fault is of what they brought, or
+-- memory was wanting for that. Where the source failed, nothing is said.
+abbrev pub IsOfGiven : {T : Type 0} → (T → List ℕ → Type 0) → (List ℕ → Option FileFault) → (List (List ℕ) → Type 0) → List (List ℕ)
+    → Result T ReadFault → Type 0
+IsOfGiven Makes found MayLack given (Ok out) = MeetsEnd given × (found (concat given) ≡ None) × Makes out (concat given)
+IsOfGiven Makes found MayLack given (Err (read.File fault)) = IsFaultOfGiven found given fault
+IsOfGiven Makes found MayLack given (Err read.Read) = Unit {0}
+IsOfGiven Makes found MayLack given (Err read.Memory) = MayLack given

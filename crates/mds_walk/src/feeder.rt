@@ -1,8 +1,8 @@
 //! The lines of a text that comes in pieces.
 
-ghost use Rattle.std.specs.Prelude.{◌≡◌, ◌≢◌, ◌≤◌, ℕ, List, [], ◌∷◌, ◌++◌, None, Some, Err, IfSome, IfOk, IfErr, MatchResult, ◌⊎◌};
+ghost use Rattle.std.specs.Prelude.{◌≡◌, ◌≢◌, ◌≤◌, ◌+◌, ℕ, List, [], ◌∷◌, ◌++◌, None, Some, Err, IfSome, IfOk, IfErr, MatchResult, ◌⊎◌, length};
 ghost use Rattle.std.specs.List.{All};
-ghost use Rattle.mds_lines.specs.Lines.{line_feed, most_lines};
+ghost use Rattle.mds_lines.specs.Lines.{line_feed, longest_line, most_lines};
 ghost use Rattle.mds_walk.specs.Answers.{IsRefusal};
 ghost use Rattle.mds_walk.specs.Faults.{fault_of, lines_of};
 ghost use Rattle.mds_walk.specs.SoFar.{fault_so_far, open_piece};
@@ -167,7 +167,8 @@ impl<T: RecordSink + Drop> LineFeeder<T> {
             → MatchResult result
             (λ _. HasFed T.judge T.taken (text ++ front.now) self.new)
             (IsRefusal (fault_so_far T.judge (text ++ front.now))) }
-        ensures memory { result ≡ Err TakeFault.Memory → front.now ≢ [] }
+        ensures memory { result ≡ Err TakeFault.Memory
+            → (front.now ≢ []) × (length self.old.rest.items + length front.now ≤ longest_line) }
     {
         if front.len() > LONGEST_LINE || self.rest.len() > LONGEST_LINE - front.len() {
             return Err(at_end(FaultCode::TooLarge, u64::from(self.lines)));

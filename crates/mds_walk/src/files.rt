@@ -1,6 +1,6 @@
 //! A file read from a source, block by block.
 
-ghost use Rattle.std.specs.Prelude.{ℕ, ◌≡◌, ◌≤◌, ◌+◌, ◌-◌, ◌*◌, ◌^◌, ◌<◌, List, [], length, None, Some, Err, IfSome, IfOk, if◌then◌else◌, false, vec_len};
+ghost use Rattle.std.specs.Prelude.{ℕ, ◌≡◌, ◌≤◌, ◌+◌, ◌-◌, ◌*◌, ◌^◌, ◌<◌, List, [], length, None, Some, Err, IfSome, IfOk, if◌then◌else◌, false};
 ghost use Rattle.std.specs.List.{concat};
 ghost use Rattle.mds_lines.specs.Lines.{longest_line, most_lines};
 ghost use Rattle.mds_lines.specs.Reads.{Reads, block};
@@ -8,16 +8,17 @@ ghost use Rattle.mds_records.specs.declared.file.FileFault.{FileFault};
 ghost use Rattle.mds_walk.specs.Answers.{is_read_fault};
 ghost use Rattle.mds_walk.specs.Faults.{fault_of, lines_of};
 ghost use Rattle.mds_walk.specs.FileSteps.{read_fault_of};
-ghost use Rattle.mds_walk.specs.Given.{AreCallsNeeded, IsOfGiven};
+ghost use Rattle.mds_walk.specs.Given.{AreCallsNeeded, IsOfGiven, MayLackGiven};
 ghost use Rattle.mds_walk.specs.SoFar.{fault_so_far};
 
 use crate::fault::{ReadFault, TakeFault};
 use crate::feeder::LineFeeder;
 use crate::sink::RecordSink;
 use mds_lines::Source;
-use std::alloc::{AllocError, Global};
+use std::alloc::Global;
 
-/// How many bytes are read at a time. With a line in hand they are 131,072 at most.
+/// How many bytes are read at a time. With a line in hand they are 131,072 at most. They lie on the stack, so that no memory is taken
+/// before a line wants it.
 const BLOCK: usize = (1 << 17) - 16_384;
 
 /// Reads a file from a source, and gives its records to a sink, which has taken none yet. It holds a block
@@ -42,15 +43,14 @@ pub fn read_file<R: Source, T: RecordSink + Drop>(
     ensures counted { R.failures source.new ≡ R.failures source.old + (if is_read_fault result then 1 else 0) }
 
     // What it made is of what the source's calls brought, whatever that is. They brought no more than the lines that a file may
-    // have, and a block. Each call was needed: none comes behind the end, a failure, or a piece with a fault.
+    // have, and a block. Each call was needed: none comes behind the end, a failure, or a piece with a fault. Memory may be
+    // wanting only for what the last call brought.
     ensures given { (given : List (List ℕ)) × Reads R.gives source.old given source.new
         × (length (concat given) ≤ most_lines * (longest_line + 1) + block)
         × AreCallsNeeded (fault_so_far T.judge) [] false given
-        × IsOfGiven (λ out text. T.made out (lines_of text)) (fault_of T.judge) given result }
+        × IsOfGiven (λ out text. T.made out (lines_of text)) (fault_of T.judge) (MayLackGiven T.may_lack T.judge) given result }
 {
-    let Ok(mut buffer) = room(alloc) else {
-        return Err(ReadFault::Memory);
-    };
+    let mut buffer = [0; BLOCK];
     let mut feeder = LineFeeder::new(alloc, sink);
     // For the proof: the bytes that were fed. A file has so few that the loop ends.
     let mut count = 0;
@@ -71,13 +71,6 @@ pub fn read_file<R: Source, T: RecordSink + Drop>(
             Err(_) => return Err(ReadFault::Read),
         }
     }
-}
-
-/// Room for a block.
-fn room(alloc: Global) -> Result<Vec<u8>, AllocError>
-    ensures { IfOk result (λ buffer. vec_len buffer ≡ 114_688) }
-{
-    vec![in alloc; 0; BLOCK]
 }
 
 /// The fault of a file that isn't taken.

@@ -6,7 +6,7 @@ ghost use Rattle.mds_lines.specs.Lines.{line_pieces};
 ghost use Rattle.mds_records.specs.declared.file.FileFault.{FileFault};
 ghost use Rattle.mds_walk.specs.Answers.{IsRefusal};
 ghost use Rattle.mds_walk.specs.Faults.{Judge, fault_at, fault_of};
-ghost use Rattle.mds_walk.specs.Feeding.{WasFed, fault_answered};
+ghost use Rattle.mds_walk.specs.Feeding.{MayLackForOne, WasFed, fault_answered};
 ghost use Rattle.mds_walk.specs.SoFar.{fault_so_far, open_piece, whole_pieces};
 
 use crate::fault::TakeFault;
@@ -43,6 +43,10 @@ pub fn feed_all<T: RecordSink + Drop>(
         × (fault_answered feeder.new ≡ Some fault)) }
     ensures kept { IfErr result (λ fault. fault_answered feeder.new ≡ Some fault) }
     ensures nothing { pieces.now ≡ [] → (result ≡ Ok tt) × (feeder.new ≡ feeder.old) }
+
+    // A first want of memory is for one of the pieces, and what stands before it has no fault.
+    ensures memory { (text : List ℕ) → WasFed T.judge T.taken text feeder.old → fault_answered feeder.old ≡ None
+        → result ≡ Err TakeFault.Memory → MayLackForOne T.may_lack T.judge text (map (λ piece. piece.now) pieces.now) }
 {
     match pieces {
         [] => Ok(()),

@@ -1,7 +1,7 @@
 //! A walk through the lines of a file.
 
-ghost use Rattle.std.specs.Prelude.{◌≡◌, ◌^◌, ◌-◌, ◌<◌, ◌+◌, ℕ, List, [], ◌∷◌, ◌++◌, length, None, Some, Err, IfSome, IfOk, IfErr, MatchResult};
-ghost use Rattle.mds_lines.specs.Lines.{line_text, most_lines};
+ghost use Rattle.std.specs.Prelude.{◌≡◌, ◌^◌, ◌-◌, ◌<◌, ◌≤◌, ◌+◌, ℕ, List, [], ◌∷◌, ◌++◌, length, None, Some, Err, IfSome, IfOk, IfErr, MatchResult};
+ghost use Rattle.mds_lines.specs.Lines.{line_text, longest_line, most_lines};
 ghost use Rattle.mds_lines.specs.Numbered.{number_of, text_of};
 ghost use Rattle.mds_walk.specs.Answers.{HasWalked, IsEndFault, IsRefusal, Takes, fault_answered};
 ghost use Rattle.mds_walk.specs.Faults.{end_fault, line_fault, text_fault};
@@ -67,8 +67,8 @@ impl<T: RecordSink + Drop> Walk<T> {
             (IsRefusal (line_fault T.judge before piece.now)) }
         ensures few { IfOk result (λ _. lines < most_lines) }
         ensures memory { (before : List (List ℕ)) → HasWalked T.taken self.old before → lines ≡ length before
-            → result ≡ Err TakeFault.Memory
-            → T.may_lack before (line_text piece.now) (text_fault T.judge before (line_text piece.now)) }
+            → result ≡ Err TakeFault.Memory → (length piece.now ≤ longest_line)
+            × T.may_lack before (line_text piece.now) (text_fault T.judge before (line_text piece.now)) }
     {
         let number = u64::from(lines) + 1;
         if piece.len() > LONGEST_LINE || number > MOST_LINES {

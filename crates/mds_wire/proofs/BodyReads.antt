@@ -1,33 +1,43 @@
 -- A body that is fed what is read, call by call.
-use Rattle.std.proofs.Common.{◌≡◌, ℕ, ◌+◌, ◌-◌, ◌<◌, ◌≤◌, Bool, true, false, eqb, List, [], ◌++◌, length, Option, Ok, Err, sym, ap, subst, arith, append_assoc, length-append}
+use Rattle.std.proofs.Common.{◌≡◌, ℕ, ◌+◌, ◌-◌, ◌<◌, ◌≤◌, Bool, true, false, eqb, List, [], ◌++◌, length, Option, Ok, Err, refl, sym, ap, subst, arith, append_assoc, length-append}
 use Rattle.std.specs.Io.KnownBytes.{Consumes}
 use Rattle.std.proofs.lemmas.List.{append-nil}
 use Rattle.mds_wire.specs.Calls.{HasRead}
 use Rattle.mds_wire.specs.declared.body.BodyFault.{BodyFault}
 use Rattle.mds_wire.specs.declared.body.BodyFault.TheVariants.{Read, Closed, Unavailable}
 use Rattle.mds_wire.specs.declared.route.Route.{Route}
-use Rattle.mds_wire.specs.BodySteps.{WantsBody, IsFed, IsUnfed, FeedsNext, FeedsBody}
+use Rattle.mds_wire.specs.BodySteps.{WantsBody, HoldsOf, IsFed, IsUnfedPiece, IsUnfed, FeedsNext, FeedsBody}
+use Rattle.mds_wire.specs.Meaning.{TakesOf}
 use Rattle.mds_wire.proofs.CallSteps.{read_none, read_next, read_last}
 use Rattle.mds_wire.proofs.HeadReads.{not_none}
 
-module _ {B : Type 0} (Holds : B → Route → List ℕ → List ℕ → Type 0) where
+module _ {B : Type 0} (Holds : HoldsOf B) where
   -- two pieces, one behind the other
   fed_both : (a b c : B) (xs ys : List ℕ) → IsFed Holds a b xs → IsFed Holds b c ys → IsFed Holds a c (xs ++ ys)
-  fed_both a b c xs ys first next route target before holds few =
+  fed_both a b c xs ys first next route target size before holds few most =
       let is = append_assoc before xs ys in
       let long : length ((before ++ xs) ++ ys) ≡ length (before ++ (xs ++ ys)) = ap length is in
       let sum = length-append (before ++ xs) ys in
-      subst (λ (t : List ℕ). Holds c route target t) is
-      (next route target (before ++ xs) (first route target before holds (omega (arith, few, long, sum))) (omega (arith, few, long)))
+      subst (λ (t : List ℕ). Holds c route target size t) is
+      (next route target size (before ++ xs) (first route target size before holds (omega (arith, few, long, sum)) most) (omega (arith, few, long)) most)
 
-  -- a piece that wasn't taken, behind one that was
-  unfed_behind : (Takes : Route → List ℕ → ℕ → Type 0) (a b : B) (xs ys : List ℕ) → IsFed Holds a b xs → IsUnfed Holds Takes b ys
+  -- a piece that wasn't taken, behind what was
+  unfed_behind : (Takes : TakesOf) (a b : B) (xs ys : List ℕ) → IsFed Holds a b xs → IsUnfedPiece Holds Takes b ys
       → IsUnfed Holds Takes a (xs ++ ys)
-  unfed_behind Takes a b xs ys first next route target before size holds within few =
+  unfed_behind Takes a b xs ys first next route target size before holds few most =
       let long : length ((before ++ xs) ++ ys) ≡ length (before ++ (xs ++ ys)) = ap length (append_assoc before xs ys) in
-      let sum = length-append (before ++ xs) ys in
-      next route target (before ++ xs) size (first route target before holds (omega (arith, within, few, long, sum)))
-      (omega (arith, within, long)) few
+      let sum = length-append (before ++ xs) ys in (
+        xs,
+        ys,
+        refl,
+        next route target size (before ++ xs) (first route target size before holds (omega (arith, few, long, sum)) most)
+            (omega (arith, few, long)) most,
+      )
+
+  -- a piece that wasn't taken, alone
+  unfed_alone : (Takes : TakesOf) (a : B) (ys : List ℕ) → IsUnfedPiece Holds Takes a ys → IsUnfed Holds Takes a ys
+  unfed_alone Takes a ys next route target size before holds few most =
+      ([], ys, refl, subst (λ (t : List ℕ). Takes route target size t ys) (sym (append-nil before)) (next route target size before holds few most))
 
   -- What was read so far was fed behind the front. So many bytes are left.
   pub record IsFeeding {S : Type 0} (first now : B) (front : List ℕ) (size : ℕ) (gives : S → List ℕ → S → Type 0) (old new : S)
@@ -48,14 +58,14 @@ module _ {B : Type 0} (Holds : B → Route → List ℕ → List ℕ → Type 0)
   }
 
   -- a front that wasn't taken
-  pub feeding_none_stops : {S : Type 0} (Takes : Route → List ℕ → ℕ → Type 0) (a b : B) (front : List ℕ) (size : ℕ) (gives : S → List ℕ → S → Type 0) (s : S)
-      (remaining : Option (List ℕ)) → length front ≤ size → IsUnfed Holds Takes a front
+  pub feeding_none_stops : {S : Type 0} (Takes : TakesOf) (a b : B) (front : List ℕ) (size : ℕ) (gives : S → List ℕ → S → Type 0) (s : S)
+      (remaining : Option (List ℕ)) → length front ≤ size → IsUnfedPiece Holds Takes a front
       → FeedsBody Holds Takes {A = Unit {0}} a b front size gives s s remaining remaining (Err Unavailable)
   feeding_none_stops Takes a b front size gives s remaining few unfed = record {
     bytes = [];
     few = omega (arith, few);
     read = read_none (WantsBody front size) gives s remaining;
-    is = subst (λ (t : List ℕ). IsUnfed Holds Takes a t) (sym (append-nil front)) unfed;
+    is = subst (λ (t : List ℕ). IsUnfed Holds Takes a t) (sym (append-nil front)) (unfed_alone Takes a front unfed);
   }
 
   module _ {S : Type 0} (first now : B) (front : List ℕ) (size : ℕ) (gives : S → List ℕ → S → Type 0) (a b c : S) (old next later : Option (List ℕ)) (left : ℕ)
@@ -76,7 +86,7 @@ module _ {B : Type 0} (Holds : B → Route → List ℕ → List ℕ → Type 0)
         (subst (λ (t : List ℕ). gives b t c) none gave) (subst (λ (t : List ℕ). Consumes next later t) none consumed)
 
     -- a call whose bytes were fed
-    pub feeding_more : (Takes : Route → List ℕ → ℕ → Type 0) (new : B) (block count : ℕ) → block ≤ left → FeedsNext Holds Takes now new block gives b c next later (Ok count)
+    pub feeding_more : (Takes : TakesOf) (new : B) (block count : ℕ) → block ≤ left → FeedsNext Holds Takes now new block gives b c next later (Ok count)
         → IsFeeding first new front size gives a c old later (left - count)
     feeding_more Takes new block count within n = record {
       bytes = f.bytes ++ n.bytes;
@@ -86,7 +96,7 @@ module _ {B : Type 0} (Holds : B → Route → List ℕ → List ℕ → Type 0)
     }
 
     -- a call that brought nothing, or whose bytes weren't taken
-    pub feeding_stops : (Takes : Route → List ℕ → ℕ → Type 0) (new : B) (block : ℕ) (fault : BodyFault) → block ≤ left → 0 < left → FeedsNext Holds Takes now new block gives b c next later (Err fault)
+    pub feeding_stops : (Takes : TakesOf) (new : B) (block : ℕ) (fault : BodyFault) → block ≤ left → 0 < left → FeedsNext Holds Takes now new block gives b c next later (Err fault)
         → FeedsBody Holds Takes {A = Unit {0}} first new front size gives a c old later (Err fault)
     feeding_stops Takes new block Unavailable within some n = record {
       bytes = f.bytes ++ n.bytes;

@@ -13,15 +13,13 @@ use Rattle.httparse.proofs.GrammarLemmas.{ReadsRequest-append, request_unique}
 use Rattle.mds_wire.specs.Heads.{IsWhole, IsOpenHead, IsNoHead, most_fields, longest_head}
 use Rattle.mds_wire.specs.Judging.{Parts, is_host_fault, judge, judge_body, judge_length, judge_route, longest_body, parts_of, parts_at, path_of, values_in}
 use Rattle.mds_wire.specs.Laws.{HaveNoOrder, OnlySteps, TakeMemory}
-use Rattle.mds_wire.specs.Routes.{method_of, method_text, route_of, slash}
-use Rattle.mds_wire.specs.declared.route.Method.{Method}
-use Rattle.mds_wire.specs.declared.route.Method.TheVariants.{Get, Post}
+use Rattle.mds_wire.specs.Routes.{method_of, route_of, slash}
 use Rattle.mds_wire.specs.declared.judge.Judged.{Judged}
 use Rattle.mds_wire.specs.declared.judge.Judged.TheVariants.{Refused, Wanted}
 use Rattle.mds_wire.specs.declared.route.Route.{Route}
 use Rattle.mds_wire.specs.declared.answer.Status.{Status}
 use Rattle.mds_wire.specs.declared.answer.Status.TheVariants.{Success, Unavailable, BadRequest, FieldsTooLarge, ContentTooLarge}
-use Rattle.mds_wire.specs.Meaning.{Answer, Beginning, no_head, overlong, whole, BeginsSo, AnswersBeginning, StepOf, AnswersJudged, Means, Awaits, in_body, refused}
+use Rattle.mds_wire.specs.Meaning.{Answer, Beginning, no_head, overlong, whole, BeginsSo, AnswersBeginning, StepOf, TakesOf, MayLack, AnswersJudged, Means, Awaits, in_body, refused}
 use Rattle.mds_wire.specs.Serving.{IsUnfinished}
 
 -- the parts that spans show are those of the head
@@ -51,6 +49,20 @@ body_is rest more size e = at (ltb (length rest) size) refl where
       let full = length-take-le size rest le in
       let sum = length-append rest more in
       (take-append-le size rest more le ∙ sym (append-nil (take size rest)) ∙ ap (λ xs. take size rest ++ xs) (sym (none more (omega arith))), omega arith)
+
+-- the same of what came of it, which isn't all
+pub part_is : (rest more : List ℕ) (size : ℕ) → length (take size rest) + length more ≤ size → take size (rest ++ more) ≡ take size rest ++ more
+part_is rest more size e = at (ltb (length rest) size) refl where
+  at : (t : Bool) → ltb (length rest) size ≡ t → take size (rest ++ more) ≡ take size rest ++ more
+  at true t =
+      let all : take size rest ≡ rest = take_all size rest (grind (arith, nat_tests)) in
+      let sizes : length rest + length more ≤ size = subst (λ (xs : List ℕ). length xs + length more ≤ size) all e in
+      let sum = length-append rest more in
+      take_all size (rest ++ more) (omega arith) ∙ ap (λ xs. xs ++ more) (sym all)
+  at false t =
+      let le : size ≤ length rest = grind (arith, nat_tests) in
+      let full = length-take-le size rest le in
+      take-append-le size rest more le ∙ sym (append-nil (take size rest)) ∙ ap (λ xs. take size rest ++ xs) (sym (none more (omega arith)))
 
 -- what is lacking of a body, of which a part came with the head
 lacking_is : (rest more : List ℕ) (size count : ℕ) → 0 < count → length (take size rest) + length more + count ≡ size → length (rest ++ more) + count ≡ size
@@ -100,15 +112,15 @@ length_refuses route (value ∷ []) =
     (either (nat_lt longest_body (digits_value 10 value)) (Refused ContentTooLarge) _ (λ e. cc) tt)
 length_refuses route (value ∷ other ∷ values) = λ e. cc
 
-body_refuses : (method : Method) (route : Route) (lengths : List (List ℕ)) → NoSuccess (judge_body method route lengths)
-body_refuses Get route lengths = tt
-body_refuses Post route lengths = length_refuses route lengths
+body_refuses : (route : Route) (lengths : List (List ℕ)) → NoSuccess (judge_body route lengths)
+body_refuses route lengths =
+    either (bytes_eq (method_of route) (codes "GET")) (Wanted route 0) _ tt (length_refuses route lengths)
 
 route_refuses : (parts : Parts) (route : Option Route) → NoSuccess (judge_route parts route)
 route_refuses parts None = λ e. cc
 route_refuses parts (Some route) =
-    either (not (bytes_eq parts.method (method_text (method_of route)))) _ _ (λ e. cc)
-    (body_refuses (method_of route) route (values_in (codes "content-length") parts.fields))
+    either (not (bytes_eq parts.method (method_of route))) _ _ (λ e. cc)
+    (body_refuses route (values_in (codes "content-length") parts.fields))
 
 judge_refuses : (parts : Parts) → NoSuccess (judge parts)
 judge_refuses parts =
@@ -134,7 +146,7 @@ refused_has_no_order bytes rest head status reads is other more route size other
     let both : Refused status ≡ Wanted route size = sym is ∙ wanted in
     cc
 
-module _ {S : Type 0} (Step : StepOf S) (Same : S → S → Type 0) (Takes : Route → List ℕ → ℕ → Type 0) where
+module _ {S : Type 0} (Step : StepOf S) (Same : S → S → Type 0) (Takes : TakesOf) where
   means_judged : (bytes more : List ℕ) (fields : List HeaderSpan) (r : RequestSpans) (w : IsWhole bytes fields r) (judged : Judged) (old new : S) (answer : Answer)
       → judged ≡ judge (parts_at bytes fields r)
       → AnswersJudged Step Same Takes judged w.head (drop r.len bytes ++ more) old answer new → Means Step Same Takes (bytes ++ more) old answer new
@@ -152,10 +164,10 @@ module _ {S : Type 0} (Step : StepOf S) (Same : S → S → Type 0) (Takes : Rou
       (ap (refused status) (head_is ∙ ap (λ m. bytes_eq m (codes "HEAD")) w.at.method), refl)
 
   pub means_unavailable : (bytes more : List ℕ) (fields : List HeaderSpan) (r : RequestSpans) (w : IsWhole bytes fields r) (route : Route) (size : ℕ) (old new : S) (target : List ℕ)
-      → Wanted route size ≡ judge (parts_at bytes fields r) → target ≡ span_bytes bytes r.path → Takes route target size → (new ≡ old) ⊎ Same old new
-      → Means Step Same Takes (bytes ++ more) old (refused Unavailable false) new
-  means_unavailable bytes more fields r w route size old new target is target_is takes same =
-      let moved = subst (λ (t : List ℕ). Takes route t size) (target_is ∙ w.at.path) takes in
+      → Wanted route size ≡ judge (parts_at bytes fields r) → target ≡ span_bytes bytes r.path → MayLack Takes route target size (take size (drop r.len bytes ++ more))
+      → (new ≡ old) ⊎ Same old new → Means Step Same Takes (bytes ++ more) old (refused Unavailable false) new
+  means_unavailable bytes more fields r w route size old new target is target_is lacks same =
+      let moved = subst (λ (t : List ℕ). MayLack Takes route t size (take size (drop r.len bytes ++ more))) (target_is ∙ w.at.path) lacks in
       means_judged bytes more fields r w (Wanted route size) old new (refused Unavailable false) is (inr (refl, moved, same))
 
   pub means_step : (bytes more : List ℕ) (fields : List HeaderSpan) (r : RequestSpans) (w : IsWhole bytes fields r) (route : Route) (size : ℕ) (old new : S) (target body : List ℕ) (answer : Answer)

@@ -14,7 +14,7 @@ use Rattle.matchit.specs.declared.error.InsertError.TheVariants.{OutOfMemory, Co
 use Rattle.matchit.proofs.OnLiterals.{matchit_on_literals}
 use Rattle.mds_wire.specs.declared.route.Route.{Route}
 use Rattle.mds_wire.specs.Routes.{routes, fits, pattern_of, route_of, part_length}
-use Rattle.mds_wire.specs.RouteSteps.{rows_of, template_of, row_of}
+use Rattle.mds_wire.specs.RouteSteps.{routes_in, rows_of, template_of, row_of}
 use Rattle.mds_wire.specs.declared.route.Route.TheVariants.{Days, Exports, Finals, Gaps, Holidays, Imports, Periods, Streams, Substitutions, Versions}
 use Rattle.mds_wire.proofs.Walks.{AreGood, found, takes, behind, finds, both}
 
@@ -113,6 +113,11 @@ row_is Periods = (_, refl, refl, refl)
 row_is Streams = (_, refl, refl, refl)
 row_is Substitutions = (_, refl, refl, refl)
 row_is Versions = (_, refl, refl, refl)
+
+-- they are rows of these routes, in this order
+pub routes_known : routes_in (rows_of routes) ≡ routes
+unfolding scan
+routes_known = refl
 
 good : AreGood (rows_of routes)
 unfolding scan

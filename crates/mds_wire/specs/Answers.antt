@@ -6,14 +6,14 @@ use Rattle.mds_wire.specs.declared.answer.Status.{Status}
 use Rattle.mds_wire.specs.declared.answer.Status.TheVariants.{Success, BadRequest, NotFound, MethodNotAllowed, Conflict, LengthRequired, ContentTooLarge, Unprocessable, FieldsTooLarge, NotImplemented, Unavailable}
 use Rattle.mds_wire.specs.declared.answer.Kind.{Kind}
 use Rattle.mds_wire.specs.declared.answer.Kind.TheVariants.{Json, Csv}
-use Rattle.mds_wire.specs.Routes.{method_text}
+use Rattle.mds_wire.specs.Routes.{method_of}
 
 -- the number of a status (RFC 9110, section 15)
 abbrev pub number_of : Status → ℕ
 number_of Success = 200
 number_of BadRequest = 400
 number_of NotFound = 404
-number_of (MethodNotAllowed method) = 405
+number_of (MethodNotAllowed route) = 405
 number_of Conflict = 409
 number_of LengthRequired = 411
 number_of ContentTooLarge = 413
@@ -33,7 +33,7 @@ kind_text Csv = codes "text/csv"
 
 -- for 405 the method that is allowed (RFC 9110, section 15.5.6)
 abbrev pub allow_line : Status → List ℕ
-allow_line (MethodNotAllowed method) = codes "Allow: " ++ method_text method ++ codes "\r\n"
+allow_line (MethodNotAllowed route) = codes "Allow: " ++ method_of route ++ codes "\r\n"
 allow_line status = []
 
 -- the bytes before the body

@@ -6,6 +6,7 @@ use Rattle.mds_wire.specs.declared.body.BodyFault.TheVariants.{Read, Closed, Una
 use Rattle.mds_wire.specs.declared.route.Route.{Route}
 use Rattle.mds_wire.specs.Calls.{HasRead}
 use Rattle.mds_wire.specs.Judging.{longest_body}
+use Rattle.mds_wire.specs.Meaning.{TakesOf}
 
 -- what is left of the body is wanted
 abbrev pub WantsBody : List ℕ → ℕ → List ℕ → ℕ → Type 0
@@ -18,26 +19,35 @@ is_body_cut (Err Read) = true
 is_body_cut (Err Closed) = true
 is_body_cut (Err Unavailable) = false
 
--- `Holds` says for what a body was begun, and what it was fed.
-module _ {B : Type 0} (Holds : B → Route → List ℕ → List ℕ → Type 0) where
-  -- A body was fed these bytes, behind any that it had been fed. Together they are no more than a body has.
-  abbrev pub IsFed : B → B → List ℕ → Type 0
-  IsFed old new bytes = (route : Route) (target before : List ℕ) → Holds old route target before
-      → length (before ++ bytes) ≤ longest_body → Holds new route target (before ++ bytes)
+-- what is said of a body: for which route, target and size it was begun, and what it was fed
+abbrev pub HoldsOf : Type 0 → Type 1
+HoldsOf B = B → Route → (target : List ℕ) → (size : ℕ) → List ℕ → Type 0
 
--- `Takes` says that a route, a target and a body of this size take memory.
-module _ {B : Type 0} (Holds : B → Route → List ℕ → List ℕ → Type 0) (Takes : Route → List ℕ → ℕ → Type 0) where
-  -- A body wasn't fed these bytes, behind any that it had been fed: any body with them takes memory.
+module _ {B : Type 0} (Holds : HoldsOf B) where
+  -- A body was fed these bytes, behind any that it had been fed. Together they are no more than it has.
+  abbrev pub IsFed : B → B → List ℕ → Type 0
+  IsFed old new bytes = (route : Route) (target : List ℕ) (size : ℕ) (before : List ℕ) → Holds old route target size before
+      → length (before ++ bytes) ≤ size → size ≤ longest_body → Holds new route target size (before ++ bytes)
+
+-- `Takes` says what takes memory.
+module _ {B : Type 0} (Holds : HoldsOf B) (Takes : TakesOf) where
+  -- A body wasn't fed this piece: it takes memory behind whatever it had been fed.
+  abbrev pub IsUnfedPiece : B → List ℕ → Type 0
+  IsUnfedPiece old piece = (route : Route) (target : List ℕ) (size : ℕ) (before : List ℕ) → Holds old route target size before
+      → length (before ++ piece) ≤ size → size ≤ longest_body → Takes route target size before piece
+
+  -- It wasn't fed these bytes, of which the last piece takes memory behind those before it.
   abbrev pub IsUnfed : B → List ℕ → Type 0
-  IsUnfed old bytes = (route : Route) (target before : List ℕ) (size : ℕ) → Holds old route target before
-      → length (before ++ bytes) ≤ size → size ≤ longest_body → Takes route target size
+  IsUnfed old bytes = (route : Route) (target : List ℕ) (size : ℕ) (before : List ℕ) → Holds old route target size before
+      → length (before ++ bytes) ≤ size → size ≤ longest_body
+      → (came : List ℕ) × (piece : List ℕ) × (came ++ piece ≡ bytes) × Takes route target size (before ++ came) piece
 
   -- what the bytes that one call brought are, by the answer
   abbrev pub NextAnswer : B → B → Option (List ℕ) → List ℕ → Result ℕ BodyFault → Type 0
   NextAnswer old new left bytes (Ok count) = (length bytes ≡ count) × (0 < count) × IsFed Holds old new bytes
   NextAnswer old new left bytes (Err Read) = bytes ≡ []
   NextAnswer old new left bytes (Err Closed) = (bytes ≡ []) × IsAtEnd left
-  NextAnswer old new left bytes (Err Unavailable) = (0 < length bytes) × IsUnfed old bytes
+  NextAnswer old new left bytes (Err Unavailable) = (0 < length bytes) × IsUnfedPiece old bytes
 
   -- one call brought these bytes, no more than a block has, and the answer is theirs
   pub record FeedsNext {S : Type 0} (old_body new_body : B) (block : ℕ) (gives : S → List ℕ → S → Type 0) (old new : S)

@@ -13,10 +13,8 @@ use Rattle.httparse.specs.declared.spans.RequestSpans.{RequestSpans}
 use Rattle.mds_wire.specs.declared.answer.Status.TheVariants.{BadRequest, NotFound, MethodNotAllowed, LengthRequired, ContentTooLarge, NotImplemented}
 use Rattle.mds_wire.specs.declared.judge.Judged.{Judged}
 use Rattle.mds_wire.specs.declared.judge.Judged.TheVariants.{Refused, Wanted}
-use Rattle.mds_wire.specs.declared.route.Method.{Method}
-use Rattle.mds_wire.specs.declared.route.Method.TheVariants.{Get, Post}
 use Rattle.mds_wire.specs.declared.route.Route.{Route}
-use Rattle.mds_wire.specs.Routes.{slash, route_of, method_of, method_text}
+use Rattle.mds_wire.specs.Routes.{slash, route_of, method_of}
 
 -- the most bytes of a body
 abbrev pub longest_body : ℕ
@@ -81,16 +79,16 @@ judge_length route (value ∷ []) =
     else Wanted route (digits_value 10 value)
 
 -- of a GET no body is read
-abbrev pub judge_body : Method → Route → List (List ℕ) → Judged
-judge_body Get route lengths = Wanted route 0
-judge_body Post route lengths = judge_length route lengths
+abbrev pub judge_body : Route → List (List ℕ) → Judged
+judge_body route lengths =
+    if bytes_eq (method_of route) (codes "GET") then Wanted route 0 else judge_length route lengths
 
 -- the route and its method
 abbrev pub judge_route : Parts → Option Route → Judged
 judge_route parts None = Refused NotFound
 judge_route parts (Some route) =
-    if not (bytes_eq parts.method (method_text (method_of route))) then Refused (MethodNotAllowed (method_of route))
-    else judge_body (method_of route) route (values_in (codes "content-length") parts.fields)
+    if not (bytes_eq parts.method (method_of route)) then Refused (MethodNotAllowed route)
+    else judge_body route (values_in (codes "content-length") parts.fields)
 
 -- the checks, the first that stands
 abbrev pub judge : Parts → Judged

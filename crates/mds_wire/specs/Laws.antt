@@ -7,7 +7,7 @@ use Rattle.mds_wire.specs.declared.answer.Status.{Status}
 use Rattle.mds_wire.specs.declared.answer.Status.TheVariants.{Success, BadRequest, FieldsTooLarge, Unavailable}
 use Rattle.mds_wire.specs.declared.judge.Judged.TheVariants.{Refused, Wanted}
 use Rattle.mds_wire.specs.declared.route.Route.{Route}
-use Rattle.mds_wire.specs.Meaning.{Answer, StepOf, Means, AnswersJudged, refused}
+use Rattle.mds_wire.specs.Meaning.{Answer, StepOf, TakesOf, MayLack, Means, AnswersJudged, refused}
 
 -- a head that is in order, of a route and a body of this size
 abbrev pub IsHeadOf : RequestHead → Route → ℕ → Type 0
@@ -23,13 +23,13 @@ HaveNoOrder bytes =
     (head : RequestHead) (rest : List ℕ) (route : Route) (size : ℕ) → ReadsRequest bytes head rest
     → length head.fields ≤ most_fields → IsHeadOf head route size → ⊥
 
--- the bytes begin with a head that is in order, whose target or body takes memory
-abbrev pub TakeMemory : (Takes : Route → List ℕ → ℕ → Type 0) → List ℕ → Type 0
+-- the bytes begin with a head that is in order, and memory may be wanting for its target or for what came of its body
+abbrev pub TakeMemory : (Takes : TakesOf) → List ℕ → Type 0
 TakeMemory Takes bytes =
     (head : RequestHead) × (rest : List ℕ) × (route : Route) × (size : ℕ) × ReadsRequest bytes head rest
-    × (length head.fields ≤ most_fields) × IsHeadOf head route size × Takes route head.target size
+    × (length head.fields ≤ most_fields) × IsHeadOf head route size × MayLack Takes route head.target size (take size rest)
 
-module _ {S : Type 0} (Step : StepOf S) (Same : S → S → Type 0) (Takes : Route → List ℕ → ℕ → Type 0) where
+module _ {S : Type 0} (Step : StepOf S) (Same : S → S → Type 0) (Takes : TakesOf) where
   -- Bytes that begin with a head of at most 64 fields mean what it says, and nothing else.
   abbrev pub HeadDecides : Type 0
   HeadDecides = (bytes rest : List ℕ) (head : RequestHead) (old new : S) (answer : Answer)

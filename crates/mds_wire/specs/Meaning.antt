@@ -1,6 +1,6 @@
 -- What the bytes of a connection mean: an answer, and a step of whoever handles requests. RFC 9112, section 2.2. The
 -- order of checks is this project's profile.
-use Rattle.std.specs.Prelude.{◌≡◌, ℕ, ◌+◌, ◌≤◌, ◌⊎◌, List, length, take, bytes_eq, codes, false, Bool}
+use Rattle.std.specs.Prelude.{◌≡◌, ℕ, ◌+◌, ◌≤◌, ◌⊎◌, List, ◌++◌, length, take, bytes_eq, codes, false, Bool}
 use Rattle.httparse.specs.Grammar.{RequestHead, ReadsRequest}
 use Rattle.mds_wire.specs.Heads.{longest_head, most_fields, IsOpenHead, IsNoHead}
 use Rattle.mds_wire.specs.Judging.{judge, parts_of}
@@ -48,9 +48,17 @@ is_head_method head = bytes_eq head.method (codes "HEAD")
 abbrev pub StepOf : Type 0 → Type 1
 StepOf S = S → Route → List ℕ → List ℕ → Status → Kind → List ℕ → S → Type 0
 
--- `Same` says that what is kept is the same in two states, and `Takes` that a route, a target and a body of this size take
--- memory.
-module _ {S : Type 0} (Step : StepOf S) (Same : S → S → Type 0) (Takes : Route → List ℕ → ℕ → Type 0) where
+-- What takes memory before a step: of a route, a target and a body of this size, behind what came of the body, a piece of it.
+abbrev pub TakesOf : Type 1
+TakesOf = Route → (target : List ℕ) → (size : ℕ) → (came piece : List ℕ) → Type 0
+
+-- Memory may be wanting for this body: before it comes, for one of its pieces, or once it is whole.
+abbrev pub MayLack : TakesOf → Route → (target : List ℕ) → (size : ℕ) → (body : List ℕ) → Type 0
+MayLack Takes route target size body = (came : List ℕ) × (piece : List ℕ) × (behind : List ℕ)
+    × (came ++ piece ++ behind ≡ body) × Takes route target size came piece
+
+-- `Same` says that what is kept is the same in two states, and `Takes` what takes memory.
+module _ {S : Type 0} (Step : StepOf S) (Same : S → S → Type 0) (Takes : TakesOf) where
   -- The answer to a head that was judged so, and the state after it. Memory may be wanting instead, where some is taken.
   abbrev pub AnswersJudged : Judged → RequestHead → List ℕ → S → Answer → S → Type 0
   AnswersJudged (Refused status) head rest old answer new =
@@ -58,7 +66,8 @@ module _ {S : Type 0} (Step : StepOf S) (Same : S → S → Type 0) (Takes : Rou
   AnswersJudged (Wanted route size) head rest old answer new =
       ((size ≤ length rest) × (answer.is_head ≡ false)
       × Step old route head.target (take size rest) answer.status answer.kind answer.body new)
-      ⊎ ((answer ≡ refused Unavailable false) × Takes route head.target size × ((new ≡ old) ⊎ Same old new))
+      ⊎ ((answer ≡ refused Unavailable false) × MayLack Takes route head.target size (take size rest)
+      × ((new ≡ old) ⊎ Same old new))
 
   abbrev pub AnswersBeginning : Beginning → S → Answer → S → Type 0
   AnswersBeginning no_head old answer new = (answer ≡ refused BadRequest false) × (new ≡ old)

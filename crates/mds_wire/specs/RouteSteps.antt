@@ -1,5 +1,5 @@
 -- What the router of `matchit` is told of the routes, and what it then holds. No public contract cites it.
-use Rattle.std.specs.Prelude.{ℕ, List, [], ◌∷◌, ◌++◌, Result, Ok, Err, codes}
+use Rattle.std.specs.Prelude.{ℕ, List, [], ◌∷◌, ◌++◌, map, Result, Ok, Err, codes}
 use Rattle.matchit.specs.Route.{Scan, parse_route}
 use Rattle.matchit.specs.Router.{RouteOf, route_from}
 use Rattle.matchit.specs.Rows.{RowsOf}
@@ -29,3 +29,7 @@ row_of (Err fault) route = []
 abbrev pub rows_of : List Route → RowsOf (RouteOf Route)
 rows_of [] = []
 rows_of (route ∷ routes) = row_of (parse_route (template_of route)) route ++ rows_of routes
+
+-- the routes that rows are of
+abbrev pub routes_in : RowsOf (RouteOf Route) → List Route
+routes_in rows = map (λ row. row.1.value) rows

@@ -1,8 +1,6 @@
 -- The routes, their methods, and the paths that they are for (profile).
 use Rattle.std.specs.Prelude.{ℕ, zero, suc, ◌+◌, Bool, ◌==◌, ◌&&◌, nat_lt, List, [], ◌∷◌, drop, take, Option, if◌then◌else◌, codes, find, length, slice_index_or}
 use Rattle.std.specs.List.{position_or_len}
-use Rattle.mds_wire.specs.declared.route.Method.{Method}
-use Rattle.mds_wire.specs.declared.route.Method.TheVariants.{Get, Post}
 use Rattle.mds_wire.specs.declared.route.Route.{Route}
 use Rattle.mds_wire.specs.declared.route.Route.TheVariants.{Imports, Substitutions, Holidays, Streams, Days, Versions, Periods, Gaps, Finals, Exports}
 
@@ -51,12 +49,8 @@ unfoldable pub route_of : List ℕ → Option Route
 route_of path = find (λ route. fits (pattern_of route) path) routes
 
 -- the one method of each route
-abbrev pub method_of : Route → Method
-method_of Imports = Post
-method_of Substitutions = Post
-method_of Holidays = Post
-method_of route = Get
-
-abbrev pub method_text : Method → List ℕ
-method_text Get = codes "GET"
-method_text Post = codes "POST"
+abbrev pub method_of : Route → List ℕ
+method_of Imports = codes "POST"
+method_of Substitutions = codes "POST"
+method_of Holidays = codes "POST"
+method_of route = codes "GET"

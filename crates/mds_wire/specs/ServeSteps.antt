@@ -13,7 +13,7 @@ use Rattle.mds_wire.specs.declared.serve.Unread.TheVariants.{Read, Closed}
 use Rattle.mds_wire.specs.Calls.{HasRead}
 use Rattle.mds_wire.specs.Heads.{longest_head}
 use Rattle.mds_wire.specs.Judging.{longest_body}
-use Rattle.mds_wire.specs.Meaning.{Answer, StepOf, Means, Awaits}
+use Rattle.mds_wire.specs.Meaning.{Answer, StepOf, TakesOf, Means, Awaits}
 use Rattle.mds_wire.specs.Serving.{IsUnfinished}
 
 -- the status of a reply
@@ -50,7 +50,7 @@ abbrev pub is_unread : Result Reply Unread → Bool
 is_unread (Ok reply) = false
 is_unread (Err fault) = true
 
-module _ {S : Type 0} (Step : StepOf S) (Same : S → S → Type 0) (Takes : Route → List ℕ → ℕ → Type 0) where
+module _ {S : Type 0} (Step : StepOf S) (Same : S → S → Type 0) (Takes : TakesOf) where
   abbrev pub UnderstandsAnswer : Option (List ℕ) → List ℕ → S → S → List ℕ → Result Reply Unread → Type 0
   UnderstandsAnswer left bytes old new told (Ok reply) = Means Step Same Takes bytes old (answer_of reply told) new
   UnderstandsAnswer left bytes old new told (Err Read) = new ≡ old

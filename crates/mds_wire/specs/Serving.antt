@@ -9,7 +9,7 @@ use Rattle.mds_wire.specs.declared.serve.WireFault.TheVariants.{Read, Closed, Wr
 use Rattle.mds_wire.specs.Calls.{HasRead}
 use Rattle.mds_wire.specs.Heads.{longest_head}
 use Rattle.mds_wire.specs.Judging.{longest_body}
-use Rattle.mds_wire.specs.Meaning.{Answer, StepOf, Means, Awaits}
+use Rattle.mds_wire.specs.Meaning.{Answer, StepOf, TakesOf, Means, Awaits}
 
 -- the room that is taken for the body of a short answer
 abbrev pub short_answer : ℕ
@@ -33,7 +33,7 @@ is_cut (Err Memory) = false
 abbrev pub IsUnfinished : List ℕ → Type 0
 IsUnfinished bytes = (count : ℕ) × (0 < count) × Awaits bytes count
 
-module _ {S : Type 0} (Step : StepOf S) (Same : S → S → Type 0) (Takes : Route → List ℕ → ℕ → Type 0) where
+module _ {S : Type 0} (Step : StepOf S) (Same : S → S → Type 0) (Takes : TakesOf) where
   -- What became of the bytes that were read. Their answer was written, or a part of it. Or nothing was written, and
   -- nothing changed.
   abbrev pub ServesAnswer : Option (List ℕ) → Option (List ℕ) → Option (List ℕ) → List ℕ → S → S

@@ -3,7 +3,7 @@
 ghost use Rattle.std.specs.Prelude.{◌≡◌, ◌+◌, ◌≤◌, ◌++◌, [], length, vec_len, vec_capacity};
 ghost use Rattle.mds_wire.specs.Answers.{number_of, phrase_of, kind_text, allow_line, head_text, refusal_body, longest_answer_head};
 
-use crate::route::Method;
+use crate::route::Route;
 use http::StatusCode;
 use itoa::Buffer;
 
@@ -13,8 +13,8 @@ pub enum Status {
     Success,
     BadRequest,
     NotFound,
-    /// The method that is allowed comes with it.
-    MethodNotAllowed(Method),
+    /// The route whose method is allowed comes with it.
+    MethodNotAllowed(Route),
     Conflict,
     LengthRequired,
     ContentTooLarge,
@@ -66,18 +66,6 @@ impl Status {
         self.code().canonical_reason().unwrap_or("")
     }
 
-    /// The line that names the allowed method, where there is one.
-    fn allow_line(self) -> &'static [u8]
-        ensures value { result.now ≡ allow_line self }
-        ensures size { length result.now ≤ 13 }
-    {
-        match self {
-            Status::MethodNotAllowed(Method::Get) => b"Allow: GET\r\n",
-            Status::MethodNotAllowed(Method::Post) => b"Allow: POST\r\n",
-            _ => b"",
-        }
-    }
-
     /// The body of an answer that says only why nothing was done. It is `{"error":"404"}`, or `{"error":"U1"}` for
     /// `Unavailable`.
     pub fn refusal(self) -> &'static [u8]
@@ -122,6 +110,20 @@ fn append(text: &mut Vec<u8>, piece: &[u8])
     let _ = text.extend_from_slice(piece);
 }
 
+/// Appends the line that names the allowed method, where there is one. There is room for it.
+fn append_allow(text: &mut Vec<u8>, status: Status)
+    requires { vec_len text.old + 13 ≤ vec_capacity text.old }
+    ensures items { text.new.items ≡ text.old.items ++ allow_line status }
+    ensures len { vec_len text.new ≤ vec_len text.old + 13 }
+    ensures capacity { vec_capacity text.old ≤ vec_capacity text.new }
+{
+    if let Status::MethodNotAllowed(route) = status {
+        append(text, b"Allow: ");
+        append(text, route.method().as_str().as_bytes());
+        append(text, b"\r\n");
+    }
+}
+
 /// Writes the head of an answer whose body has so many bytes. It takes no memory.
 pub(crate) fn write_head(text: &mut Vec<u8>, status: Status, kind: Kind, size: usize)
     requires empty { text.old.items ≡ [] }
@@ -138,6 +140,6 @@ pub(crate) fn write_head(text: &mut Vec<u8>, status: Status, kind: Kind, size: u
     append(text, b"\r\nContent-Length: ");
     append(text, buffer.format(size).as_bytes());
     append(text, b"\r\nConnection: close\r\n");
-    append(text, status.allow_line());
+    append_allow(text, status);
     append(text, b"\r\n");
 }

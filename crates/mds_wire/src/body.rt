@@ -3,7 +3,7 @@
 ghost use Rattle.std.specs.Prelude.{◌≡◌, ◌≢◌, ◌+◌, ◌-◌, ◌^◌, ◌<◌, ◌≤◌, length, Err};
 ghost use Rattle.mds_wire.specs.BodySteps.{FeedsBody, FeedsNext};
 
-use crate::serve::Handler;
+use crate::serve::{Handler, Unavailable};
 use mds_lines::Source;
 
 /// Why a body isn't whole.
@@ -15,6 +15,17 @@ pub(crate) enum BodyFault {
     Closed,
     /// The handler didn't take a piece. Nothing more was read.
     Unavailable,
+}
+
+impl From<Unavailable> for BodyFault {
+    ghost use Rattle.std.specs.Prelude.{◌≡◌};
+    ghost use Rattle.mds_wire.specs.declared.body.BodyFault.TheVariants as fault;
+
+    ghost from_gives = { λ _ it. it ≡ fault.Unavailable };
+
+    fn from(_: Unavailable) -> BodyFault {
+        BodyFault::Unavailable
+    }
 }
 
 /// The most bytes that are read at a time.
@@ -35,10 +46,10 @@ fn feed_next<H: Handler, R: Source>(
 {
     match source.read(block) {
         Ok(0) => Err(BodyFault::Closed),
-        Ok(count) => match H::feed(body, &block[..count]) {
-            Ok(()) => Ok(count),
-            Err(_) => Err(BodyFault::Unavailable),
-        },
+        Ok(count) => {
+            H::feed(body, &block[..count])?;
+            Ok(count)
+        }
         Err(_) => Err(BodyFault::Read),
     }
 }
@@ -58,9 +69,7 @@ pub(crate) fn feed_body<H: Handler, R: Source>(
     ensures counted { (result ≡ Err BodyFault.Read → R.failures source.new ≡ R.failures source.old + 1)
         × (result ≢ Err BodyFault.Read → R.failures source.new ≡ R.failures source.old) }
 {
-    let Ok(()) = H::feed(body, front) else {
-        return Err(BodyFault::Unavailable);
-    };
+    H::feed(body, front)?;
     let mut block = [0; BLOCK];
     let mut left = size - front.len();
     while left > 0 {

@@ -11,8 +11,9 @@ ghost use Rattle.mds_wire.specs.Judging.{parts_at, values_in, is_host_fault, jud
 ghost use Rattle.mds_wire.specs.JudgeSteps.{IsValues};
 
 use crate::answer::Status;
-use crate::route::{Method, Route, RouteFinder};
+use crate::route::{Route, RouteFinder};
 use crate::target::path_of;
+use http::Method;
 use httparse::spans::{HeaderSpan, RequestSpans};
 use std::str;
 
@@ -63,13 +64,13 @@ pub(crate) fn judge_head<F: RouteFinder>(
         return Judged::Refused(Status::NotFound);
     };
     let method = route.method();
-    if spans.method.of(bytes) != method.text() {
-        return Judged::Refused(Status::MethodNotAllowed(method));
+    if spans.method.of(bytes) != method.as_str().as_bytes() {
+        return Judged::Refused(Status::MethodNotAllowed(route));
     }
-    match method {
-        Method::Get => Judged::Wanted(route, 0),
-        Method::Post => judge_length(route, values_of(bytes, fields, b"content-length")),
+    if method == Method::GET {
+        return Judged::Wanted(route, 0);
     }
+    judge_length(route, values_of(bytes, fields, b"content-length"))
 }
 
 /// The values of the fields of a name, whatever the case of its letters.

@@ -13,6 +13,6 @@ mod target;
 
 pub use answer::{Kind, Status};
 pub use laws::laws_of;
-pub use route::{Method, Route, RouteFinder, Routes};
+pub use route::{Route, RouteFinder, Routes};
 pub use serve::{Handler, Unavailable, WireFault, serve_one};
 pub use target::{part, path_of, query_of};

@@ -1,34 +1,16 @@
 //! The routes, their methods, and the router that knows the paths that they are for.
 
-ghost use Rattle.std.specs.Prelude.{◌≡◌, ◌≤◌, length};
-ghost use Rattle.mds_wire.specs.Routes.{route_of, method_of, method_text, part_length};
+ghost use Rattle.std.specs.Prelude.{◌≡◌, ◌≤◌, length, IfOk};
+ghost use Rattle.mds_wire.specs.Routes.{route_of, routes, method_of, part_length};
 ghost use Rattle.mds_wire.specs.RouteSteps.{template_of};
 
+use http::Method;
 use matchit::{InsertError, Router};
 use std::alloc::{AllocError, Global};
 use std::marker::Model;
 
-/// A method that a route has.
-#[derive(Clone, Copy, Debug, PartialEq, Eq)]
-pub enum Method {
-    Get,
-    Post,
-}
-
-impl Method {
-    /// Its name.
-    pub(crate) fn text(self) -> &'static [u8]
-        ensures { result.now ≡ method_text self }
-    {
-        match self {
-            Method::Get => b"GET",
-            Method::Post => b"POST",
-        }
-    }
-}
-
 /// What a request is about, by the path of its target.
-#[derive(Clone, Copy)]
+#[derive(Clone, Copy, Debug, PartialEq, Eq)]
 pub enum Route {
     Imports,
     Substitutions,
@@ -58,12 +40,13 @@ impl Route {
     ];
 
     /// The one method that it has.
-    pub fn method(self) -> Method
-        ensures { result ≡ method_of self }
+    pub(crate) fn method(self) -> Method
+        ensures value { result ≡ method_of self }
+        ensures size { length result ≤ 4 }
     {
         match self {
-            Route::Imports | Route::Substitutions | Route::Holidays => Method::Post,
-            _ => Method::Get,
+            Route::Imports | Route::Substitutions | Route::Holidays => Method::POST,
+            _ => Method::GET,
         }
     }
 
@@ -103,20 +86,23 @@ pub struct Routes {
 }
 
 impl Model for Routes {
-    ghost use Rattle.std.specs.Prelude.{◌≡◌, ⊤};
+    ghost use Rattle.std.specs.Prelude.{◌≡◌, List};
     ghost use Rattle.mds_wire.specs.Routes.{routes};
-    ghost use Rattle.mds_wire.specs.RouteSteps.{rows_of};
+    ghost use Rattle.mds_wire.specs.RouteSteps.{routes_in, rows_of};
+    ghost use Rattle.mds_wire.specs.declared.route.Route.{Route as ARoute};
 
-    ghost Value = { ⊤ };
+    ghost Value = { List ARoute };
 
-    ghost view = { λ _. tt };
+    ghost view = { λ r. routes_in r.router };
 
     ghost invariant = { λ r. r.router ≡ rows_of routes };
 }
 
 impl Routes {
     /// Tells a router each route. No two of them conflict, so that only memory can be wanting.
-    pub fn new(alloc: Global) -> Result<Routes, AllocError> {
+    pub fn new(alloc: Global) -> Result<Routes, AllocError>
+        ensures { IfOk result (λ made. made ≡ routes) }
+    {
         let mut router = Router::new(alloc);
         for route in Route::ALL {
             if let Err(error) = router.insert(route.template(), route) {

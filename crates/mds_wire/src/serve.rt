@@ -39,13 +39,13 @@ pub trait Handler {
     /// What is kept is the same in both states.
     ghost same: { Self → Self → Type 0 };
 
-    /// A route, a target and a body of so many bytes take memory before a step.
-    ghost takes_memory: { Route → List ℕ → ℕ → Type 0 };
+    /// What takes memory before a step: of a route, a target and a body of so many bytes, behind what came of it, a piece.
+    ghost takes_memory: { Route → List ℕ → ℕ → List ℕ → List ℕ → Type 0 };
 
-    /// It was begun for a route and a target, and was fed these bytes.
-    ghost holds: { Self.Body → Route → List ℕ → List ℕ → Type 0 };
+    /// It was begun for a route, a target and so many bytes, and was fed these.
+    ghost holds: { Self.Body → Route → List ℕ → ℕ → List ℕ → Type 0 };
 
-    /// Begins a body of so many bytes, of which nothing has come. It fails only where memory is taken.
+    /// Begins a body of so many bytes, of which nothing has come. It fails only where that takes memory.
     fn begin(
         &self,
         alloc: Global,
@@ -53,17 +53,17 @@ pub trait Handler {
         target: &[u8],
         size: usize,
     ) -> Result<Self::Body, Unavailable>
-        ensures begun { IfOk result (λ body. holds body route target.now []) }
-        ensures only { OnErr result (takes_memory route target.now size) };
+        ensures begun { IfOk result (λ body. holds body route target.now size []) }
+        ensures only { OnErr result (takes_memory route target.now size [] []) };
 
-    /// Takes more of a body. All that it is fed has at most 8,388,608 bytes. It fails only where any body with these bytes
-    /// takes memory.
+    /// Takes more of a body, and no more than it has. It fails only where this piece takes memory behind what came before.
     fn feed(body: &mut Self::Body, piece: &[u8]) -> Result<(), Unavailable>
-        ensures fed { (route : Route) (target bytes : List ℕ) → holds body.old route target bytes
-            → length (bytes ++ piece.now) ≤ longest_body
-            → IfOk result (λ _. holds body.new route target (bytes ++ piece.now)) }
-        ensures only { (route : Route) (target bytes : List ℕ) (size : ℕ) → holds body.old route target bytes
-            → length (bytes ++ piece.now) ≤ size → OnErr result (takes_memory route target size) };
+        ensures fed { (route : Route) (target : List ℕ) (size : ℕ) (bytes : List ℕ) → holds body.old route target size bytes
+            → length (bytes ++ piece.now) ≤ size → size ≤ longest_body
+            → IfOk result (λ _. holds body.new route target size (bytes ++ piece.now)) }
+        ensures only { (route : Route) (target : List ℕ) (size : ℕ) (bytes : List ℕ) → holds body.old route target size bytes
+            → length (bytes ++ piece.now) ≤ size → size ≤ longest_body
+            → OnErr result (takes_memory route target size bytes piece.now) };
 
     /// Makes a step with a body that is whole, and writes the answer's body. There is room for 768 bytes of it. Where
     /// memory or what is kept is unavailable, nothing has changed. Whatever was written then counts for nothing, and
@@ -78,11 +78,11 @@ pub trait Handler {
     ) -> Result<(Status, Kind), Unavailable>
         requires empty { answer.old.items ≡ [] }
         requires room { short_answer ≤ vec_capacity answer.old }
-        ensures step { (bytes : List ℕ) → holds body route target.now bytes → IfOk result (λ told.
+        ensures step { (bytes : List ℕ) → holds body route target.now (length bytes) bytes → IfOk result (λ told.
             step self.old route target.now bytes told.0 told.1 answer.new.items self.new) }
         ensures same { OnErr result (same self.old self.new) }
-        ensures only { (bytes : List ℕ) → holds body route target.now bytes
-            → OnErr result (takes_memory route target.now (length bytes)) };
+        ensures only { (bytes : List ℕ) → holds body route target.now (length bytes) bytes
+            → OnErr result (takes_memory route target.now (length bytes) bytes []) };
 }
 
 /// What is answered. It is a refusal, and whether the request's method is `HEAD`, or what the handler tells.
@@ -110,6 +110,27 @@ pub enum WireFault {
     Write,
     /// There was no memory for a head and a short answer. Nothing was read.
     Memory,
+}
+
+impl From<AllocError> for Unavailable {
+    ghost use Rattle.std.specs.Prelude.{⊤};
+
+    ghost from_gives = { λ _ _. ⊤ };
+
+    fn from(_: AllocError) -> Unavailable {
+        Unavailable
+    }
+}
+
+impl From<AllocError> for WireFault {
+    ghost use Rattle.std.specs.Prelude.{◌≡◌};
+    ghost use Rattle.mds_wire.specs.declared.serve.WireFault.TheVariants as fault;
+
+    ghost from_gives = { λ _ it. it ≡ fault.Memory };
+
+    fn from(_: AllocError) -> WireFault {
+        WireFault::Memory
+    }
 }
 
 impl Reply {
@@ -333,15 +354,9 @@ pub fn serve_one<F: RouteFinder, H: Handler, R: Source, W: Sink>(
     ensures writer { (result ≡ Err WireFault.Write → W.failures writer.new ≡ W.failures writer.old + 1)
         × (result ≢ Err WireFault.Write → W.failures writer.new ≡ W.failures writer.old) }
 {
-    let Ok(mut buffer) = room_of_head(alloc) else {
-        return Err(WireFault::Memory);
-    };
-    let Ok(mut text) = Vec::with_capacity(alloc, LONGEST_ANSWER_HEAD) else {
-        return Err(WireFault::Memory);
-    };
-    let Ok(mut answer) = Vec::with_capacity(alloc, SHORT_ANSWER) else {
-        return Err(WireFault::Memory);
-    };
+    let mut buffer = room_of_head(alloc)?;
+    let mut text = Vec::with_capacity(alloc, LONGEST_ANSWER_HEAD)?;
+    let mut answer = Vec::with_capacity(alloc, SHORT_ANSWER)?;
     let mut fields = [EMPTY_HEADER_SPAN; MOST_FIELDS];
     let reply = match understand(
         alloc,

@@ -74,6 +74,10 @@ count = record (flagged (codes "count")) {
   defaults = codes "1000000" ∷ [];
 }
 
+-- a flag without a value
+abbrev pub log : Rule
+log = record (flagged (codes "log")) { action = Some SetTrue }
+
 -- the id of a word's argument
 abbrev pub id_of : Word → Text
 id_of word.Store = codes "store"
@@ -95,6 +99,7 @@ id_of word.Sender = codes "sender"
 id_of word.Receiver = codes "receiver"
 id_of word.Port = codes "port"
 id_of word.Count = codes "count"
+id_of word.Log = codes "log"
 id_of word.Code = codes "code"
 
 -- the argument of a word
@@ -106,6 +111,7 @@ rule_of_word kinds word.Files = several (codes "file")
 rule_of_word kinds word.Suffixes = several (codes "suffixes")
 rule_of_word kinds word.Port = port
 rule_of_word kinds word.Count = count
+rule_of_word kinds word.Log = log
 rule_of_word kinds word.Code = code
 rule_of_word kinds other = placed (id_of other)
 
@@ -173,7 +179,7 @@ export_command = command_of (codes "export")
     ∷ several (codes "suffixes") ∷ [])
 
 abbrev pub serve_command : Shape
-serve_command = command_of (codes "serve") (store ∷ port ∷ count ∷ [])
+serve_command = command_of (codes "serve") (store ∷ port ∷ count ∷ log ∷ [])
 
 abbrev pub store_commands : List Shape
 store_commands = streams_command ∷ day_command ∷ versions_command ∷ periods_command
@@ -223,7 +229,7 @@ words_of name.Periods = word.Store ∷ word.Nmi ∷ word.Suffix ∷ []
 words_of name.Gaps = word.Store ∷ word.Nmi ∷ word.Suffix ∷ word.From ∷ word.To ∷ []
 words_of name.Finals = word.Store ∷ word.Nmi ∷ word.Suffix ∷ word.From ∷ word.To ∷ []
 words_of name.Export = word.Store ∷ word.Nmi ∷ word.From ∷ word.To ∷ word.Moment ∷ word.Sender ∷ word.Receiver ∷ word.Suffixes ∷ []
-words_of name.Serve = word.Store ∷ word.Port ∷ word.Count ∷ []
+words_of name.Serve = word.Store ∷ word.Port ∷ word.Count ∷ word.Log ∷ []
 words_of name.Explain = word.Code ∷ []
 
 -- the command of a name

@@ -3,7 +3,7 @@
 ghost use Rattle.std.specs.Prelude.{◌≡◌, map, IfOk};
 ghost use Rattle.std.specs.List.{AllZip};
 ghost use Rattle.mds_words.specs.Commands.{HasRule, IsApp, IsLeaf};
-ghost use Rattle.mds_words.specs.Grammar.{AreKinds, all_names, code, count, flagged, id_of, kind, mdstore_app, named, placed, port, rule_of_word, shape_of, store, sums};
+ghost use Rattle.mds_words.specs.Grammar.{AreKinds, all_names, code, count, flagged, id_of, kind, log, mdstore_app, named, placed, port, rule_of_word, shape_of, store, sums};
 
 use crate::names::{Name, Word};
 use clap::{Arg, ArgAction, Command, value_parser};
@@ -87,6 +87,7 @@ fn argument<'a>(alloc: Global, kinds: KindNames<'a>, word: Word) -> Arg<'a>
         Word::Kind => kind(alloc, kinds.names),
         Word::Port => port(alloc),
         Word::Count => count(alloc),
+        Word::Log => log(alloc),
         Word::Code => code(alloc),
         Word::Files | Word::Suffixes => required(alloc, word).num_args(1..),
         _ => required(alloc, word),
@@ -127,6 +128,12 @@ fn count<'a>(alloc: Global) -> Arg<'a>
     flagged(alloc, Word::Count)
         .value_parser(value_parser!(u32).range(1..=1_000_000))
         .default_value("1000000")
+}
+
+fn log<'a>(alloc: Global) -> Arg<'a>
+    ensures { HasRule log result }
+{
+    flagged(alloc, Word::Log).action(ArgAction::SetTrue)
 }
 
 fn code<'a>(alloc: Global) -> Arg<'a>

@@ -121,6 +121,7 @@ fn asked_without_memory<'a>(name: &str, found: &ArgMatches<'a>, store: &'a str) 
             store,
             port: port(found),
             count: count(found),
+            has_log: has_flag(found, "log"),
         },
         _ => asked_of_stream(name, store, query_words(found)),
     }

@@ -45,6 +45,7 @@ pub(crate) enum Word {
     Receiver,
     Port,
     Count,
+    Log,
     Code,
 }
 
@@ -159,7 +160,7 @@ impl Name {
                 Word::Receiver,
                 Word::Suffixes,
             ],
-            Name::Serve => &[Word::Store, Word::Port, Word::Count],
+            Name::Serve => &[Word::Store, Word::Port, Word::Count, Word::Log],
             Name::Explain => &[Word::Code],
         }
     }
@@ -187,6 +188,7 @@ impl Word {
             Word::Receiver => "receiver",
             Word::Port => "port",
             Word::Count => "count",
+            Word::Log => "log",
             Word::Code => "code",
         }
     }
@@ -209,6 +211,7 @@ impl Word {
             Word::Receiver => "RECEIVER",
             Word::Port => "P",
             Word::Count => "N",
+            Word::Log => "LOG",
             Word::Code => "CODE",
         }
     }
@@ -242,6 +245,7 @@ impl Word {
             }
             Word::Port => "The port",
             Word::Count => "After how many connections it ends",
+            Word::Log => "Prints a line for each connection on standard error",
             Word::Code => "The code, as L8 or bad job",
         }
     }

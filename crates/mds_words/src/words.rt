@@ -91,11 +91,13 @@ pub enum Words<'a> {
         store: &'a str,
         arguments: ExportArguments<'a>,
     },
-    /// So many connections to a port are served, one after the other, from the store in the file of a name.
+    /// So many connections to a port are served, one after the other, from the store in the file of a name. They are logged, if that
+    /// is asked for.
     Serve {
         store: &'a str,
         port: u16,
         count: u32,
+        has_log: bool,
     },
     /// What a printed code means, which may be of several words. Without one it is what each code means.
     Explain {

@@ -1,4 +1,4 @@
--- What a migration comes to, and what the want of a store or of a request does (profile).
+-- What a migration and the end of a service come to, and what the want of a store or of a request does (profile).
 use Rattle.std.specs.Prelude.{Result, Ok, Err}
 use Rattle.mds_store.specs.declared.starting.StoreFault.{StoreFault}
 use Rattle.mds_store.specs.declared.starting.StoreFault.TheVariants as store
@@ -6,6 +6,8 @@ use Rattle.mds_migrate.specs.declared.outcome.Migrated.{Migrated}
 use Rattle.mds_migrate.specs.declared.outcome.Migrated.TheVariants as migrated
 use Rattle.mds_migrate.specs.declared.outcome.MigrateFault.{MigrateFault}
 use Rattle.mds_migrate.specs.declared.outcome.MigrateFault.TheVariants as fault
+use Rattle.mds_http.specs.declared.connections.Ended.{Ended}
+use Rattle.mds_http.specs.declared.connections.Ended.TheVariants as ended
 use Rattle.mds_requests.specs.declared.files.RequestFault.{RequestFault}
 use Rattle.mds_requests.specs.declared.files.RequestFault.TheVariants as request
 use Rattle.mds_desk.specs.declared.outcome.Outcome.{Outcome}
@@ -27,3 +29,8 @@ abbrev pub of_request_fault : RequestFault → Outcome
 of_request_fault request.BadJob = outcome.BadJob
 of_request_fault (request.BadHolidays row) = outcome.BadHolidays row
 of_request_fault request.Memory = outcome.Unavailable
+
+abbrev pub of_serving : Ended → Outcome
+of_serving ended.Counted = outcome.Done
+of_serving ended.CannotAccept = outcome.NoPort
+of_serving ended.Unavailable = outcome.Unavailable

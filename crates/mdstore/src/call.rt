@@ -94,7 +94,12 @@ fn outcome_of_words(rt: &HostRuntime, words: Words<'_>) -> Outcome {
         Words::Gaps { store, range } => query(rt, store, gaps_request(&range)),
         Words::Finals { store, range } => query(rt, store, finals_request(&range)),
         Words::Export { store, arguments } => query_export(rt, store, &arguments),
-        Words::Serve { store, port, count } => serve(rt, store, port, count),
+        Words::Serve {
+            store,
+            port,
+            count,
+            has_log,
+        } => serve(rt, store, port, count, has_log),
         Words::Explain { code } => explain(rt, &code),
     }
 }

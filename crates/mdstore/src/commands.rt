@@ -1,9 +1,12 @@
 //! The commands on a store in a file.
 
+ghost use Rattle.std.specs.Prelude.{◌≡◌};
+ghost use Rattle.mdstore.specs.Refusals.{of_serving};
+
 use crate::asking::{ask_keeper, perform_request, read_whole};
 use crate::store_file::{Task, in_store};
 use mds_desk::Outcome;
-use mds_http::{StoreHandler, listen, serve_connections};
+use mds_http::{Ended, Log, StoreHandler, serve_connections};
 use mds_keeper::Keeper;
 use mds_messages::Request;
 use mds_requests::FileCommand;
@@ -57,9 +60,15 @@ impl<'a> Task for Querying<'a> {
     }
 }
 
-/// Serves so many connections to a port of 127.0.0.1, one after the other, from the store of a path.
-pub(crate) fn serve(rt: &HostRuntime, path: &str, port: u16, count: u32) -> Outcome {
-    in_store(rt, path, Serving { port, count })
+/// Serves so many connections to a port of 127.0.0.1, one after the other, from the store of a path. A line for each is logged, if that
+/// is asked for.
+pub(crate) fn serve(rt: &HostRuntime, path: &str, port: u16, count: u32, has_log: bool) -> Outcome {
+    let log = if has_log {
+        Log::StandardError
+    } else {
+        Log::Nowhere
+    };
+    in_store(rt, path, Serving { port, count, log })
 }
 
 /// To serve connections.
@@ -67,6 +76,7 @@ pub(crate) fn serve(rt: &HostRuntime, path: &str, port: u16, count: u32) -> Outc
 struct Serving {
     port: u16,
     count: u32,
+    log: Log,
 }
 
 impl Task for Serving {
@@ -74,13 +84,19 @@ impl Task for Serving {
         let Ok(routes) = Routes::new(rt.alloc()) else {
             return (keeper, Outcome::Unavailable);
         };
-        match listen(rt, self.port) {
-            Ok(listener) => {
-                let mut handler = StoreHandler { keeper };
-                serve_connections(rt, &routes, &mut handler, &listener, self.count);
-                (handler.keeper, Outcome::Done)
-            }
-            Err(_) => (keeper, Outcome::NoPort),
-        }
+        let mut handler = StoreHandler { keeper };
+        let ended = serve_connections(rt, &routes, &mut handler, self.port, self.count, self.log);
+        (handler.keeper, of_serving(ended))
+    }
+}
+
+/// What it comes to that no more connections are served.
+fn of_serving(ended: Ended) -> Outcome
+    ensures { result ≡ of_serving ended }
+{
+    match ended {
+        Ended::Counted => Outcome::Done,
+        Ended::CannotAccept => Outcome::NoPort,
+        Ended::Unavailable => Outcome::Unavailable,
     }
 }

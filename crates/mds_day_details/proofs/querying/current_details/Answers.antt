@@ -10,31 +10,31 @@ use Rattle.mds_day_details.proofs.querying.current_details.Goals as goal
 
 pub returns-then-not-is_empty : goal.returns-then-not-is_empty
 returns-then-not-is_empty g c =
-    let rows = c.in-Ok-details_rows.own.items in
-    let ready = steady forms_layout c.in-Ok.ensures.ok c.ready.ensures.survives c.ready.ensures.mode in
-    answers (tables_held forms_layout (state g.S.Store c.args.conn.now)) (and_then ready c.in-Ok-details_rows.ensures) c.first_details.result
+    let rows = c.in_ok-own.own.items in
+    let ready = steady forms_layout (rw c.in_ok-or_unavailable.ensures at c.ready.ensures.ok) c.ready.ensures.survives c.ready.ensures.mode in
+    answers (tables_held forms_layout (state g.S.Store c.args.conn.now)) (and_then ready (rw c.in_ok-own.ensures at c.details_rows.ensures)) c.first_details.result
     (λ known. with_both c.first_details.result (λ _. All (λ row. IsDetailRow row) rows) (TellsFirst rows) _
     (λ details lawful first. finds_own _ known.0 c.args.stream.now c.args.day (omega (arith, c.number.ensures.last)) rows known.1 lawful details first)
     (rw c.deref.ensures.value at c.first_details.ensures.all)
     (rw c.deref.ensures.value at c.first_details.ensures.first))
 
-pub returns-in_default-nearest : goal.returns-in_default-nearest
-returns-in_default-nearest g c =
-    let found = c.in-Ok-nearest_rows.found.items in
-    let says : SaysDay found None = rw (c.deref-2.ensures.value, c.in_default-nearest.is) at c.in_ok-nearest.ensures.ok in
-    let ready = steady forms_layout c.in-Ok.ensures.ok c.ready.ensures.survives c.ready.ensures.mode in
-    let asked = and_then (and_then ready c.in-Ok-details_rows.ensures) c.in-Ok-nearest_rows.ensures in
+pub returns-in_default : goal.returns-in_default
+returns-in_default g c =
+    let found = c.in_ok-found.found.items in
+    let says : SaysDay found None = rw (c.deref-2.ensures.value, c.in_default.is) at c.in_ok-nearest.ensures.ok in
+    let ready = steady forms_layout (rw c.in_ok-or_unavailable.ensures at c.ready.ensures.ok) c.ready.ensures.survives c.ready.ensures.mode in
+    let asked = and_then (and_then ready (rw c.in_ok-own.ensures at c.details_rows.ensures)) (rw c.in_ok-found.ensures at c.nearest_rows.ensures) in
     answers (tables_held forms_layout (state g.S.Store c.args.conn.now)) asked _
     (λ known. finds_none _ known.0.0 c.args.stream.now c.args.day (omega (arith, c.number.ensures.last)) found known.1 says
     c.empty_details.result c.empty_details.ensures)
 
 pub returns : goal.returns
 returns g c =
-    let found = c.in-Ok-nearest_rows.found.items in
-    let rows = c.in-Ok-details_rows-2.rows.items in
+    let found = c.in_ok-found.found.items in
+    let rows = c.in_ok-rows.rows.items in
     let says : SaysDay found (Some c.in-Some.of) = rw (c.deref-2.ensures.value, c.in-Some.is) at c.in_ok-nearest.ensures.ok in
-    let ready = steady forms_layout c.in-Ok.ensures.ok c.ready.ensures.survives c.ready.ensures.mode in
-    let asked = and_then (and_then (and_then ready c.in-Ok-details_rows.ensures) c.in-Ok-nearest_rows.ensures) c.in-Ok-details_rows-2.ensures in
+    let ready = steady forms_layout (rw c.in_ok-or_unavailable.ensures at c.ready.ensures.ok) c.ready.ensures.survives c.ready.ensures.mode in
+    let asked = and_then (and_then (and_then ready (rw c.in_ok-own.ensures at c.details_rows.ensures)) (rw c.in_ok-found.ensures at c.nearest_rows.ensures)) (rw c.in_ok-rows.ensures at c.details_rows-2.ensures) in
     answers (tables_held forms_layout (state g.S.Store c.args.conn.now)) asked c.first_details-2.result
     (λ known. with_both c.first_details-2.result (λ _. All (λ row. IsDetailRow row) rows) (TellsFirst rows) _
     (λ details lawful first. finds_current _ known.0.0.0 c.args.stream.now c.args.day (omega (arith, c.number.ensures.last)) found

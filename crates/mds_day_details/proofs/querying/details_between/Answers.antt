@@ -9,9 +9,9 @@ use Rattle.mds_day_details.proofs.querying.details_between.Goals as goal
 
 pub returns : goal.returns
 returns g c =
-    let rows = c.in-Ok-range_rows.rows.items in
-    let ready = steady forms_layout c.in-Ok.ensures.ok c.ready.ensures.survives c.ready.ensures.mode in
-    answers (tables_held forms_layout (state g.S.Store c.args.conn.now)) (and_then ready c.in-Ok-range_rows.ensures) c.tell_days.result
+    let rows = c.in_ok-rows.rows.items in
+    let ready = steady forms_layout (rw c.in_ok-or_unavailable.ensures at c.ready.ensures.ok) c.ready.ensures.survives c.ready.ensures.mode in
+    answers (tables_held forms_layout (state g.S.Store c.args.conn.now)) (and_then ready (rw c.in_ok-rows.ensures at c.range_rows.ensures)) c.tell_days.result
     (λ known. with_both c.tell_days.result (λ _. All (λ row. IsDetailRow row) rows) (λ told. AreByDay rows → TellsDays rows told.items) _
     (λ told lawful tells. finds_between _ known.0 c.args.stream.now c.args.first c.args.last (omega (arith, c.number.ensures.last)) rows
     known.1 told.items (tells (known.1.1 lawful)))

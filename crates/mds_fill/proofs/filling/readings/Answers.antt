@@ -11,12 +11,12 @@ loop-interval-preserved c =
     let low = c.loop-interval.auto.interval in
     let job = content_of c.args.job.now in
     record {
-      count = omega (arith, low, c.in-Ok-push.ensures.len, c.loop-interval.invariant.count);
+      count = omega (arith, low, c.in_ok-push.ensures.len, c.loop-interval.invariant.count);
       filled = λ w is source.
           let at : i ≡ job.first + (i - job.first) = omega (arith, low) in
           let next : i + 1 - job.first ≡ i - job.first + 1 = omega (arith, low) in
-          let s = c.in-Ok-substitute.ensures in
-          filled_more w job i (i - job.first) (i + 1 - job.first) _ _ c.in-Ok-substitute.reading at next c.in-Ok-push.ensures.items
+          let s = c.in_ok-reading.ensures in
+          filled_more w job i (i - job.first) (i + 1 - job.first) _ _ c.in_ok-reading.reading at next c.in_ok-push.ensures.items
           (c.loop-interval.invariant.filled w is source)
           (substitute_is w job i _ c.in-Some.value s.0 s.1 (c.in-Some.ensures w is source));
     }

@@ -5,8 +5,8 @@ use Rattle.mds_pack_rows.proofs.PutLemmas.{one_row}
 use Rattle.mds_form_rows.proofs.BookLemmas.{some_minutes, whole_under}
 use Rattle.mds_form_rows.proofs.books.whole_in.Goals as goal
 
-pub returns : goal.returns
-returns c =
+pub returns-clause-under : goal.returns-clause-under
+returns-clause-under c =
     let form = c.form-item.result in
     let pack = c.pack-item.result in
     let head = c.in-Some.head in

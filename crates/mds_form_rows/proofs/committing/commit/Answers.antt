@@ -13,18 +13,18 @@ returns-clause-ok g c clean holds =
     let early : HasCleanDisk (state g.S.Store c.ready.new.conn) = omega (arith, c.write.ensures.survives.clean) in
     if_ok c.write.result _ _
     (commits forms_layout GainsForms (state g.S.Store c.args.conn.now) (state g.S.Store c.ready.new.conn) (state g.S.Store c.write.new.conn)
-    c.args.additions.now c.in-Ok.ensures.ok c.ready.ensures.survives holds early) (c.write.ensures.ok clean)
+    c.args.additions.now (rw c.in_ok-or_unavailable.ensures at c.ready.ensures.ok) c.ready.ensures.survives holds early) (c.write.ensures.ok clean)
 
 pub returns-clause-survives : goal.returns-clause-survives
 returns-clause-survives g c holds =
     leaves forms_layout GainsForms (state g.S.Store c.args.conn.now) (state g.S.Store c.ready.new.conn) (state g.S.Store c.write.new.conn)
-    c.args.additions.now c.in-Ok.ensures.ok c.ready.ensures.survives holds c.write.ensures.survives
+    c.args.additions.now (rw c.in_ok-or_unavailable.ensures at c.ready.ensures.ok) c.ready.ensures.survives holds c.write.ensures.survives
 
 pub returns-clause-err : goal.returns-clause-err
 returns-clause-err g c clean holds =
     let begun = state g.S.Store c.ready.new.conn in
     let new = state g.S.Store c.write.new.conn in
     let there : IsThereFormed begun new =
-    there_ready (state g.S.Store c.args.conn.now) begun new c.in-Ok.ensures.ok c.ready.ensures.survives
+    there_ready (state g.S.Store c.args.conn.now) begun new (rw c.in_ok-or_unavailable.ensures at c.ready.ensures.ok) c.ready.ensures.survives
     c.write.ensures.survives.clean holds clean in
     search rules

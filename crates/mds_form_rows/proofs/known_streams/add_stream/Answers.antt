@@ -6,7 +6,8 @@ use Rattle.mds_form_rows.proofs.known_streams.add_stream.Goals as goal
 
 pub returns : goal.returns
 returns c =
+    let says : SaysStream c.args.row.now c.in_ok-stream.stream = rw c.in_ok-stream.ensures at c.stream_in.ensures.some in
     on_ok_weaker c.put.result
-    (λ h. adds_one SaysStream c.args.found.now.keys c.put.new.found.keys c.args.row.now c.in-Some.stream h c.in-Some.ensures.some
-    (λ q s. one_stream c.args.row.now q c.in-Some.stream s c.in-Some.ensures.some))
+    (λ h. adds_one SaysStream c.args.found.now.keys c.put.new.found.keys c.args.row.now c.in_ok-stream.stream h says
+    (λ q s. one_stream c.args.row.now q c.in_ok-stream.stream s says))
     (c.put.ensures stream_exact)

@@ -37,6 +37,6 @@ loop-i-preserved c =
 pub returns : goal.returns
 returns c =
     let it = c.loop-i.invariant in
-    let none = c.none_left.ensures c.if-not-none_left.false in
+    let none = c.are_none.ensures.0 c.if-not-are_none.false in
     all_cut c.args.stream.now c.args.days.now c.loop-i.i c.args.forms.now c.args.packs.now it.used_forms it.used_packs c.loop-i.forms_left.now
     c.loop-i.packs_left.now c.loop-i.books.items c.loop-i-test.false it.of_forms it.of_packs none.0 none.1 it.cut

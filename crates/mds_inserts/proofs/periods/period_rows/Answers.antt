@@ -5,5 +5,5 @@ use Rattle.mds_inserts.proofs.periods.period_rows.Goals as goal
 pub loop-i-preserved : goal.loop-i-preserved
 loop-i-preserved c =
     rows_more IsRowOfPeriod c.args.periods.now c.loop-i.i c.index-periods-i.result c.loop-i.rows.items c.push.new.self.items
-    c.in-Ok-period_row.row c.loop-i-test.true c.index-periods-i.is c.loop-i.invariant c.in-Ok-period_row.ensures
-    c.in-Ok-push.ensures.items
+    c.in_ok-row.row c.loop-i-test.true c.index-periods-i.is c.loop-i.invariant c.in_ok-row.ensures
+    c.in_ok-push.ensures.items

@@ -27,9 +27,9 @@ returns-in-Some-clause-err c =
     (λ day. ((λ m. inl ((h day).0 m)), (λ e. elim e [ inl m ↦ (h day).1 m | inr z ↦ absurd z ]))))
     c.add_days.ensures.err
 
-pub returns-in-Ok-insert-clause-ok : goal.returns-in-Ok-insert-clause-ok
-returns-in-Ok-insert-clause-ok c =
-    first_days c.args.kept.now c.get_mut.follows.lender-at-none c.insert.new.self c.args.more.now c.in-Ok.meter
-    c.in-Ok-in_order.days c.get_mut.follows.holds-at-none c.in_default.ensures.value c.get_mut.ensures.ordered
-    c.insert.ensures.ordered c.in-Ok.ensures (rw c.deref-2.ensures.value at c.in-Ok-in_order.ensures)
-    c.in-Ok-insert.ensures.updates.0
+pub returns-clause-ok : goal.returns-clause-ok
+returns-clause-ok c =
+    first_days c.args.kept.now c.get_mut.follows.lender-at-none c.insert.new.self c.args.more.now c.in_ok-meter.meter
+    c.in_ok-days.days c.get_mut.follows.holds-at-none c.in_default.ensures.value c.get_mut.ensures.ordered
+    c.insert.ensures.ordered c.in_ok-meter.ensures (rw c.deref-2.ensures.value at c.in_ok-days.ensures)
+    c.in_ok-insert.ensures.updates.0

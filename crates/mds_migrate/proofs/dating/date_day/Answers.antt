@@ -7,7 +7,7 @@ pub returns-clause-ok : goal.returns-clause-ok
 returns-clause-ok g c =
     if_ok c.put_known.result _ _
     (dates_day (state g.S.Store c.args.tx.now.conn.now) (state g.S.Store c.know.new.tx.conn.now) (state g.S.Store c.put_known.new.tx.conn.now)
-    c.put_known.ensures.survives.clean c.args.row.now c.in-Some.head c.in-Some.ensures.some c.args.known.now c.know.new.known
+    c.put_known.ensures.survives.clean c.args.row.now c.in_ok-head.head (rw c.in_ok-head.ensures at c.head_in.ensures.some) c.args.known.now c.know.new.known
     c.in_ok-know.ensures.ok)
     c.put_known.ensures.ok
 

@@ -1,27 +1,27 @@
 use Rattle.sqlite.specs.Held.{state}
 use Rattle.mds_tables.specs.Tables.{schema_with}
 use Rattle.mds_pack_rows.specs.PackTables.{packs_then}
-use Rattle.mds_pack_rows.proofs.AskLemmas.{fails_kept, shown_kept, shown_on}
+use Rattle.mds_pack_rows.proofs.AskLemmas.{asked_kept, shown_on}
+use Rattle.mds_pack_rows.proofs.PassLemmas.{on_told, told_ok}
 use Rattle.mds_migrate.proofs.DatingOrder.{finds_details}
 use Rattle.mds_migrate.proofs.DatingTexts.{select_details, select_details_plain}
 use Rattle.mds_migrate.proofs.dating.details_rows.Goals as goal
 
-pub returns-in-Ok-clause-ok : goal.returns-in-Ok-clause-ok
-returns-in-Ok-clause-ok g c clean =
-    finds_details c.args.stream.now (state g.S.Store c.args.tx.now.conn.now) (state g.S.Store c.query_all.new.self.conn.now) c.in-Ok.rows.items
-    (rw (c.in-Ok.is, c.stream_cells.ensures) at (c.query_all.ensures.ok clean))
+pub returns-clause-ok : goal.returns-clause-ok
+returns-clause-ok g c clean =
+    told_ok _ c.or_unavailable.result c.query_all.result c.or_unavailable.ensures
+    (λ rows is.
+    finds_details c.args.stream.now (state g.S.Store c.args.tx.now.conn.now) (state g.S.Store c.query_all.new.self.conn.now) rows.items
+    (rw (is, c.stream_cells.ensures) at (c.query_all.ensures.ok clean)))
 
-pub returns-in-Ok-clause-goes_on : goal.returns-in-Ok-clause-goes_on
-returns-in-Ok-clause-goes_on g c =
-    shown_on select_details _ (state g.S.Store c.args.tx.now.conn.now) (state g.S.Store c.query_all.new.self.conn.now) c.in-Ok.rows.items
-    (λ clean. rw c.in-Ok.is at (c.query_all.ensures.ok clean))
+pub returns-clause-goes_on : goal.returns-clause-goes_on
+returns-clause-goes_on g c =
+    on_told _ c.or_unavailable.result c.query_all.result c.or_unavailable.ensures
+    (λ rows is.
+    shown_on select_details _ (state g.S.Store c.args.tx.now.conn.now) (state g.S.Store c.query_all.new.self.conn.now) rows.items
+    (λ clean. rw is at (c.query_all.ensures.ok clean)))
 
-pub returns-in-Ok-clause-kept : goal.returns-in-Ok-clause-kept
-returns-in-Ok-clause-kept g c clean rest has =
-    shown_kept (schema_with (packs_then rest)) select_details (select_details_plain rest).0 (state g.S.Store c.args.tx.now.conn.now) (state g.S.Store c.query_all.new.self.conn.now)
-    _ has c.in-Ok.rows.items (rw c.in-Ok.is at (c.query_all.ensures.ok clean))
-
-pub returns-in-Err-clause-kept : goal.returns-in-Err-clause-kept
-returns-in-Err-clause-kept g c clean rest has =
-    fails_kept (schema_with (packs_then rest)) select_details (select_details_plain rest).0 (state g.S.Store c.args.tx.now.conn.now) (state g.S.Store c.query_all.new.self.conn.now)
-    _ has c.in-Err.field-0 (rw c.in-Err.is at (c.query_all.ensures.err clean))
+pub returns-clause-kept : goal.returns-clause-kept
+returns-clause-kept g c clean rest has =
+    asked_kept (schema_with (packs_then rest)) select_details (select_details_plain rest).0 (state g.S.Store c.args.tx.now.conn.now) (state g.S.Store c.query_all.new.self.conn.now)
+    _ has c.query_all.result (c.query_all.ensures.ok clean) (c.query_all.ensures.err clean)

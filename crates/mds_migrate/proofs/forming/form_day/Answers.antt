@@ -13,9 +13,9 @@ returns-clause-ok g c =
     let d = state g.S.Store c.form_each.new.tx.conn.now in
     if_ok c.form_each.result _ _
     (λ puts.
-    forms_day a b d c.form_each.ensures.survives.clean c.in_ok-packs.ensures.goes_on c.args.row.now c.in-Some.head c.in-Some.ensures.some
+    forms_day a b d c.form_each.ensures.survives.clean c.in_ok-packs.ensures.goes_on c.args.row.now c.in_ok-head.head (rw c.in_ok-head.ensures at c.head_in.ensures.some)
     (omega (arith, c.number.ensures.last)) c.in_ok-packs.packs.items c.in_ok-packs.ensures.ok
-    (subst (PutsForms b d c.in-Some.head) c.as_slice.ensures.value puts))
+    (subst (PutsForms b d c.in_ok-head.head) c.as_slice.ensures.value puts))
     c.form_each.ensures.ok
 
 pub returns-in_err-packs-clause-kept : goal.returns-in_err-packs-clause-kept

@@ -1,17 +1,18 @@
-use Rattle.std.proofs.Common.{◌≡◌, Some, ap, subst, sym, true, ◌∙◌}
+use Rattle.std.proofs.Common.{◌≡◌, ap, length, true, ◌∙◌}
 use Rattle.std.specs.Prelude.{is_some}
 use Rattle.std.specs.List.{list_any}
 use Rattle.sqlite_value.specs.Order.{bytes}
-use Rattle.mds_pack_rows.specs.PackFacts.{readings_in}
+use Rattle.mds_pack_rows.specs.PackFacts.{IsSaidAt, minutes_of, readings_in}
 use Rattle.mds_tables.specs.RowFacts.{text_at}
 use Rattle.mds_migrate.proofs.FormingLemmas.{says_form}
 use Rattle.mds_migrate.proofs.forming.form_in.Goals as goal
 
 pub returns-clause-says : goal.returns-clause-says
 returns-clause-says c =
-    let readings = c.in-Some-unpacked.readings.items in
-    let body : text_at c.args.pack.now 1 ≡ c.in-Some-blob_at.body.now = ap bytes c.in-Some-blob_at.ensures.some in
-    let said : readings_in c.in-Some-blob_at.body.now ≡ Some readings = rw c.in-Some-unpacked.is at c.in-Ok.ensures.says in
-    let some : list_any (λ reading. is_some reading) readings ≡ true =
-    subst (λ rs. list_any (λ reading. is_some reading) rs ≡ true) c.as_slice.ensures.value (sym c.has_some-has_reading.ensures ∙ c.if-not-has_reading.false) in
-    says_form c.args.head.now c.args.pack.now readings (ap readings_in body ∙ said) (rw c.in-Some-unpacked.is at c.in-Ok.ensures.len) some
+    let pack = c.args.pack.now in
+    let readings = c.in_ok-told.field-0.items in
+    let said : IsSaidAt pack 1 readings = rw c.in_ok-told.ensures at c.in_ok-readings_for.ensures.says in
+    let many : minutes_of (length readings) ≡ c.args.head.now.length = rw c.in_ok-told.ensures at c.in_ok-readings_for.ensures.len in
+    let some : list_any (λ reading. is_some reading) readings ≡ true = rw c.in_ok-told.ensures at c.in_ok-readings_for.ensures.some in
+    let body : text_at pack 1 ≡ said.0 = ap bytes said.1 in
+    says_form c.args.head.now pack readings (ap readings_in body ∙ said.2) many some

@@ -1,66 +1,62 @@
-use Rattle.std.proofs.Common.{◌≡◌, [], Ok, length, arith, refl}
-use Rattle.std.proofs.lemmas.Bool.Decides.{nat_tests}
+use Rattle.std.proofs.Common.{[], Ok, length, ap, refl}
 use Rattle.sqlite.specs.Held.{state}
 use Rattle.sqlite.specs.State.{ExecutesInside, HasCleanDisk}
 use Rattle.mds_tables.specs.Tables.{detail_table, detail_tree, schema_with}
 use Rattle.mds_tables.proofs.CallLemmas.{still}
 use Rattle.mds_pack_rows.specs.PackTables.{packs_then}
-use Rattle.mds_pack_rows.proofs.AskLemmas.{fails_kept, finds_all, shown_kept, shown_on}
-use Rattle.mds_pack_rows.proofs.PutLemmas.{on_then, ran_on}
+use Rattle.mds_pack_rows.proofs.AskLemmas.{asked_kept, finds_all, shown_on}
+use Rattle.mds_pack_rows.proofs.PutLemmas.{if_ok, on_then, ran_on}
 use Rattle.mds_migrate.proofs.StatementLemmas.{cleared_kept, clears, takes_details}
 use Rattle.mds_migrate.proofs.StatementTexts.{delete_details, detail_place, moment_columns, select_moments, select_moments_is, select_moments_plain}
 use Rattle.mds_migrate.proofs.statements.clear_details.Given.{Over}
 use Rattle.mds_migrate.proofs.statements.clear_details.Goals as goal
-use Rattle.mds_migrate.proofs.statements.clear_details.Goals.{In-Ok}
+use Rattle.mds_migrate.proofs.statements.clear_details.Goals.{In_ok-or_unavailable}
 
--- the details were deleted
-ran : (g : Over) (c : In-Ok g) → HasCleanDisk (state g.S.Store c.execute.new.self.conn.now)
-    → ExecutesInside 0 delete_details [] (state g.S.Store c.args.tx.now.conn.now) (state g.S.Store c.execute.new.self.conn.now) (Ok c.in-Ok.field-0)
-ran g c clean = rw c.in-Ok.is at (c.execute.ensures.runs clean (still _ _ _ _ c.execute.ensures.ended c.in-Ok.is))
+-- the rows were deleted
+ran : (g : Over) (c : In_ok-or_unavailable g) → HasCleanDisk (state g.S.Store c.execute.new.self.conn.now)
+    → ExecutesInside 0 delete_details [] (state g.S.Store c.args.tx.now.conn.now) (state g.S.Store c.execute.new.self.conn.now) (Ok c.in_ok-or_unavailable.field-0)
+ran g c clean =
+    rw c.in_ok-or_unavailable.ensures at (c.execute.ensures.runs clean (still _ _ _ _ c.execute.ensures.ended c.in_ok-or_unavailable.ensures))
 
-pub returns-in_default-query_all-clause-kept : goal.returns-in_default-query_all-clause-kept
-returns-in_default-query_all-clause-kept g c =
+pub returns-in_err-left-clause-kept : goal.returns-in_err-left-clause-kept
+returns-in_err-left-clause-kept g c =
     let mid = state g.S.Store c.execute.new.self.conn.now in
     let new = state g.S.Store c.query_all.new.self.conn.now in
-    cleared_kept detail_table delete_details detail_place takes_details (state g.S.Store c.args.tx.now.conn.now) mid new c.query_all.ensures.survives.clean c.in-Ok.field-0
-    (ran g (goal.at.returns-in_default-query_all-clause-kept g c).In-Ok)
+    cleared_kept detail_table delete_details detail_place takes_details (state g.S.Store c.args.tx.now.conn.now) mid new c.query_all.ensures.survives.clean
+    c.in_ok-or_unavailable.field-0 (ran g (goal.at.returns-in_err-left-clause-kept g c).In_ok-or_unavailable)
     (λ clean rest has.
-    fails_kept (schema_with (packs_then rest)) select_moments (select_moments_plain rest).0 mid new [] has c.in_default-query_all.field-0
-    (rw c.in_default-query_all.is at (c.query_all.ensures.err clean)))
-
-pub returns-then-is_empty-clause-goes_on : goal.returns-then-is_empty-clause-goes_on
-returns-then-is_empty-clause-goes_on g c =
-    let old = state g.S.Store c.args.tx.now.conn.now in
-    let mid = state g.S.Store c.execute.new.self.conn.now in
-    let new = state g.S.Store c.query_all.new.self.conn.now in
-    on_then old mid new c.query_all.ensures.survives.clean
-    (ran_on delete_details [] c.in-Ok.field-0 old mid (ran g (goal.at.returns-then-is_empty-clause-goes_on g c).In-Ok))
-    (shown_on select_moments [] mid new c.in-Ok-query_all.left.items (λ clean. rw c.in-Ok-query_all.is at (c.query_all.ensures.ok clean)))
-
-pub returns-then-is_empty-clause-ok : goal.returns-then-is_empty-clause-ok
-returns-then-is_empty-clause-ok g c =
-    let mid = state g.S.Store c.execute.new.self.conn.now in
-    let new = state g.S.Store c.query_all.new.self.conn.now in
-    let none : length c.in-Ok-query_all.left.items ≡ 0 = grind (arith, nat_tests) in
-    clears detail_table delete_details detail_place takes_details (state g.S.Store c.args.tx.now.conn.now) mid new c.query_all.ensures.survives.clean c.in-Ok.field-0
-    (ran g (goal.at.returns-then-is_empty-clause-ok g c).In-Ok) moment_columns c.in-Ok-query_all.left.items none
-    (λ clean. finds_all select_moments detail_tree moment_columns _ select_moments_plain (λ db. refl) select_moments_is
-    mid new c.in-Ok-query_all.left.items (rw c.in-Ok-query_all.is at (c.query_all.ensures.ok clean)))
-
-pub returns-then-is_empty-clause-kept : goal.returns-then-is_empty-clause-kept
-returns-then-is_empty-clause-kept g c =
-    let mid = state g.S.Store c.execute.new.self.conn.now in
-    let new = state g.S.Store c.query_all.new.self.conn.now in
-    cleared_kept detail_table delete_details detail_place takes_details (state g.S.Store c.args.tx.now.conn.now) mid new c.query_all.ensures.survives.clean c.in-Ok.field-0
-    (ran g (goal.at.returns-then-is_empty-clause-kept g c).In-Ok)
-    (λ clean rest has.
-    shown_kept (schema_with (packs_then rest)) select_moments (select_moments_plain rest).0 mid new [] has c.in-Ok-query_all.left.items (rw c.in-Ok-query_all.is at (c.query_all.ensures.ok clean)))
+    asked_kept (schema_with (packs_then rest)) select_moments (select_moments_plain rest).0 mid new [] has c.query_all.result (c.query_all.ensures.ok clean) (c.query_all.ensures.err clean))
 
 pub returns-clause-kept : goal.returns-clause-kept
 returns-clause-kept g c =
     let mid = state g.S.Store c.execute.new.self.conn.now in
     let new = state g.S.Store c.query_all.new.self.conn.now in
-    cleared_kept detail_table delete_details detail_place takes_details (state g.S.Store c.args.tx.now.conn.now) mid new c.query_all.ensures.survives.clean c.in-Ok.field-0
-    (ran g (goal.at.returns-clause-kept g c).In-Ok)
+    cleared_kept detail_table delete_details detail_place takes_details (state g.S.Store c.args.tx.now.conn.now) mid new c.query_all.ensures.survives.clean
+    c.in_ok-or_unavailable.field-0 (ran g (goal.at.returns-clause-kept g c).In_ok-or_unavailable)
     (λ clean rest has.
-    shown_kept (schema_with (packs_then rest)) select_moments (select_moments_plain rest).0 mid new [] has c.in-Ok-query_all.left.items (rw c.in-Ok-query_all.is at (c.query_all.ensures.ok clean)))
+    asked_kept (schema_with (packs_then rest)) select_moments (select_moments_plain rest).0 mid new [] has c.query_all.result (c.query_all.ensures.ok clean) (c.query_all.ensures.err clean))
+
+pub returns-clause-goes_on : goal.returns-clause-goes_on
+returns-clause-goes_on g c =
+    let old = state g.S.Store c.args.tx.now.conn.now in
+    let mid = state g.S.Store c.execute.new.self.conn.now in
+    let new = state g.S.Store c.query_all.new.self.conn.now in
+    if_ok c.none_left.result _ _
+    (λ _.
+    on_then old mid new c.query_all.ensures.survives.clean
+    (ran_on delete_details [] c.in_ok-or_unavailable.field-0 old mid (ran g (goal.at.returns-clause-goes_on g c).In_ok-or_unavailable))
+    (shown_on select_moments [] mid new c.in_ok-left.left.items (λ clean. rw c.in_ok-left.ensures at (c.query_all.ensures.ok clean))))
+    c.none_left.ensures.ok
+
+pub returns-clause-ok : goal.returns-clause-ok
+returns-clause-ok g c =
+    let mid = state g.S.Store c.execute.new.self.conn.now in
+    let new = state g.S.Store c.query_all.new.self.conn.now in
+    if_ok c.none_left.result _ _
+    (λ none.
+    clears detail_table delete_details detail_place takes_details (state g.S.Store c.args.tx.now.conn.now) mid new c.query_all.ensures.survives.clean
+    c.in_ok-or_unavailable.field-0 (ran g (goal.at.returns-clause-ok g c).In_ok-or_unavailable) moment_columns c.in_ok-left.left.items
+    (ap length (rw c.deref.ensures.value at none))
+    (λ clean. finds_all select_moments detail_tree moment_columns _ select_moments_plain (λ db. refl) select_moments_is
+    mid new c.in_ok-left.left.items (rw c.in_ok-left.ensures at (c.query_all.ensures.ok clean))))
+    c.none_left.ensures.ok

@@ -4,12 +4,12 @@ use Rattle.mds_tables.proofs.CallLemmas.{keeps, still}
 use Rattle.mds_migrate.proofs.LengthLemmas.{clears_lengths}
 use Rattle.mds_migrate.proofs.statements.clear_lengths.Goals as goal
 
-pub returns-in-Ok-clause-ok : goal.returns-in-Ok-clause-ok
-returns-in-Ok-clause-ok g c =
-    clears_lengths (state g.S.Store c.args.tx.now.conn.now) (state g.S.Store c.execute.new.self.conn.now) c.in-Ok.field-0
-    (λ clean. rw c.in-Ok.is at (c.execute.ensures.runs clean (still _ _ _ _ c.execute.ensures.ended c.in-Ok.is)))
+pub returns-clause-ok : goal.returns-clause-ok
+returns-clause-ok g c =
+    clears_lengths (state g.S.Store c.args.tx.now.conn.now) (state g.S.Store c.execute.new.self.conn.now) c.in_ok-or_unavailable.field-0
+    (λ clean. rw c.in_ok-or_unavailable.ensures at (c.execute.ensures.runs clean (still _ _ _ _ c.execute.ensures.ended c.in_ok-or_unavailable.ensures)))
 
-pub returns-in-Err-clause-kept : goal.returns-in-Err-clause-kept
-returns-in-Err-clause-kept g c clean =
+pub returns-in_err-or_unavailable-clause-kept : goal.returns-in_err-or_unavailable-clause-kept
+returns-in_err-or_unavailable-clause-kept g c clean =
     keeps (state g.S.Store c.args.tx.now.conn.now) (state g.S.Store c.execute.new.self.conn.now) _ _ c.execute.result
     (λ over. ap (state g.S.Store) (c.execute.ensures.ended over).1) (c.execute.ensures.runs clean)

@@ -14,5 +14,5 @@ returns-clause-ok g c =
     subst (λ o. IfSome o (λ readings. SayRows c.args.update readings.items c.args.rows.now)) c.in-Some.is c.in_ok-readings.ensures.says in
     if_ok c.put_readings.result _ _
     (puts_as (state g.S.Store c.args.tx.now.conn.now) (state g.S.Store c.put_readings.new.tx.conn.now) _ _
-    (ap (λ readings. of (readings_facts s c.args.day c.args.update readings)) c.as_slice-2.ensures.value ∙ says s c.args.day))
+    (ap (λ readings. of (readings_facts s c.args.day c.args.update readings)) c.as_slice.ensures.value ∙ says s c.args.day))
     c.put_readings.ensures.ok

@@ -16,5 +16,5 @@ returns-clause-ok g c =
     ap minutes_of (many ∙ c.count.ensures.value) ∙ length_back c.args.length c.minutes.ensures.known in
     if_ok c.put_readings.result _ _
     (subst (PutsFacts (state g.S.Store c.args.tx.now.conn.now) (state g.S.Store c.put_readings.new.tx.conn.now))
-    (ap (readings_facts s day update) (c.as_slice-2.ensures.value ∙ c.in_ok-places.ensures) ∙ whole_said s day c.args.length update c.args.readings.now full))
+    (ap (readings_facts s day update) (c.as_slice.ensures.value ∙ c.in_ok-places.ensures) ∙ whole_said s day c.args.length update c.args.readings.now full))
     c.put_readings.ensures.ok

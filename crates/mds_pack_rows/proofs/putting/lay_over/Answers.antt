@@ -1,9 +1,11 @@
-use Rattle.std.proofs.Common.{◌≡◌, Some, arith, ap, subst, sym, ◌∙◌, option_map, length, rules, of_z, to_z, to_z-of_z, w64}
-use Rattle.std.specs.Prelude.{IfSome, IsTrue}
+use Rattle.std.proofs.Common.{◌≡◌, Some, arith, ap, sym, ◌∙◌, option_map, length, rules, of_z, to_z, to_z-of_z, w64}
+use Rattle.std.specs.Prelude.{IsTrue}
 use Rattle.sqlite.specs.Held.{state}
+use Rattle.sqlite.specs.declared.types.Value.TheVariants.{Int}
+use Rattle.sqlite_value.specs.Order.{column}
 use Rattle.mds_packs.proofs.Whole.{any_held}
 use Rattle.mds_pack_rows.specs.Laying.{laid}
-use Rattle.mds_pack_rows.specs.PackFacts.{readings_in}
+use Rattle.mds_pack_rows.specs.PackFacts.{IsSaidAt, readings_in}
 use Rattle.mds_pack_rows.proofs.BodyLemmas.{says}
 use Rattle.mds_pack_rows.proofs.LaidLemmas.{laid_length, laid_some}
 use Rattle.mds_pack_rows.proofs.PutLemmas.{if_ok, lays_there}
@@ -11,25 +13,26 @@ use Rattle.mds_pack_rows.proofs.putting.lay_over.Goals as goal
 
 pub pack_day-requires : goal.pack_day-requires
 pack_day-requires g c =
-    let made : laid c.as_slice.result.now c.args.readings.now ≡ Some c.in-Some-3.all.items =
-    sym c.in_ok-all.ensures ∙ ap (option_map (λ v. v.items)) c.in-Some-3.is in
-    record { few = omega (arith, ap length c.as_slice-2.ensures.value, laid_length c.as_slice.result.now c.args.readings.now c.in-Some-3.all.items made, c.requires.few) }
+    let made : laid c.as_slice.result.now c.args.readings.now ≡ Some c.in-Some.all.items =
+    sym c.in_ok-all.ensures ∙ ap (option_map (λ v. v.items)) c.in-Some.is in
+    record { few = omega (arith, ap length c.as_slice-2.ensures.value, laid_length c.as_slice.result.now c.args.readings.now c.in-Some.all.items made, c.requires.few) }
 
 pub returns-clause-ok : goal.returns-clause-ok
 returns-clause-ok g c =
     let news = c.args.readings.now in
     let olds = c.as_slice.result.now in
     let all = c.as_slice-2.result.now in
-    let was : readings_in c.in-Some-blob_at.old.now ≡ Some olds =
-    subst (λ o. IfSome o (λ readings. readings_in c.in-Some-blob_at.old.now ≡ Some readings.items)) c.in-Some-2.is c.in_ok-olds.ensures.says
-    ∙ ap Some (sym c.as_slice.ensures.value) in
+    let id = c.in_ok-id.id in
+    let has_id : column c.args.shown.now 0 ≡ Int id = rw c.in_ok-id.ensures at c.int_at.ensures.some in
+    let said : IsSaidAt c.args.shown.now 1 c.in_ok-olds.olds.items = rw c.in_ok-olds.ensures at c.in_ok-readings_at.ensures.says in
+    let was : readings_in said.0 ≡ Some olds = said.2 ∙ ap Some (sym c.as_slice.ensures.value) in
     let made : laid olds news ≡ Some all =
-    sym c.in_ok-all.ensures ∙ ap (option_map (λ v. v.items)) c.in-Some-3.is ∙ ap Some (sym c.as_slice-2.ensures.value) in
+    sym c.in_ok-all.ensures ∙ ap (option_map (λ v. v.items)) c.in-Some.is ∙ ap Some (sym c.as_slice-2.ensures.value) in
     let some : IsTrue (any_held all) = laid_some olds news all made c.requires.some in
     let is : readings_in c.as_slice-3.result.now ≡ Some all =
     ap readings_in c.as_slice-3.ensures.value ∙ says (length all) c.in_ok-body.body.items all (c.in_ok-body.ensures.back some) in
-    let same : to_z w64 (of_z w64 c.in-Some.id) ≡ c.in-Some.id = to_z-of_z {w = w64} {z = c.in-Some.id} (search rules) in
+    let same : to_z w64 (of_z w64 id) ≡ id = to_z-of_z {w = w64} {z = id} (search rules) in
     if_ok c.replace_body.result _ _
-    (lays_there (state g.S.Store c.args.tx.now.conn.now) (state g.S.Store c.replace_body.new.tx.conn.now) c.in-Some.id c.args.shown.now
-    c.in-Some-blob_at.old.now c.as_slice-3.result.now olds news all c.in-Some.ensures.some c.in-Some-blob_at.ensures.some was is made c.requires.some)
+    (lays_there (state g.S.Store c.args.tx.now.conn.now) (state g.S.Store c.replace_body.new.tx.conn.now) id c.args.shown.now
+    said.0 c.as_slice-3.result.now olds news all has_id said.1 was is made c.requires.some)
     (rw same at c.replace_body.ensures.ok)

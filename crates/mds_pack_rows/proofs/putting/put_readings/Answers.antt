@@ -1,11 +1,29 @@
-use Rattle.std.proofs.Common.{◌≡◌, arith, subst, sym, ◌∙◌, [], ◌∷◌}
+use Rattle.std.proofs.Common.{◌≡◌, arith, false, length, subst, sym, ◌∙◌, [], ◌∷◌}
 use Rattle.sqlite.specs.Held.{state}
 use Rattle.sqlite.proofs.InsideLemmas.{keeps_then}
+use Rattle.mds_packs.proofs.Whole.{any_held}
 use Rattle.mds_tables.specs.Stores.{Selects}
+use Rattle.mds_tables.proofs.CallLemmas.{keeps_same, survives_same}
 use Rattle.mds_pack_rows.specs.PackCells as row
 use Rattle.mds_pack_rows.specs.PackTables.{body_columns, pack_tree}
-use Rattle.mds_pack_rows.proofs.PutLemmas.{if_ok, lays_since, one_row, puts_since}
+use Rattle.mds_pack_rows.specs.PackFacts.{minutes_of}
+use Rattle.mds_pack_rows.specs.Putting.{PutsFacts}
+use Rattle.mds_pack_rows.proofs.PutLemmas.{if_ok, lays_since, one_row, puts_none, puts_since}
+use Rattle.mds_pack_rows.proofs.SpreadLemmas.{none_held}
 use Rattle.mds_pack_rows.proofs.putting.put_readings.Goals as goal
+
+pub returns-then-not-has_some-clause-ok : goal.returns-then-not-has_some-clause-ok
+returns-then-not-has_some-clause-ok g c =
+    let s = state g.S.Store c.args.tx.now.conn.now in
+    let none : any_held c.args.readings.now ≡ false = sym c.has_some.ensures ∙ c.if-not-has_some.true in
+    subst (PutsFacts s s) (sym (none_held c.args.stream.now c.args.day (minutes_of (length c.args.readings.now)) c.args.update 1 c.args.readings.now none))
+    (puts_none s)
+
+pub returns-then-not-has_some-clause-kept : goal.returns-then-not-has_some-clause-kept
+returns-then-not-has_some-clause-kept g c there = keeps_same (state g.S.Store c.args.tx.now.conn.now)
+
+pub returns-then-not-has_some-clause-survives : goal.returns-then-not-has_some-clause-survives
+returns-then-not-has_some-clause-survives g c = survives_same (state g.S.Store c.args.tx.now.conn.now)
 
 pub returns-in-len1-clause-ok : goal.returns-in-len1-clause-ok
 returns-in-len1-clause-ok g c =

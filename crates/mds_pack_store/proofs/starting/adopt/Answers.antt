@@ -11,7 +11,6 @@ use Rattle.mds_tables.specs.Layouts.{rows_layout}
 use Rattle.mds_pack_rows.specs.PacksLayout.{packs_layout}
 use Rattle.mds_pack_store.specs.Formed.{AreFormed}
 use Rattle.mds_pack_store.proofs.Adopting.{is_formed_adopted, isnt_seen, of_formed, still_formed}
-use Rattle.mds_pack_store.proofs.Keeping.{of_open}
 use Rattle.mds_pack_store.proofs.starting.adopt.Goals as goal
 
 pub returns-in-Ok-true-clause-survives : goal.returns-in-Ok-true-clause-survives
@@ -35,9 +34,9 @@ over-requires-clause-holds g c =
     let new = state g.S.Store c.are_formed.new.conn in
     let held : HoldsTablesOf forms_layout old = search rules in
     let formed : HasCleanDisk new → AreFormed old.committed.trees = λ clean. let it = c.in-Ok-true.ensures.answers.found clean held in search rules in
-    of_open new (λ is_open trees. g.met.S.Store.settled c.are_formed.new.conn.store trees is_open)
-    (λ clean. (c.in-Ok-true.ensures.answers.open clean held).is_open)
-    (still_formed old new held (c.are_formed.ensures.answers.survives held) (λ clean. c.are_formed.ensures.answers.kept clean held) formed)
+    λ clean.
+    let is_open = (c.in-Ok-true.ensures.answers.open clean held).is_open in
+    (is_open, still_formed old new held (c.are_formed.ensures.answers.survives held) (λ clean. c.are_formed.ensures.answers.kept clean held) formed clean is_open)
 
 pub returns-in-Ok-true-clause-ok : goal.returns-in-Ok-true-clause-ok
 returns-in-Ok-true-clause-ok g c =
@@ -84,7 +83,7 @@ returns-in-Ok-false-clause-limit g c =
 pub returns-in-Err-clause-err : goal.returns-in-Err-clause-err
 returns-in-Err-clause-err g c clean =
     let held : HoldsTablesOf forms_layout (state g.S.Store c.args.conn) = search rules in
-    (c.are_formed.ensures.answers.kept clean held, c.in-Err.ensures.cause clean held)
+    rw c.from.ensures (c.are_formed.ensures.answers.kept clean held, c.in-Err.ensures.cause clean held)
 
 pub returns-in-Err-clause-limit : goal.returns-in-Err-clause-limit
 returns-in-Err-clause-limit g c =

@@ -3,7 +3,7 @@ use Rattle.std.proofs.Common.{rules}
 use Rattle.sqlite.specs.Held.{state}
 use Rattle.sqlite.specs.State.{HasCleanDisk}
 use Rattle.mds_tables.specs.Tables.{no_schema}
-use Rattle.mds_pack_store.proofs.Keeping.{of_nothing, of_open}
+use Rattle.mds_pack_store.proofs.Keeping.{of_nothing}
 use Rattle.mds_pack_store.proofs.starting.create.Goals as goal
 
 pub over-requires-clause-holds : goal.over-requires-clause-holds
@@ -11,8 +11,7 @@ over-requires-clause-holds g c =
     let old = state g.S.Store c.args.conn in
     let new = state g.S.Store c.make_tables.new.conn in
     let empty : IsTrue old.is_open → old.committed.schema ≡ no_schema = search rules in
-    of_open new (λ is_open trees. g.met.S.Store.settled c.make_tables.new.conn.store trees is_open) (λ clean. (c.in-Ok.ensures.ok clean).is_open)
-    (λ clean _. let made = c.in-Ok.ensures.ok clean in of_nothing new.committed (made.made (empty made.was_open)))
+    λ clean. let made = c.in-Ok.ensures.ok clean in (made.is_open, of_nothing new.committed (made.made (empty made.was_open)))
 
 pub returns-in-Ok-clause-ok : goal.returns-in-Ok-clause-ok
 returns-in-Ok-clause-ok g c =
@@ -34,4 +33,4 @@ pub returns-in-Err-clause-err : goal.returns-in-Err-clause-err
 returns-in-Err-clause-err g c clean =
     let old = state g.S.Store c.args.conn in
     let empty : IsTrue old.is_open → old.committed.schema ≡ no_schema = search rules in
-    (c.in-Err.ensures.err clean, c.in-Err.ensures.cause clean empty)
+    rw c.from.ensures (c.in-Err.ensures.err clean, c.in-Err.ensures.cause clean empty)

@@ -64,7 +64,7 @@ returns-in-Ok-false-clause-survives g c =
 pub returns-in-Err-clause-err : goal.returns-in-Err-clause-err
 returns-in-Err-clause-err g c clean =
     let held = tables_seen rows_layout (state g.S.Store c.args.conn) c.requires.settled c.requires.schema in
-    ((c.is_version.ensures.answers rows_layout).kept clean held, c.in-Err.ensures.cause rows_layout clean held)
+    rw c.from.ensures ((c.is_version.ensures.answers rows_layout).kept clean held, c.in-Err.ensures.cause rows_layout clean held)
 
 pub returns-in-Err-clause-limit : goal.returns-in-Err-clause-limit
 returns-in-Err-clause-limit g c =

@@ -44,7 +44,7 @@ returns-in-Ok-false-clause-err g c clean =
 pub returns-in-Err-clause-err : goal.returns-in-Err-clause-err
 returns-in-Err-clause-err g c clean =
     let held = tables_seen packs_layout (state g.S.Store c.args.conn) c.requires.settled c.requires.schema in
-    (c.are_packed.ensures.answers.kept clean held, c.in-Err.ensures.cause clean held)
+    rw c.from.ensures (c.are_packed.ensures.answers.kept clean held, c.in-Err.ensures.cause clean held)
 
 pub returns-in-Ok-true-clause-limit : goal.returns-in-Ok-true-clause-limit
 returns-in-Ok-true-clause-limit g c = (c.are_packed.ensures.answers.survives (tables_seen packs_layout (state g.S.Store c.args.conn) c.requires.settled c.requires.schema)).limit

@@ -11,8 +11,8 @@ use Rattle.mds_store.proofs.querying.add_holiday.Goals as goal
 pub returns : goal.returns
 returns c =
     let row = c.args.row.now in
-    let says : SaysHoliday row c.in-Some.day = ap (λ v. HolidayIs (natural (id_in v))) c.in-Some.ensures.some in
+    let says : SaysHoliday row c.in_ok-day.day = ap (λ v. HolidayIs (natural (id_in v))) (rw c.in_ok-day.ensures at c.day_at.ensures.some) in
     on_ok_weaker c.put.result
-    (λ h. adds_one SaysHoliday c.args.found.now.keys c.put.new.found.keys row c.in-Some.day h says
-    (λ q s. one_holiday row q c.in-Some.day s says))
+    (λ h. adds_one SaysHoliday c.args.found.now.keys c.put.new.found.keys row c.in_ok-day.day h says
+    (λ q s. one_holiday row q c.in_ok-day.day s says))
     (c.put.ensures day_exact)

@@ -14,7 +14,7 @@ returns-clause-each c =
     let keys = c.add_holidays.new.found.keys in
     IfOk-weaker c.in_order.result (λ all. all.items ≡ keys) _
     (λ all same. subst (AreHolidaysIn rows) (sym same)
-    (just SaysHoliday c.new-found.result.keys keys rows c.new-found.ensures.empty c.in-Ok.ensures))
+    (just SaysHoliday c.new-found.result.keys keys rows c.new-found.ensures.empty c.in_ok-add_holidays.ensures))
     c.in_order.ensures.same
 
 pub returns-clause-ascending : goal.returns-clause-ascending

@@ -1,11 +1,4 @@
-use Rattle.std.proofs.Common.{arith}
-use Rattle.mds_store.proofs.Listed.{one_row}
 use Rattle.mds_store.proofs.querying.only_job.Goals as goal
 
-pub returns-in-Ok : goal.returns-in-Ok
-returns-in-Ok c = (
-  c.row-item.result,
-  one_row c.args.rows.now c.row-item.result (omega (arith, c.in-len1.len_at_least)) (omega (arith, c.in-len1.len_below))
-      c.row-item.is,
-  c.in-Ok.ensures,
-)
+pub returns : goal.returns
+returns c = (c.in-Some.row.now, rw c.in-Some.is at c.in_ok-row.ensures.ok, c.in_ok-job.ensures)

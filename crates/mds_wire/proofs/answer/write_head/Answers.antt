@@ -3,8 +3,8 @@ use Rattle.mds_wire.proofs.answer.write_head.Goals as goal
 -- the pieces from the last to the first, and then what each is
 pub returns : goal.returns
 returns c = rw (
-  c.append-11.ensures.items,
   c.append-10.ensures.items,
+  c.append_allow.ensures.items,
   c.append-9.ensures.items,
   c.append-8.ensures.items,
   c.append-7.ensures.items,
@@ -23,5 +23,4 @@ returns c = rw (
   c.text.ensures.value,
   c.as_bytes-3.ensures.value,
   c.format.ensures.text,
-  c.allow_line.ensures.value,
 )

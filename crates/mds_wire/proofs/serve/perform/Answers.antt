@@ -1,11 +1,28 @@
-use Rattle.std.proofs.Common.{◌≡◌, ◌+◌, ◌≤◌, ◌++◌, [], List, ℕ, take, length, ap, sym, ◌∙◌, subst, arith, refl, inl, inr, bytes_eq, codes, length-append}
-use Rattle.std.proofs.lemmas.List.{take_rest}
+use Rattle.std.proofs.Common.{◌≡◌, ◌+◌, ◌≤◌, ◌++◌, [], List, ℕ, drop, take, length, ap, sym, ◌∙◌, subst, arith, refl, inl, inr, bytes_eq, codes, length-append}
+use Rattle.std.proofs.lemmas.List.{append-nil, take_rest}
 use Rattle.mds_wire.specs.Judging.{longest_body}
 use Rattle.mds_wire.specs.ServeSteps.{answer_of}
 use Rattle.mds_wire.specs.declared.serve.Reply.TheVariants.{Told}
 use Rattle.mds_wire.proofs.CallSteps.{read_none, read_for}
-use Rattle.mds_wire.proofs.Meant.{means_refused, means_unavailable, means_step, awaits_body, unfinished_body}
+use Rattle.mds_wire.proofs.Meant.{means_refused, means_unavailable, means_step, awaits_body, part_is, unfinished_body}
 use Rattle.mds_wire.proofs.serve.perform.Goals as goal
+
+-- what came of a body, of which the front came with the head
+came_is : (size : ℕ) (rest front more : List ℕ) → front ≡ take size rest → length front + length more ≤ size → front ++ more ≡ take size (rest ++ more)
+came_is size rest front more is few =
+    ap (λ t. t ++ more) is ∙ sym (part_is rest more size (subst (λ (t : List ℕ). length t + length more ≤ size) is few))
+
+-- nothing comes behind a whole body
+whole_came : (size : ℕ) (rest front more : List ℕ) → front ≡ take size rest → length front + length more ≤ size
+    → front ++ more ++ [] ++ [] ≡ take size (rest ++ more)
+whole_came size rest front more is few =
+    append-nil (front ++ more ++ []) ∙ append-nil (front ++ more) ∙ came_is size rest front more is few
+
+-- nor behind a piece that wasn't taken
+piece_came : (size : ℕ) (rest front more came piece : List ℕ) → front ≡ take size rest → length front + length more ≤ size
+    → came ++ piece ≡ front ++ more → came ++ piece ++ [] ≡ take size (rest ++ more)
+piece_came size rest front more came piece is few both =
+    append-nil (came ++ piece) ∙ both ∙ came_is size rest front more is few
 
 pub returns-in-Refused-clause-does : goal.returns-in-Refused-clause-does
 returns-in-Refused-clause-does g c = record {
@@ -22,7 +39,7 @@ returns-in_default-clause-does g c = record {
   few = omega arith;
   read = read_none _ _ _ _;
   is = means_unavailable g.H.Handler.step g.H.Handler.same g.H.Handler.takes_memory c.args.bytes.now [] c.args.fields.now c.args.read.spans c.requires.whole c.in-Wanted.route c.in-Wanted.size c.args.handler.now c.args.handler.now c.of-target.result.now
-      (sym c.in-Wanted.is ∙ c.judge_head.ensures.value) c.of-target.ensures c.in_default.ensures.only (inl refl);
+      (sym c.in-Wanted.is ∙ c.judge_head.ensures.value) c.of-target.ensures ([], [], _, refl, c.in_default.ensures.only) (inl refl);
 }
 
 pub returns-in-Ok-handle-clause-does : goal.returns-in-Ok-handle-clause-does
@@ -30,8 +47,9 @@ returns-in-Ok-handle-clause-does g c =
     let r = c.in-Ok-feed_body.ensures.feeds in
     let judged = sym c.in-Wanted.is ∙ c.judge_head.ensures.value in
     let front = c.front_of-front.ensures.value ∙ ap (take c.in-Wanted.size) (take_rest c.args.bytes.now c.args.read.spans.len) in
-    let size : length (c.front_of-front.result.now ++ r.bytes) ≤ longest_body = omega (arith, length-append c.front_of-front.result.now r.bytes, r.few, c.judge_head.ensures.few _ _ c.in-Wanted.is) in
-    let whole = r.is.0 c.in-Wanted.route c.of-target.result.now [] c.in-Ok.ensures.begun size in
+    let size : length (c.front_of-front.result.now ++ r.bytes) ≡ c.in-Wanted.size = length-append c.front_of-front.result.now r.bytes ∙ r.is.1 in
+    let whole = subst (λ (n : ℕ). g.H.Handler.holds c.feed_body.new.body c.in-Wanted.route c.of-target.result.now n (c.front_of-front.result.now ++ r.bytes)) (sym size)
+    (r.is.0 c.in-Wanted.route c.of-target.result.now c.in-Wanted.size [] c.in-Ok.ensures.begun (omega (arith, size)) (c.judge_head.ensures.few _ _ c.in-Wanted.is)) in
     record {
       more = r.bytes;
       few = omega (arith, r.few, c.judge_head.ensures.few _ _ c.in-Wanted.is);
@@ -51,15 +69,17 @@ returns-in-Ok-feed_body-clause-does g c =
     let judged = sym c.in-Wanted.is ∙ c.judge_head.ensures.value in
     let front = c.front_of-front.ensures.value ∙ ap (take c.in-Wanted.size) (take_rest c.args.bytes.now c.args.read.spans.len) in
     let size : length (c.front_of-front.result.now ++ r.bytes) ≡ c.in-Wanted.size = length-append c.front_of-front.result.now r.bytes ∙ r.is.1 in
-    let whole = r.is.0 c.in-Wanted.route c.of-target.result.now [] c.in-Ok.ensures.begun (omega (arith, size, c.judge_head.ensures.few _ _ c.in-Wanted.is)) in
-    let takes = subst (λ (n : ℕ). g.H.Handler.takes_memory c.in-Wanted.route c.of-target.result.now n) size
+    let whole = subst (λ (n : ℕ). g.H.Handler.holds c.feed_body.new.body c.in-Wanted.route c.of-target.result.now n (c.front_of-front.result.now ++ r.bytes)) (sym size)
+    (r.is.0 c.in-Wanted.route c.of-target.result.now c.in-Wanted.size [] c.in-Ok.ensures.begun (omega (arith, size)) (c.judge_head.ensures.few _ _ c.in-Wanted.is)) in
+    let takes = subst (λ (n : ℕ). g.H.Handler.takes_memory c.in-Wanted.route c.of-target.result.now n (c.front_of-front.result.now ++ r.bytes) []) size
     (c.in-Err.ensures.only (c.front_of-front.result.now ++ r.bytes) whole) in
+    let all = whole_came c.in-Wanted.size (drop c.args.read.spans.len c.args.bytes.now) c.front_of-front.result.now r.bytes front (omega (arith, r.few)) in
     record {
       more = r.bytes;
       few = omega (arith, r.few, c.judge_head.ensures.few _ _ c.in-Wanted.is);
       read = read_for _ _ _ _ _ _ _ _ _ (awaits_body c.args.bytes.now c.args.fields.now c.args.read.spans c.requires.whole c.in-Wanted.route c.in-Wanted.size c.front_of-front.result.now judged front) r.read;
       is = means_unavailable g.H.Handler.step g.H.Handler.same g.H.Handler.takes_memory c.args.bytes.now r.bytes c.args.fields.now c.args.read.spans c.requires.whole c.in-Wanted.route c.in-Wanted.size c.args.handler.now c.handle.new.self c.of-target.result.now
-          judged c.of-target.ensures takes (inr c.in-Err.ensures.same);
+          judged c.of-target.ensures (c.front_of-front.result.now ++ r.bytes, [], [], all, takes) (inr c.in-Err.ensures.same);
     }
 
 pub returns-in-Err-Unavailable-clause-does : goal.returns-in-Err-Unavailable-clause-does
@@ -67,14 +87,15 @@ returns-in-Err-Unavailable-clause-does g c =
     let r = rw c.in-Err-Unavailable.field-0-is at c.in-Err-Unavailable.ensures.feeds in
     let judged = sym c.in-Wanted.is ∙ c.judge_head.ensures.value in
     let front = c.front_of-front.ensures.value ∙ ap (take c.in-Wanted.size) (take_rest c.args.bytes.now c.args.read.spans.len) in
-    let takes = r.is c.in-Wanted.route c.of-target.result.now [] c.in-Wanted.size c.in-Ok.ensures.begun
+    let takes = r.is c.in-Wanted.route c.of-target.result.now c.in-Wanted.size [] c.in-Ok.ensures.begun
     (omega (arith, r.few, length-append c.front_of-front.result.now r.bytes)) (c.judge_head.ensures.few _ _ c.in-Wanted.is) in
+    let all = piece_came c.in-Wanted.size (drop c.args.read.spans.len c.args.bytes.now) c.front_of-front.result.now r.bytes takes.0 takes.1 front (omega (arith, r.few)) takes.2 in
     record {
       more = r.bytes;
       few = omega (arith, r.few, c.judge_head.ensures.few _ _ c.in-Wanted.is);
       read = read_for _ _ _ _ _ _ _ _ _ (awaits_body c.args.bytes.now c.args.fields.now c.args.read.spans c.requires.whole c.in-Wanted.route c.in-Wanted.size c.front_of-front.result.now judged front) r.read;
       is = means_unavailable g.H.Handler.step g.H.Handler.same g.H.Handler.takes_memory c.args.bytes.now r.bytes c.args.fields.now c.args.read.spans c.requires.whole c.in-Wanted.route c.in-Wanted.size c.args.handler.now c.args.handler.now c.of-target.result.now
-          judged c.of-target.ensures takes (inl refl);
+          judged c.of-target.ensures (takes.0, takes.1, [], all, takes.3) (inl refl);
     }
 
 pub returns-in-Err-Closed-clause-does : goal.returns-in-Err-Closed-clause-does

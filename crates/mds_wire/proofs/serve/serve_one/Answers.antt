@@ -6,14 +6,14 @@ use Rattle.mds_wire.proofs.serve.serve_one.Goals as goal
 
 pub returns-in-Ok-write_answer-clause-serves : goal.returns-in-Ok-write_answer-clause-serves
 returns-in-Ok-write_answer-clause-serves g c =
-    let u = c.in-Ok-understand.ensures.understands in
-    let told = ap (λ xs. text_of (answer_of c.in-Ok-understand.reply xs)) c.deref.ensures.value in
+    let u = c.in-Ok.ensures.understands in
+    let told = ap (λ xs. text_of (answer_of c.in-Ok.reply xs)) c.deref.ensures.value in
     record {
       bytes = u.bytes;
       few = u.few;
       read = u.read;
       is = (
-        answer_of c.in-Ok-understand.reply c.understand.new.answer.items,
+        answer_of c.in-Ok.reply c.understand.new.answer.items,
         sym c.status.ensures,
         u.is,
         subst (λ (t : List ℕ). Appends (g.W.Sink.contents c.args.writer.now) (g.W.Sink.contents c.write_answer.new.writer) t) told c.in-Ok-write_answer.ensures.done,
@@ -22,14 +22,14 @@ returns-in-Ok-write_answer-clause-serves g c =
 
 pub returns-clause-serves : goal.returns-clause-serves
 returns-clause-serves g c =
-    let u = c.in-Ok-understand.ensures.understands in
-    let told = ap (λ xs. text_of (answer_of c.in-Ok-understand.reply xs)) c.deref.ensures.value in
+    let u = c.in-Ok.ensures.understands in
+    let told = ap (λ xs. text_of (answer_of c.in-Ok.reply xs)) c.deref.ensures.value in
     let part = subst (λ (t : List ℕ). (n : ℕ) × (n < length t) × Appends (g.W.Sink.contents c.args.writer.now) (g.W.Sink.contents c.write_answer.new.writer) (take n t)) told c.in-Err.ensures.part in
     record {
       bytes = u.bytes;
       few = u.few;
       read = u.read;
-      is = (answer_of c.in-Ok-understand.reply c.understand.new.answer.items, u.is, part.0, part.1, part.2);
+      is = (answer_of c.in-Ok.reply c.understand.new.answer.items, u.is, part.0, part.1, part.2);
     }
 
 pub returns-in-Err-Read-clause-serves : goal.returns-in-Err-Read-clause-serves

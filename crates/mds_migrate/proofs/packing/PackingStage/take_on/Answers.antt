@@ -5,18 +5,18 @@ use Rattle.mds_migrate.proofs.packing.PackingStage.take_on.Goals as goal
 pub returns-in_err-pack_days-clause-kept : goal.returns-in_err-pack_days-clause-kept
 returns-in_err-pack_days-clause-kept g c =
     keeps_two (state g.S.Store c.args.tx.now.conn.now) (state g.S.Store c.make_pack.new.tx.conn.now) (state g.S.Store c.pack_days.new.tx.conn.now)
-    c.pack_days.ensures.survives.clean c.in-Ok.ensures.makes c.make_pack.ensures.kept c.pack_days.ensures.kept
+    c.pack_days.ensures.survives.clean (rw c.in_ok-or_unavailable.ensures at c.make_pack.ensures.makes) c.make_pack.ensures.kept c.pack_days.ensures.kept
 
 pub returns-in_err-clear_versions-clause-kept : goal.returns-in_err-clear_versions-clause-kept
 returns-in_err-clear_versions-clause-kept g c =
     keeps_three (state g.S.Store c.args.tx.now.conn.now) (state g.S.Store c.make_pack.new.tx.conn.now) (state g.S.Store c.pack_days.new.tx.conn.now)
-    c.pack_days.ensures.survives.clean c.in-Ok.ensures.makes (state g.S.Store c.clear_versions.new.tx.conn.now) c.clear_versions.ensures.survives.clean
+    c.pack_days.ensures.survives.clean (rw c.in_ok-or_unavailable.ensures at c.make_pack.ensures.makes) (state g.S.Store c.clear_versions.new.tx.conn.now) c.clear_versions.ensures.survives.clean
     c.in_ok-pack_days.ensures.ok c.make_pack.ensures.kept c.pack_days.ensures.kept c.clear_versions.ensures.kept
 
 pub returns-clause-kept : goal.returns-clause-kept
 returns-clause-kept g c =
     keeps_four (state g.S.Store c.args.tx.now.conn.now) (state g.S.Store c.make_pack.new.tx.conn.now) (state g.S.Store c.pack_days.new.tx.conn.now)
-    c.pack_days.ensures.survives.clean c.in-Ok.ensures.makes (state g.S.Store c.clear_versions.new.tx.conn.now) c.clear_versions.ensures.survives.clean
+    c.pack_days.ensures.survives.clean (rw c.in_ok-or_unavailable.ensures at c.make_pack.ensures.makes) (state g.S.Store c.clear_versions.new.tx.conn.now) c.clear_versions.ensures.survives.clean
     c.in_ok-pack_days.ensures.ok (state g.S.Store c.raise_version.new.tx.conn.now) c.raise_version.ensures.survives.clean
     c.in_ok-clear_versions.ensures.ok c.make_pack.ensures.kept c.pack_days.ensures.kept c.clear_versions.ensures.kept c.raise_version.ensures.kept
 
@@ -26,6 +26,6 @@ returns-clause-ok g c =
     takes_on (state g.S.Store c.args.tx.now.conn.now) (state g.S.Store c.make_pack.new.tx.conn.now) (state g.S.Store c.pack_days.new.tx.conn.now)
     (state g.S.Store c.clear_versions.new.tx.conn.now) (state g.S.Store c.raise_version.new.tx.conn.now)
     c.pack_days.ensures.survives.clean c.clear_versions.ensures.survives.clean c.raise_version.ensures.survives.clean
-    c.in-Ok.ensures.makes c.in_ok-pack_days.ensures.ok c.in_ok-clear_versions.ensures.ok raises
-    c.in-Ok.ensures.ok c.in_ok-pack_days.ensures.goes_on c.in_ok-clear_versions.ensures.goes_on goes_on)
+    (rw c.in_ok-or_unavailable.ensures at c.make_pack.ensures.makes) c.in_ok-pack_days.ensures.ok c.in_ok-clear_versions.ensures.ok raises
+    (rw c.in_ok-or_unavailable.ensures at c.make_pack.ensures.ok) c.in_ok-pack_days.ensures.goes_on c.in_ok-clear_versions.ensures.goes_on goes_on)
     c.raise_version.ensures.ok c.raise_version.ensures.goes_on

@@ -1,0 +1,101 @@
+use Rattle.std.proofs.Common.{refl, sym}
+use Rattle.std.proofs.lemmas.Result.{err_from_is_err_and}
+use Rattle.mds_statements.specs.Delivered.{delivery_statements}
+use Rattle.mds_statements.specs.Statements.{days_of}
+use Rattle.mds_world.specs.World.{IsLawful, union}
+use Rattle.mds_keeper.specs.Content.{content}
+use Rattle.mds_keeper.specs.Kept.{OfKept, Stays}
+use Rattle.mds_keeper.proofs.Asked.{stays_on}
+use Rattle.mds_keeper.specs.declared.additions.Additions.{Additions}
+use Rattle.mds_messages.specs.declared.answer.Answer.TheVariants as told
+use Rattle.mds_service.specs.Machine.{TakesIn}
+use Rattle.mds_service.proofs.Committed.{Comes, are_new, comes, taken_in, with_notes}
+use Rattle.mds_service.proofs.Halted.{stopped}
+use Rattle.mds_service.proofs.OfKept.{still}
+use Rattle.mds_service.proofs.Steps.{added, cut, failed, stood}
+use Rattle.mds_service.proofs.importing.taken_in.Given.{Over}
+use Rattle.mds_service.proofs.importing.taken_in.Goals.{After-new_events, In_ok-settled}
+use Rattle.mds_service.proofs.importing.taken_in.Goals as goal
+
+pub returns-in_err-gathered : goal.returns-in_err-gathered
+returns-in_err-gathered g c =
+    let p = err_from_is_err_and c.from_residual.result c.from_residual.ensures.1 in
+    rw (p.1, p.2) (stood c.gather.ensures.stays (λ honest w lawful shows.
+    stopped w c.args.delivery c.in_err-gathered.field-0.0 (c.in_err-gathered.ensures.refused honest w shows lawful)))
+
+pub returns-in_err-details : goal.returns-in_err-details
+returns-in_err-details g c =
+    let p = err_from_is_err_and c.from_residual-in_err-details.result c.from_residual-in_err-details.ensures.1 in
+    rw (p.1, p.2) (failed (stays_on c.gather.ensures.stays c.new_details.ensures.stays) (λ w. refl))
+
+-- all that was asked before the commit
+asked : (g : Over) (c : After-new_events g)
+    → Stays (g.K.Keeper.kept c.args.keeper.now) (g.K.Keeper.kept c.new_events.new.keeper)
+asked g c = stays_on (stays_on c.gather.ensures.stays c.new_details.ensures.stays) c.new_events.ensures.stays
+
+pub returns-in_err-events : goal.returns-in_err-events
+returns-in_err-events g c =
+    let p = err_from_is_err_and c.from_residual-in_err-events.result c.from_residual-in_err-events.ensures.1 in
+    rw (p.1, p.2) (failed (asked g (goal.at.returns-in_err-events g c).After-new_events) (λ w. refl))
+
+pub returns-in_err-settled : goal.returns-in_err-settled
+returns-in_err-settled g c =
+    let p = err_from_is_err_and c.from_residual-in_err-settled.result c.from_residual-in_err-settled.ensures.1 in
+    rw (p.1, p.2) (failed (asked g (goal.at.returns-in_err-settled g c).After-new_events) (λ w. refl))
+
+coming : (g : Over) (c : In_ok-settled g)
+    → OfKept (g.K.Keeper.kept c.args.keeper.now) (g.K.Keeper.kept c.new_events.new.keeper)
+    (λ w. IsLawful w → Comes w (days_of (delivery_statements c.args.delivery)) c.in_ok-gathered.gathered c.in_ok-settled.settled.0
+    c.in_ok-settled.settled.1 c.in_ok-details.details c.in_ok-events.events)
+coming g c = λ honest w shows lawful.
+    let later = c.new_events.ensures.stays.outside honest in
+    let gathered = c.in_ok-gathered.ensures.gathered (c.new_details.ensures.stays.outside later) w shows lawful in
+    let one = still c.gather.ensures.stays shows in
+    comes w _ c.in_ok-gathered.gathered c.in_ok-settled.settled.0 c.in_ok-settled.settled.1 c.in_ok-details.details
+    c.in_ok-events.events gathered.whole gathered.detailed (c.in_ok-settled.ensures w _ gathered.merges)
+    (c.in_ok-details.ensures.apart later)
+    (c.in_ok-details.ensures.just later w one) c.in_ok-events.ensures.apart
+    (c.in_ok-events.ensures.just honest w (still c.new_details.ensures.stays one))
+
+abbrev its : (g : Over) (c : In_ok-settled g) → Additions
+its g c = with_notes c.in_ok-settled.settled.0 c.in_ok-details.details c.in_ok-events.events
+
+taken : (g : Over) (c : In_ok-settled g)
+    → OfKept (g.K.Keeper.kept c.args.keeper.now) (g.K.Keeper.kept c.new_events.new.keeper)
+    (λ w. IsLawful w → IsLawful (union w (content (its g c))) × TakesIn w (delivery_statements c.args.delivery)
+    (told.Imported c.in_ok-settled.settled.1.added c.in_ok-settled.settled.1.known) (union w (content (its g c))))
+taken g c = λ honest w shows lawful.
+    let early = c.new_details.ensures.stays.outside (c.new_events.ensures.stays.outside honest) in
+    taken_in (coming g c honest w shows lawful) (delivery_statements c.args.delivery) (c.in_ok-gathered.ensures.gathered early w shows lawful).all lawful
+    (c.in_ok-gathered.ensures.agrees early w shows lawful)
+
+pub commit-requires-clause-new : goal.commit-requires-clause-new
+commit-requires-clause-new g c = λ sound lawful.
+    let at = goal.at.commit-requires-clause-new g c in
+    are_new (coming g at.In_ok-settled (g.met.K.Keeper.sound_honest c.new_events.new.keeper sound)
+    (g.K.Keeper.kept c.new_events.new.keeper).world (λ _. sym ((asked g at.After-new_events).same sound)) lawful)
+
+pub commit-requires-clause-lawful : goal.commit-requires-clause-lawful
+commit-requires-clause-lawful g c = λ sound lawful.
+    let at = goal.at.commit-requires-clause-lawful g c in
+    (taken g at.In_ok-settled (g.met.K.Keeper.sound_honest c.new_events.new.keeper sound)
+    (g.K.Keeper.kept c.new_events.new.keeper).world (λ _. sym ((asked g at.After-new_events).same sound)) lawful).0
+
+pub commit-requires-clause-placed : goal.commit-requires-clause-placed
+commit-requires-clause-placed g c = λ sound lawful.
+    let at = goal.at.commit-requires-clause-placed g c in
+    let it = coming g at.In_ok-settled (g.met.K.Keeper.sound_honest c.new_events.new.keeper sound)
+    (g.K.Keeper.kept c.new_events.new.keeper).world (λ _. sym ((asked g at.After-new_events).same sound)) lawful in
+    record { first = it.settled.first; days = it.settled.days }
+
+pub returns-in-Ok : goal.returns-in-Ok
+returns-in-Ok g c =
+    let at = goal.at.returns-in-Ok g c in
+    added (asked g at.After-new_events) c.in-Ok.ensures (g.met.K.Keeper.settled c.commit.new.self)
+    (λ honest w lawful _ is. taken g at.In_ok-settled (c.commit.ensures.outside honest) w (λ _. is) lawful)
+
+pub returns-in-Err : goal.returns-in-Err
+returns-in-Err g c =
+    let at = goal.at.returns-in-Err g c in
+    rw c.from.ensures (cut (told.Imported c.in_ok-settled.settled.1.added c.in_ok-settled.settled.1.known) (λ e. cc) (asked g at.After-new_events)
+    c.in-Err.ensures (λ w. refl) (λ honest w lawful _ is. (taken g at.In_ok-settled honest w (λ _. is) lawful).1))
