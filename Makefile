@@ -1,9 +1,12 @@
-# `make` builds the program and imports a sample into a store; `make test` runs the gate; `make bench` measures.
-.PHONY: all test bench
+# `make` builds the proved program and imports a sample into a store; `make help` lists the other goals.
+.PHONY: all help try test bench install uninstall deb
 
-all: bin/mdstore week.db
+all: bin/mdstore week.db # builds the proved program, makes the store week.db, and takes examples/week.nem12 in
 	bin/mdstore import --store week.db examples/week.nem12
 	@if command -v sqlite3 > /dev/null; then sqlite3 week.db < examples/days.sql; fi
+
+help: # lists these goals
+	@sed -n 's/^\([a-z]*\):[^#]* # \(.*\)/make \1: \2/p' Makefile
 
 week.db: | bin/mdstore
 	bin/mdstore init --store week.db
@@ -13,23 +16,53 @@ SOURCES := $(shell tools/build --sources)
 bin/mdstore: $(SOURCES) tools/build
 	tools/build
 
-test:
-	rt ci
-	tests/check crates/mdstore/out/mdstore
-	tests/commands crates/mdstore/out/mdstore
-	tests/program crates/mdstore/out/mdstore
-	tests/service crates/mdstore/out/mdstore
-	tests/soak crates/mdstore/out/mdstore
-	tests/examples crates/mdstore/out/mdstore crates/mds_trials/out/mds_trials
-	tests/keepers crates/mdstore/out/mdstore crates/mds_trials/out/mds_trials
-	tests/text crates/mdstore/out/mdstore
-	tests/migration crates/mdstore/out/mdstore
-	tests/pieces crates/mdstore/out/mdstore crates/mds_trials/out/mds_trials
-	tests/no_memory crates/mdstore/out/mdstore crates/mds_trials/out/mds_trials
-	tests/stops crates/mdstore/out/mdstore crates/mds_trials/out/mds_trials
-	tests/faults crates/mdstore/out/mdstore
-	tests/power_cuts crates/mdstore/out/mdstore
-	tests/changed_bytes crates/mdstore/out/mdstore
+FILE := examples/week.nem12
 
-bench: bin/mdstore
+try: bin/mdstore-tried # builds the program without proofs, within five minutes, and checks FILE=examples/week.nem12
+	@bin/mdstore-tried check "$(FILE)"; status=$$?; \
+	echo 'Nothing of bin/mdstore-tried is proved. `make` proves it, and builds bin/mdstore.'; exit $$status
+
+bin/mdstore-tried: $(SOURCES) tools/try
+	tools/try
+
+# Each script of tests/ with the programs that it runs.
+define SCRIPTS
+tests/check crates/mdstore/out/mdstore
+tests/commands crates/mdstore/out/mdstore
+tests/program crates/mdstore/out/mdstore
+tests/service crates/mdstore/out/mdstore
+tests/soak crates/mdstore/out/mdstore
+tests/examples crates/mdstore/out/mdstore crates/mds_trials/out/mds_trials
+tests/keepers crates/mdstore/out/mdstore crates/mds_trials/out/mds_trials
+tests/text crates/mdstore/out/mdstore
+tests/migration crates/mdstore/out/mdstore
+tests/pieces crates/mdstore/out/mdstore crates/mds_trials/out/mds_trials
+tests/no_memory crates/mdstore/out/mdstore crates/mds_trials/out/mds_trials
+tests/stops crates/mdstore/out/mdstore crates/mds_trials/out/mds_trials
+tests/faults crates/mdstore/out/mdstore
+tests/power_cuts crates/mdstore/out/mdstore
+tests/changed_bytes crates/mdstore/out/mdstore
+tests/causes
+tests/openapi crates/mdstore/out/mdstore
+tests/words crates/mdstore/out/mdstore
+endef
+export SCRIPTS
+
+test: # proves every crate, tries wrong bodies, and runs the scripts of tests/, an hour on four processors
+	rt ci
+	@echo "$$SCRIPTS" | tools/run-scripts $(NOTES)
+
+bench: bin/mdstore # measures, and prints figures as bench/README.md has them
 	bench/run
+
+PREFIX := /usr/local
+DESTDIR :=
+
+install: # puts the proved program, page, completions, documents and examples below PREFIX=/usr/local; proves nothing
+	packaging/install $(PREFIX) $(DESTDIR)
+
+uninstall: # takes away what `make install` put below PREFIX=/usr/local
+	packaging/install --remove $(PREFIX) $(DESTDIR)
+
+deb: # makes a Debian package of the proved program in out/; proves nothing
+	packaging/deb

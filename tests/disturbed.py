@@ -10,7 +10,7 @@ import sys
 import tempfile
 
 import checks
-from checks import MDSTORE, SCRIPT, limited, mdstore
+from checks import MDSTORE, limited, mdstore, not_run
 from file_parts import block, day, file_of, period
 from many_runs import ManyRuns, Shared, built, shared_numbers
 from old_stores import PERIOD_HEADER, build, build_step, job, opened, run
@@ -32,12 +32,11 @@ def check(what, got, wanted):
     checks.check(what, got, wanted, most=1000)
 
 
-def has_libraries(name):
-    """Makes those with which runs are disturbed in a way, and says whether they are there."""
+def make_libraries(name):
+    """Makes those with which runs are disturbed in a way. Without a C compiler the script ends here."""
+    if not shutil.which("cc"):
+        not_run("cc", "gcc libc6-dev")
     LIBRARIES.update(built(DIR, "many_runs", name))
-    if not LIBRARIES:
-        print(f"{SCRIPT}: no C compiler here, so nothing was disturbed", file=sys.stderr)
-    return bool(LIBRARIES)
 
 
 def clear():
