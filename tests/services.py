@@ -1,5 +1,6 @@
 """The services that scripts ask: `mdstore serve` over a store in a file, and `mds_trials` over keepers of its own."""
 
+import contextlib
 import functools
 import os
 import shutil
@@ -26,16 +27,28 @@ def command(*words, file=b""):
 
 
 class Service:
-    """A process that serves so many connections, if it lives to listen."""
+    """A process that serves so many connections, if it lives to listen. It may write no file of more bytes than the most."""
 
-    def __init__(self, words, environment=None):
+    def __init__(self, words, environment=None, most=None):
         self.port = free_port()
         self.process = subprocess.Popen(words(str(self.port)), env=environment, stdin=subprocess.DEVNULL, stdout=subprocess.PIPE,
-                                        stderr=subprocess.DEVNULL)
+                                        stderr=subprocess.DEVNULL, preexec_fn=checks.limited(most) if most else None)
         processes.append(self.process)
         while self.process.poll() is None and not is_listening(self.port):
             time.sleep(0.002)
         self.is_there = self.process.poll() is None
+
+    def send(self, data):
+        """The bytes that are answered to these, behind which the peer ends its side. A connection that is reset may lose the last ones."""
+        answered = b""
+        with socket.create_connection(("127.0.0.1", self.port)) as peer, contextlib.suppress(ConnectionError):
+            peer.settimeout(60)
+            with contextlib.suppress(ConnectionError):
+                peer.sendall(data)
+                peer.shutdown(socket.SHUT_WR)
+            while more := peer.recv(65536):
+                answered += more
+        return answered
 
     def ask(self, request):
         """The answer to a request, or nothing where the connection is closed without one."""
@@ -62,17 +75,17 @@ class Service:
         return self.process.returncode, out
 
 
-def started(words):
+def started(words, most=None):
     """A service that listens. A port may be taken before it does."""
     for _ in range(20):
-        service = Service(words)
+        service = Service(words, most=most)
         if service.is_there:
             return service
     raise RuntimeError(f"no service listens: {words('PORT')}")
 
 
-def over_file(store, count):
-    return started(lambda port: [MDSTORE, "serve", "--store", store, "--port", port, "--count", str(count)])
+def over_file(store, count, most=None):
+    return started(lambda port: [MDSTORE, "serve", "--store", store, "--port", port, "--count", str(count)], most)
 
 
 def in_memory(count):
