@@ -80,24 +80,3 @@ outcome_text outcome.NoPort = codes "cannot listen\n"
 outcome_text outcome.Unavailable = codes "U1\n"
 outcome_text outcome.EarlierSchema = codes "U2\n"
 outcome_text outcome.OtherSchema = codes "U3\n"
-
--- What it comes to where the store can't be closed after it: what was made, migrated or printed stands, and a refusal that is
--- still to be printed is U1.
-abbrev pub after_failed_close : Outcome → Outcome
-after_failed_close outcome.Done = outcome.Done
-after_failed_close (outcome.Answered s) = outcome.Answered s
-after_failed_close outcome.Usage = outcome.Usage
-after_failed_close outcome.NoOutput = outcome.NoOutput
-after_failed_close outcome.Created = outcome.Created
-after_failed_close outcome.Migrated = outcome.Migrated
-after_failed_close outcome.AlreadyCurrent = outcome.AlreadyCurrent
-after_failed_close (outcome.Fault fault) = outcome.Unavailable
-after_failed_close outcome.BadJob = outcome.Unavailable
-after_failed_close (outcome.BadHolidays row) = outcome.Unavailable
-after_failed_close (outcome.BadArgument argument) = outcome.Unavailable
-after_failed_close outcome.NoText = outcome.Unavailable
-after_failed_close outcome.NoInput = outcome.Unavailable
-after_failed_close outcome.NoPort = outcome.Unavailable
-after_failed_close outcome.Unavailable = outcome.Unavailable
-after_failed_close outcome.EarlierSchema = outcome.Unavailable
-after_failed_close outcome.OtherSchema = outcome.Unavailable

@@ -1,7 +1,7 @@
 //! What a run comes to, what is printed of it, and the status that it ends with.
 
 ghost use Rattle.std.specs.Prelude.{◌≡◌, Some};
-ghost use Rattle.mds_desk.specs.Program.{after_failed_close, of_check, of_import, of_request, outcome_text, status_code, status_of};
+ghost use Rattle.mds_desk.specs.Program.{of_check, of_import, of_request, outcome_text, status_code, status_of};
 
 use crate::importing::ImportFault;
 use crate::performing::PerformFault;
@@ -110,32 +110,6 @@ impl Outcome {
             Err(ImportFault::Read) => Outcome::NoInput,
             Err(ImportFault::Write) => Outcome::NoOutput,
             Err(ImportFault::Memory) => Outcome::Unavailable,
-        }
-    }
-
-    /// What it comes to where the store can't be closed after it. What was made, migrated or answered stands, since the file and
-    /// its log together are the store.
-    pub fn after_failed_close(self) -> Outcome
-        ensures { result ≡ after_failed_close self }
-    {
-        match self {
-            Outcome::Done
-            | Outcome::Created
-            | Outcome::Migrated
-            | Outcome::AlreadyCurrent
-            | Outcome::Answered(_)
-            | Outcome::Usage
-            | Outcome::NoOutput => self,
-            Outcome::Fault(_)
-            | Outcome::BadJob
-            | Outcome::BadHolidays(_)
-            | Outcome::BadArgument(_)
-            | Outcome::NoText
-            | Outcome::NoInput
-            | Outcome::NoPort
-            | Outcome::Unavailable
-            | Outcome::EarlierSchema
-            | Outcome::OtherSchema => Outcome::Unavailable,
         }
     }
 

@@ -123,11 +123,14 @@ impl Place {
                 let _ = put_back(rt, self.log.as_str(), self.log_bytes);
                 let _ = put_back(rt, self.file.as_str(), self.file_bytes);
             }
-            // A log that holds a page may be needed.
-            _ if self.log_bytes.is_none() && is_shorter(rt, self.log.as_str(), SHORTEST_LOG) => {
-                self.remove_log(rt, locked);
-            }
-            _ => (),
+            _ => self.remove_empty_log(rt, locked),
+        }
+    }
+
+    /// Removes a log that the call made, where it holds no page. One that holds a page may be needed.
+    pub(crate) fn remove_empty_log(&self, rt: &HostRuntime, locked: &LockedFiles) {
+        if self.log_bytes.is_none() && is_shorter(rt, self.log.as_str(), SHORTEST_LOG) {
+            self.remove_log(rt, locked);
         }
     }
 

@@ -226,19 +226,24 @@ fn open_database(
     }
 }
 
-/// Closes a database, so that all of it is in its one file, and says what the run comes to.
+/// Closes a database, so that all of it is in its one file. Where that fails the file and its log together are the store, and the run comes
+/// to what it came to before.
 fn close(
     rt: &HostRuntime,
     place: &Place,
     conn: Connection<FileStore<FileFrom<Wary>>>,
     outcome: Outcome,
 ) -> Outcome {
-    let (files, outcome) = match conn.close_files() {
+    let files = match conn.close_files() {
         Ok(files) => {
             place.remove_log(rt, &files);
-            (files, outcome)
+            files
         }
-        Err((_, store)) => (store.close(), outcome.after_failed_close()),
+        Err((_, store)) => {
+            let files = store.close();
+            place.remove_empty_log(rt, &files);
+            files
+        }
     };
     if matches!(outcome, Outcome::Unavailable) {
         place.restore(rt, &files);
