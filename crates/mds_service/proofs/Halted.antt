@@ -1,6 +1,6 @@
 -- What a request comes to that ends before its answer is made.
 use Rattle.std.specs.Prelude.{List, ℕ, Some, None}
-use Rattle.std.proofs.Common.{◌≡◌, refl, sym}
+use Rattle.std.proofs.Common.{◌≡◌, refl}
 use Rattle.mds_fill.specs.Fills.{IsFillRefusal}
 use Rattle.mds_jobs.specs.Jobs.{IsBad, content_of}
 use Rattle.mds_jobs.specs.declared.job.Job.{Job}

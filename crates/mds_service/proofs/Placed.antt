@@ -1,8 +1,8 @@
 -- What is committed is in its place.
 use Rattle.std.specs.Prelude.{◌≡◌, List, [], ◌∷◌, ◌++◌, Bool, true, false, map}
-use Rattle.std.proofs.Common.{ap, inl, inr, refl, subst, sym}
+use Rattle.std.proofs.Common.{inl, inr, subst, sym}
 use Rattle.mds_jobs.specs.declared.job.Job.{Job}
-use Rattle.mds_keeper.specs.Content.{AreInPlace, AreOfNewDays, heads_of, place_of}
+use Rattle.mds_keeper.specs.Content.{AreInPlace, AreOfNewDays, place_of}
 use Rattle.mds_keeper.specs.declared.additions.Additions.{Additions}
 use Rattle.mds_marks.specs.Reading.{ReadingValue}
 use Rattle.mds_service.specs.Substitution.{head_of}

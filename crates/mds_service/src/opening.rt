@@ -14,9 +14,11 @@ ghost use Rattle.mds_keeper.specs.Kept.{OfKept, Stays};
 ghost use Rattle.mds_keeper.specs.Queries.{AreDaysOf};
 ghost use Rattle.mds_keeper.specs.declared.day_merge.Stop.TheVariants.{Memory};
 ghost use Rattle.mds_service.specs.Imports.{AreMerges};
+ghost use Rattle.mds_service.specs.Asking.{AreDays, AreOfDates, AsksOnly};
 ghost use Rattle.mds_service.specs.OpeningSteps.{AreUnknown, IsOfDates};
 
-use mds_keeper::{DayBook, DayMerge, Keeper, Stop, StreamDay};
+use crate::asking::DayKeeper;
+use mds_keeper::{DayBook, DayMerge, Stop, StreamDay};
 use mds_statements::DeliveredDay;
 use mds_terms::{Day, Stream};
 use std::alloc::{AllocError, Global};
@@ -72,7 +74,7 @@ fn goes_on(found: &mut Vec<Stretch>, date: Day) -> bool
 }
 
 /// Opens the merges of the next stretch, where it begins at this date.
-pub(crate) fn open_ahead<K: Keeper>(
+pub(crate) fn open_ahead<K: DayKeeper>(
     alloc: Global,
     keeper: &mut K,
     merges: &mut BTreeMap<StreamDay, DayMerge>,
@@ -86,6 +88,10 @@ pub(crate) fn open_ahead<K: Keeper>(
         (λ w. IsLawful w → OnOk result ((facts : World) → AreMerges ⟦<StreamDay as Ord>⟧.cmp w facts merges.old
         → AreMerges ⟦<StreamDay as Ord>⟧.cmp w facts merges.new)) }
     ensures memory { IfErr result (λ stop. stop ≡ Memory) }
+
+    // It asks for no other days than those of the stretches.
+    ensures asked { (dates : List ℕ) → All (IsOfDates dates) ahead.now
+        → AsksOnly K.asks (AreOfDates stream.now dates) keeper.old keeper.new }
 {
     let Some(stretch) = ahead.get(*next) else {
         return Ok(());
@@ -99,7 +105,7 @@ pub(crate) fn open_ahead<K: Keeper>(
 
 /// Opens the merges of the days of a stream from a first to a last one that have none yet. A day by itself is left to
 /// its claim.
-fn open_stretch<K: Keeper>(
+fn open_stretch<K: DayKeeper>(
     alloc: Global,
     keeper: &mut K,
     merges: &mut BTreeMap<StreamDay, DayMerge>,
@@ -114,6 +120,7 @@ fn open_stretch<K: Keeper>(
         (λ w. IsLawful w → OnOk result ((facts : World) → AreMerges ⟦<StreamDay as Ord>⟧.cmp w facts merges.old
         → AreMerges ⟦<StreamDay as Ord>⟧.cmp w facts merges.new)) }
     ensures memory { IfErr result (λ stop. stop ≡ Memory) }
+    ensures asked { AsksOnly K.asks (AreDays stream.now first last) keeper.old keeper.new }
 {
     if first == last {
         return Ok(());
