@@ -25,3 +25,4 @@ pub mod ReturnedFacts
 pub mod ReturnedReadings
 pub mod ReturnedWorlds
 pub mod Seen
+pub mod Worlds

@@ -4,3 +4,4 @@ pub mod Determined
 pub mod Exchange
 pub mod Kept
 pub mod Returns
+pub mod Worlds

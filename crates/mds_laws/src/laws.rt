@@ -7,6 +7,16 @@ ghost use Rattle.mds_laws.specs.Determined.{AnswersAreDetermined, RunsAreDetermi
 ghost use Rattle.mds_laws.specs.Exchange.{ChangePlaces, MayChangePlaces};
 ghost use Rattle.mds_laws.specs.Returns.{ReturnsToAnEmptyStore, ReturnsToItsStore};
 ghost use Rattle.mds_laws.specs.Kept.{AnswersTellHowMany, EachCameByOne, EachPeriodCameByFile, LawStays, NothingIsAltered, NothingIsMissing};
+ghost use Rattle.mds_laws.specs.Worlds.{EachFactCountsOnce, ListsAreTheirFacts, UnionsHaveBoth, WorldsAreTheirFacts};
+
+/// A World is the facts that are in it: two with the same facts are one, and a union has the facts of both. So how facts are coded and
+/// ordered says nothing.
+pub fn a_world_is_its_facts()
+    ensures equal { WorldsAreTheirFacts }
+    ensures both { UnionsHaveBoth }
+    ensures listed { ListsAreTheirFacts }
+    ensures count { EachFactCountsOnce }
+{}
 
 /// What was taken in stays, and stays as it is. The answers tell how many versions and accumulations came in. Each version came
 /// by one file or one job, and each accumulation by a NEM13 file that states it.
