@@ -1,6 +1,7 @@
 """Examples of substitution jobs: their ids, which jobs are bad, like days and holidays, lines, means, and the order of what stops a job."""
 
 import datetime
+import json
 
 from example_texts import *
 
@@ -53,6 +54,28 @@ BAD_JOBS = [
     (tell_day("20240122"), told_day("20240122", {1: "S19,,,0"}, UPDATE)),
     (tell_day("20240123"), told_day("20240123", {1: "E19,,,0"}, UPDATE, 15)),
     (tell_day("20240124"), told_day("20240124", {1: "F19,76,Zähler,0"}, UPDATE, 5)),
+]
+
+
+def without(key, request):
+    """A job that lacks a key."""
+    method, target, body = request
+    return method, target, json.dumps({name: value for name, value in json.loads(body).items() if name != key}).encode()
+
+
+# A job has all its keys, also where it has no reason. One that lacks a key changes nothing, and its id is free. A reason may be a code or a
+# text alone.
+WHOLE_JOB = fill_in("J1", "20240122", 1, 2, 14, "S", UPDATE)
+LACKING_JOBS = [
+    (take_in(header(), block(), day("20240115", half_hours("2"), BEFORE), END), added(48, 0)),
+    *((without(key, WHOLE_JOB), NO_JOB) for key in json.loads(WHOLE_JOB[2])),
+    (tell_day("20240122"), refused("M10")),
+    (WHOLE_JOB, filled(2)),
+    *((without(key, WHOLE_JOB), NO_JOB) for key in ["text", "code"]),
+    (fill_in("J2", "20240122", 3, 3, 14, "S", UPDATE, text="no code"), filled(1)),
+    (fill_in("J3", "20240122", 4, 4, 14, "S", UPDATE, code="76"), filled(1)),
+    (tell_day("20240122"), told_day("20240122", {1: "S14,,,2", 3: "S14,,no code,2", 4: "S14,76,,2", 5: "N,,,"}, UPDATE)),
+    (WHOLE_JOB, filled_before(2)),
 ]
 
 
@@ -220,6 +243,7 @@ STOPPED = [
 EXAMPLES = {
     "ids": IDS,
     "bad jobs": BAD_JOBS,
+    "jobs that lack a key": LACKING_JOBS,
     **{name: like_days(*row) for name, row in LIKE_DAYS.items()},
     "lines": LINES,
     "rounded lines": ROUNDED_LINES,

@@ -1,8 +1,9 @@
 //! Runs of marks over a day.
 
+use crate::rows::cut;
 use mds_export::{RunRow, write_run};
 use mds_marks::Mark;
-use mds_runs::{Cover, Run, gather, gather_some, overlay, spread};
+use mds_runs::{Cover, Run, RunFault, gather, gather_some, overlay, spread};
 use std::alloc::Global;
 
 /// Has a cover take a run of a quality.
@@ -51,6 +52,48 @@ fn laid(alloc: Global) -> Option<Vec<u8>> {
         return None;
     }
     written(alloc, &gather_some(alloc, &marks).ok()?)
+}
+
+/// Has a cover of 48 intervals take runs in turn, each its first and its last interval. Appends of each whether it is refused, and which
+/// runs are there then.
+pub fn tell_cover(alloc: Global, runs: &str, out: &mut String) -> Option<()> {
+    let mut cover = Cover::new(alloc, 48);
+    for run in runs.split(' ') {
+        let (first, last) = cut(run, '-');
+        tell_push(
+            alloc,
+            &mut cover,
+            first.parse().ok()?,
+            last.parse().ok()?,
+            out,
+        )?;
+        tell_runs(cover.runs(), out)?;
+    }
+    Some(())
+}
+
+fn tell_push(
+    alloc: Global,
+    cover: &mut Cover,
+    first: u16,
+    last: u16,
+    out: &mut String,
+) -> Option<()> {
+    let mark = Mark::read(alloc, b"A", b"", b"").ok()??;
+    let word = match cover.push(Run { first, last, mark }) {
+        Ok(()) => "taken",
+        Err(RunFault::Range) => "Range",
+        Err(RunFault::Order) => "Order",
+        Err(RunFault::Memory) => return None,
+    };
+    out.push_str(word).ok()
+}
+
+fn tell_runs(runs: &[Run], out: &mut String) -> Option<()> {
+    for run in runs {
+        write!(out, " {}-{}", run.first, run.last).ok()?;
+    }
+    out.push(';').ok()
 }
 
 #[test]

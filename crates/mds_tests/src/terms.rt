@@ -2,6 +2,7 @@
 
 use crate::marks::tell_mark;
 use crate::rows::cut;
+use crate::runs::tell_cover;
 use mds_quantity::{Quantity, Unit, write_millionths};
 use mds_records::{FileKind, IntervalValues, Line, read_record};
 use mds_terms::{
@@ -28,6 +29,7 @@ pub fn tell_term(alloc: Global, word: &str, text: &str, out: &mut String) -> Opt
         "suffix" => Suffix::read(bytes)?.write_to(out),
         "quality" => Quality::read(bytes)?.write_to(out),
         "record" => return tell_record(alloc, bytes, out),
+        "cover" => return tell_cover(alloc, text, out),
         _ => return tell_parts(alloc, word, text, out),
     };
     done.ok()

@@ -14,21 +14,30 @@
 //!
 //! `mds_trials stops PATH FILES MANNER` stops the files of a store in memory, at each of their calls in turn. What is done with the store stands in
 //! `PATH` (tests/stops). `log`, `database` or `both` stop. The manner is `each`, `narrow` for a store that keeps little in memory and in its
-//! log, or `sample` for some calls alone.
+//! log, or `sample` for some calls alone. `mds_trials keepers PATH` does what stands in `PATH` with a keeper in memory, and with a store whose
+//! files lie in memory (tests/keepers).
+//!
+//! `mds_trials lines PATH` prints the lines of files, of readers that are slow or fail (tests/pieces).
 #![tactic(auto)]
 
+mod answers;
+mod limited;
+mod lines;
+mod lists;
 mod outcomes;
 mod pieces;
 mod steps;
 mod stops;
+mod talks;
 
+use crate::answers::print_answer;
+use crate::lines::print_lines;
 use crate::pieces::{Cutter, hold_files};
-use crate::stops::stop_in_turn;
+use crate::stops::{do_plans, stop_in_turn};
 use mds::records::FileKind;
 use mds::service::{Answer, Request, apply, run};
 use mds::terms::{Day, Stream};
 use mds::versions::MemoryKeeper;
-use mds_answers::answer_json;
 use mds_arguments::{ExportArguments, export_request};
 use mds_http::{Ended, Log, StoreHandler, serve_connections};
 use mds_laws::a_file_comes_in_pieces;
@@ -36,7 +45,6 @@ use mds_nem12::read_nem12;
 use mds_service::apply_delivery;
 use mds_wire::Routes;
 use std::alloc::{AllocError, Global};
-use std::io::Write;
 use std::process::ExitCode;
 use std::time::Instant;
 use std::{env, fs, io};
@@ -57,6 +65,8 @@ fn run_words(rt: &HostRuntime) -> io::Result<bool> {
         [what, path] if what.as_str() == "deliver" => time_delivery(rt, path.as_str()),
         [what, path] if what.as_str() == "imports" => time_imports(rt, path.as_str()),
         [what, path] if what.as_str() == "applies" => apply_twice(rt, path.as_str()),
+        [what, path] if what.as_str() == "keepers" => do_plans(rt, path.as_str()),
+        [what, path] if what.as_str() == "lines" => print_lines(rt, path.as_str()),
         [what, path] if what.as_str() == "cuts" => hold_files(rt, path.as_str(), Cutter::AtBytes),
         [what, path, seed] if what.as_str() == "pieces" => {
             hold_made_pieces(rt, path.as_str(), seed.as_str())
@@ -74,7 +84,7 @@ fn run_words(rt: &HostRuntime) -> io::Result<bool> {
 
 fn usage(rt: &HostRuntime) -> io::Result<bool> {
     println!(rt;
-        "usage: mds_trials [serve PORT COUNT | deliver PATH | imports PATH | exports PATH FROM TO | applies PATH | cuts PATH | pieces PATH SEED | stops PATH FILES MANNER]"
+        "usage: mds_trials [serve PORT COUNT | deliver PATH | imports PATH | exports PATH FROM TO | applies PATH | cuts PATH | pieces PATH SEED | stops PATH FILES MANNER | keepers PATH | lines PATH]"
     )?;
     Ok(false)
 }
@@ -120,17 +130,6 @@ fn file_of_a_day(alloc: Global, stream: &Stream) -> Result<Vec<u8>, AllocError> 
     }
     file.extend_from_slice(b",A,,,20240102010203,\n900\n")?;
     Ok(file)
-}
-
-/// Prints an answer as JSON, on a line. The line is empty for an answer that is a text of its own.
-fn print_answer(rt: &HostRuntime, answer: &Answer) -> io::Result<()> {
-    let mut text = Vec::new(rt.alloc());
-    match answer {
-        Answer::Gaps(_) | Answer::Finals(_) | Answer::Exported(_) => (),
-        _ => answer_json(rt.alloc(), answer, &mut text)?,
-    }
-    text.push(b'\n')?;
-    io::writer(rt).write_all(&text)
 }
 
 /// Applies what a NEM12 file states to an empty keeper, and once more. Then it takes the file itself in, in two pieces and whole. Prints

@@ -128,10 +128,16 @@ pub fn hold_files(rt: &HostRuntime, path: &str, mut cutter: Cutter) -> io::Resul
 
 /// The first file of a list, and the files behind it. `None` where there is no whole one.
 pub fn next_file(list: &[u8]) -> Option<(&[u8], &[u8])> {
+    let (length, behind) = next_number(list)?;
+    behind.split_at_checked(length as usize)
+}
+
+/// The number in the first four bytes of a list, and what stands behind it.
+pub fn next_number(list: &[u8]) -> Option<(u32, &[u8])> {
     let [a, b, c, d, behind @ ..] = list else {
         return None;
     };
-    behind.split_at_checked(u32::from_be_bytes([*a, *b, *c, *d]) as usize)
+    Some((u32::from_be_bytes([*a, *b, *c, *d]), behind))
 }
 
 /// Holds a file, cut in each way, against the file in one piece.

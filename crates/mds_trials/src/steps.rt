@@ -1,10 +1,13 @@
-//! What is done with a database, step by step. What comes of it is printed. It is written over any store of the library, so that it is
-//! proved without what that says of files.
+//! What is done with a database, or with a keeper in memory, step by step. What comes of it is printed. It is written over any store of
+//! the library, so that it is proved without what that says of files.
 
+use crate::lists::{Runs, run_lists};
 use crate::pieces::next_file;
+use crate::talks::print_talk;
 use mds_http::{StoreHandler, serve_one};
 use mds_keeper::Keeper;
 use mds_lines::Counted;
+use mds_memory::MemoryKeeper;
 use mds_migrate::{MigrateFault, Migrated, migrate};
 use mds_pack_store::{PackKeeper, adopt, create};
 use mds_store::StoreFault;
@@ -19,6 +22,26 @@ const CREATE: u8 = b'c';
 const ADOPT: u8 = b'a';
 
 const EXECUTE: u8 = b'e';
+
+/// A store is taken for lists of requests, or for a request over a limited reader and writer.
+const RUN: u8 = b'r';
+
+const TALK: u8 = b't';
+
+/// Does the steps of a list with a keeper in memory, for which making and taking a store are the same.
+pub fn do_in_memory<F: RouteFinder>(rt: &HostRuntime, routes: &F, steps: &[u8]) {
+    let mut keeper = MemoryKeeper::new(rt.alloc());
+    let mut left = steps;
+    for _ in 0..u64::MAX {
+        let Some((step, others)) = next_file(left) else {
+            break;
+        };
+        if let [word, given @ ..] = step {
+            keeper = use_keeper(rt, routes, keeper, *word, given);
+        }
+        left = others;
+    }
+}
 
 /// Does the steps of a list with a database. A step is a byte, and a list of requests for the store that is there then, or the text.
 pub fn do_steps<F: RouteFinder, S: Alter>(
@@ -50,22 +73,23 @@ fn do_step<F: RouteFinder, S: Alter>(
     };
     let alloc = rt.alloc();
     match *word {
-        CREATE => in_store(rt, routes, create(alloc, conn), given),
-        ADOPT => in_store(rt, routes, adopt(alloc, conn), given),
+        CREATE => in_store(rt, routes, create(alloc, conn), *word, given),
+        ADOPT | RUN | TALK => in_store(rt, routes, adopt(alloc, conn), *word, given),
         EXECUTE => executed(rt, conn, given),
         _ => migrated(rt, conn),
     }
 }
 
-/// Serves requests from a store, if it could be had.
+/// Uses a store, if it could be had.
 fn in_store<F: RouteFinder, S: Alter>(
     rt: &HostRuntime,
     routes: &F,
     had: Result<PackKeeper<S>, (StoreFault, Connection<S>)>,
-    requests: &[u8],
+    word: u8,
+    given: &[u8],
 ) -> Connection<S> {
     match had {
-        Ok(keeper) => serve_all(rt, routes, keeper, requests).into_connection(),
+        Ok(keeper) => use_keeper(rt, routes, keeper, word, given).into_connection(),
         Err((fault, conn)) => {
             tell(rt, code_of(fault));
             conn
@@ -115,24 +139,45 @@ fn text_of(outcome: Result<Migrated, MigrateFault>) -> &'static [u8] {
     }
 }
 
-/// Serves the requests of a list from a keeper. Each answer is printed as it goes over HTTP.
-fn serve_all<F: RouteFinder, K: Keeper>(
+/// Does with a keeper what a step says: runs lists, serves one limited request, or serves requests.
+fn use_keeper<F: RouteFinder, K: Keeper + Runs>(
     rt: &HostRuntime,
     routes: &F,
     keeper: K,
-    requests: &[u8],
+    word: u8,
+    given: &[u8],
 ) -> K {
     tell(rt, b"done\n");
     let mut handler = StoreHandler { keeper };
+    match word {
+        RUN => end_step(rt, run_lists(rt, routes, &mut handler.keeper, given)),
+        TALK => end_step(rt, print_talk(rt, routes, &mut handler, given)),
+        _ => serve_all(rt, routes, &mut handler, given),
+    }
+    handler.keeper
+}
+
+fn end_step(rt: &HostRuntime, told: io::Result<()>) {
+    if told.is_err() {
+        tell(rt, b"no answer\n");
+    }
+}
+
+/// Serves the requests of a list. Each answer is printed as it goes over HTTP.
+fn serve_all<F: RouteFinder, K: Keeper>(
+    rt: &HostRuntime,
+    routes: &F,
+    handler: &mut StoreHandler<K>,
+    requests: &[u8],
+) {
     let mut left = requests;
     for _ in 0..u64::MAX {
         let Some((request, others)) = next_file(left) else {
             break;
         };
-        serve_request(rt, routes, &mut handler, request);
+        serve_request(rt, routes, handler, request);
         left = others;
     }
-    handler.keeper
 }
 
 fn serve_request<F: RouteFinder, K: Keeper>(

@@ -1,7 +1,7 @@
 //! A store in two files in memory, of which one or both stop at a call, at each in turn. What is left of them is opened again.
 
 use crate::pieces::next_file;
-use crate::steps::{do_steps, tell};
+use crate::steps::{do_in_memory, do_steps, tell};
 use mds_wire::{RouteFinder, Routes};
 use sqlite::{Connection, FileStore, Files, Options};
 use sqlite_disk::{Crash, Disk, Fuse, Memory};
@@ -97,11 +97,7 @@ fn follow<F: RouteFinder>(rt: &HostRuntime, routes: &F, plan: &[u8], disks: Disk
     let Some((during, after)) = next_file(others) else {
         return;
     };
-    let files = Files {
-        log: stopping(rt.alloc(), &[], u64::MAX),
-        db: stopping(rt.alloc(), &[], u64::MAX),
-    };
-    let made = in_files(rt, routes, disks.options(), files, before);
+    let made = in_new_files(rt, routes, disks.options(), before);
     for number in 0..u64::MAX {
         tell(rt, b"stop\n");
         let calls = disks.calls(number);
@@ -124,6 +120,40 @@ fn follow<F: RouteFinder>(rt: &HostRuntime, routes: &F, plan: &[u8], disks: Disk
             break;
         }
     }
+}
+
+/// Does plans in turn. A plan is a list of steps. Each is done with a keeper in memory, and with a new database, whose files lie in memory.
+pub fn do_plans(rt: &HostRuntime, path: &str) -> io::Result<bool> {
+    let plans = fs::read(rt, path)?;
+    let routes = Routes::new(rt.alloc())?;
+    do_each(rt, &routes, &plans);
+    Ok(true)
+}
+
+fn do_each<F: RouteFinder>(rt: &HostRuntime, routes: &F, plans: &[u8]) {
+    let mut left = plans;
+    for _ in 0..u64::MAX {
+        let Some((steps, others)) = next_file(left) else {
+            break;
+        };
+        do_in_memory(rt, routes, steps);
+        in_new_files(rt, routes, Options::new(SEED), steps);
+        left = others;
+    }
+}
+
+/// Does steps with a new database, whose files don't stop.
+fn in_new_files<F: RouteFinder>(
+    rt: &HostRuntime,
+    routes: &F,
+    options: Options,
+    steps: &[u8],
+) -> Files<Stopping> {
+    let files = Files {
+        log: stopping(rt.alloc(), &[], u64::MAX),
+        db: stopping(rt.alloc(), &[], u64::MAX),
+    };
+    in_files(rt, routes, options, files, steps)
 }
 
 /// A file that has these bytes for good. Where memory is wanting it has none, and what is printed shows that.

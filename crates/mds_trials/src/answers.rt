@@ -1,0 +1,19 @@
+//! What the machine answers, as it is printed.
+
+use mds_answers::answer_json;
+use mds_messages::Answer;
+use std::io;
+use std::io::Write;
+
+/// Prints an answer, and ends the line: as JSON, or the text that it is.
+pub fn print_answer(rt: &HostRuntime, answer: &Answer) -> io::Result<()> {
+    let mut text = Vec::new(rt.alloc());
+    match answer {
+        Answer::Gaps(csv) | Answer::Finals(csv) | Answer::Exported(csv) => {
+            text.extend_from_slice(csv)?
+        }
+        _ => answer_json(rt.alloc(), answer, &mut text)?,
+    }
+    text.push(b'\n')?;
+    io::writer(rt).write_all(&text)
+}
