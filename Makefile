@@ -43,13 +43,17 @@ tests/faults crates/mdstore/out/mdstore
 tests/power_cuts crates/mdstore/out/mdstore
 tests/changed_bytes crates/mdstore/out/mdstore
 tests/causes
+tests/definitions
+tests/wrong_bodies
 tests/openapi crates/mdstore/out/mdstore
 tests/words crates/mdstore/out/mdstore
 endef
 export SCRIPTS
 
 test: # proves every crate, tries wrong bodies, and runs the scripts of tests/, an hour on four processors
+	tools/wrong-bodies --look
 	rt ci
+	tools/wrong-bodies --ci --share commit/24 $(if $(NOTES),--notes $(NOTES)) || [ $$? = 77 ]
 	@echo "$$SCRIPTS" | tools/run-scripts $(NOTES)
 
 bench: bin/mdstore # measures, and prints figures as bench/README.md has them
