@@ -94,7 +94,7 @@ struct Fields<I> {
     number: usize,
     /// How many fields the line had so far.
     given: usize,
-    /// The first bad field, 0 where there is none.
+    /// The first bad field, or 0.
     bad: usize,
 }
 
@@ -304,8 +304,7 @@ impl Check {
         Ok(())
     }
 
-    /// Reads the values of a day, and answers their sum and the number of the first empty field, 0
-    /// where there is none.
+    /// Reads the values of a day, and returns their sum and the number of the first empty field, or 0.
     fn take_values<'a>(
         &mut self,
         fields: &mut Fields<impl Iterator<Item = &'a [u8]>>,

@@ -4,19 +4,19 @@
     examples/unpack.py STORE > readings.csv
 
 A store of schema 4, or of schemas 2 and 3, is an SQLite file. Its table mds_pack has a row for each stream, day and update. The body of
-a row holds the readings of that day that have that update. It is packed in bytes, as "Packed days" of docs/FORMATS.md tells. This script
-reads these rows and prints a line for each version of an interval, under a line of the names:
+a row holds the readings of that day that have that update. It is packed in bytes: see "Packed days" in docs/FORMATS.md. This script
+reads these rows and prints a line for each version of an interval, after a line of names:
 
     nmi,suffix,date,interval,update,quality,code,text,value,length
     NEM1201009,E1,20240101,7,20240102010203,A,,,1.5,30
 
-The length is that of the interval in minutes. A day has that of its latest update: lines of the day that have another one are no longer
-current. An interval that was corrected has several lines of one length. The one of the latest update is current. The code is empty where
-the reading has none, and so is the value where the quality is N. Lines are in order of stream, day, update and interval.
+`length` is the interval's length in minutes. The length of a day is that of its latest update: lines of the day with another length are no
+longer current. An interval that was corrected has several lines of one length; that of the latest update is current. `code` is empty if the
+reading has none, and `value` if the quality is N. Lines are in order of stream, day, update and interval.
 
-A row that isn't as the format says is told on standard error, with what is wrong with it. The others are printed all the same. The
-status is 0 where all rows were read, 1 where some weren't, and 2 where the file is no store of these schemas. Nothing that the store
-keeps is changed. While another process has the store, as `mdstore serve`, it can't be read.
+If a row doesn't follow the format, standard error says what is wrong with it, and the others are still printed. The status is 0 if all
+rows were read, 1 if some weren't, and 2 if the file isn't a store of these schemas. The store isn't changed. While another process has
+the store open, such as `mdstore serve`, it can't be read.
 """
 
 import csv
@@ -106,7 +106,7 @@ def run_of(body, what):
 
 
 def runs_of(body, count):
-    """The runs, which stand in order and don't overlap. Where two touch, their marks differ."""
+    """The runs, in order and without overlap. If two touch, their marks differ."""
     number = body.number(2, "the number of runs")
     if number == 0:
         raise Unreadable("there are no runs")
@@ -215,15 +215,15 @@ def versions_of(row):
     return [(nmi, suffix, day, interval, moment, *reading, length) for interval, *reading in readings_of(body, COUNTS[length])]
 
 
-def all_versions(path, tell):
-    """All versions of a store, row by row. What is wrong with a row that can't be read is told, with its name."""
+def all_versions(path, report):
+    """All versions of a store, row by row. What is wrong with a row that can't be read is reported, with its name."""
     database = opened(path)
     try:
         for row in rows_of(database):
             try:
                 versions = versions_of(row)
             except Unreadable as problem:
-                tell(row_name(*row[:4]), str(problem))
+                report(row_name(*row[:4]), str(problem))
                 continue
             yield from versions
     finally:
@@ -243,13 +243,13 @@ def main(words):
         return 2
     problems = []
 
-    def tell(name, problem):
+    def report(name, problem):
         problems.append(name)
         print(f"{name}: {problem}", file=sys.stderr)
 
     out = csv.writer(sys.stdout, lineterminator="\n")
     try:
-        versions = all_versions(words[0], tell)
+        versions = all_versions(words[0], report)
         first = next(versions, None)
         out.writerow(COLUMNS)
         if first is not None:
@@ -260,7 +260,7 @@ def main(words):
         print(f"{words[0]}: {problem}", file=sys.stderr)
         return 2
     except BrokenPipeError:
-        # Whoever reads has enough.
+        # The reader has enough.
         os.dup2(os.open(os.devnull, os.O_WRONLY), sys.stdout.fileno())
     return 1 if problems else 0
 

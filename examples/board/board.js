@@ -754,7 +754,7 @@ async function saveExport(event) {
 
 // What its user does.
 
-// Goes by so many days from what a field has, where that is a day.
+// Moves a field's day by so many days.
 function moveBy(field, count, changes) {
   const date = fromInput(byId(field).value);
   if (isDate(date)) go({ ...changes, [field]: addDays(date, count), interval: null });

@@ -1,4 +1,4 @@
-// Sends each request to the store of its NMI, which stands in the path or the query.
+// Sends each request to the store of its NMI, which is in the path or the query.
 //     node route.mjs PORT STORE_PORT...
 import http from 'node:http';
 

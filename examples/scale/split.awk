@@ -1,7 +1,7 @@
-# Splits a NEM12 file into parts, one for each NMI: the 100, the NMI's 200 records with what stands behind them, and the 900.
+# Splits a NEM12 file into parts, one for each NMI: the 100, the NMI's 200 records with what follows them, and the 900.
 #     LC_ALL=C awk -v stores=2 -v out=DIR -f split.awk FILE        writes DIR/STORE-NMI
-# STORE is the place of the NMI's last character among the digits and letters, by the number of stores. What stands behind no NMI goes
-# to DIR/0-none, where the store refuses it.
+# STORE is the place of the NMI's last character among the digits and letters, by the number of stores. What follows no NMI goes
+# to DIR/0-none, which the store refuses.
 BEGIN { FS = ","; part = out "/0-none" }
 function place(nmi) { return index("0123456789ABCDEFGHIJKLMNOPQRSTUVWXYZ", substr(nmi, 10, 1)) - 1 }
 function part_of(nmi) {

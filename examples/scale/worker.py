@@ -74,7 +74,7 @@ def make_group(redis, stream):
 
 
 def take(redis, stream, name):
-    """A part that has been pending for a while, or else the next one; None where there is none."""
+    """A part that has been pending for a while, or else the next one; or None."""
     _, claimed, *_ = redis("XAUTOCLAIM", stream, GROUP, name, PENDING_MS, "0-0", "COUNT", 1)
     if not claimed:
         read = redis("XREADGROUP", "GROUP", GROUP, name, "COUNT", 1, "BLOCK", 200, "STREAMS", stream, ">")
