@@ -95,23 +95,21 @@ impl Name {
     /// What the command does.
     pub(crate) fn about(self) -> &'static str {
         match self {
-            Name::Check => {
-                "Checks a file, and prints what each of its days or accumulations comes to"
-            }
+            Name::Check => "Checks a file, and prints a line for each day or accumulation",
             Name::Init => "Makes a store in a new file",
-            Name::Migrate => "Takes a store of an earlier schema to schema 4",
-            Name::Import => "Adds what files state to a store",
+            Name::Migrate => "Migrates a store of an earlier schema to schema 4",
+            Name::Import => "Adds the data of files to a store",
             Name::Substitute => {
                 "Fills in readings of a day by a substitution job, and keeps the job"
             }
             Name::Holidays => "Lists days as holidays",
-            Name::Streams => "Prints the known streams with what is known of their meters, as JSON",
+            Name::Streams => "Prints the known streams with the details of their meters, as JSON",
             Name::Day => "Prints the current readings of a day, as JSON",
             Name::Versions => "Prints all versions of an interval of a day, as JSON",
             Name::Periods => "Prints all accumulations of a stream, as JSON",
-            Name::Gaps => "Prints the gaps of a stream in a range of days, as a CSV text",
+            Name::Gaps => "Prints the gaps of a stream in a range of days, as a CSV file",
             Name::Finals => {
-                "Prints the final substitutions of a stream in a range of days, as a CSV text"
+                "Prints the final substitutions of a stream in a range of days, as a CSV file"
             }
             Name::Export => {
                 "Prints the current readings of streams in a range of days, as a NEM12 file"
@@ -119,7 +117,7 @@ impl Name {
             Name::Serve => {
                 "Answers requests over HTTP on 127.0.0.1, one connection after the other"
             }
-            Name::Explain => "Tells what a printed code means, or what all of them mean",
+            Name::Explain => "Explains a printed code, or all of them",
         }
     }
 
@@ -227,11 +225,11 @@ impl Word {
             }
             Word::Job => "A substitution job in JSON; - is standard input",
             Word::List => {
-                "A CSV text: the head row date, and a row CCYYMMDD for each day; - is standard input"
+                "A CSV file: a row date, then a row CCYYMMDD for each day; - is standard input"
             }
-            Word::Nmi => "The meter, as ten capital letters and digits",
-            Word::Suffix => "The stream of the meter, as E1",
-            Word::Suffixes => "The streams of the meter, as E1 B1",
+            Word::Nmi => "The NMI of the meter: ten capital letters and digits",
+            Word::Suffix => "The suffix of the stream, such as E1",
+            Word::Suffixes => "The suffixes of the streams, such as E1 B1",
             Word::Date => "The day, CCYYMMDD",
             Word::Interval => "The number of the interval, from 1, in one to four digits",
             Word::From => "The first day, CCYYMMDD",
@@ -246,7 +244,7 @@ impl Word {
             Word::Port => "The port",
             Word::Count => "After how many connections it ends",
             Word::Log => "Prints a line for each connection on standard error",
-            Word::Code => "The code, as L8 or bad job",
+            Word::Code => "The code, such as L8 or bad job",
         }
     }
 }
