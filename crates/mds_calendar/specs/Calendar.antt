@@ -8,20 +8,20 @@ use Rattle.std.specs.List.{list_all}
 use Rattle.std.specs.Str.Parse.{digits_value}
 use Rattle.jiff.specs.Words.{days_in_month}
 
--- so many digits
+-- exactly this many digits
 abbrev pub are_digits : ℕ → List ℕ → Bool
 are_digits n text = (length text == n) && list_all is_ascii_digit text
 
--- the number that n digits from a place on say
+-- the number spelled by n digits from a position on
 abbrev pub number_at : ℕ → ℕ → List ℕ → ℕ
 number_at start n text = digits_value 10 (take n (drop start text))
 
--- the calendar has this day, in 1970 or later
+-- the calendar has this day, and it is in 1970 or later
 abbrev pub is_date : ℕ → ℕ → ℕ → Bool
 is_date year month day =
     nat_le 1970 year && nat_le 1 month && nat_le month 12 && nat_le 1 day && nat_le day (days_in_month (pos year) month)
 
--- the days of the first n months from January 1970 on
+-- the number of days in the first n months from January 1970 on
 unfoldable pub days_of_months : ℕ → ℕ
 days_of_months zero = 0
 days_of_months (suc n) = days_of_months n + days_in_month (pos (1970 + n / 12)) (n % 12 + 1)
@@ -34,7 +34,7 @@ day_number year month day = days_of_months ((year - 1970) * 12 + (month - 1)) + 
 abbrev pub last_day : ℕ
 last_day = 2_932_896
 
--- the day that a text of the form CCYYMMDD is, by its number
+-- the day that a text of the form CCYYMMDD denotes, by its number
 unfoldable pub day_of : List ℕ → Option ℕ
 day_of text =
     let year = number_at 0 4 text in
@@ -54,7 +54,7 @@ day_seconds = 86_400
 abbrev pub is_time : ℕ → ℕ → ℕ → Bool
 is_time hour minute second = nat_lt hour 24 && nat_lt minute 60 && nat_lt second 60
 
--- the moment that a text of the form CCYYMMDDhhmmss is, in seconds from the midnight of 1 January 1970
+-- the moment that a text of the form CCYYMMDDhhmmss denotes, in seconds from the midnight of 1 January 1970
 unfoldable pub moment_of : List ℕ → Option ℕ
 moment_of text =
     let hour = number_at 8 2 text in
@@ -65,6 +65,6 @@ moment_of text =
     then Some (day * day_seconds + hour * 3_600 + minute * 60 + second)
     else None) (day_of (take 8 text))
 
--- the moment that the DateTime of a 100 record is: with 12 digits its seconds are 00
+-- the moment that the DateTime of a 100 record denotes: with 12 digits its seconds are 00
 unfoldable pub date_time_of : List ℕ → Option ℕ
 date_time_of text = if length text == 12 then moment_of (text ++ codes "00") else moment_of text

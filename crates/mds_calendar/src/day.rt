@@ -50,7 +50,7 @@ const HOURS: i64 = 24;
 const SECONDS: u64 = 86_400;
 
 impl Day {
-    /// The day of a number from 0, 1 January 1970, to 2,932,896, 31 December 9999.
+    /// The day of a number, from 0 for 1 January 1970 to 2,932,896 for 31 December 9999.
     pub fn from_number(number: i64) -> Option<Day>
         ensures { SomeIff result ((pos 0 ≤ℤ number) × (number ≤ℤ pos last_day))
             (unsigned_abs number) }
@@ -74,14 +74,14 @@ impl Day {
         i64::from(self.number)
     }
 
-    /// Its day of the week.
+    /// Its weekday.
     pub fn weekday(self) -> Weekday
         ensures { monday_zero result ≡ weekday_of self }
     {
         own_weekday(self.date().weekday())
     }
 
-    /// The day so many days before, or `None` where that is before 1 January 1970.
+    /// The day `days` days earlier, or `None` if that is before 1 January 1970.
     pub fn back(self, days: u32) -> Option<Day>
         ensures { SomeIff result (days ≤ self) (self - days) }
     {
@@ -92,7 +92,7 @@ impl Day {
         Some(Day { number })
     }
 
-    /// The day after, or `None` after 31 December 9999.
+    /// The next day, or `None` after 31 December 9999.
     pub fn next(self) -> Option<Day>
         ensures { SomeIff result (self + 1 ≤ last_day) (self + 1) }
     {
@@ -103,8 +103,8 @@ impl Day {
         Some(Day { number })
     }
 
-    /// Reads a day from its text, CCYYMMDD (MDFF Specification, Date(8)). `None` where the calendar
-    /// has no such day, or where it is before 1970.
+    /// Reads a day from its text, CCYYMMDD (MDFF Specification, Date(8)). `None` if the calendar
+    /// has no such day, or if it is before 1970.
     pub fn read(text: &[u8]) -> Option<Day>
         ensures { result ≡ day_of text.now }
     {
@@ -162,8 +162,8 @@ pub fn one_day_text()
     ensures { (a b : List ℕ) (day : ℕ) → day_of a ≡ Some day → day_of b ≡ Some day → a ≡ b }
 {}
 
-/// The laws of weekdays. Day 0, 1 January 1970, is a Thursday. Each day's weekday comes after that
-/// of the day before. After a week it is the same again.
+/// The laws of weekdays. Day 0, 1 January 1970, is a Thursday. Each day has the weekday after that
+/// of the day before. After a week the weekday repeats.
 pub fn weekdays_go_on()
     ensures first { weekday_of 0 ≡ monday_zero Thursday }
     ensures next { (day : ℕ) → weekday_of (day + 1) ≡ (weekday_of day + 1) % 7 }
@@ -202,7 +202,7 @@ fn first_date() -> Date
     civil::date(1970, 1, 1)
 }
 
-/// The number that digits say, or `None` where some byte is no digit.
+/// The number spelled by the digits, or `None` if some byte isn't a digit.
 pub(crate) fn number_in(text: &[u8]) -> Option<u32>
     requires { length text.now ≤ 4 }
     ensures value { result ≡ (if list_all is_ascii_digit text.now

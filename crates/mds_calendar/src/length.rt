@@ -27,7 +27,7 @@ impl Model for Length {
 }
 
 impl Length {
-    /// The length of so many minutes, if it is 5, 15 or 30 of them.
+    /// The length of this many minutes, if that is 5, 15 or 30.
     pub fn from_minutes(minutes: i64) -> Option<Length>
         ensures { SomeIff result ((pos 0 ≤ℤ minutes) × IsTrue (is_length (unsigned_abs minutes)))
             (unsigned_abs minutes) }
@@ -40,7 +40,7 @@ impl Length {
         }
     }
 
-    /// Its minutes.
+    /// Its number of minutes.
     pub fn minutes(self) -> i64
         ensures value { result ≡ pos self }
         ensures known { IsTrue (is_length self) }
@@ -51,7 +51,7 @@ impl Length {
         i64::from(self.minutes)
     }
 
-    /// How many intervals a day has.
+    /// How many intervals of this length a day has.
     pub fn count(self) -> usize
         ensures value { result ≡ count_of self }
         ensures whole { result * self ≡ 1440 }

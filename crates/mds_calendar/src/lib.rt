@@ -1,5 +1,13 @@
 //! Days and moments of market time, and the lengths of intervals. Each is read from its text, and
 //! written as the one text that reads back.
+//!
+//! It decides which dates, times and lengths exist: days from 1970 to 9999, and intervals of 5, 15
+//! or 30 minutes.
+//! Called by `mds_records`, `mds_arguments` and `mds_requests` to read, and by `mds_fill` for
+//! weekdays. `mds_terms` re-exports it.
+//! Must not change: `Day::number` counts days from 1 January 1970, and `Moment::seconds` counts
+//! seconds. Stores hold both. No type of `jiff` is in a public signature, or each crate above would
+//! carry that library's contracts.
 #![tactic(auto)]
 
 mod day;

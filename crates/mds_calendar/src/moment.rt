@@ -9,7 +9,7 @@ use std::alloc::AllocError;
 use std::marker::Model;
 use std::str;
 
-/// A moment, in seconds from the midnight that begins 1 January 1970. The last one is the last
+/// A moment, in seconds from the midnight that begins 1 January 1970. The greatest is the last
 /// second of 31 December 9999.
 #[derive(Clone, Copy, Debug, PartialEq, Eq, PartialOrd, Ord)]
 pub struct Moment {
@@ -36,7 +36,7 @@ const DAY: u64 = 86_400;
 const END: i64 = 2_932_897 * 86_400;
 
 impl Moment {
-    /// The moment so many seconds after the midnight that begins 1 January 1970, up to the end of
+    /// The moment this many seconds after the midnight that begins 1 January 1970, up to the end of
     /// 9999.
     pub fn from_seconds(seconds: i64) -> Option<Moment>
         ensures { SomeIff result
@@ -63,8 +63,8 @@ impl Moment {
         self.seconds as i64
     }
 
-    /// Reads a moment from its text, CCYYMMDDhhmmss (MDFF Specification, DateTime(14)). `None`
-    /// where the calendar has no such day from 1970 on, or the day no such time.
+    /// Reads a moment from its text, CCYYMMDDhhmmss (MDFF Specification, DateTime(14)). `None` if
+    /// the calendar has no such day from 1970 on, or the day has no such time.
     pub fn read(text: &[u8]) -> Option<Moment>
         ensures { result ≡ moment_of text.now }
     {
@@ -84,8 +84,8 @@ impl Moment {
         })
     }
 
-    /// Reads the DateTime of a 100 record (MDFF Specification): CCYYMMDDhhmmss, or CCYYMMDDhhmm,
-    /// whose seconds are 00.
+    /// Reads the DateTime of a 100 record (MDFF Specification): CCYYMMDDhhmmss, or CCYYMMDDhhmm
+    /// with seconds 00.
     pub fn read_date_time(text: &[u8]) -> Option<Moment>
         ensures { result ≡ date_time_of text.now }
     {

@@ -7,7 +7,7 @@ ghost use Rattle.mds_calendar.specs.declared.weekday.Weekday.{Weekday as DayOfTh
 
 use jiff::civil;
 
-/// A day of the week.
+/// A weekday.
 #[derive(Clone, Copy, Debug, PartialEq, Eq)]
 pub enum Weekday {
     Monday,
@@ -38,8 +38,8 @@ impl Weekday {
     }
 }
 
-/// The day of the week for one of the calendar's library. The library's own type stays out of what this crate gives. With it each
-/// crate above would carry all that the library states.
+/// The weekday for one of the calendar library. The library's own type stays out of this crate's public signatures: with it, each
+/// crate above would carry the library's contracts.
 pub(crate) fn weekday_of(weekday: civil::Weekday) -> Weekday
     ensures { monday_zero result ≡ days_after_monday weekday }
 {

@@ -1,6 +1,6 @@
--- What `check` prints of a well formed file (profile): a line for each 300 or 250 record, in order. A 300 is told by NMI, suffix,
--- date, how many of its intervals have a value, the sum of these values, and the unit. A 250 is told by NMI, suffix, the moments
--- of the previous and the current read, the quantity, and the unit.
+-- What `check` prints of a well formed file (profile): a line for each 300 or 250 record, in order. A line has the NMI and the
+-- suffix first, and the unit last. In between a 300 has the date, the number of intervals with a value, and the sum of these
+-- values. A 250 has the moments of the previous and the current read, and the quantity.
 use Rattle.std.specs.Prelude.{◌≡◌, ℕ, List, [], ◌∷◌, ◌++◌, length, codes, decimal, Some, None, ◌-◌, slice_index_or, Option}
 use Rattle.mds_quantity.specs.Quantity.{written}
 use Rattle.mds_quantity.specs.Unit.{unit_text}
@@ -31,7 +31,7 @@ period_line stream start finish quantity unit =
     stream.nmi ++ codes " " ++ stream.suffix ++ codes " " ++ start ++ codes " " ++ finish ++ codes " " ++ quantity
     ++ codes " " ++ unit ++ codes "\n"
 
--- a field of the 250 of an accumulation, of which the fields 3 to 21 are kept
+-- a field of the 250 of an accumulation, if it is one of the kept fields 3 to 21
 abbrev pub kept_field : ℕ → PeriodContent → List ℕ
 kept_field number content = slice_index_or content.fields (number - 3) []
 
@@ -48,17 +48,17 @@ IsReport (PeriodOf period ∷ statements) text =
     × IsReport statements rest
 IsReport (statement ∷ statements) text = IsReport statements text
 
--- the text of a file of a kind is well formed, and this is what is printed of it
+-- the text of this kind of file is well formed, and this is what is printed of it
 abbrev pub IsReportOf : FileKind → List ℕ → List ℕ → Type 0
 IsReportOf Nem12 text report = (fault_of text ≡ None) × IsReport (statements_of text) report
 IsReportOf Nem13 text report = (fault_of_13 text ≡ None) × IsReport (statements_of_13 text) report
 
--- this is the fault of a file of a kind
+-- this is the fault of this kind of file
 abbrev pub IsFaultOf : FileKind → List ℕ → FileFault → Type 0
 IsFaultOf Nem12 text fault = fault_of text ≡ Some fault
 IsFaultOf Nem13 text fault = fault_of_13 text ≡ Some fault
 
--- the fault that a file of a kind has by what stands of its text
+-- the fault of this kind of file by its text so far
 abbrev pub fault_by_now : FileKind → List ℕ → Option FileFault
 fault_by_now Nem12 text = fault_so_far nem12 text
 fault_by_now Nem13 text = fault_so_far nem13 text

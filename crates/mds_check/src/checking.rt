@@ -1,4 +1,4 @@
-//! `check`: what a file's days or accumulations add up to, or its first fault.
+//! `check`: the totals of a file's days or accumulations, or its first fault.
 
 ghost use Rattle.std.specs.Prelude.{ℕ, IsTrue, ◌↔◌, ◌≢◌, take, if◌then◌else◌, ◌≡◌, ◌≤◌, ◌+◌, ◌-◌, ◌*◌, ◌^◌, ◌<◌, List, [], length, false, None, Some, Err, IfSome, OnOk, IfOk, IfErr, MatchResult, is_ok, string_bytes};
 ghost use Rattle.std.specs.Io.KnownBytes.{Appends as AppendsKnown, Keeps};
@@ -23,9 +23,9 @@ pub enum CheckFault {
     File(FileFault),
     /// The reader failed.
     Read,
-    /// The writer failed. Some front of the text was written.
+    /// The writer failed. A prefix of the text was written.
     Write,
-    /// There was no memory.
+    /// Out of memory.
     Memory,
 }
 
@@ -38,9 +38,8 @@ impl CheckFault {
     {}
 }
 
-/// Reads a file, and writes a line for each day or accumulation. The line of a day is
-/// `NMI suffix date count total unit`, that of an accumulation `NMI suffix previous current quantity unit`. It writes
-/// only where the whole file is well formed.
+/// Reads a file, and writes a line for each day or accumulation. The line of a day is `NMI suffix date count total unit`, that of an
+/// accumulation `NMI suffix previous current quantity unit`. It writes only if the whole file is well formed.
 pub fn check<R: Source, W: Sink>(
     alloc: Global,
     kind: FileKind,
@@ -50,7 +49,7 @@ pub fn check<R: Source, W: Sink>(
     requires reader { R.failures reader.old < 2 ^ 64 - 1 }
     requires writer { W.failures writer.old < 2 ^ 64 - 1 }
 
-    // The text is well formed. Its lines were written, whole and nothing else.
+    // The text is well formed. Exactly its lines were written.
     ensures done { OnOk result (IfSome (R.remaining reader.old) (λ text. (report : List ℕ) × IsReportOf kind text report
         × AppendsKnown (W.contents writer.old) (W.contents writer.new) report)) }
 
@@ -65,13 +64,13 @@ pub fn check<R: Source, W: Sink>(
     ensures nothing { IfErr result (λ fault. fault ≢ CheckFault.Write
         → Keeps (W.contents writer.old) (W.contents writer.new)) }
 
-    // `Read` is answered just where the reader failed, and `Write` just where the writer did, each once.
+    // `Read` is returned exactly if the reader failed, and `Write` exactly if the writer did, each once.
     ensures reader { R.failures reader.new ≡ R.failures reader.old + (if is_read_fault result then 1 else 0) }
     ensures writer { W.failures writer.new ≡ W.failures writer.old + (if is_write_fault result then 1 else 0) }
 
-    // What was written, or answered, is of what the reader's calls brought, whatever that is. They brought no more than the lines
-    // that a file may have, and a block. Each call was needed: none comes behind the end, a failure, or a piece with a fault. It runs
-    // out of memory only at a line before which none has a fault.
+    // What was written, or returned, is made of what the reader's calls brought, whatever that is. They brought no more than the
+    // lines that a file may have, and a block. Each call was needed: none comes after the end, a failure, or a piece with a fault. It
+    // runs out of memory only at a line before which none has a fault.
     ensures given { (given : List (List ℕ)) × Reads R.gives reader.old given reader.new
         × (length (concat given) ≤ most_lines * (longest_line + 1) + block)
         × AreCallsNeeded (fault_by_now kind) [] false given
@@ -84,7 +83,7 @@ pub fn check<R: Source, W: Sink>(
     }
 }
 
-/// What is to be printed of a file.
+/// The text to be printed of a file.
 fn report<R: Source>(alloc: Global, kind: FileKind, reader: &mut R) -> Result<String, CheckFault>
     requires { R.failures reader.old < 2 ^ 64 - 1 }
     ensures done { IfOk result (λ out. IfSome (R.remaining reader.old) (λ text. IsReportOf kind text (string_bytes out))) }

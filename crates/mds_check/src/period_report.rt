@@ -21,7 +21,7 @@ pub(crate) struct PeriodReport {
 }
 
 impl PeriodReport {
-    /// Before any accumulation.
+    /// The state before the first accumulation.
     pub(crate) fn new(alloc: Global) -> PeriodReport
         ensures { string_bytes result.text ≡ [] }
     {
@@ -62,7 +62,7 @@ impl PeriodSink for PeriodReport {
     }
 }
 
-/// Appends the line that is printed of an accumulation: `NMI suffix previous current quantity unit`.
+/// Appends the line of an accumulation: `NMI suffix previous current quantity unit`.
 fn write_period(period: &AccumulationDataRecord<'_>, text: &mut String) -> Result<(), AllocError>
     ensures { OnOk result ((start : List ℕ) × (finish : List ℕ)
         × (moment_of start ≡ Some period.now.previous.moment) × (moment_of finish ≡ Some period.now.current.moment)
@@ -93,7 +93,7 @@ ghost use Rattle.mds_check.specs.Answer.{IsReportRead, is_read_fault, is_write_f
 ghost use Rattle.mds_check.specs.Report.{IsFaultOf, IsReportOf, fault_by_now};
 ghost use Rattle.mds_nem12.specs.Answers.{AreCallsNeeded};
 
-/// What is to be printed of a NEM13 file.
+/// The text to be printed of a NEM13 file.
 pub(crate) fn report_of_periods<R: Source>(
     alloc: Global,
     reader: &mut R,

@@ -22,7 +22,7 @@ pub(crate) struct Report {
 }
 
 impl Report {
-    /// Before any day.
+    /// The state before the first day.
     pub(crate) fn new(alloc: Global) -> Report
         ensures { string_bytes result.text ≡ [] }
     {
@@ -67,7 +67,7 @@ impl StatementSink for Report {
     }
 }
 
-/// Appends the line that is printed of a day: `NMI suffix date count total unit`.
+/// Appends the line of a day: `NMI suffix date count total unit`.
 fn write_day(governing: &Governing, day: &DayData, text: &mut String) -> Result<(), AllocError>
     ensures { OnOk result ((date : List ℕ) × (day_of date ≡ Some day.now.date)
         × Appends (string_bytes text.old) (string_bytes text.new) (day_line (day_said governing.now day.now) date)) }
@@ -97,7 +97,7 @@ ghost use Rattle.mds_check.specs.Answer.{IsReportRead, is_read_fault, is_write_f
 ghost use Rattle.mds_check.specs.Report.{IsFaultOf, IsReportOf, fault_by_now};
 ghost use Rattle.mds_nem12.specs.Answers.{AreCallsNeeded};
 
-/// What is to be printed of a NEM12 file.
+/// The text to be printed of a NEM12 file.
 pub(crate) fn report_of_days<R: Source>(alloc: Global, reader: &mut R) -> Result<String, CheckFault>
     requires { R.failures reader.old < 2 ^ 64 - 1 }
     ensures done { IfOk result (λ out. IfSome (R.remaining reader.old)

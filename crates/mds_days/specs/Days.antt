@@ -1,4 +1,4 @@
--- A day as its 300 and its 400 records give it. MDFF Specification, the 300 and 400 records; that an interval whose
+-- A day as stated by its 300 and its 400 records. MDFF Specification, the 300 and 400 records; that an interval whose
 -- quality is neither N nor V has a value is this project's profile.
 use Rattle.std.specs.Prelude.{◌≡◌, ℕ, Bool, false, not, ◌&&◌, ◌==◌, List, [], length, All, ℤ, Option, None, is_none}
 use Rattle.std.specs.List.{list_any}
@@ -11,7 +11,8 @@ use Rattle.mds_runs.specs.declared.cover.Run.{Run}
 use Rattle.mds_days.specs.Readings.{leaves_gap}
 use Rattle.mds_days.specs.RunFaults.{lacks_value}
 
--- the line of the 300, its day, its update, if it says one, its own mark, its values, and the runs of its 400 records
+-- the line of the 300, its day, its update if it states one, its own mark, its values, and the runs of its 400
+-- records
 pub record DayValue : Type 0 where
   pub line : ℕ
   pub date : ℕ
@@ -28,7 +29,7 @@ no_day = record { line = 0; date = 0; update = None; mark = bare_null; values = 
 abbrev pub needs_value : Mark → Bool
 needs_value mark = not (mark.quality.flag == null) && not (mark.quality.flag == variable)
 
--- an empty value stands only where the 300's quality is N or V
+-- a value is empty only if the 300's quality is N or V
 abbrev pub AreValuesOf : Mark → List (Option ℤ) → Type 0
 AreValuesOf own values = (needs_value own && list_any (λ value. is_none value) values) ≡ false
 

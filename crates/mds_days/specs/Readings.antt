@@ -1,5 +1,5 @@
 -- The readings of a day. MDFF Specification, the 300 and 400 records: each interval has the mark of the run that holds it, or
--- else the mark of the 300. By this project's profile an interval under N has no value, even if a number stands there.
+-- else the mark of the 300. By this project's profile an interval under N has no value, even if its field has a number.
 use Rattle.std.specs.Prelude.{ℕ, ◌-◌, Bool, ◌&&◌, ◌==◌, List, map, fold, slice_index_or, ℤ, pos, ◌+ℤ◌, Option, None, option_to_list}
 use Rattle.std.specs.List.{flat_map, range_with_len}
 use Rattle.mds_marks.specs.Quality.{variable}

@@ -20,8 +20,8 @@ use std::alloc::{AllocError, Global};
 use std::marker::Model;
 use std::mem;
 
-/// A day as its 300 record and the 400 records after it give it. One `DayData` is kept for all days of a file. So a day
-/// takes no memory but for its runs and the text of a reason.
+/// A day as stated by its 300 record and the 400 records after it. One `DayData` is kept for all days of a file. So a
+/// day takes memory only for its runs and for the texts of reasons.
 #[derive(Drop)]
 pub struct DayData {
     alloc: Global,
@@ -70,7 +70,7 @@ impl Model for DayData {
 }
 
 impl DayData {
-    /// No day yet: one without intervals. It takes the memory for a day's values.
+    /// No day yet: one without intervals. Takes the memory for a day's values.
     pub fn new(alloc: Global) -> Result<DayData, AllocError>
         ensures { IfOk result (λ day. day ≡ no_day) }
     {
@@ -87,8 +87,8 @@ impl DayData {
     }
 
     /// Begins the day of the 300 record on line `line`, with the values that were read with it. The values that the day
-    /// held before are left in `values`. It takes memory only for the text of a reason. After want of it the day and
-    /// the values are as they were.
+    /// held before are left in `values`. Takes memory only for the text of a reason. If that is refused, the day and
+    /// the values are unchanged.
     pub fn begin(
         &mut self,
         line: u64,
@@ -134,14 +134,14 @@ impl DayData {
         self.date
     }
 
-    /// When it was updated, if its 300 record says so.
+    /// When it was updated, if its 300 record states it.
     pub fn update(&self) -> Option<Moment>
         ensures { result ≡ self.now.update }
     {
         self.update
     }
 
-    /// How many intervals it has.
+    /// Its number of intervals.
     pub fn count(&self) -> usize
         ensures { result ≡ length self.now.values }
     {
@@ -155,7 +155,7 @@ impl DayData {
         self.mark.quality.flag() == VARIABLE && !self.cover.is_full()
     }
 
-    /// Why the run of a 400 record isn't taken, if it isn't: L6, L7 or L12, in this order.
+    /// Why the run of a 400 record is refused, if it is: L6, L7 or L12, in this order.
     pub fn run_fault(&self, event: &IntervalEventRecord<'_>) -> Option<FaultCode>
         ensures { result
             ≡ run_fault (length self.now.values) self.now.runs self.now.values (run_value event.now) }
@@ -173,7 +173,7 @@ impl DayData {
         }
     }
 
-    /// Takes the run of a 400 record. After want of memory nothing has changed.
+    /// Takes the run of a 400 record. After an error nothing has changed.
     pub fn push(&mut self, event: &IntervalEventRecord<'_>) -> Result<(), AllocError>
         requires faultless { run_fault (length self.old.values) self.old.runs self.old.values (run_value event.now)
             ≡ None }
@@ -193,8 +193,8 @@ impl DayData {
         }
     }
 
-    /// The readings of its intervals, in order. It fails only for want of memory. Where there is no interval it takes
-    /// none.
+    /// The readings of its intervals, in order. It fails only if memory is refused, and takes none if there are no
+    /// intervals.
     pub fn readings(&self) -> Result<DayReadings, AllocError>
         requires { IsWhole self.now }
         ensures value { IfOk result (λ readings. readings
@@ -215,7 +215,7 @@ impl DayData {
         Ok(readings)
     }
 
-    /// How many intervals have a value in the end, and the sum of these values.
+    /// How many intervals have a value after all runs are applied, and the sum of these values.
     pub fn tally(&self) -> Tally
         ensures count { result.count
             ≡ length (amounts (readings_of (length self.now.values) self.now.mark self.now.runs self.now.values)) }
@@ -237,7 +237,7 @@ impl DayData {
 }
 
 impl Tally {
-    /// Adds the value of an interval with a mark, where it has one.
+    /// Adds the value of an interval with a mark, if it has one.
     fn add(&mut self, mark: &Mark, value: Option<Quantity>)
         requires few { self.old.count < 288 }
         requires small { unsigned_abs self.old.total ≤ self.old.count * 10 ^ 18 }
@@ -257,7 +257,7 @@ impl Tally {
     }
 }
 
-/// The tally of a day without runs, made of its own mark, its values and their sum. It looks at no value unless the
+/// The tally of a day without runs, from its own mark, its values and their sum. It looks at the values only if the
 /// quality is variable.
 fn own_tally(own: &Mark, values: &[Option<Quantity>], sum: i128) -> Tally
     requires sum { sum ≡ total (flat_map option_to_list values.now) }

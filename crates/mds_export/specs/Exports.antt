@@ -1,6 +1,6 @@
--- The rows of the text of a selection (profile): a 100; before the first day of a stream, and before each day whose length,
--- unit or details aren't those of the day before it, a 200; for each day a 300, and the 400s of the fewest runs that hold its
--- intervals, none where one run holds all; a 900.
+-- The rows of the text of a selection (profile). First comes a 100. A 200 comes before the first day of a stream. It also
+-- comes before each day whose length, unit or details differ from those of the day before. Each day has a 300, and the 400s
+-- of the fewest runs that hold its intervals, none if one run holds all. A 900 comes last.
 use Rattle.std.specs.Prelude.{◌≡◌, if◌then◌else◌, List, [], ◌∷◌, ◌++◌, length, map, Option, Some, None, ℕ}
 use Rattle.mds_marks.specs.Reading.{ReadingValue}
 use Rattle.mds_marks.specs.declared.mark.Mark.{Mark}
@@ -12,7 +12,7 @@ use Rattle.mds_export.specs.Placed.{PlacedDay, is_governed, placed_days}
 use Rattle.mds_statements.specs.declared.selected.SelectedDay.{SelectedDay}
 use Rattle.mds_statements.specs.declared.selected.SelectedStream.{SelectedStream}
 
--- a list is made of parts, one of each of some things, in their order
+-- a list consists of parts, one for each of these things, in their order
 abbrev pub AreInTurn : {T A : Type 0} → (T → List A → Type 0) → List T → List A → Type 0
 AreInTurn Is [] all = all ≡ []
 AreInTurn Is (thing ∷ things) all =
@@ -22,14 +22,14 @@ AreInTurn Is (thing ∷ things) all =
 abbrev pub marks_of : List ReadingValue → List Mark
 marks_of readings = map (λ reading. reading.mark) readings
 
--- the fewest runs that hold each interval of a day, and give it its mark of these
+-- the fewest runs that hold each interval of a day, with the interval's mark from this list
 pub record AreFewest (marks : List Mark) (runs : List Run) : Type 0 where
   pub lawful : AreRuns (length marks) runs
   pub full : IsFull (length marks) runs
   pub spread : (default : Mark) → spread_of (length marks) runs default ≡ marks
   pub least : IsLeast (length marks) runs
 
--- the mark of the 300 of a day with these runs: that of the one run that holds the whole day, and none where there are more
+-- the mark of the 300 of a day with these runs: that of a run that holds the whole day, or none for several runs
 abbrev pub mark_of_all : List Run → Option Mark
 mark_of_all (run ∷ []) = Some run.mark
 mark_of_all runs = None
@@ -38,7 +38,7 @@ mark_of_all runs = None
 abbrev pub run_row : Run → RowValue
 run_row run = RunRow run.first run.last run.mark
 
--- the day's 400s: none where one run holds the whole day
+-- the day's 400s: none if one run holds the whole day
 abbrev pub run_rows : List Run → List RowValue
 run_rows (run ∷ []) = []
 run_rows runs = map run_row runs
@@ -48,11 +48,11 @@ abbrev pub details_row : PlacedDay → RowValue
 details_row placed =
     DetailsRow placed.selected.stream placed.day.details placed.day.unit placed.day.length
 
--- it stands before a day that the 200 of the day before doesn't govern
+-- it comes before a day that the 200 of the day before doesn't govern
 abbrev pub details_rows : PlacedDay → List RowValue
 details_rows placed = if is_governed placed.before placed.day then [] else details_row placed ∷ []
 
--- the 300 of a day, of one mark or of none
+-- the 300 of a day, with one mark or none
 abbrev pub day_row : SelectedDay → Option Mark → RowValue
 day_row day mark = DayRow day.date day.readings.items mark day.update
 

@@ -1,4 +1,4 @@
--- What the types of a header and of a selection's parts hold of their values, for laws that range over values.
+-- What the types of a header and of a selection's parts guarantee, for laws over values.
 use Rattle.std.specs.Prelude.{IsTrue, List}
 use Rattle.std.specs.List.{All}
 use Rattle.mds_calendar.specs.Length.{is_length}

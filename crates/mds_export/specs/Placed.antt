@@ -23,7 +23,7 @@ placed_after selected before (day ∷ days) =
 abbrev pub placed_days : List SelectedStream → List PlacedDay
 placed_days streams = flat_map (λ selected. placed_after selected None selected.days.items) streams
 
--- the day before it in its stream has its length, its unit and its details, so that the 200 of that day governs it too
+-- the day before it in its stream has the same length, unit and details, so that the 200 of that day governs it too
 abbrev pub is_governed : Option SelectedDay → SelectedDay → Bool
 is_governed None day = false
 is_governed (Some before) day =

@@ -1,4 +1,4 @@
--- What the line of a row says, by the definitions that the lines of a file are read by. MDFF Specification, the
+-- What the line of a row states, by the definitions for reading the lines of a file. MDFF Specification, the
 -- tables of the 100, 200, 300, 400 and 900 records.
 use Rattle.std.specs.Prelude.{◌≡◌, ◌≢◌, ℕ, ◌+◌, ◌^◌, ◌<◌, ◌≤◌, IsTrue, List, [], ◌∷◌, ◌++◌, length, map, pos, Option, Some, None, IfSome, Ok, unwrap_or}
 use Rattle.std.specs.List.{All}
@@ -23,7 +23,7 @@ use Rattle.mds_records.specs.Records.{quantity_in, values_of}
 use Rattle.mds_records.specs.declared.header_name.HeaderName.TheVariants.{Nem12}
 use Rattle.mds_export.specs.Rows.{RowValue, HeaderRow, DetailsRow, DayRow, RunRow, EndRow}
 
--- the kind of record that a row is
+-- the kind of record of a row
 abbrev pub row_kind : RowValue → Kind
 row_kind (HeaderRow moment sender receiver) = kind.Header
 row_kind (DetailsRow stream details unit minutes) = kind.NmiDataDetails
@@ -41,21 +41,21 @@ IsLawful (DayRow date readings mark update) =
 IsLawful (RunRow first last mark) = IsTrue (is_mark mark)
 IsLawful EndRow = Unit {0}
 
--- a 300 has no more values than a day has intervals of five minutes, the intervals of a 400 have at most four
--- digits, and its quality isn't V
+-- A 300 has no more values than a day has intervals of five minutes. The intervals of a 400 have at most four
+-- digits, and its quality isn't V.
 abbrev pub IsInBounds : RowValue → Type 0
 IsInBounds (DayRow date readings mark update) = length readings ≤ 288
 IsInBounds (RunRow first last mark) = (first < 10 ^ 4) × (last < 10 ^ 4) × (mark.quality.flag ≢ variable)
 IsInBounds row = Unit {0}
 
--- the mark that a 300 says: variable quality without a reason where runs follow
+-- the mark in a 300: variable quality without a reason if runs follow
 abbrev pub variable_mark : Mark
 variable_mark = record { quality = record { flag = variable; method = 0 }; reason = record { code = None; text = [] } }
 
 abbrev pub own_mark : Option Mark → Mark
 own_mark mark = unwrap_or mark variable_mark
 
--- the fields of a line say the parts of the row
+-- the fields of a line state the parts of the row
 abbrev pub Says : RowValue → List ℕ → Type 0
 Says (HeaderRow moment sender receiver) line =
     (date_time_of (field line 3) ≡ Some moment) × (field line 4 ≡ sender) × (field line 5 ≡ receiver)
@@ -79,7 +79,7 @@ abbrev pub IsCount : RowValue → ℕ → Type 0
 IsCount (DayRow date readings mark update) n = n ≡ length readings
 IsCount row n = Unit {0}
 
--- the line is one of the row's kind without a fault, and says the row
+-- the line is one of the row's kind without a fault, and states the row
 pub record ReadsAs (row : RowValue) (line : List ℕ) : Type 0 where
   pub kind_is : kind_of line ≡ Ok (row_kind row)
   pub faultless : (n : ℕ) → IsCount row n → field_fault Nem12 (row_kind row) n line ≡ None

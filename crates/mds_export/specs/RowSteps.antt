@@ -4,7 +4,7 @@ use Rattle.mds_marks.specs.Reading.{ReadingValue}
 use Rattle.mds_lines.specs.Lines.{comma}
 use Rattle.mds_export.specs.Rows.{value_field}
 
--- a field that another one follows
+-- a field that is followed by another one
 abbrev pub closed : List ℕ → List ℕ
 closed text = text ++ comma ∷ []
 

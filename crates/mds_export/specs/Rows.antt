@@ -1,6 +1,6 @@
--- The line that each row is written as. MDFF Specification, the tables of the 100, 200, 300, 400 and 900 records of
--- NEM12, each field of them. That a null value is written `0`, that the last field of a 300 is empty, that the
--- moment of a 100 has 12 digits where its seconds are 00, and that lines end with CR LF is this project's profile.
+-- The line of each row. MDFF Specification, the tables of the 100, 200, 300, 400 and 900 records of NEM12, each
+-- field of them. By this project's profile a null value is written as `0`, and the last field of a 300 is empty. By
+-- the profile, too, the moment of a 100 has 12 digits if its seconds are 00, and lines end with CR LF.
 use Rattle.std.specs.Prelude.{◌≡◌, ℕ, ◌%◌, ◌==◌, if◌then◌else◌, List, [], ◌∷◌, ◌++◌, length, map, codes, decimal, pos, Option, Some, None, option_map, unwrap_or}
 use Rattle.mds_quantity.specs.Quantity.{written}
 use Rattle.mds_quantity.specs.Unit.{unit_text}
@@ -18,14 +18,14 @@ use Rattle.mds_lines.specs.Lines.{carriage_return, line_feed}
 use Rattle.mds_export.specs.declared.row.Row.{Row}
 use Rattle.mds_export.specs.declared.row.Row.TheVariants as row
 
--- what a row says, in terms
+-- the content of a row, in terms
 pub data RowValue : Type 0 where
   -- 100: when the file was made, by whom and for whom
   HeaderRow : (moment : ℕ) → (sender receiver : List ℕ) → RowValue
-  -- 200: of which stream the days after it are, the unit of their values and the length of their intervals
+  -- 200: the stream of the days after it, the unit of their values and the length of their intervals
   DetailsRow : Stream → DetailsValue → MeasureUnit → (minutes : ℕ) → RowValue
-  -- 300: a day's readings, of which it gives the values, the one mark of all intervals, or none where runs follow,
-  -- and the update
+  -- 300: a day's readings, whose values it has, the one mark of all intervals, or none if runs follow, and the
+  -- update
   DayRow : (date : ℕ) → List ReadingValue → Option Mark → (update : ℕ) → RowValue
   -- 400: the mark of intervals from the first to the last
   RunRow : (first last : ℕ) → Mark → RowValue
@@ -48,11 +48,11 @@ IsHeaderMoment moment text =
 abbrev pub value_field : ReadingValue → List ℕ
 value_field reading = written (unwrap_or reading.value (pos 0))
 
--- the fields of a mark: its quality, the code of its reason and the text of that
+-- the fields of a mark: its quality, the code of its reason and the text of its reason
 abbrev pub mark_fields : Mark → List (List ℕ)
 mark_fields mark = quality_text mark.quality ∷ code_text mark.reason.code ∷ mark.reason.text ∷ []
 
--- those of a 300: quality V with an empty reason where runs follow
+-- those of a 300: quality V with an empty reason if runs follow
 abbrev pub own_fields : Option Mark → List (List ℕ)
 own_fields None = codes "V" ∷ [] ∷ [] ∷ []
 own_fields (Some mark) = mark_fields mark
@@ -70,7 +70,7 @@ AreFields (DayRow date readings mark update) fields = (day updated : List ℕ) �
 AreFields (RunRow first last mark) fields = fields ≡ codes "400" ∷ decimal first ∷ decimal last ∷ mark_fields mark
 AreFields EndRow fields = fields ≡ codes "900" ∷ []
 
--- the line of fields: these joined by commas, CR and LF
+-- the line of fields: the fields joined by commas, CR and LF
 abbrev pub line_of : List (List ℕ) → List ℕ
 line_of fields = joined fields ++ carriage_return ∷ line_feed ∷ []
 

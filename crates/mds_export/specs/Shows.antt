@@ -1,4 +1,4 @@
--- What the text of a selection states, by the definitions that files are read by: just what was selected.
+-- What the text of a selection states, by the definitions for reading files: exactly what was selected.
 use Rattle.std.specs.Prelude.{◌≡◌, ℕ, if◌then◌else◌, List, [], ◌∷◌, ◌++◌, map, None}
 use Rattle.std.specs.List.{flat_map}
 use Rattle.mds_statements.specs.Statements.{DayStatement, DetailsStatement, HeaderValue, Statement, StreamStatement}
@@ -9,7 +9,7 @@ use Rattle.mds_export.specs.Placed.{PlacedDay, is_governed, placed_days}
 use Rattle.mds_export.specs.Exports.{IsExport}
 use Rattle.mds_statements.specs.declared.selected.SelectedStream.{SelectedStream}
 
--- a statement, but for the number of its line
+-- a statement without the number of its line
 abbrev pub unlined : Statement → Statement
 unlined (StreamOf stream) = StreamOf (record stream { line = 0 })
 unlined (DayOf day) = DayOf (record day { line = 0 })
@@ -48,7 +48,7 @@ details_selected moment placed = record {
   details = placed.day.details;
 }
 
--- what a day states: its details and itself, and before them its stream where the length, the unit or the details are new
+-- what a day states: its details and itself, and before them its stream if the length, the unit or the details are new
 abbrev pub day_stated : ℕ → PlacedDay → List Statement
 day_stated moment placed =
     (if is_governed placed.before placed.day then [] else StreamOf (stream_selected moment placed) ∷ [])

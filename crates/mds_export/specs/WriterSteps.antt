@@ -13,7 +13,7 @@ use Rattle.mds_statements.specs.declared.selected.SelectedStream.{SelectedStream
 abbrev pub IsWritten : RowValue → List ℕ → Type 0
 IsWritten row text = IsRowText row text × IsLawful row
 
--- the rows of a day but its 200
+-- the rows of a day without its 200
 abbrev pub HasDayText : SelectedDay → List ℕ → Type 0
 HasDayText day text =
     (runs : List Run) × AreFewest (marks_of day.readings.items) runs

@@ -8,13 +8,14 @@ ghost use Rattle.mds_export.specs.Exports.{IsExport};
 ghost use Rattle.mds_export.specs.Shows.{Shows};
 ghost use Rattle.mds_statements.specs.declared.selected.SelectedStream.{SelectedStream};
 
-/// A text of the form of a selection's has no fault, and states what was selected and nothing else.
+/// A text in the form of a selection's export has no fault, and states what was selected and
+/// nothing else.
 pub fn export_reads_back()
     ensures { (header : HeaderValue) (streams : List SelectedStream) (text : List ℕ) → AreLawful header streams
         → AreOrderly streams → IsExport header streams text → Shows header streams text }
 {}
 
-/// One text alone is of the form of a selection's under a header.
+/// Only one text has the form of a selection's export under a header.
 pub fn one_export_text()
     ensures { (header : HeaderValue) (streams : List SelectedStream) (a b : List ℕ)
         → IsExport header streams a → IsExport header streams b → a ≡ b }

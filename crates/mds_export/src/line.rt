@@ -1,4 +1,4 @@
-//! Lines, as they are appended to a text.
+//! Appending lines to a text.
 
 ghost use Rattle.std.specs.Prelude.{◌≡◌, ◌+◌, ◌<◌, ◌≤◌, ◌++◌, ◌∷◌, [], length, map, vec_capacity, vec_len, OnOk, OnErr};
 ghost use Rattle.mds_quantity.specs.Append.{Appends, AppendsPart};
@@ -8,7 +8,7 @@ ghost use Rattle.mds_export.specs.RowSteps.{closed};
 
 use std::alloc::AllocError;
 
-/// Appends texts joined by commas, CR and LF, or after an error a front of that.
+/// Appends texts joined by commas, CR and LF, or after an error a prefix of that.
 pub(crate) fn write_line(out: &mut Vec<u8>, texts: &[&[u8]]) -> Result<(), AllocError>
     ensures done { OnOk result (Appends out.old.items out.new.items (line_of (map (λ text. text.now) texts.now))) }
     ensures part { OnErr result (AppendsPart out.old.items out.new.items (line_of (map (λ text. text.now) texts.now))) }
@@ -28,7 +28,7 @@ pub(crate) fn write_line(out: &mut Vec<u8>, texts: &[&[u8]]) -> Result<(), Alloc
     }
 }
 
-/// Appends a text and the comma after it, or after an error a front of that.
+/// Appends a text and the comma after it, or after an error a prefix of that.
 pub(crate) fn write_field(out: &mut Vec<u8>, text: &[u8]) -> Result<(), AllocError>
     ensures done { OnOk result (Appends out.old.items out.new.items (closed text.now)) }
     ensures part { OnErr result (AppendsPart out.old.items out.new.items (closed text.now)) }

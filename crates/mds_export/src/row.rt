@@ -12,12 +12,12 @@ use mds_quantity::Unit;
 use mds_terms::{Day, Details, Length, Mark, Moment, PrintableText, Reading, Stream};
 use std::alloc::AllocError;
 
-/// A row of a NEM12 file. Its parts are borrowed.
+/// A row of a NEM12 file, with borrowed parts.
 #[derive(Clone, Copy)]
 pub enum Row<'a> {
     /// 100, the header.
     Header(HeaderRow<'a>),
-    /// 200, which says what the 300 rows after it are of.
+    /// 200, which describes the 300 rows after it.
     Details(DetailsRow<'a>),
     /// 300, the values of a day.
     Day(DayRow<'a>),
@@ -35,7 +35,7 @@ pub struct HeaderRow<'a> {
     pub receiver: PrintableText<'a>,
 }
 
-/// A 200 row: a stream, what is known of its meter, and the unit and the length of the intervals of its days.
+/// A 200 row: a stream, the details of its meter, and the unit and the length of the intervals of its days.
 #[derive(Clone, Copy)]
 pub struct DetailsRow<'a> {
     pub stream: Stream,
@@ -44,13 +44,13 @@ pub struct DetailsRow<'a> {
     pub length: Length,
 }
 
-/// A 300 row: a day, of whose readings it gives the values.
+/// A 300 row: a day, with the values of its readings.
 #[derive(Clone, Copy)]
 pub struct DayRow<'a> {
     pub date: Day,
     /// One for each interval, in order.
     pub readings: &'a [Reading],
-    /// The mark of all of them, or none where 400 rows follow that say the marks.
+    /// The mark of all of them, or `None` if 400 rows follow with the marks.
     pub mark: Option<&'a Mark>,
     pub update: Moment,
 }
@@ -63,9 +63,9 @@ pub struct RunRow<'a> {
     pub mark: &'a Mark,
 }
 
-/// Appends the one line of a row: every field written, joined by commas, CR and LF. It fails only where `out` has no room
-/// for all of it and can't grow, and then nothing is appended. The parts of a row that was written are lawful, as their types
-/// hold.
+/// Appends the one line of a row: every field written, joined by commas, CR and LF. It fails only if `out` has no room for
+/// all of it and can't grow, and then nothing is appended. The parts of a row that was written are lawful, since their types
+/// guarantee it.
 pub fn write_record(row: &Row<'_>, out: &mut Vec<u8>) -> Result<(), AllocError>
     ensures done { OnOk result ((text : List ℕ) × IsRowText (row_value row.now) text
         × Appends out.old.items out.new.items text) }
@@ -91,7 +91,7 @@ ghost use Rattle.mds_terms.specs.Parts.{optional};
 ghost use Rattle.mds_export.specs.Rows.{IsHeaderMoment, line_of, own_fields};
 ghost use Rattle.mds_export.specs.Begun.{Begins};
 
-/// Appends the line of a row, or after an error something of it.
+/// Appends the line of a row, or after an error a part of it.
 fn write_row(row: &Row<'_>, out: &mut Vec<u8>) -> Result<(), AllocError>
     ensures done { OnOk result ((text : List ℕ) × IsRowText (row_value row.now) text
         × Appends out.old.items out.new.items text) }
@@ -109,7 +109,7 @@ fn write_row(row: &Row<'_>, out: &mut Vec<u8>) -> Result<(), AllocError>
     }
 }
 
-/// Appends the line of a 100, or after an error something of it.
+/// Appends the line of a 100, or after an error a part of it.
 pub(crate) fn write_header(row: &HeaderRow<'_>, out: &mut Vec<u8>) -> Result<(), AllocError>
     ensures done { OnOk result ((text : List ℕ) × IsRowText (row_value (Row.Header row.now)) text
         × Appends out.old.items out.new.items text) }
@@ -131,7 +131,7 @@ pub(crate) fn write_header(row: &HeaderRow<'_>, out: &mut Vec<u8>) -> Result<(),
     )
 }
 
-/// The digits of the moment of a 100, and how many of them are written: 12 where its seconds are 00, else 14.
+/// The digits of the moment of a 100, and how many of them are written: 12 if its seconds are 00, otherwise 14.
 fn moment_digits(moment: Moment) -> ([u8; 14], usize)
     ensures text { IsHeaderMoment moment (take result.1 result.0) }
     ensures count { result.1 ≤ 14 }
@@ -142,7 +142,7 @@ fn moment_digits(moment: Moment) -> ([u8; 14], usize)
     (digits, count)
 }
 
-/// Appends the line of a 200, or after an error something of it.
+/// Appends the line of a 200, or after an error a part of it.
 pub(crate) fn write_details(row: &DetailsRow<'_>, out: &mut Vec<u8>) -> Result<(), AllocError>
     ensures done { OnOk result ((text : List ℕ) × IsRowText (row_value (Row.Details row.now)) text
         × Appends out.old.items out.new.items text) }
@@ -164,7 +164,7 @@ pub(crate) fn write_details(row: &DetailsRow<'_>, out: &mut Vec<u8>) -> Result<(
     )
 }
 
-/// Appends the line of a 200 with these fields, or after an error something of it.
+/// Appends the line of a 200 with these fields, or after an error a part of it.
 fn write_details_of<'a>(
     nmi: &'a [u8],
     suffix: &'a [u8],
@@ -226,7 +226,7 @@ fn length_text(length: Length) -> &'static str
     "30"
 }
 
-/// Appends the line of a 300, or after an error something of it.
+/// Appends the line of a 300, or after an error a part of it.
 pub(crate) fn write_day(row: &DayRow<'_>, out: &mut Vec<u8>) -> Result<(), AllocError>
     ensures done { OnOk result ((text : List ℕ) × IsRowText (row_value (Row.Day row.now)) text
         × Appends out.old.items out.new.items text) }
@@ -242,7 +242,7 @@ pub(crate) fn write_day(row: &DayRow<'_>, out: &mut Vec<u8>) -> Result<(), Alloc
     write_own(row.mark, &update, out)
 }
 
-/// Appends what follows the values of a 300, of one mark or of variable quality, or after an error something of it.
+/// Appends what follows the values of a 300, with one mark or of variable quality, or after an error a part of it.
 fn write_own(mark: Option<&Mark>, update: &[u8], out: &mut Vec<u8>) -> Result<(), AllocError>
     ensures done { OnOk result (Appends out.old.items out.new.items
         (line_of (own_fields (option_map (λ mark. mark.now) mark.entry) ++ update.now ∷ [] ∷ []))) }
@@ -268,7 +268,7 @@ fn write_own(mark: Option<&Mark>, update: &[u8], out: &mut Vec<u8>) -> Result<()
     )
 }
 
-/// The digits of a code, or nothing where there is none.
+/// The digits of a code, or nothing if there is no code.
 fn code_digits(code: Option<u16>, buffer: &mut Buffer) -> &[u8]
     ensures { result.now ≡ code_text code }
 {
@@ -278,7 +278,7 @@ fn code_digits(code: Option<u16>, buffer: &mut Buffer) -> &[u8]
     }
 }
 
-/// Appends the line of a 400, or after an error a front of it. It fails only where `out` has no room for all of it and can't
+/// Appends the line of a 400, or after an error a prefix of it. It fails only if `out` has no room for all of it and can't
 /// grow.
 pub fn write_run(row: &RunRow<'_>, out: &mut Vec<u8>) -> Result<(), AllocError>
     ensures done { OnOk result ((text : List ℕ) × IsRowText (row_value (Row.Run row.now)) text
@@ -307,7 +307,7 @@ pub fn write_run(row: &RunRow<'_>, out: &mut Vec<u8>) -> Result<(), AllocError>
     )
 }
 
-/// Appends the line of a 900, or after an error something of it.
+/// Appends the line of a 900, or after an error a part of it.
 pub(crate) fn write_end(out: &mut Vec<u8>) -> Result<(), AllocError>
     ensures done { OnOk result ((text : List ℕ) × IsRowText (row_value Row.End) text
         × Appends out.old.items out.new.items text) }

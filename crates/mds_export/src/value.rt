@@ -1,4 +1,4 @@
-//! Values, as they are appended to a text.
+//! Appending values to a text.
 
 ghost use Rattle.std.specs.Prelude.{◌≡◌, ◌+◌, ◌++◌, ◌^◌, ◌<◌, ◌≤◌, length, vec_capacity, vec_len, pos, unsigned_abs, unwrap_or, IsTrue, OnOk, OnErr};
 ghost use Rattle.mds_quantity.specs.Append.{Appends};
@@ -16,7 +16,7 @@ use std::alloc::AllocError;
 /// Millionths in one.
 const ONE: u64 = 1_000_000;
 
-/// Appends the value field of each reading and the comma after it, or after an error something of that.
+/// Appends the value field of each reading and the comma after it, or after an error a part of that.
 pub(crate) fn write_values(readings: &[Reading], out: &mut Vec<u8>) -> Result<(), AllocError>
     ensures done { OnOk result (Appends out.old.items out.new.items (value_texts readings.now)) }
     ensures lawful { OnOk result (All (λ reading. IsTrue (is_lawful reading)) readings.now) }
@@ -32,7 +32,7 @@ pub(crate) fn write_values(readings: &[Reading], out: &mut Vec<u8>) -> Result<()
     Ok(())
 }
 
-/// The millionths of a reading's value, and 0 where it has none.
+/// The millionths of a reading's value, or 0 if it has no value.
 fn millionths_of(reading: &Reading) -> i64
     ensures value { written result ≡ value_field reading.now }
     ensures small { unsigned_abs result < limit }
@@ -44,7 +44,7 @@ fn millionths_of(reading: &Reading) -> i64
     }
 }
 
-/// Appends the written text of a quantity of so many millionths, or after an error something of it.
+/// Appends the written text of a quantity of this many millionths, or after an error a part of it.
 fn write_quantity(millionths: i64, out: &mut Vec<u8>) -> Result<(), AllocError>
     requires { unsigned_abs millionths < limit }
     ensures done { OnOk result (Appends out.old.items out.new.items (written millionths)) }
@@ -75,11 +75,11 @@ fn write_sign(millionths: i64, out: &mut Vec<u8>) -> Result<(), AllocError>
     Ok(())
 }
 
-/// The millionths that each of the six decimals stands for.
+/// The value of each of the six decimal places, in millionths.
 const PLACES: [u32; 6] = [100_000, 10_000, 1_000, 100, 10, 1];
 
-/// Appends a point and the decimals of a number of millionths below one, down to the last that isn't 0. Without such a
-/// decimal it appends nothing. After an error something of that is appended.
+/// Appends a point and the decimals of a number of millionths below one, down to the last that isn't 0. If all are 0
+/// it appends nothing. After an error a part of that is appended.
 fn write_decimals(part: u32, out: &mut Vec<u8>) -> Result<(), AllocError>
     requires { part < 10 ^ 6 }
     ensures done { OnOk result (Appends out.old.items out.new.items (point_and_decimals part)) }

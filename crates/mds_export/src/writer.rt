@@ -13,8 +13,8 @@ use mds_statements::{Header, SelectedDay, SelectedStream, Selection};
 use mds_terms::{Mark, Reading};
 use std::alloc::AllocError;
 
-/// Appends the text of a selection under a header: the lines of a NEM12 file that read back as what was selected. It takes no
-/// memory but that of the text, fails only for want of it, and then nothing is appended.
+/// Appends the text of a selection under a header: the lines of a NEM12 file that reads back as what was selected. It takes
+/// memory only for the text, and fails only if that is refused. Then nothing is appended.
 pub fn write_nem12(
     selection: &Selection,
     header: &Header,
@@ -41,7 +41,7 @@ ghost use Rattle.mds_export.specs.Placed.{is_governed, placed_after, placed_days
 ghost use Rattle.mds_export.specs.Exports.{AreFewest, AreInTurn, day_row, details_rows, marks_of, run_row};
 ghost use Rattle.mds_export.specs.WriterSteps.{AreWritten, HasDayText, IsWritten, IsWrittenExport};
 
-/// Appends the whole text, or after an error something of it.
+/// Appends the whole text, or after an error a part of it.
 fn write_all(
     streams: &[SelectedStream],
     header: &Header,
@@ -62,7 +62,7 @@ fn write_all(
     write_end(out)
 }
 
-/// Appends the rows of the days of all streams, or after an error something of that.
+/// Appends the rows of the days of all streams, or after an error a part of that.
 fn write_streams(streams: &[SelectedStream], out: &mut Vec<u8>) -> Result<(), AllocError>
     requires { All IsWhole (days_of streams.now) }
     ensures done { OnOk result ((text : List ℕ) × AreWritten (placed_days streams.now) text
@@ -75,7 +75,7 @@ fn write_streams(streams: &[SelectedStream], out: &mut Vec<u8>) -> Result<(), Al
     Ok(())
 }
 
-/// Appends the rows of the days of a stream, or after an error something of that.
+/// Appends the rows of the days of a stream, or after an error a part of that.
 fn write_stream(selected: &SelectedStream, out: &mut Vec<u8>) -> Result<(), AllocError>
     requires { All IsWhole selected.now.days.items }
     ensures done { OnOk result ((text : List ℕ) × AreWritten (placed_after selected.now None selected.now.days.items) text
@@ -90,7 +90,7 @@ fn write_stream(selected: &SelectedStream, out: &mut Vec<u8>) -> Result<(), Allo
     Ok(())
 }
 
-/// Appends the rows of a day after the one before it, or after an error something of that.
+/// Appends the rows of a day after the one before it, or after an error a part of that.
 fn write_placed(
     selected: &SelectedStream,
     before: Option<&SelectedDay>,
@@ -105,13 +105,13 @@ fn write_placed(
     } ∷ []) text × Appends out.old.items out.new.items text) }
     ensures grown { OnErr result (Begins out.old.items out.new.items) }
 {
-    // A length's law says how few readings a day has.
+    // For the proof: the law of lengths bounds the number of a day's readings.
     let _ = day.length.minutes();
     write_new_details(selected, before, day, out)?;
     write_readings(day, out)
 }
 
-/// Appends the 200 of a day, unless that of the day before governs it, or after an error something of it.
+/// Appends the 200 of a day, unless that of the day before governs it, or after an error a part of it.
 fn write_new_details(
     selected: &SelectedStream,
     before: Option<&SelectedDay>,
@@ -137,11 +137,11 @@ fn write_new_details(
     write_details(&row, out)
 }
 
-/// Whether the 200 of the day before governs a day too: that has the same length, unit and details.
+/// Whether the 200 of the day before governs this day too: both have the same length, unit and details.
 fn is_governed(before: Option<&SelectedDay>, day: &SelectedDay) -> bool
     ensures { result ≡ is_governed (option_map (λ before. before.now) before.entry) day.now }
 {
-    // The laws of their `==`.
+    // For the proof: the laws of their `==`.
     let _ = day.length.minutes();
     let _ = day.unit.text();
     match before {
@@ -152,7 +152,7 @@ fn is_governed(before: Option<&SelectedDay>, day: &SelectedDay) -> bool
     }
 }
 
-/// Appends the 300 of a day and its 400s, or after an error something of that.
+/// Appends the 300 of a day and its 400s, or after an error a part of that.
 fn write_readings(day: &SelectedDay, out: &mut Vec<u8>) -> Result<(), AllocError>
     requires { length day.now.readings.items < 2 ^ 16 }
     ensures done { OnOk result ((text : List ℕ) × HasDayText day.now text
@@ -166,7 +166,7 @@ fn write_readings(day: &SelectedDay, out: &mut Vec<u8>) -> Result<(), AllocError
     write_interval_data(day, Some(mark), out)
 }
 
-/// Appends the 300 of a day, of one mark or of variable quality, or after an error something of it.
+/// Appends the 300 of a day, with one mark or of variable quality, or after an error a part of it.
 fn write_interval_data(
     day: &SelectedDay,
     mark: Option<&Mark>,
@@ -185,7 +185,7 @@ fn write_interval_data(
     write_day(&row, out)
 }
 
-/// The mark of all readings, if they have one.
+/// The mark of all readings, if it is the same.
 fn one_mark(readings: &[Reading]) -> Option<&Mark>
     ensures some { IfSome result (λ mark. AreFewest (marks_of readings.now)
         (record { first = 1; last = length readings.now; mark = mark.now } ∷ [])) }
@@ -198,7 +198,7 @@ fn one_mark(readings: &[Reading]) -> Option<&Mark>
     Some(first.mark())
 }
 
-/// Appends a 400 for each maximal stretch of readings of one mark, or after an error something of that.
+/// Appends a 400 for each maximal stretch of readings with one mark, or after an error a part of that.
 fn write_runs(readings: &[Reading], out: &mut Vec<u8>) -> Result<(), AllocError>
     requires { length readings.now < 2 ^ 16 }
     ensures done { OnOk result ((runs : List Run) × AreFewest (marks_of readings.now) runs
@@ -219,7 +219,7 @@ fn write_runs(readings: &[Reading], out: &mut Vec<u8>) -> Result<(), AllocError>
     Ok(())
 }
 
-/// The index of the first reading after this one whose mark isn't the same, or how many readings there are.
+/// The index of the first reading after this one with another mark, or the number of readings.
 fn end_of_run(readings: &[Reading], start: usize) -> usize
     requires { start < length readings.now }
     ensures within { (start < result) × (result ≤ length readings.now) }

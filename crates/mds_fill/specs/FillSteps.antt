@@ -12,7 +12,7 @@ use Rattle.mds_fill.specs.Fills.{IsBookOf, IsLikeValue, IsNearestLike, IsSubstit
 use Rattle.mds_fill.specs.declared.sources.Source.{Source}
 use Rattle.mds_fill.specs.declared.sources.Source.TheVariants.{LikeDay, LikeDays, Line, Zeros}
 
--- what a job has that isn't bad
+-- what holds of a job that isn't bad
 pub record IsGood (job : JobContent) : Type 0 where
   pub from_one : 1 ≤ job.first
   pub in_order : job.first ≤ job.last
@@ -29,7 +29,7 @@ IsSource w job LikeDays = job.method ≡ 15
 IsSource w job (Line before after) = (job.method ≡ 17) × IsValueBefore w job before × IsValueAfter w job after
 IsSource w job Zeros = job.method ≡ 19
 
--- what a job lacks that has no source
+-- the rule that a job without a source breaks
 abbrev pub IsLack : World → JobContent → RefusalCode → Type 0
 IsLack w job NoLikeDay = LacksLikeDay w job
 IsLack w job NoAnchor = LacksAnchor w job
@@ -39,7 +39,7 @@ IsLack w job _ = ⊥
 abbrev pub HasNoLikeValue : World → JobContent → ℕ → Type 0
 HasNoLikeValue w job i = (place : ℕ) (value : ℤ) → IsLikeValue w job place i value → ⊥
 
--- the readings of the first so many targets
+-- the readings of the first `count` targets
 pub record AreFilled (w : World) (job : JobContent) (count : ℕ) (readings : List ReadingValue) : Type 0 where
   pub many : length readings ≡ count
   pub each : (k : ℕ) (reading : ReadingValue) → slice_get readings k ≡ Some reading

@@ -1,5 +1,5 @@
--- What a substitution job fills in, and why it is refused (profile). The methods are those of the MDFF Specification,
--- appendix of method flags. Intervals count from 1 and days from 1 January 1970; values are in millionths.
+-- What a substitution job fills in, and why it is refused (profile). The methods are those of the MDFF Specification, appendix
+-- of method flags. Intervals are counted from 1 and days from 1 January 1970; values are in millionths.
 use Rattle.std.specs.Prelude.{◌≡◌, ◌⊎◌, ◌+◌, ◌-◌, ◌*◌, ◌<◌, ◌≤◌, ℕ, ℤ, pos, ◌+ℤ◌, List, [], ◌∷◌, length, slice_get, Option, Some, None, IsSomeAnd, MatchOption}
 use Rattle.mds_calendar.specs.Calendar.{last_day}
 use Rattle.mds_calendar.specs.Length.{count_of}
@@ -20,7 +20,7 @@ use Rattle.mds_keeper.specs.declared.refusal.RefusalCode.TheVariants.{Protected,
 use Rattle.mds_fill.specs.Candidates.{IsCandidate}
 use Rattle.mds_fill.specs.declared.context.Context.{Context}
 
--- an interval that is to be filled, and how many these are
+-- an interval to be filled in, and the number of these
 abbrev pub IsTarget : JobContent → ℕ → Type 0
 IsTarget job i = (job.first ≤ i) × (i ≤ job.last)
 
@@ -31,7 +31,7 @@ target_count job = job.last + 1 - job.first
 abbrev pub IsActualOrFinal : ℕ → Type 0
 IsActualOrFinal flag = (flag ≡ actual) ⊎ (flag ≡ final)
 
--- A value that may stand in: that of a current reading A or F of a day whose current length and unit are the job's.
+-- A usable value: that of a current reading A or F, on a day whose current length and unit are the job's.
 pub record IsUsable (w : World) (job : JobContent) (day interval : ℕ) (value : ℤ) : Type 0 where
   pub known : IsFormOf w job.stream day job.length job.unit
   pub reading : ReadingValue
@@ -45,7 +45,7 @@ pub record IsProtected (w : World) (stream : Stream) (day interval : ℕ) : Type
   pub shown : IsDayReading w stream day interval reading
   pub flag : IsActualOrFinal reading.mark.quality.flag
 
--- A version of the interval, of the day's current length where it has one, has an update that isn't before this one. The version
+-- A version of the interval has an update that isn't before this one. It has the day's current length, if the day has one, and
 -- needn't be current.
 pub record IsStale (w : World) (stream : Stream) (day interval than : ℕ) : Type 0 where
   pub minutes : ℕ
@@ -66,11 +66,11 @@ pub record IsFree (w : World) (job : JobContent) : Type 0 where
   pub unprotected : (i : ℕ) → IsProtectedTarget w job i → ⊥
   pub fresh : (i : ℕ) → IsStaleTarget w job i → ⊥
 
--- more than two hours are to be interpolated
+-- more than two hours would be interpolated
 abbrev pub IsTooLong : JobContent → Type 0
 IsTooLong job = (job.method ≡ 17) × (120 < target_count job * job.length)
 
--- the day at a place among the candidates of the job's day, by the World's holidays
+-- the day at a position among the candidates of the job's day, by the World's holidays
 abbrev pub IsLike : World → JobContent → ℕ → ℕ → Type 0
 IsLike w job place day = IsCandidate (λ holiday. HolidayIs holiday ∈ w) job.day place day
 
@@ -78,27 +78,27 @@ IsLike w job place day = IsCandidate (λ holiday. HolidayIs holiday ∈ w) job.d
 abbrev pub HasAll : World → JobContent → ℕ → Type 0
 HasAll w job day = (i : ℕ) → IsTarget job i → (value : ℤ) × IsUsable w job day i value
 
--- The nearest candidate that has all.
+-- The nearest candidate that has a usable value for every target.
 pub record IsNearestLike (w : World) (job : JobContent) (day : ℕ) : Type 0 where
   pub place : ℕ
   pub like : IsLike w job place day
   pub all : HasAll w job day
   pub nearest : (lesser other : ℕ) → lesser < place → IsLike w job lesser other → HasAll w job other → ⊥
 
--- the candidate at a place has this usable value at an interval
+-- the candidate at a position has this usable value at an interval
 abbrev pub IsLikeValue : World → JobContent → ℕ → ℕ → ℤ → Type 0
 IsLikeValue w job place i value = (day : ℕ) × IsLike w job place day × IsUsable w job day i value
 
--- the value found is such, and where none is found there is no such
+-- the value found satisfies P, or no value does if none is found
 abbrev pub Finds : (ℤ → Type 0) → Option ℤ → Type 0
 Finds P found = MatchOption found ((value : ℤ) → P value → ⊥) P
 
--- The usable values of the four candidates at an interval, nearest first, each where there is one.
+-- The usable values of the four candidates at an interval, nearest first, if they have one.
 pub record IsTally (w : World) (job : JobContent) (i : ℕ) (tally : List (Option ℤ)) : Type 0 where
   pub four : length tally ≡ 4
   pub each : (place : ℕ) (slot : Option ℤ) → slice_get tally place ≡ Some slot → Finds (IsLikeValue w job place i) slot
 
--- the sum of those that are there, and how many they are
+-- the sum of the values that are present, and how many there are
 abbrev pub total : List (Option ℤ) → ℤ
 total [] = pos 0
 total (Some value ∷ rest) = value +ℤ total rest
@@ -131,13 +131,13 @@ IsMean w job i value =
     (tally : List (Option ℤ)) × IsTally w job i tally × (1 ≤ count_some tally)
     × IsRounded (total tally) (count_some tally) value
 
--- 17: the value on the line from the one before to the one after
+-- 17: the value on the line between the value before the targets and the one after them
 abbrev pub IsOnLine : World → JobContent → ℕ → ℤ → Type 0
 IsOnLine w job i value =
     (before after : ℤ) × IsValueBefore w job before × IsValueAfter w job after
     × IsRounded (line_times_steps before after (i + 1 - job.first) (target_count job)) (target_count job + 1) value
 
--- what a target is filled with, by the job's method
+-- the value that fills a target, by the job's method
 abbrev pub IsFilled : World → JobContent → ℕ → ℤ → Type 0
 IsFilled w job i value =
     ((job.method ≡ 14) × IsCopied w job i value)
@@ -145,7 +145,7 @@ IsFilled w job i value =
     ⊎ (((job.method ≡ 17) × IsOnLine w job i value)
     ⊎ ((job.method ≡ 19) × (value ≡ pos 0))))
 
--- A reading that a job puts at a target: with its flag, method, code and text, and the value that fills it.
+-- The reading that a job adds for a target: with its flag, method, code and text, and the value that fills the target.
 pub record IsSubstitute (w : World) (job : JobContent) (i : ℕ) (reading : ReadingValue) : Type 0 where
   pub mark : reading.mark ≡ record {
     quality = record { flag = job.flag; method = job.method };
@@ -155,7 +155,7 @@ pub record IsSubstitute (w : World) (job : JobContent) (i : ℕ) (reading : Read
   pub same : reading.value ≡ Some value
   pub filled : IsFilled w job i value
 
--- The readings that a job puts, one for each target in order, where it may be done.
+-- The readings that a job adds, one for each target in order, if it may be done.
 pub record AreSubstitutes (w : World) (job : JobContent) (readings : List ReadingValue) : Type 0 where
   pub free : IsFree w job
   pub short : IsTooLong job → ⊥
@@ -163,24 +163,24 @@ pub record AreSubstitutes (w : World) (job : JobContent) (readings : List Readin
   pub each : (k : ℕ) (reading : ReadingValue) → slice_get readings k ≡ Some reading
       → IsSubstitute w job (job.first + k) reading
 
--- the first of those that are such
+-- the first number that satisfies P
 abbrev pub IsLeast : (ℕ → Type 0) → ℕ → Type 0
 IsLeast P i = P i × ((j : ℕ) → P j → i ≤ j)
 
--- no candidate has all, or for the mean some target has no value on any
+-- no candidate has all values, or for the mean some target has no value on any
 abbrev pub LacksLikeDay : World → JobContent → Type 0
 LacksLikeDay w job =
     ((job.method ≡ 14) × ((place day : ℕ) → IsLike w job place day → HasAll w job day → ⊥))
     ⊎ ((job.method ≡ 15)
     × ((i : ℕ) × IsTarget job i × ((place : ℕ) (value : ℤ) → IsLikeValue w job place i value → ⊥)))
 
--- a value beside the targets isn't there
+-- a value next to the targets is missing
 abbrev pub LacksAnchor : World → JobContent → Type 0
 LacksAnchor w job =
     (job.method ≡ 17)
     × (((value : ℤ) → IsValueBefore w job value → ⊥) ⊎ ((value : ℤ) → IsValueAfter w job value → ⊥))
 
--- The rule that stops a job, and its interval, or 0: M5, M6, M8, M7 and M9, each where none before it stands.
+-- The rule that stops a job, and its interval, or 0: M5, M6, M8, M7 and M9, each only if none before it applies.
 abbrev pub IsFillFault : World → JobContent → RefusalCode → ℕ → Type 0
 IsFillFault w job Protected interval = IsLeast (IsProtectedTarget w job) interval
 IsFillFault w job StaleUpdate interval =
@@ -190,25 +190,25 @@ IsFillFault w job NoLikeDay interval = IsFree w job × LacksLikeDay w job × (in
 IsFillFault w job NoAnchor interval = IsFree w job × (IsTooLong job → ⊥) × LacksAnchor w job × (interval ≡ 0)
 IsFillFault w job _ interval = ⊥
 
--- It stands at no line and no field.
+-- The refusal has no line and no field.
 pub record IsFillRefusal (w : World) (job : JobContent) (refusal : Refusal) : Type 0 where
   pub line : refusal.line ≡ 0
   pub field : refusal.field ≡ 0
   pub fault : IsFillFault w job refusal.code refusal.interval
 
--- The book is that of a day of a stream.
+-- The book of a day of a stream.
 pub record IsBookOf (w : World) (stream : Stream) (day : ℕ) (book : BookValue) : Type 0 where
   pub of_stream : book.stream ≡ stream
   pub of_day : book.day ≡ day
   pub facts : IsDay w book
 
--- a candidate's book at its place, or none where there is no candidate
+-- a candidate's book at its position, or `None` without a candidate
 abbrev pub IsLikeBook : World → JobContent → ℕ → Option BookValue → Type 0
 IsLikeBook w job place slot =
     MatchOption slot ((day : ℕ) → IsLike w job place day → ⊥)
     (λ book. (day : ℕ) × IsLike w job place day × IsBookOf w job.stream day book)
 
--- What a job looks at: the book of its day, those of the candidates, and those of the days beside it where there are such.
+-- What a job looks at: the book of its day, those of the candidates, and those of the neighbouring days, if there are any.
 pub record IsContext (w : World) (job : JobContent) (context : Context) : Type 0 where
   pub target : IsBookOf w job.stream job.day context.target
   pub candidates : (place : ℕ) → place < 4 → IsSomeAnd (slice_get context.candidates place) (IsLikeBook w job place)

@@ -6,10 +6,10 @@ use mds_keeper::DayBook;
 #[derive(Drop)]
 pub struct Context {
     pub target: DayBook,
-    /// Nearest first; a place without a candidate is `None`.
+    /// Nearest first; a position without a candidate is `None`.
     pub candidates: [Option<DayBook>; 4],
-    /// `None` where the job's day is the first of the calendar.
+    /// `None` if the job's day is the first of the calendar.
     pub before: Option<DayBook>,
-    /// `None` where the job's day is the last of the calendar.
+    /// `None` if the job's day is the last of the calendar.
     pub after: Option<DayBook>,
 }

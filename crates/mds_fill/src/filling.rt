@@ -16,8 +16,8 @@ use mds_quantity::Quantity;
 use mds_terms::{Mark, Quality, Reading};
 use std::alloc::{AllocError, Global};
 
-/// The readings that a job fills in, one for each interval from its first to its last. Else the first rule that stops it:
-/// M5, M6, M8, M7 or M9.
+/// The readings that a job fills in, one for each interval from its first to its last. Otherwise the first rule that
+/// stops it, in this order: M5, M6, M8, M7, M9.
 pub fn fill(alloc: Global, job: &Job, context: &Context) -> Result<Vec<Reading>, Stop>
     requires good { IsBad (content_of job.now) → ⊥ }
     ensures count { IfOk result (λ readings. length readings.items ≡ target_count (content_of job.now)) }
@@ -26,7 +26,7 @@ pub fn fill(alloc: Global, job: &Job, context: &Context) -> Result<Vec<Reading>,
     ensures refused { (w : World) → IsContext w (content_of job.now) context.now
         → IfErr result (λ stop. IfRefused stop (IsFillRefusal w (content_of job.now))) }
 
-    // Memory is wanting only where no rule stops the job. The mean alone may still lack a like day.
+    // Memory runs out only if no rule stops the job. The mean alone may still lack a like day.
     ensures memory { (w : World) → IsContext w (content_of job.now) context.now → result ≡ Err Stop.Memory
         → IsFree w (content_of job.now) × (IsTooLong (content_of job.now) → ⊥)
         × (LacksAnchor w (content_of job.now) → ⊥) × (LacksLikeDay w (content_of job.now) → job.now.method ≡ 15) }
@@ -42,8 +42,7 @@ pub fn fill(alloc: Global, job: &Job, context: &Context) -> Result<Vec<Reading>,
     }
 }
 
-/// The readings of the targets by the source of the job, or that a target has no value on any like
-/// day.
+/// The readings of the targets by the source of the job, or the refusal that a target has no value on any like day.
 fn readings(
     alloc: Global,
     job: &Job,

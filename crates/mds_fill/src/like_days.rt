@@ -1,4 +1,4 @@
-//! The days whose values may stand in for those of another.
+//! The days whose values may replace those of another.
 
 ghost use Rattle.std.specs.Prelude.{◌≡◌, ◌≢◌, ◌+◌, ◌*◌, ◌<◌, ◌≤◌, ◌≤ℤ◌, pos, ℕ, slice_get, Option, Some, IfSome, IfNone};
 ghost use Rattle.std.specs.Bool.{MatchBool};
@@ -9,8 +9,8 @@ ghost use Rattle.mds_fill.specs.Candidates.{IsCandidate, IsSunday};
 use mds_terms::Day;
 
 /// The candidates of a day, nearest first. Those of a holiday are the four Sundays before it. Those of any other day are
-/// the same weekday of the four weeks before, of which holidays are left out. A day that is left out, or would be before
-/// 1970, is `None`. It takes no memory.
+/// the same weekday in the four weeks before, without holidays. A day that is left out, or would be before 1970, is
+/// `None`. Takes no memory.
 pub fn candidates(day: Day, holidays: &[Day]) -> [Option<Day>; 4]
     ensures each { (place : ℕ) (slot : Option ℕ) → slice_get result place ≡ Some slot
         → IfSome slot (IsCandidate (λ holiday. Member holiday holidays.now) day place) }
@@ -26,7 +26,7 @@ pub fn candidates(day: Day, holidays: &[Day]) -> [Option<Day>; 4]
     ]
 }
 
-/// The candidate at a place.
+/// The candidate at a position.
 fn candidate(day: Day, of_holiday: bool, place: u32, holidays: &[Day]) -> Option<Day>
     requires few { place < 4 }
     requires listed { MatchBool of_holiday (Member day holidays.now) (Member day holidays.now → ⊥) }
@@ -44,7 +44,7 @@ fn candidate(day: Day, of_holiday: bool, place: u32, holidays: &[Day]) -> Option
     Some(found)
 }
 
-/// The Sunday at a place among those before a day, nearest first.
+/// The Sunday at a position among those before a day, nearest first.
 fn sunday_before(day: Day, place: u32) -> Option<Day>
     requires few { place < 4 }
     ensures some { IfSome result (λ sunday. IsSunday sunday × (sunday + 7 * place < day) × (day ≤ sunday + 7 * place + 7)) }
@@ -54,7 +54,7 @@ fn sunday_before(day: Day, place: u32) -> Option<Day>
     day.back(days_since_sunday(day) + 7 * place)
 }
 
-/// How many days before a day the nearest Sunday is: from 1 for a Monday to 7 for a Sunday.
+/// How many days the nearest Sunday is before a day: from 1 for a Monday to 7 for a Sunday.
 fn days_since_sunday(day: Day) -> u32
     ensures value { result ≡ weekday_of day + 1 }
     ensures week { result ≤ 7 }

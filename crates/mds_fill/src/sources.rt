@@ -1,4 +1,4 @@
-//! Where the values come from that a job fills in.
+//! The sources of the values that a job fills in.
 
 ghost use Rattle.std.specs.Prelude.{◌≡◌, ◌+◌, ◌-◌, ◌*◌, ◌^◌, ◌≤◌, ℕ, ℤ, IfOk, IfErr, MatchOption, length, unsigned_abs};
 ghost use Rattle.mds_quantity.specs.Quantity.{limit};
@@ -15,10 +15,10 @@ use mds_jobs::{Job, Method};
 use mds_keeper::{DayBook, RefusalCode};
 use mds_quantity::{Quantity, between, mean};
 
-/// Where the values of a job come from.
+/// The source of a job's values.
 #[derive(Clone, Copy)]
 pub(crate) enum Source<'a> {
-    /// The nearest like day that has all.
+    /// The nearest like day that has all of them.
     LikeDay(&'a DayBook),
     /// All like days.
     LikeDays,
@@ -27,7 +27,7 @@ pub(crate) enum Source<'a> {
     Zeros,
 }
 
-/// The source of a job's method, or what isn't there for it.
+/// The source of a job's method, or which rule says that it is missing.
 pub(crate) fn source_of<'a>(job: &Job, context: &'a Context) -> Result<Source<'a>, RefusalCode>
     requires { IsGood (content_of job.now) }
     ensures ok { (w : World) → IsContext w (content_of job.now) context.now
@@ -46,7 +46,7 @@ pub(crate) fn source_of<'a>(job: &Job, context: &'a Context) -> Result<Source<'a
     }
 }
 
-/// The value of a target from the source of its job. `None` where no like day has one.
+/// The value of a target from the source of its job. `None` if no like day has one.
 pub(crate) fn value_at(
     job: &Job,
     context: &Context,
@@ -82,7 +82,7 @@ fn nearest_like_day<'a>(job: &Job, context: &'a Context) -> Option<&'a DayBook>
     None
 }
 
-/// The candidate at a place, where it has a usable value for every target.
+/// The candidate at a position, if it has a usable value for every target.
 fn like_day<'a>(slot: &'a Option<DayBook>, job: &Job) -> Option<&'a DayBook>
     requires few { job.now.last ≤ 288 }
     ensures { (w : World) (place : ℕ) → IsLikeBook w (content_of job.now) place slot.now → MatchOption result
@@ -115,7 +115,7 @@ fn mean_at(job: &Job, context: &Context, interval: u16) -> Option<Quantity>
     Some(mean(sum, count))
 }
 
-/// The sum, in millionths, of the values that are there, and how many they are.
+/// The sum, in millionths, of the values that are present, and how many there are.
 fn sum_and_count(values: &[Option<Quantity>]) -> (i128, u64)
     requires { length values.now ≤ 4 }
     ensures sum { result.0 ≡ total values.now }
@@ -133,7 +133,7 @@ fn sum_and_count(values: &[Option<Quantity>]) -> (i128, u64)
     (sum, count)
 }
 
-/// The line between the values beside the targets, or that one of them isn't there.
+/// The line between the values next to the targets, or the refusal that one of them is missing.
 fn line(job: &Job, context: &Context) -> Result<Source<'static>, RefusalCode>
     requires { IsGood (content_of job.now) }
     ensures ok { (w : World) → IsContext w (content_of job.now) context.now → job.now.method ≡ 17

@@ -1,4 +1,4 @@
-//! The intervals that a job is to fill, and what stops it there.
+//! The intervals that a job fills in, and what stops it there.
 
 ghost use Rattle.std.specs.Prelude.{◌≡◌, ◌≤◌, ℕ, MatchOption};
 ghost use Rattle.std.specs.Bool.{MatchBool};
@@ -13,11 +13,11 @@ use mds_jobs::{Job, Method};
 use mds_keeper::{DayBook, Refusal, RefusalCode};
 use mds_terms::Moment;
 
-/// The most minutes that are interpolated.
+/// The most minutes that may be interpolated.
 const MOST_MINUTES: i64 = 120;
 
-/// What stops a job on its day, before any value is looked for. First comes a target that is protected (M5), then one
-/// with a version that isn't older (M6), then too many to interpolate (M8).
+/// What stops a job on its day, before any value is looked for. A protected target (M5) comes first, then a target
+/// with a version that isn't older (M6), then too many minutes to interpolate (M8).
 pub(crate) fn blocked(book: &DayBook, job: &Job) -> Option<Refusal>
     requires { IsGood (content_of job.now) }
     ensures { (w : World) → IsBookOf w job.now.stream job.now.day book.now → MatchOption result
@@ -90,7 +90,7 @@ fn is_stale(book: &DayBook, interval: u16, than: Moment) -> bool
     version.update.seconds() >= than.seconds()
 }
 
-/// Whether more than two hours are to be interpolated.
+/// Whether more than two hours would be interpolated.
 fn is_too_long(job: &Job) -> bool
     requires good { IsGood (content_of job.now) }
     ensures { MatchBool result (IsTooLong (content_of job.now)) (IsTooLong (content_of job.now) → ⊥) }
@@ -112,7 +112,7 @@ pub(crate) fn method_of(job: &Job) -> Method
     Method::of_code(job.method).unwrap()
 }
 
-/// A law: what a job has that isn't bad.
+/// A law: what holds of a job that isn't bad.
 pub(crate) fn is_good(job: &Job)
     requires { IsBad (content_of job.now) → ⊥ }
     ensures { IsGood (content_of job.now) }

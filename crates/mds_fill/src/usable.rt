@@ -1,4 +1,4 @@
-//! The values of a day that may stand in for others.
+//! The values of a day that may replace others.
 
 ghost use Rattle.std.specs.Prelude.{◌↔◌, ◌≤◌, ℕ, IsTrue};
 ghost use Rattle.std.specs.Bool.{MatchBool};
@@ -34,7 +34,7 @@ pub(crate) fn usable_value(book: &DayBook, job: &Job, interval: u16) -> Option<Q
     version.value
 }
 
-/// The usable value of an interval of the candidate at a place.
+/// The usable value of an interval of the candidate at a position.
 pub(crate) fn candidate_value(slot: &Option<DayBook>, job: &Job, interval: u16) -> Option<Quantity>
     ensures { (w : World) (place : ℕ) → IsLikeBook w (content_of job.now) place slot.now
         → Finds (IsLikeValue w (content_of job.now) place interval) result }
@@ -59,7 +59,7 @@ pub(crate) fn has_all(book: &DayBook, job: &Job) -> bool
     true
 }
 
-/// Whether a day is known, and its current length and its unit are those of a job.
+/// Whether a day is known, and has a job's length and unit as its current ones.
 fn has_form_of(book: &DayBook, job: &Job) -> bool
     ensures { IsTrue result ↔ IsFormOf (book_world book.now) book.now.stream book.now.day job.now.length job.now.unit }
 {

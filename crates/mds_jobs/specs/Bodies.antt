@@ -1,5 +1,5 @@
--- The body of a substitution job, the text that a store keeps of it beside its id (profile): twelve written texts joined
--- by commas.
+-- The body of a substitution job: the text that a store keeps of it next to its id (profile). It is twelve written texts
+-- joined by commas.
 use Rattle.std.specs.Prelude.{◌≡◌, ◌<◌, ◌^◌, ℕ, ◌&&◌, ◌==◌, if◌then◌else◌, List, [], ◌∷◌, length as size, IsTrue, decimal, Option, Some, None, unwrap_or}
 use Rattle.std.specs.Char.{is_ascii_uppercase}
 use Rattle.std.specs.List.{slice_index_or, slice_split}
@@ -14,12 +14,12 @@ use Rattle.mds_marks.specs.Reason.{code_of, code_text, is_reason, reason_of}
 use Rattle.mds_terms.specs.Parts.{joined}
 use Rattle.mds_world.specs.Facts.{JobContent}
 
--- the text of a quality flag: a capital letter; any other flag, which no job that can be done has, has none
+-- the text of a quality flag: a capital letter, or nothing for any other flag, which no job that can be done has
 abbrev pub flag_text : ℕ → List ℕ
 flag_text flag = if is_ascii_uppercase flag then flag ∷ [] else []
 
 -- The body of a job: stream, day, first and last interval, length, unit, method, flag, code and text of the reason, and
--- update. The day and the update stand as the texts that read as them, so a job has one body.
+-- update. The day and the update are the texts that read as them, so a job has one body.
 pub record IsJobBody (job : JobContent) (body : List ℕ) : Type 0 where
   pub date : List ℕ
   pub update : List ℕ
@@ -29,7 +29,7 @@ pub record IsJobBody (job : JobContent) (body : List ℕ) : Type 0 where
       ≡ joined (job.stream.nmi ∷ job.stream.suffix ∷ date ∷ decimal job.first ∷ decimal job.last ∷ decimal job.length
       ∷ unit_text job.unit ∷ decimal job.method ∷ flag_text job.flag ∷ code_text job.code ∷ job.text ∷ update ∷ [])
 
--- what the types of a job's parts hold, and a flag that is a capital letter
+-- what the types of a job's parts guarantee, and a flag that is a capital letter
 pub record IsLawfulJob (job : JobContent) : Type 0 where
   pub nmi : IsTrue (is_name nmi_length job.stream.nmi)
   pub suffix : IsTrue (is_name suffix_length job.stream.suffix)
@@ -44,22 +44,22 @@ pub record IsLawfulJob (job : JobContent) : Type 0 where
 abbrev pub parts_of : List ℕ → List (List ℕ)
 parts_of line = slice_split is_comma line
 
--- the text at a place, counted from 0
+-- the text at an index, counted from 0
 abbrev pub part_at : List (List ℕ) → ℕ → List ℕ
 part_at parts at = slice_index_or parts at []
 
--- a text writes this number, of so many bits at most, in decimal digits
+-- a text spells this number, of at most this many bits, in decimal digits
 pub record Writes (bits : ℕ) (text : List ℕ) (number : ℕ) : Type 0 where
   pub numeral : IsNumeral 10 text
   pub value : digits_value 10 text ≡ number
   pub small : number < 2 ^ bits
 
--- the quality flag that a text is: one capital letter
+-- the quality flag of a text: one capital letter
 abbrev pub flag_of : List ℕ → Option ℕ
 flag_of text =
     if (size text == 1) && is_ascii_uppercase (slice_index_or text 0 0) then Some (slice_index_or text 0 0) else None
 
--- Twelve texts are read as the parts of this job, in the order of its body. A number may have zeros before it.
+-- Twelve texts are read as the parts of this job, in the order of its body. A number may have leading zeros.
 pub record AreJobParts (parts : List (List ℕ)) (job : JobContent) : Type 0 where
   pub twelve : size parts ≡ 12
   pub nmi : nmi_of (part_at parts 0) ≡ Some job.stream.nmi
@@ -74,12 +74,12 @@ pub record AreJobParts (parts : List (List ℕ)) (job : JobContent) : Type 0 whe
   pub reason : reason_of (part_at parts 9) (part_at parts 10) ≡ Some (record { code = job.code; text = job.text })
   pub update : moment_of (part_at parts 11) ≡ Some job.update
 
--- The unit of a text. A text that is none, which the store never writes, is taken as MWh.
+-- The unit of a text. A text that isn't a unit, which the store never writes, is taken as MWh.
 abbrev pub unit_named : List ℕ → MeasureUnit
 unit_named text = unwrap_or (unit_of text) MWh
 
--- What the texts of a job's body say: stream, day, first and last interval, length, unit, method, flag, reason and update.
--- For a text that is none of its kind, which the store never writes, there is a default.
+-- The job in the texts of a body: stream, day, first and last interval, length, unit, method, flag, reason and update. A
+-- text that isn't of its kind, which the store never writes, has a default.
 abbrev pub job_in : List (List ℕ) → JobContent
 job_in parts =
     let part : ℕ → List ℕ = λ at. slice_index_or parts at [] in

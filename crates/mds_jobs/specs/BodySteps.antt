@@ -9,7 +9,7 @@ use Rattle.mds_jobs.specs.Bodies.{Writes, flag_of, part_at}
 use Rattle.mds_jobs.specs.declared.job.JobManner.{JobManner}
 use Rattle.mds_jobs.specs.declared.job.JobPlace.{JobPlace}
 
--- what borrowed texts are
+-- the borrowed texts as values
 abbrev pub texts_of : List (Bor (List ℕ)) → List (List ℕ)
 texts_of texts = map (λ text. text.now) texts
 
@@ -21,7 +21,7 @@ pub record SaysPlace (parts : List (List ℕ)) (place : JobPlace) : Type 0 where
   pub first : Writes 16 (part_at parts 3) place.first
   pub last : Writes 16 (part_at parts 4) place.last
 
--- how they are filled, but for the reason
+-- how they are filled, except for the reason
 pub record SaysManner (parts : List (List ℕ)) (manner : JobManner) : Type 0 where
   pub length : length_of (part_at parts 5) ≡ Some manner.length
   pub unit : unit_of (part_at parts 6) ≡ Some manner.unit

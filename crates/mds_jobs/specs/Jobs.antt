@@ -26,7 +26,7 @@ job_of_parts id place manner reason = record {
   update = manner.update;
 }
 
--- what a World knows of a job beside its id
+-- the content of a job in a World: all but its id
 abbrev pub content_of : Job → JobContent
 content_of job = record {
   stream = job.stream;
@@ -49,7 +49,7 @@ method_code MeanOfLikeDays = 15
 method_code Interpolation = 17
 method_code Zeros = 19
 
--- and of all of them
+-- the codes of all methods
 abbrev pub methods : List ℕ
 methods = 14 ∷ 15 ∷ 17 ∷ 19 ∷ []
 
@@ -57,7 +57,8 @@ methods = 14 ∷ 15 ∷ 17 ∷ 19 ∷ []
 abbrev pub flags : List ℕ
 flags = codes "EFS"
 
--- No store can do it: its intervals aren't such of the day, or the method or the flag isn't one that it may have.
+-- No store can do it: its intervals aren't those of the day, or the method or the flag isn't one that it may
+-- have.
 abbrev pub IsBad : JobContent → Type 0
 IsBad job =
     (job.first ≡ 0) ⊎ ((job.last < job.first) ⊎ ((count_of job.length < job.last)

@@ -1,4 +1,4 @@
-//! A substitution job as the text that a store keeps of it, and back.
+//! A substitution job as the text that a store keeps, and back.
 
 ghost use Rattle.std.specs.Prelude.{◌≡◌, ◌≢◌, ◌≤◌, ◌<◌, ◌+◌, ℕ, if◌then◌else◌, List, [], ◌∷◌, length, true, IsTrue, MatchOption, IfSome, IfNone, IfOk, OnOk, OnErr, string_bytes, string_capacity, string_len};
 ghost use Rattle.std.specs.Char.{is_ascii_digit, is_ascii_uppercase};
@@ -23,7 +23,7 @@ use mds_terms::{Day, Length, Moment, Stream, write_joined};
 use std::alloc::{AllocError, Global};
 use std::str;
 
-/// How many texts a body has.
+/// The number of texts in a body.
 const PARTS: usize = 12;
 
 /// The texts between the commas of a body.
@@ -33,10 +33,10 @@ struct Parts<'a> {
 }
 
 impl Job {
-    /// Appends its body, its parts but for the id as twelve texts joined by commas, as
-    /// `NEM1201009,E1,20240122,5,8,30,kWh,15,F,76,,20240123000000`. It reads back (`from_body`) where the flag is a
-    /// capital letter, as in each job that isn't bad. Any other flag is left out. Fails only where `out` had no room for
-    /// all of it and can't grow; a front of it may be appended then.
+    /// Appends its body: its parts except the id as twelve texts joined by commas, such as
+    /// `NEM1201009,E1,20240122,5,8,30,kWh,15,F,76,,20240123000000`. It reads back (`from_body`) if the flag is a capital
+    /// letter, as in each job that isn't bad. Any other flag is left out. Fails only if `out` has no room for all of it
+    /// and can't grow. A prefix of it may be appended then.
     pub fn write_body(&self, out: &mut String) -> Result<(), AllocError>
         ensures done { IsTrue (is_ascii_uppercase self.now.flag) → OnOk result ((body : List ℕ)
             × IsJobBody (content_of self.now) body × (job_in (parts_of body) ≡ content_of self.now)
@@ -82,8 +82,8 @@ impl Job {
         )
     }
 
-    /// The job of an id that a body says, or `None` where its parts aren't read as a job. A number with zeros before it
-    /// and a unit in small letters are read too. Takes memory only for the reason's text.
+    /// The job with this id and body, or `None` if the parts of the body can't be read as a job. A number with leading
+    /// zeros and a unit in small letters are read too. Takes memory only for the reason's text.
     pub fn from_body(alloc: Global, id: JobId, body: &[u8]) -> Result<Option<Job>, AllocError>
         ensures some { IfOk result (λ found. IfSome found (λ job.
             (job.id ≡ id) × (content_of job ≡ job_in (parts_of body.now)))) }
@@ -110,8 +110,8 @@ impl Job {
     }
 }
 
-/// A law: the body of a lawful job is read as this job, and says it. A job has one body, and parts are read as one job.
-/// The function does nothing.
+/// A law: the body of a lawful job reads as this job, and has its parts. A job has one body, and parts are read as one
+/// job. The function does nothing.
 pub fn bodies_read_back()
     ensures parts { (job : JobContent) (body : List ℕ)
         → IsLawfulJob job → IsJobBody job body → AreJobParts (parts_of body) job }
@@ -121,7 +121,7 @@ pub fn bodies_read_back()
     ensures one { (parts : List (List ℕ)) (job : JobContent) → AreJobParts parts job → job ≡ job_in parts }
 {}
 
-/// The text that digits are.
+/// Digits as a text.
 fn digits_text(digits: &[u8]) -> &str
     requires { list_all is_ascii_digit digits.now ≡ true }
     ensures { result.now ≡ digits.now }
@@ -136,7 +136,7 @@ fn unit_text(unit: &Unit) -> &str
     unit.text()
 }
 
-/// The text of flags. Where one is no capital letter, as in no job that can be done, there is none.
+/// The text of flags, or an empty text if one isn't a capital letter. No job that can be done has such a flag.
 fn flag_text(flags: &[u8]) -> &str
     ensures { result.now ≡ (if list_all is_ascii_uppercase flags.now then flags.now else []) }
 {
@@ -147,14 +147,14 @@ fn flag_text(flags: &[u8]) -> &str
     }
 }
 
-/// Whether each is a capital letter.
+/// Whether all are capital letters.
 fn are_letters(flags: &[u8]) -> bool
     ensures { result ≡ list_all is_ascii_uppercase flags.now }
 {
     flags.iter().all(|flag| flag.is_ascii_uppercase())
 }
 
-/// The text of a reason's code, which is empty where there is none.
+/// The text of a reason's code, which is empty if there is no code.
 fn code_text(code: Option<u16>, buffer: &mut Buffer) -> &str
     ensures { result.now ≡ text_of_code code }
 {
@@ -164,7 +164,7 @@ fn code_text(code: Option<u16>, buffer: &mut Buffer) -> &str
     }
 }
 
-/// The length of the first part of a text: what stands before its first comma, or all where there is none.
+/// The length of the first part of a text: up to its first comma, or all of it if there is no comma.
 fn part_length(text: &[u8]) -> usize
     ensures value { result ≡ position_or_len is_comma text.now }
     ensures within { result ≤ length text.now }
@@ -174,7 +174,7 @@ fn part_length(text: &[u8]) -> usize
         .unwrap_or(text.len())
 }
 
-/// The first part of a text and what stands behind its comma, or `None` where the text has no comma.
+/// The first part of a text and what follows its comma, or `None` if the text has no comma.
 fn first_part(text: &[u8]) -> Option<(&[u8], &[u8])>
     ensures { MatchOption result (parts_of text.now ≡ text.now ∷ [])
         (λ found. parts_of text.now ≡ found.0.now ∷ parts_of found.1.now) }
@@ -187,7 +187,7 @@ fn first_part(text: &[u8]) -> Option<(&[u8], &[u8])>
     Some((&text[..count], rest))
 }
 
-/// The parts of a body, or `None` where there aren't twelve.
+/// The parts of a body, or `None` if there aren't twelve.
 fn parts_in(body: &[u8]) -> Option<Parts<'_>>
     ensures { MatchOption result (length (parts_of body.now) ≢ 12)
         (λ parts. (texts_of parts.texts ≡ parts_of body.now) × (length (parts_of body.now) ≡ 12)) }
@@ -210,7 +210,7 @@ fn parts_in(body: &[u8]) -> Option<Parts<'_>>
     }
 }
 
-/// Which intervals the parts of a body name.
+/// The intervals named by the parts of a body.
 fn place_in(parts: &Parts<'_>) -> Option<JobPlace>
     ensures some { IfSome result (λ place. SaysPlace (texts_of parts.now.texts) place) }
     ensures none { IfNone result ((place : JobPlace) → SaysPlace (texts_of parts.now.texts) place → ⊥) }
@@ -223,7 +223,7 @@ fn place_in(parts: &Parts<'_>) -> Option<JobPlace>
     })
 }
 
-/// How they are filled.
+/// How the parts of a body fill them.
 fn manner_in(parts: &Parts<'_>) -> Option<JobManner>
     ensures some { IfSome result (λ manner. SaysManner (texts_of parts.now.texts) manner) }
     ensures none { IfNone result ((manner : JobManner) → SaysManner (texts_of parts.now.texts) manner → ⊥) }
@@ -237,12 +237,12 @@ fn manner_in(parts: &Parts<'_>) -> Option<JobManner>
     })
 }
 
-/// The number below 65,536 that a text writes in decimal digits.
+/// The number below 65,536 that a text spells in decimal digits.
 fn number_in(text: &[u8]) -> Option<u16>
     ensures some { IfSome result (λ number. Writes 16 text.now number) }
     ensures none { IfNone result ((number : ℕ) → Writes 16 text.now number → ⊥) }
 {
-    // `parse` takes a plus before the digits, too.
+    // `parse` accepts a plus sign before the digits, too.
     if text.first() == Some(&b'+') {
         return None;
     }
@@ -252,7 +252,7 @@ fn number_in(text: &[u8]) -> Option<u16>
     text.parse().ok()
 }
 
-/// The number below 256 that a text writes in decimal digits.
+/// The number below 256 that a text spells in decimal digits.
 fn method_in(text: &[u8]) -> Option<u8>
     ensures some { IfSome result (λ number. Writes 8 text.now number) }
     ensures none { IfNone result ((number : ℕ) → Writes 8 text.now number → ⊥) }
@@ -260,7 +260,7 @@ fn method_in(text: &[u8]) -> Option<u8>
     u8::try_from(number_in(text)?).ok()
 }
 
-/// The quality flag that a text is: one capital letter.
+/// The quality flag of a text: one capital letter.
 fn flag_in(text: &[u8]) -> Option<u8>
     ensures { result ≡ flag_of text.now }
 {

@@ -13,8 +13,7 @@ use mds_quantity::Unit;
 use mds_terms::{Day, Length, Moment, Stream};
 use std::alloc::AllocError;
 
-/// What is to be filled in: the intervals `first` to `last`, counted from 1, of a day of a stream. They have this
-/// length and unit.
+/// The intervals to fill in: `first` to `last`, counted from 1, of a day of a stream. They have this length and unit.
 #[derive(Drop)]
 pub struct Job {
     pub id: JobId,
@@ -24,16 +23,16 @@ pub struct Job {
     pub last: u16,
     pub length: Length,
     pub unit: Unit,
-    /// The code of its method ([`Method`]). A job of any other code is bad.
+    /// The code of its method ([`Method`]). A job with any other code is bad.
     pub method: u8,
-    /// The quality flag of what is filled in: E, F or S (`mds_marks::flags`). A job of any other byte is bad.
+    /// The quality flag of what is filled in: E, F or S (`mds_marks::flags`). A job with any other byte is bad.
     pub flag: u8,
     pub reason: Reason,
-    /// The update under which the new readings stand.
+    /// The update of the new readings.
     pub update: Moment,
 }
 
-/// Which intervals a job fills: a part of a [`Job`].
+/// The intervals that a job fills: a part of a [`Job`].
 #[derive(Clone, Copy)]
 pub struct JobPlace {
     pub stream: Stream,
@@ -42,7 +41,7 @@ pub struct JobPlace {
     pub last: u16,
 }
 
-/// How a job fills them, but for the reason: a part of a [`Job`].
+/// How a job fills them, except for the reason: a part of a [`Job`].
 #[derive(Clone, Copy)]
 pub struct JobManner {
     pub length: Length,
@@ -72,8 +71,8 @@ impl Job {
         }
     }
 
-    /// Whether no store can do it (M11). Its intervals are none of a day: `first` is 0, or `last` is below `first` or
-    /// above the count of the length. Or it has no [`Method`], or its flag isn't E, F or S.
+    /// Whether no store can do it (M11). Either its intervals aren't those of a day: `first` is 0, or `last` is below
+    /// `first` or above the count of the length. Or it has no [`Method`], or its flag isn't E, F or S.
     pub fn is_bad(&self) -> bool
         ensures { MatchBool result (IsBad (content_of self.now)) (IsBad (content_of self.now) → ⊥) }
     {
@@ -107,7 +106,7 @@ impl Job {
             && self.last == other.last
     }
 
-    /// The same once more. An empty reason's text takes no memory.
+    /// A copy of it. An empty reason's text takes no memory.
     pub fn try_clone(&self) -> Result<Job, AllocError>
         ensures value { IfOk result (λ job. job ≡ self.now) }
         ensures only { OnErr result (0 < text_length self.now.reason.text) }

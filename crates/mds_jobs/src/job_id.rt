@@ -1,4 +1,4 @@
-//! The name of a substitution job.
+//! The id of a substitution job.
 
 ghost use Rattle.std.specs.Prelude.{◌≡◌, ◌↔◌, ℕ, List, IsTrue};
 ghost use Rattle.std.specs.List.{list_all};
@@ -9,11 +9,11 @@ ghost use Rattle.mds_jobs.specs.Ids.{is_id_char, is_job_id, job_id_of};
 use std::marker::Model;
 use std::str;
 
-/// The name that the holder of a store gives to a substitution job. It has 1 to 36 letters (A to Z, a to z), digits
-/// and hyphens (profile). Its order is that of its bytes.
+/// The id that the holder of a store gives to a substitution job. It has 1 to 36 letters (A to Z, a to z), digits
+/// and hyphens (profile). Ids are ordered by their bytes.
 #[derive(Clone, Copy, Debug, PartialEq, Eq, PartialOrd, Ord)]
 pub struct JobId {
-    /// Its text, and 0 behind it.
+    /// Its text, followed by zeros.
     bytes: [u8; LONGEST],
     count: usize,
 }
@@ -40,8 +40,7 @@ impl Model for JobId {
 const LONGEST: usize = 36;
 
 impl JobId {
-    /// Reads an id from its text. `None` where the text isn't 1 to 36 letters, digits and
-    /// hyphens.
+    /// Reads an id from its text. `None` if the text isn't 1 to 36 letters, digits and hyphens.
     pub fn read(text: &[u8]) -> Option<JobId>
         ensures { result ≡ job_id_of text.now }
     {
@@ -62,7 +61,7 @@ impl JobId {
         ensures name { IsTrue (is_job_id self.now) }
         ensures equal { (other : List ℕ)
             → IsTrue (⟦<JobId as PartialEq>⟧.eq self.now other) ↔ (self.now ≡ other) }
-        // By bytes: the first that differs decides.
+        // By bytes: the first difference decides.
         ensures order { (other : List ℕ)
             → ⟦<JobId as Ord>⟧.cmp self.now other ≡ slice_cmp nat_cmp self.now other }
     {

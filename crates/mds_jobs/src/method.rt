@@ -4,7 +4,7 @@ ghost use Rattle.std.specs.Prelude.{◌≡◌, ◌↔◌, IsTrue, MatchOption};
 ghost use Rattle.mds_world.specs.Lists.{Member};
 ghost use Rattle.mds_jobs.specs.Jobs.{method_code, methods};
 
-/// How a substitution job gets its values. MDFF Specification, appendix of method flags, of which a job may have four.
+/// How a substitution job gets its values. MDFF Specification, appendix of method flags; a job may have four of them.
 #[derive(Clone, Copy, Debug, PartialEq, Eq)]
 pub enum Method {
     /// 14: the values of the nearest like day.
@@ -25,7 +25,7 @@ impl Method {
         ensures { (a b : AMethod) → IsTrue (⟦<Method as PartialEq>⟧.eq a b) ↔ (a ≡ b) }
     {}
 
-    /// The method of a code. `None` where a job may not have it.
+    /// The method with this code. `None` if a job may not have it.
     pub fn of_code(code: u8) -> Option<Method>
         ensures { MatchOption result (Member code methods → ⊥) (λ method. code ≡ method_code method) }
     {

@@ -1,4 +1,4 @@
--- What was claimed of a day, as a list: each update, its length, and its readings where they are kept (profile).
+-- What was claimed for a day, as a list: each update, its length, and its readings if they are kept (profile).
 use Rattle.std.specs.Prelude.{◌≡◌, ℕ, List, ◌∷◌, ◌++◌, Option, Some, None}
 use Rattle.mds_keeper.specs.declared.claimed.ClaimedReadings.{ClaimedReadings}
 use Rattle.mds_keeper.specs.declared.claimed.ClaimedUpdate.{ClaimedUpdate}
@@ -8,7 +8,7 @@ abbrev pub entries_of : Option ClaimedUpdate → List (ℕ × ClaimedReadings) �
 entries_of None others = others
 entries_of (Some first) others = (first.update, first.kept) ∷ others
 
--- an entry more, somewhere among the others
+-- one more entry, somewhere among the others
 abbrev pub ComesBeside : {T : Type 0} → List T → List T → T → Type 0
 ComesBeside old new entry =
     (front : List _) × (back : List _) × (old ≡ front ++ back) × (new ≡ front ++ entry ∷ back)

@@ -1,4 +1,4 @@
--- What a claim says beside a day's book: which rule it breaks first, and which of its versions the book doesn't have.
+-- What a claim adds to a day's book: which rule it breaks first, and which of its versions the book doesn't have.
 use Rattle.std.specs.Prelude.{◌≡◌, ◌≢◌, ℕ, ◌+◌, ◌<◌, Bool, cond, nat_eq, List, [], ◌∷◌, ◌++◌, length, Option, Some}
 use Rattle.std.specs.List.{list_any, slice_get}
 use Rattle.std.specs.FinSet as set
@@ -18,11 +18,11 @@ use Rattle.mds_keeper.specs.declared.day_book.Version.{Version}
 use Rattle.mds_keeper.specs.declared.refusal.RefusalCode.{RefusalCode}
 use Rattle.mds_keeper.specs.declared.refusal.RefusalCode.TheVariants.{LengthConflict, UnitConflict}
 
--- where a version of a book's day stands
+-- the key of a version of a book's day
 abbrev pub key_of : BookValue → ℕ → ℕ → ℕ → Key
 key_of book minutes interval update = key_at book.stream book.day minutes interval update
 
--- a claim's reading of the interval after so many is that of the World, if it has one of that length under the update
+-- a claim's reading of the interval after k equals that of the World, if it has one of that length under the update
 abbrev pub Suits : World → BookValue → ℕ → ℕ → List ReadingValue → ℕ → Type 0
 Suits w book minutes update readings k =
     (mine other : ReadingValue) → slice_get readings k ≡ Some mine
@@ -34,12 +34,12 @@ Contradicts w book minutes update readings k =
     (mine : ReadingValue) × (other : ReadingValue) × (slice_get readings k ≡ Some mine)
     × (VersionIs (key_of book minutes (k + 1) update) other ∈ w) × (other ≢ mine)
 
--- the first interval, from 1, that is wrong, after ones that are right
+-- the first interval, from 1, that is wrong, after intervals that are right
 abbrev pub IsFirst : (ℕ → Type 0) → (ℕ → Type 0) → ℕ → Type 0
 IsFirst IsWrong IsRight interval =
     (k : ℕ) × (interval ≡ k + 1) × IsWrong k × ((j : ℕ) → j < k → IsRight j)
 
--- it is what is known, where something is
+-- it equals what is known, if something is
 abbrev pub SuitsKnown : {T : Type 0} → Option T → T → Type 0
 SuitsKnown known one = (other : _) → known ≡ Some other → other ≡ one
 
@@ -47,8 +47,7 @@ SuitsKnown known one = (other : _) → known ≡ Some other → other ≡ one
 abbrev pub IsOther : {T : Type 0} → Option T → T → Type 0
 IsOther known one = (other : _) × (known ≡ Some other) × (other ≢ one)
 
--- The rule that a length and a unit break, beside the length that is known under the update and the day's unit: on the length before
--- the unit.
+-- The rule that a length and a unit break, given the length known under the update and the day's unit. The length comes first.
 abbrev pub BreaksHead : Option ℕ → Option MeasureUnit → ℕ → MeasureUnit → RefusalCode → Type 0
 BreaksHead known of_day length unit LengthConflict = IsOther known length
 BreaksHead known of_day length unit UnitConflict = SuitsKnown known length × IsOther of_day unit
@@ -57,7 +56,7 @@ BreaksHead known of_day length unit code = ⊥
 abbrev pub SuitsHead : Option ℕ → Option MeasureUnit → ℕ → MeasureUnit → Type 0
 SuitsHead known of_day length unit = SuitsKnown known length × SuitsKnown of_day unit
 
--- it is the length of the book's rows of an update, or there is no such row
+-- the length of the book's rows of an update, or nothing if there are none
 abbrev pub IsLengthUnder : BookValue → ℕ → Option ℕ → Type 0
 IsLengthUnder book update known = IsLengthIn book.rows update known
 
@@ -70,18 +69,18 @@ is_held book minutes update interval reading =
 abbrev pub Entry : Type 0
 Entry = ℕ × (ℕ × List ReadingValue)
 
--- a row is of the update
+-- one of the rows has the update
 abbrev pub has_update : ℕ → List (ℕ × Version) → Bool
 has_update update rows = list_any (λ row. nat_eq row.1.update update) rows
 
--- the heads of updates that were claimed of which the book has no row
+-- the heads of claimed updates of which the book has no row
 abbrev pub fresh_heads : BookValue → MeasureUnit → List Entry → List Head
 fresh_heads book unit [] = []
 fresh_heads book unit (entry ∷ rest) =
     cond (has_update entry.0 book.rows) (fresh_heads book unit rest)
     (head_at book.stream book.day entry.0 entry.1.0 unit ∷ fresh_heads book unit rest)
 
--- of an update's readings of a length, from an interval on, those that the book doesn't have, with where they stand
+-- those of an update's readings, from an interval on, that the book doesn't have, with their keys
 abbrev pub fresh_versions : BookValue → ℕ → ℕ → ℕ → List ReadingValue → List (Key × ReadingValue)
 fresh_versions book minutes update interval [] = []
 fresh_versions book minutes update interval (reading ∷ rest) =
@@ -89,13 +88,13 @@ fresh_versions book minutes update interval (reading ∷ rest) =
     (fresh_versions book minutes update (interval + 1) rest)
     ((key_of book minutes interval update, reading) ∷ fresh_versions book minutes update (interval + 1) rest)
 
--- how many the book has
+-- how many of them the book has
 abbrev pub held_count : BookValue → ℕ → ℕ → ℕ → List ReadingValue → ℕ
 held_count book minutes update interval [] = 0
 held_count book minutes update interval (reading ∷ rest) =
     cond (is_held book minutes update interval reading) 1 0 + held_count book minutes update (interval + 1) rest
 
--- of all updates that were claimed
+-- the same for all claimed updates
 abbrev pub fresh_all : BookValue → List Entry → List (Key × ReadingValue)
 fresh_all book [] = []
 fresh_all book (entry ∷ rest) = fresh_versions book entry.1.0 entry.0 1 entry.1.1 ++ fresh_all book rest

@@ -1,4 +1,4 @@
--- What additions add, as facts.
+-- The facts that additions add.
 use Rattle.std.specs.Prelude.{◌≡◌, ◌≢◌, ℕ, ◌+◌, List, [], ◌∷◌, ◌++◌, length, map}
 use Rattle.std.specs.List.{flat_map}
 use Rattle.std.specs.FinSet as set
@@ -24,12 +24,12 @@ use Rattle.mds_keeper.specs.declared.additions.VersionRows.{VersionRows}
 use Rattle.mds_keeper.specs.declared.additions.VersionRows.TheVariants.{Each, Whole}
 use Rattle.mds_keeper.specs.declared.day_book.Version.{Version}
 
--- where a version of a day of a stream stands, and its reading
+-- the key of a version of a day of a stream, and its reading
 abbrev pub version_at : Stream → ℕ → ℕ × Version → Key × ReadingValue
 version_at stream day row =
     (key_at stream day row.1.length row.0 row.1.update, row.1.reading)
 
--- a version of each interval of a length in turn, from one on, under an update
+-- a version of each interval of a length, from one on, under an update
 abbrev pub whole_rows : ℕ → ℕ → ℕ → List ReadingValue → List (ℕ × Version)
 whole_rows minutes update interval [] = []
 whole_rows minutes update interval (reading ∷ rest) =
@@ -40,7 +40,7 @@ abbrev pub rows_of : VersionRows → List (ℕ × Version)
 rows_of (Each rows) = rows.items
 rows_of (Whole minutes update readings) = whole_rows minutes update 1 readings
 
--- A list has a version. Readings that lie as a whole day are one of each interval of their length.
+-- A list isn't empty. The readings of a whole day are one for each interval of their length.
 abbrev pub AreWellFormed : VersionRows → Type 0
 AreWellFormed (Each rows) = rows.items ≢ []
 AreWellFormed (Whole minutes update readings) = length readings ≡ count_of minutes
@@ -52,7 +52,7 @@ day_versions day = map (version_at day.stream day.day) (rows_of day.rows)
 abbrev pub versions_of : List DayVersions → List (Key × ReadingValue)
 versions_of days = flat_map day_versions days
 
--- days come behind others, and the versions of each are well formed
+-- days come after others, and the versions of each are well formed
 abbrev pub AreMoreDays : List DayVersions → List DayVersions → Type 0
 AreMoreDays old new =
     (more : List DayVersions) × (new ≡ old ++ more) × ((day : DayVersions) → Member day more → AreWellFormed day.rows)
@@ -70,7 +70,7 @@ job_fact job = JobIs job.0.id (content_of job.0) job.1
 abbrev pub detail_on : DetailDays → ℕ → Detail
 detail_on details day = detail_at details.stream day details.moment details.details
 
--- those of each of these days
+-- the details of each of these days
 abbrev pub details_on : DetailDays → List Detail
 details_on details = map (detail_on details) details.days.items
 
@@ -78,7 +78,7 @@ details_on details = map (detail_on details) details.days.items
 abbrev pub details_of : List DetailDays → List Detail
 details_of groups = flat_map details_on groups
 
--- the heads: those of days that come new, and then the others
+-- the heads: those of new days, and then the others
 abbrev pub heads_of : Additions → List Head
 heads_of additions = additions.new_days.items ++ additions.heads.items
 
@@ -92,7 +92,7 @@ content_facts additions =
 abbrev pub content : Additions → World
 content additions = set.from_list (content_facts additions)
 
--- No fact comes twice, and none is there yet.
+-- No fact occurs twice, and none is known yet.
 pub record AreNew (w : World) (additions : Additions) : Type 0 where
   pub apart : Apart (content_facts additions)
   pub absent : (f : Fact) → Member f (content_facts additions) → f ∈ w → ⊥
@@ -101,14 +101,15 @@ pub record AreNew (w : World) (additions : Additions) : Type 0 where
 abbrev pub place_of : Head → StreamDay
 place_of head = record { stream = head.stream; day = head.day }
 
--- Heads that are added, those of new days apart. A day that isn't known has one there, and no known day has any.
+-- Added heads, with those of new days listed separately. A day that isn't known has one there, and no known day has any.
 pub record AreOfNewDays (w : World) (new_days heads : List Head) : Type 0 where
   pub new : (head : Head) → Member head new_days → IsKnownDay w head.stream head.day → ⊥
   pub once : Apart (map place_of new_days)
   pub further : (head : Head) → Member head heads → (IsKnownDay w head.stream head.day → ⊥)
       → Member (place_of head) (map place_of new_days)
 
--- Each addition is in its place: the first head of a day that isn't known is apart, and the versions of each day are well formed.
+-- Each addition is in its place. The first head of a day that isn't known is listed separately, and the versions of each day are
+-- well formed.
 pub record AreInPlace (w : World) (additions : Additions) : Type 0 where
   pub first : AreOfNewDays w additions.new_days.items additions.heads.items
   pub days : (day : DayVersions) → Member day additions.days.items → AreWellFormed day.rows

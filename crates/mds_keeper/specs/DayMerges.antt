@@ -1,4 +1,4 @@
--- A day's book with what lines claim of the day.
+-- A day's book with what lines claim about the day.
 use Rattle.std.specs.Prelude.{◌≡◌, ◌<◌, ◌≤◌, List, [], ◌++◌, map, length}
 use Rattle.std.specs.List.{AllPairs}
 use Rattle.std.specs.FinSet as set
@@ -19,12 +19,12 @@ use Rattle.mds_keeper.specs.declared.day_merge.Stop.{Stop}
 use Rattle.mds_keeper.specs.declared.day_merge.Stop.TheVariants.{Refused, Memory}
 use Rattle.mds_keeper.specs.declared.refusal.Refusal.{Refusal}
 
--- the book of a day, and what lines claim of that day
+-- the book of a day, and what lines claim about that day
 pub record DayMergeValue : Type 0 where
   pub book : BookValue
   pub said : World
 
--- where it is a refusal
+-- if it is a refusal
 abbrev pub IfRefused : Stop → (Refusal → Type 0) → Type 0
 IfRefused (Refused refusal) P = P refusal
 IfRefused Memory P = Unit {0}
@@ -33,8 +33,8 @@ IfRefused Memory P = Unit {0}
 abbrev pub AreAscending : List Claim → Type 0
 AreAscending claims = AllPairs (λ a b. a.line < b.line) claims
 
--- What is added to a book of what claims say: all agrees, the union is the same with the additions, and these are new. Of a day that
--- isn't known one head stands apart, as that of a new day.
+-- What a book gains from these claims: all agrees, the union is the same with the additions, and these are new. One head of a day that
+-- isn't known is listed separately, as that of a new day.
 pub record IsPlan (book : BookValue) (said : World) (additions : Additions) : Type 0 where
   pub agrees : Agrees (union (book_world book) said)
   pub whole : union (book_world book) (content additions) ≡ union (book_world book) said
@@ -45,7 +45,7 @@ pub record IsPlan (book : BookValue) (said : World) (additions : Additions) : Ty
   pub new_day : (IsKnownDay (book_world book) book.stream book.day → ⊥) → additions.new_days.items ≡ [] → additions.heads.items ≡ []
   pub days : (day : DayVersions) → Member day additions.days.items → AreWellFormed day.rows
 
--- What is put behind additions: heads of new days, further heads, and days with these versions. Nothing else changes.
+-- What is appended to additions: heads of new days, further heads, and days with these versions. Nothing else changes.
 pub record Grows (old new : Additions) (first further : List Head) (versions : List (Key × ReadingValue)) : Type 0 where
   pub more_first : new.new_days.items ≡ old.new_days.items ++ first
   pub more_heads : new.heads.items ≡ old.heads.items ++ further
@@ -57,16 +57,16 @@ pub record Grows (old new : Additions) (first further : List Head) (versions : L
   pub same_holidays : new.holidays ≡ old.holidays
   pub same_jobs : new.jobs ≡ old.jobs
 
--- Nothing that was there is lost. Heads and days may stand behind it.
+-- Nothing that was there is lost. Heads and days may follow.
 pub record GoesOn (old new : Additions) : Type 0 where
   pub first : List Head
   pub further : List Head
   pub versions : List (Key × ReadingValue)
   pub grows : Grows old new first further versions
 
--- What a merge puts behind additions: heads and versions, each once, that are just what is claimed and isn't in the
--- book. Of a day that isn't known one head comes first, behind those of new days. It tells how many versions these are, and how many of
--- those claimed are in the book.
+-- What a merge appends to additions: heads and versions, each once, namely those that are claimed and aren't in the book. The first
+-- head of a day that isn't known goes to those of new days. The counts are the number of these versions, and the number of claimed ones
+-- that the book has.
 pub record Settles (merge : DayMergeValue) (old new : Additions) (counts : MergeCounts) : Type 0 where
   pub first : List Head
   pub further : List Head

@@ -1,4 +1,4 @@
--- The rows of a book, however they lie.
+-- The rows of a book, in whatever form they are kept.
 use Rattle.std.specs.Prelude.{◌≡◌, ◌<◌, ℕ, List, length, Option, Some, None}
 use Rattle.mds_calendar.specs.Length.{count_of}
 use Rattle.mds_keeper.specs.Content.{whole_rows}
@@ -13,7 +13,7 @@ kept_rows (Own rows) = rows.items
 kept_rows (Shared rows) = rows.value.items
 kept_rows (KeptWhole minutes update readings) = whole_rows minutes update 1 readings.value
 
--- the length and the number of the readings that are kept as they lie, where they are
+-- the length and the number of readings that are kept as `DayReadings`, if they are
 abbrev pub kept_whole : BookRows → Option (ℕ × ℕ)
 kept_whole (Own rows) = None
 kept_whole (Shared rows) = None
@@ -23,12 +23,12 @@ abbrev pub lent_rows : LentRows → List (ℕ × Version)
 lent_rows (Each rows) = rows.now
 lent_rows (Whole minutes update readings) = whole_rows minutes update 1 readings.now
 
--- the length and the number of the readings that are lent as they lie, where they are
+-- the length and the number of readings that are lent as `DayReadings`, if they are
 abbrev pub lent_whole : LentRows → Option (ℕ × ℕ)
 lent_whole (Each rows) = None
 lent_whole (Whole minutes update readings) = Some (minutes, length readings.now)
 
--- readings that are kept as they lie are those of each interval of their length
+-- readings kept as `DayReadings` are one for each interval of their length
 abbrev pub AreWhole : Option (ℕ × ℕ) → Type 0
 AreWhole None = Unit {0}
 AreWhole (Some whole) = (whole.1 ≡ count_of whole.0) × (0 < whole.1)

@@ -1,4 +1,4 @@
--- What queries of a World answer, as lists.
+-- The answers to queries of a World, as lists.
 use Rattle.std.specs.Prelude.{◌≡◌, ◌↔◌, ◌<◌, ◌≤◌, ℕ, List, Option, Some, None, map}
 use Rattle.std.specs.Cmp.Lexicographic.{slice_cmp}
 use Rattle.std.specs.List.{All, AllPairs}
@@ -32,18 +32,18 @@ pub record AreKnownStreams (w : World) (streams : List Stream) : Type 0 where
   pub each : (stream : Stream) → Member stream streams ↔ IsKnownStream w stream
   pub ascending : AllPairs (λ a b. stream_cmp a b ≡ Less) streams
 
--- the last known day of a stream, where it has one
+-- the last known day of a stream, if it has one
 abbrev pub IsLastDayOf : World → Stream → Option ℕ → Type 0
 IsLastDayOf w stream (Some day) = IsLastDay w stream day
 IsLastDayOf w stream None = (day : ℕ) → IsKnownDay w stream day → ⊥
 
--- Those of the days that the World doesn't have these details of, ascending, each once.
+-- Those of the days for which the World doesn't have these details, ascending, each once.
 pub record AreDaysWithout (w : World) (details : DetailDays) (days : List ℕ) : Type 0 where
   pub each : (day : ℕ) → Member day days
       ↔ (Member day details.days.items × (DetailIs (detail_on details day) ∈ w → ⊥))
   pub ascending : AllPairs (λ a b. a < b) days
 
--- Current details of days of a range, ascending, each day once. Each of its days that has details of its own is among them.
+-- Current details of days in a range, ascending, each day once. Every day with details of its own is included.
 pub record AreDetailsBetween (w : World) (stream : Stream) (first last : ℕ) (rows : List (ℕ × DetailsValue)) : Type 0 where
   pub each : (row : ℕ × DetailsValue) → Member row rows
       → (first ≤ row.0) × (row.0 ≤ last) × IsCurrentDetails w stream row.0 row.1
@@ -61,7 +61,7 @@ pub record AreHolidays (w : World) (days : List ℕ) : Type 0 where
   pub each : (day : ℕ) → Member day days ↔ (HolidayIs day ∈ w)
   pub ascending : AllPairs (λ a b. a < b) days
 
--- the job of an id, with the count of the readings that it made, where there is one
+-- the job with an id, and the count of the readings that it made, if there is one
 abbrev pub IsJobOf : World → List ℕ → Option (Job × ℕ) → Type 0
 IsJobOf w id (Some kept) = (kept.0.id ≡ id) × (JobIs id (content_of kept.0) kept.1 ∈ w)
 IsJobOf w id None = (content : JobContent) (count : ℕ) → JobIs id content count ∈ w → ⊥
@@ -77,12 +77,12 @@ pub record ArePeriodsOf (w : World) (stream : Stream) (periods : List Period) : 
   pub each : (period : Period) → Member period periods ↔ ((PeriodIs period.key period.content ∈ w) × (period.key.stream ≡ stream))
   pub ascending : AllPairs (λ a b. period_cmp a.key b.key ≡ Less) periods
 
--- what is kept of the accumulation of a key, where there is one
+-- the content of the accumulation with a key, if there is one
 abbrev pub IsContentOf : World → PeriodKey → Option PeriodContent → Type 0
 IsContentOf w key (Some content) = PeriodIs key content ∈ w
 IsContentOf w key None = (content : PeriodContent) → PeriodIs key content ∈ w → ⊥
 
--- The known days of a stream from a first to a last one, ascending, each once.
+-- The known days of a stream from `first` to `last`, ascending, each once.
 pub record AreDaysOf (w : World) (stream : Stream) (first last : ℕ) (books : List BookValue) : Type 0 where
   pub each : All (λ book. (book.stream ≡ stream) × IsDay w book) books
   pub known : (day : ℕ) → Member day (map (λ book. book.day) books) ↔ ((first ≤ day) × (day ≤ last) × IsKnownDay w stream day)

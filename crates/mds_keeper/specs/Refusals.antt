@@ -19,11 +19,11 @@ code_text UnknownDay = codes "M10"
 code_text BadJob = codes "M11"
 code_text RangeTooWide = codes "M12"
 
--- a number behind its name, where it isn't 0
+-- a number after its name, if it isn't 0
 abbrev pub place_text : List ℕ → ℕ → List ℕ
 place_text name n = if n == 0 then [] else (name ++ decimal n)
 
--- the code, and line, field and interval where they are told, as `M3 line 4 interval 7`
+-- the code, and the line, field and interval that apply, as in `M3 line 4 interval 7`
 abbrev pub refusal_text : Refusal → List ℕ
 refusal_text r =
     code_text r.code ++ place_text (codes " line ") r.line ++ place_text (codes " field ") r.field

@@ -25,12 +25,12 @@ pub struct DayVersions {
 pub enum VersionRows {
     /// These, in any order.
     Each(Vec<(u16, Version)>),
-    /// One of each interval of a length, from 1 on, all under one update. So a file states a day, and its readings are moved here as
-    /// they lie. A merge and a plan add no others (`AreWellFormed`).
+    /// One for each interval of a length, from 1 on, all under one update. A file states a day like this, and its readings are moved
+    /// here unchanged. A merge and a plan add no others (`AreWellFormed`).
     Whole(Length, Moment, DayReadings),
 }
 
-// Written out, so that it is one call for whoever drops a day's versions.
+// Written out, so that code that drops a day's versions makes one call.
 impl Drop for VersionRows {
     fn drop(self) {
         match self {
@@ -41,8 +41,8 @@ impl Drop for VersionRows {
 }
 
 impl VersionRows {
-    /// Moves them behind these versions. Readings that lie together are copied one by one: each takes the room of a version, and that
-    /// of its reason's text. It takes memory only where there is a version. Where memory is wanting, a front of them may stand there.
+    /// Moves them to the end of these versions. Readings of a whole day are copied one by one: each takes the room of a version, and
+    /// that of its reason's text. Takes memory only if there are versions. After an error a prefix of them may be there.
     pub fn append_to(self, rows: &mut Vec<(u16, Version)>) -> Result<(), AllocError>
         ensures done { OnOk result (rows.new.items ≡ rows.old.items ++ rows_of self) }
         ensures kept { OnErr result ((n : ℕ) × (rows.new.items ≡ rows.old.items ++ take n (rows_of self))) }
@@ -56,7 +56,7 @@ impl VersionRows {
         }
     }
 
-    /// The book of a day with these versions and this unit, where it is known.
+    /// The book of a day with these versions, and with this unit if it is known.
     pub(crate) fn into_book(
         self,
         alloc: Global,
@@ -75,7 +75,7 @@ impl VersionRows {
     }
 }
 
-/// Moves versions behind others. Where there are no others they take no memory.
+/// Moves versions to the end of others. If there are no others, it takes no memory.
 fn append_each(rows: &mut Vec<(u16, Version)>, more: Vec<(u16, Version)>) -> Result<(), AllocError>
     ensures done { OnOk result (rows.new.items ≡ rows.old.items ++ more.items) }
     ensures kept { OnErr result ((n : ℕ) × (rows.new.items ≡ rows.old.items ++ take n more.items)) }
@@ -91,7 +91,7 @@ fn append_each(rows: &mut Vec<(u16, Version)>, more: Vec<(u16, Version)>) -> Res
     Ok(())
 }
 
-/// A copy of each reading as a version, from interval 1 of a length on and under one update. It takes memory only where there is one.
+/// A copy of each reading as a version, from interval 1 of a length on and under one update. Takes memory only if there are readings.
 pub(crate) fn spread(
     alloc: Global,
     length: Length,
@@ -106,7 +106,7 @@ pub(crate) fn spread(
     Ok(rows)
 }
 
-/// Puts a copy of each reading behind versions, from interval 1 of a length on and under one update.
+/// Appends a copy of each reading to versions, from interval 1 of a length on and under one update.
 fn append_whole(
     rows: &mut Vec<(u16, Version)>,
     length: Length,
@@ -130,7 +130,7 @@ fn append_whole(
     Ok(())
 }
 
-/// The details that days of a stream have under the moment of one header.
+/// Details that days of a stream have under the moment of one header.
 #[derive(Drop)]
 pub struct DetailDays {
     pub stream: Stream,
@@ -139,16 +139,16 @@ pub struct DetailDays {
     pub days: Vec<Day>,
 }
 
-/// What a change adds to a World, by the kinds of its facts.
+/// What a change adds to a World, by kinds of facts.
 #[derive(Drop)]
 pub struct Additions {
-    /// The first head of each day that isn't known yet.
+    /// The first head of each day that wasn't known.
     pub new_days: Vec<Head>,
     /// The heads of further updates.
     pub heads: Vec<Head>,
-    /// The versions. A day may stand there more than once.
+    /// The versions. A day may occur more than once.
     pub days: Vec<DayVersions>,
-    /// The details of days. A stream may stand there more than once.
+    /// The details of days. A stream may occur more than once.
     pub details: Vec<DetailDays>,
     pub events: Vec<Event>,
     pub periods: Vec<Period>,

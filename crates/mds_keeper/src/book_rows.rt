@@ -10,19 +10,19 @@ use mds_terms::{Length, Moment};
 use std::alloc::{AllocError, Global};
 use std::rc::Rc;
 
-/// Versions, each with the number of its interval. They don't change, so a keeper in memory shares them with its copies. A day that
-/// is asked for then takes no memory.
+/// Versions, each with the number of its interval. They never change, so a keeper in memory shares them between copies. Asking for
+/// a day then takes no memory.
 pub(crate) enum BookRows {
     /// Each copy has its own.
     Own(Vec<(u16, Version)>),
-    /// Copies have the same ones.
+    /// Copies share them.
     Shared(Rc<Vec<(u16, Version)>>),
-    /// One of each interval of a length, from 1 on, all under one update. Its readings lie as a file stated them, and copies share
-    /// them.
+    /// One for each interval of a length, from 1 on, all under one update. Its readings are kept as a file stated them, and copies
+    /// share them.
     Whole(Length, Moment, Rc<DayReadings>),
 }
 
-// Written out, so that it is one call for whoever drops a book.
+// Written out, so that code that drops a book makes one call.
 impl Drop for BookRows {
     fn drop(self) {
         match self {
@@ -33,17 +33,17 @@ impl Drop for BookRows {
     }
 }
 
-/// The rows of a book, lent as they lie.
+/// The borrowed rows of a book, in the form in which it keeps them.
 #[derive(Clone, Copy)]
 pub(crate) enum LentRows<'a> {
     /// These.
     Each(&'a [(u16, Version)]),
-    /// One of each interval of a length, from 1 on, all under one update.
+    /// One for each interval of a length, from 1 on, all under one update.
     Whole(Length, Moment, &'a DayReadings),
 }
 
 impl BookRows {
-    /// One of each interval of a length under an update, kept as they lie.
+    /// One for each interval of a length under an update, kept as `DayReadings`.
     pub(crate) fn whole(
         alloc: Global,
         length: Length,
@@ -57,7 +57,7 @@ impl BookRows {
         Ok(BookRows::Whole(length, update, readings))
     }
 
-    /// The rows, as they lie.
+    /// The rows, in the form in which they are kept.
     pub(crate) fn lent(&self) -> LentRows<'_>
         ensures rows { lent_rows result ≡ kept_rows self.now }
         ensures whole { lent_whole result ≡ kept_whole self.now }
@@ -71,7 +71,7 @@ impl BookRows {
         }
     }
 
-    /// The same rows, shared with each copy from now on.
+    /// The same rows, shared between copies from now on.
     pub(crate) fn into_shared(self, alloc: Global) -> Result<BookRows, AllocError>
         ensures { IfOk result (λ rows. (kept_rows rows ≡ kept_rows self) × (kept_whole rows ≡ kept_whole self)) }
     {
@@ -87,7 +87,7 @@ impl BookRows {
         }
     }
 
-    /// A copy. It takes memory only where there is a row. Where the rows are shared it takes none, but no clause says so.
+    /// A copy. Takes memory only if there are rows. If the rows are shared it takes none, but no clause says so.
     pub(crate) fn try_clone(&self, alloc: Global) -> Result<BookRows, AllocError>
         requires { (minutes : ℕ) → kept_whole self.now ≢ Some (minutes, 0) }
         ensures value { IfOk result (λ rows. (kept_rows rows ≡ kept_rows self.now)
@@ -109,7 +109,7 @@ impl BookRows {
     }
 }
 
-/// A copy of versions. It takes memory only where there is one.
+/// A copy of versions. Takes memory only if there are any.
 pub(crate) fn copied(
     alloc: Global,
     rows: &[(u16, Version)],

@@ -1,4 +1,4 @@
-//! What a line claims of a day.
+//! What a line claims about a day.
 
 ghost use Rattle.std.specs.Prelude.{◌≡◌, ◌<◌, IfOk, OnErr, length as size};
 ghost use Rattle.mds_calendar.specs.Length.{count_of};
@@ -8,8 +8,8 @@ use mds_runs::DayReadings;
 use mds_terms::{Length, Moment};
 use std::alloc::{AllocError, Global};
 
-/// What a line of a file claims of a day of a stream. It has the day's unit, and under an update the
-/// length of intervals and the reading of each.
+/// What a line of a file claims about a day of a stream. It has the day's unit, and under an update
+/// the length of intervals and the reading of each.
 #[derive(Drop)]
 pub struct Claim {
     /// The number of the line, from 1.
@@ -23,7 +23,7 @@ pub struct Claim {
 }
 
 impl Claim {
-    /// The same claim once more. It takes memory only where there is a reading.
+    /// A copy of the claim. Takes memory only if there are readings.
     pub fn try_clone(&self, alloc: Global) -> Result<Claim, AllocError>
         ensures value { IfOk result (λ claim. (claim.line ≡ self.now.line) × (claim.length ≡ self.now.length)
             × (claim.unit ≡ self.now.unit) × (claim.update ≡ self.now.update)

@@ -1,4 +1,4 @@
-//! What lines claim of a day, update by update.
+//! What lines claim about a day, by updates.
 
 ghost use Rattle.std.specs.Prelude.{◌≡◌, [], IfNone, IfSome, None, OnErr, OnOk};
 ghost use Rattle.mds_world.specs.Lists.{Member};
@@ -11,7 +11,7 @@ use std::alloc::{AllocError, Global};
 use std::collections::BTreeMap;
 use std::marker::Model;
 
-/// What is kept of each update that was claimed of a day. Nearly every day is claimed under one update, which lies here and takes no
+/// What is kept of each update claimed for a day. Nearly every day is claimed under one update, which is stored here and takes no
 /// memory.
 #[derive(Drop)]
 pub(crate) struct ClaimedUpdates {
@@ -26,8 +26,8 @@ pub(crate) struct ClaimedUpdate {
     pub(crate) kept: ClaimedReadings,
 }
 
-/// What is kept of the readings of an update: their length, and a reading for each interval. None are kept where the day's book has
-/// all of them.
+/// What is kept of the readings of an update: their length, and a reading for each interval. `readings` is `None` if the day's book
+/// has all of them.
 #[derive(Drop)]
 pub(crate) struct ClaimedReadings {
     pub(crate) length: Length,
@@ -57,7 +57,7 @@ impl ClaimedUpdates {
         }
     }
 
-    /// What is kept of the readings claimed under an update. `None` where nothing was claimed under it.
+    /// What is kept of the readings claimed under an update. `None` if nothing was claimed under it.
     pub(crate) fn get(&self, update: Moment) -> Option<&ClaimedReadings>
         ensures some { IfSome result (λ kept. Member (update, kept.now) self.now) }
         ensures none { IfNone result ((kept : ClaimedReadingsValue) → Member (update, kept) self.now → ⊥) }
@@ -67,13 +67,12 @@ impl ClaimedUpdates {
                 return Some(&first.kept);
             }
         }
-        // For the proof: the order of updates is a total one, by which the map finds this one.
+        // For the proof: the order of updates is total, so the map finds this one.
         update.seconds();
         self.others.get(&update)
     }
 
-    /// Keeps this of the readings claimed under an update, under which nothing was claimed yet. After want of memory nothing has
-    /// changed.
+    /// Keeps this for an update, under which nothing was claimed yet. After an error nothing has changed.
     pub(crate) fn insert(&mut self, update: Moment, kept: ClaimedReadings) -> Result<(), AllocError>
         requires { (other : ClaimedReadingsValue) → Member (update, other) self.old → ⊥ }
         ensures done { OnOk result (ComesBeside self.old self.new (update, kept)) }
@@ -83,13 +82,13 @@ impl ClaimedUpdates {
             self.first = Some(ClaimedUpdate { update, kept });
             return Ok(());
         }
-        // For the proof: the order of updates is a total one, by which the map finds this one.
+        // For the proof: the order of updates is total, so the map finds this one.
         update.seconds();
         self.others.insert(update, kept)?;
         Ok(())
     }
 
-    /// The first update, and the others. Without a first one there are none.
+    /// The first update, and the others. Without a first one there are no others.
     pub(crate) fn into_parts(self) -> (Option<ClaimedUpdate>, BTreeMap<Moment, ClaimedReadings>)
         ensures value { entries_of result.0 result.1.entries ≡ self }
         ensures none { result.0 ≡ None → self ≡ [] }

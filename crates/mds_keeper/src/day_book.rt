@@ -41,15 +41,15 @@ pub struct Version {
     pub reading: Reading,
 }
 
-/// A day of a stream: its unit, where it is known, and all versions of its intervals, as a lawful
-/// World holds them. Its heads are those of its versions.
+/// A day of a stream: its unit, if it is known, and all versions of its intervals, as a lawful World holds them. Its heads are those
+/// of its versions.
 #[derive(Drop)]
 pub struct DayBook {
     stream: Stream,
     day: Day,
-    /// The length under the greatest update, and the unit, where the day is known.
+    /// The length under the greatest update, and the unit, if the day is known.
     form: Option<(Length, Unit)>,
-    /// By interval, from 1, and then by update; no two are of one interval and update.
+    /// By interval, from 1, and then by update. No two have the same interval and update.
     rows: BookRows,
 }
 
@@ -67,10 +67,9 @@ impl Model for DayBook {
 }
 
 impl DayBook {
-    /// The day of a stream that has this unit, where it is known, and these versions, each with the
-    /// number of its interval. `None` where no lawful World holds that as this day. Then there is a
-    /// version and no unit, or versions of one update are of two lengths. Or an interval has two
-    /// readings under one update, or is 0 or above the count of its length.
+    /// The day of a stream that has this unit, if it is known, and these versions, each with the number of its interval. `None` if
+    /// no lawful World holds that as this day. Then there are versions without a unit, or versions of two lengths under one update.
+    /// Or an interval has two readings under one update, or is 0 or above the count of its length.
     pub fn new(
         stream: Stream,
         day: Day,
@@ -98,7 +97,7 @@ impl DayBook {
         })
     }
 
-    /// The book of a day of which nothing is known.
+    /// The book of an unknown day.
     pub fn unknown(alloc: Global, stream: Stream, day: Day) -> DayBook
         ensures of_day { (result.stream ≡ stream) × (result.day ≡ day) }
         ensures empty { book_world result ≡ set.empty }
@@ -109,8 +108,8 @@ impl DayBook {
         book
     }
 
-    /// The same day of versions that come in either form. Those that are one of each interval of their length are kept as they
-    /// lie. It fails only for want of memory.
+    /// The same day from versions in either form. Those that are one for each interval of their length are kept as `DayReadings`. It
+    /// fails only if memory is refused.
     pub fn of_rows(
         alloc: Global,
         stream: Stream,
@@ -123,7 +122,7 @@ impl DayBook {
         rows.into_book(alloc, stream, day, unit)
     }
 
-    /// The same day of a version of each interval of a length, from 1 on, all under one update.
+    /// The same day from a version of each interval of a length, from 1 on, all under one update.
     pub(crate) fn of_readings(
         alloc: Global,
         stream: Stream,
@@ -150,7 +149,7 @@ impl DayBook {
         Ok(DayBook::new(stream, day, unit, versions))
     }
 
-    /// A law: what a book says is a lawful World.
+    /// A law: the facts of a book are a lawful World.
     pub fn is_lawful(&self)
         ensures { IsLawful (book_world self.now) }
     {
@@ -172,20 +171,19 @@ impl DayBook {
         self.day
     }
 
-    /// The current length of its intervals, that of the greatest update, and its unit. `None` where
-    /// the day isn't known.
+    /// The current length of its intervals, which is that of the greatest update, and its unit. `None` if the day isn't known.
     pub fn form(&self) -> Option<(Length, Unit)>
         ensures some { IfSome result (λ form. IsFormOf (book_world self.now) self.now.stream self.now.day form.0 form.1) }
         ensures none { IfNone result (IsKnownDay (book_world self.now) self.now.stream self.now.day → ⊥) }
         ensures unit { unit_of result ≡ self.now.unit }
         ensures rows { IsFormOfRows result self.now.rows }
     {
-        // For the proof: what a book says is a lawful World.
+        // For the proof: the facts of a book are a lawful World.
         self.is_lawful();
         self.form
     }
 
-    /// Its unit. `None` where the day isn't known.
+    /// Its unit. `None` if the day isn't known.
     pub fn unit(&self) -> Option<Unit>
         ensures { result ≡ self.now.unit }
     {
@@ -198,7 +196,7 @@ impl DayBook {
         ensures { IsTrue result ↔ ((head : Head) × IsHeadOf (book_world self.now) self.now.stream self.now.day head
             × (1 ≤ interval) × (interval ≤ count_of head.length)) }
     {
-        // For the proof: what a book says is a lawful World.
+        // For the proof: the facts of a book are a lawful World.
         self.is_lawful();
         match self.lent_rows() {
             LentRows::Each(rows) => is_of_some(rows, interval),
@@ -206,7 +204,7 @@ impl DayBook {
         }
     }
 
-    /// The length under an update. `None` where it has no version under it.
+    /// The length under an update. `None` if it has no version under it.
     pub fn length_under(&self, update: Moment) -> Option<Length>
         ensures { IsLengthUnder self.now update result }
     {
@@ -218,8 +216,8 @@ impl DayBook {
         }
     }
 
-    /// The current version of an interval: of the day's length, that of the greatest update. `None`
-    /// where it has none, and its reading is bare N.
+    /// The current version of an interval: that of the day's length with the greatest update. `None` if it has no version; then
+    /// its reading is bare N.
     pub fn current(&self, interval: u16) -> Option<LentVersion<'_>>
         ensures some { IfSome result (λ version. (unit : MeasureUnit)
             × IsFormOf (book_world self.now) self.now.stream self.now.day version.length unit
@@ -230,7 +228,7 @@ impl DayBook {
             → HasNoVersion (book_world self.now) self.now.stream self.now.day minutes interval) }
         ensures reading { IsDayReading (book_world self.now) self.now.stream self.now.day interval (reading_of result) }
     {
-        // For the proof: what a book says is a lawful World.
+        // For the proof: the facts of a book are a lawful World.
         self.is_lawful();
         let (length, _) = self.form()?;
         match self.lent_rows() {
@@ -241,7 +239,7 @@ impl DayBook {
         }
     }
 
-    /// The version of an interval under an update. `None` where it has none.
+    /// The version of an interval under an update. `None` if it has none.
     pub fn under(&self, interval: u16, update: Moment) -> Option<LentVersion<'_>>
         ensures some { IfSome result (λ version. (version.update ≡ update)
             × (VersionIs (key_at self.now.stream self.now.day version.length interval update) (lent_reading version)
@@ -260,7 +258,7 @@ impl DayBook {
         }
     }
 
-    /// The greatest update among its current readings. `None` where the day isn't known.
+    /// The greatest update among its current readings. `None` if the day isn't known.
     pub fn latest_update(&self) -> Option<Moment>
         ensures some { IfSome result (λ update. (minutes : ℕ) (unit : MeasureUnit)
             → IsFormOf (book_world self.now) self.now.stream self.now.day minutes unit
@@ -268,7 +266,7 @@ impl DayBook {
         ensures known { IfSome result (λ _. IsKnownDay (book_world self.now) self.now.stream self.now.day) }
         ensures none { IfNone result (IsKnownDay (book_world self.now) self.now.stream self.now.day → ⊥) }
     {
-        // For the proof: what a book says is a lawful World.
+        // For the proof: the facts of a book are a lawful World.
         self.is_lawful();
         match self.lent_rows() {
             LentRows::Each(rows) => greatest_update(rows),
@@ -276,8 +274,8 @@ impl DayBook {
         }
     }
 
-    /// Copies of the versions of an interval, of whatever length and by ascending update, each with the interval's number. They take
-    /// memory only where there is one.
+    /// Copies of the versions of an interval, of any length and by ascending update, each with the interval's number. Takes memory
+    /// only if there are any.
     pub fn versions(&self, alloc: Global, interval: u16) -> Result<Vec<(u16, Version)>, AllocError>
         ensures value { IfOk result
             (λ rows. AreVersionsOf (book_world self.now) self.now.stream self.now.day interval rows.items) }
@@ -292,7 +290,7 @@ impl DayBook {
         }
     }
 
-    /// All its versions as they lie, by interval and then by update.
+    /// All its versions in the form in which they are kept, by interval and then by update.
     pub(crate) fn lent_rows(&self) -> LentRows<'_>
         ensures value { lent_rows result ≡ self.now.rows }
         ensures ascending { AllPairs IsBefore (lent_rows result) }
@@ -301,7 +299,7 @@ impl DayBook {
         self.rows.lent()
     }
 
-    /// A copy of all its versions, which is the caller's own. It takes memory only where there is one.
+    /// A copy of all its versions, owned by the caller. Takes memory only if there are any.
     pub fn copied_rows(&self, alloc: Global) -> Result<Vec<(u16, Version)>, AllocError>
         ensures value { IfOk result (λ rows. rows.items ≡ self.now.rows) }
         ensures memory { OnErr result (0 < length self.now.rows) }
@@ -330,7 +328,7 @@ impl DayBook {
         })
     }
 
-    /// A copy. It takes memory only where there is a row. Where the rows are shared it takes none, but no clause says so.
+    /// A copy. Takes memory only if there are rows. If the rows are shared it takes none, but no clause says so.
     pub fn try_clone(&self, alloc: Global) -> Result<DayBook, AllocError>
         ensures value { IfOk result (λ book. book ≡ self.now) }
         ensures memory { OnErr result (0 < length self.now.rows) }
@@ -344,7 +342,7 @@ impl DayBook {
     }
 }
 
-/// A version, lent.
+/// A borrowed version.
 fn lent(version: &Version) -> LentVersion<'_>
     ensures { (result.update ≡ version.now.update) × (result.length ≡ version.now.length)
         × (lent_reading result ≡ version.now.reading) }
@@ -357,7 +355,7 @@ fn lent(version: &Version) -> LentVersion<'_>
     }
 }
 
-/// The version of an interval of a length that stands last, among rows that ascend.
+/// The last version of an interval of a length, among rows that ascend.
 fn last_of(rows: &[(u16, Version)], length: Length, interval: u16) -> Option<LentVersion<'_>>
     requires { AllPairs IsBefore rows.now }
     ensures some { (book : BookValue) → book.rows ≡ rows.now → IfSome result (λ version. (version.length ≡ length)
@@ -402,7 +400,7 @@ fn row_under(rows: &[(u16, Version)], interval: u16, update: Moment) -> Option<L
     None
 }
 
-/// The version of an interval where each of a length has one, all under one update.
+/// The version of an interval if each of a length has one, all under one update.
 fn lent_at(
     length: Length,
     update: Moment,
@@ -425,7 +423,7 @@ fn lent_at(
     })
 }
 
-/// A copy of the version of an interval, with its number, where each of a length has one, all under one update.
+/// A copy of the version of an interval, with its number, if each of a length has one, all under one update.
 fn copied_at(
     alloc: Global,
     length: Length,
@@ -491,12 +489,12 @@ fn greatest_update(rows: &[(u16, Version)]) -> Option<Moment>
     rows.iter().map(|row| row.1.update).max()
 }
 
-/// The rows in order, each once. `None` where an interval has two readings under one update.
+/// The rows in order, each once. `None` if an interval has two readings under one update.
 fn in_order(mut rows: Vec<(u16, Version)>) -> Option<Vec<(u16, Version)>>
     ensures some { IfSome result (λ sorted. AllPairs IsBefore sorted.items × SameMembers rows.items sorted.items) }
     ensures none { IfNone result (TwoReadings rows.items) }
 {
-    // Those of one update come in order: then one pass is all.
+    // Those of one update come in order: then this pass is enough.
     if do_ascend(&rows) {
         return Some(rows);
     }
@@ -504,14 +502,14 @@ fn in_order(mut rows: Vec<(u16, Version)>) -> Option<Vec<(u16, Version)>>
     if do_ascend(&rows) { Some(rows) } else { None }
 }
 
-/// Whether each row stands before the next.
+/// Whether each row comes before the next.
 fn do_ascend(rows: &[(u16, Version)]) -> bool
     ensures { MatchBool result (AllPairs IsBefore rows.now) (HasStep rows.now) }
 {
     rows.is_sorted_by(|a, b| order_of(a, b).is_lt())
 }
 
-/// Sorts the rows, and takes out those that stand there twice.
+/// Sorts the rows, and removes duplicates.
 fn put_in_order(rows: &mut Vec<(u16, Version)>)
     ensures members { SameMembers rows.old.items rows.new.items }
     ensures sorted { IsInOrder rows.new.items }
@@ -537,7 +535,7 @@ fn is_same(a: &(u16, Version), b: &(u16, Version)) -> bool
         && a.1.reading.is_same(&b.1.reading)
 }
 
-/// Whether an interval is one of a length.
+/// Whether an interval is one of a day with this length.
 fn is_of(length: Length, interval: u16) -> bool
     ensures { IsTrue result ↔ ((1 ≤ interval) × (interval ≤ count_of length)) }
 {
@@ -556,7 +554,7 @@ fn is_of_some(rows: &[(u16, Version)], interval: u16) -> bool
     false
 }
 
-/// Whether rows of one update are of one length. Rows of more than one length are put in the order of their updates for that.
+/// Whether rows of the same update have the same length. If there are several lengths, the rows are sorted by update for that.
 fn have_one_length(rows: &mut Vec<(u16, Version)>) -> bool
     ensures members { SameMembers rows.old.items rows.new.items }
     ensures lengths { MatchBool result (OneLength rows.old.items) (TwoLengths rows.old.items) }
@@ -568,7 +566,7 @@ fn have_one_length(rows: &mut Vec<(u16, Version)>) -> bool
     agree_with_next(rows)
 }
 
-/// Whether rows that ascend, those of one update of one length, are those of a day with this unit.
+/// Whether rows that ascend, with one length under each update, are those of a day with this unit.
 fn fit(unit: Option<Unit>, rows: &[(u16, Version)]) -> bool
     requires { OneLength rows.now }
     ensures { MatchBool result (Fits unit rows.now) (Misfits unit rows.now) }
@@ -579,7 +577,7 @@ fn fit(unit: Option<Unit>, rows: &[(u16, Version)]) -> bool
     are_within(rows)
 }
 
-/// Puts the rows in the order of their updates.
+/// Sorts the rows by update.
 fn put_by_update(rows: &mut Vec<(u16, Version)>)
     ensures members { SameMembers rows.old.items rows.new.items }
     ensures sorted { AscendByUpdate rows.new.items }
@@ -587,16 +585,16 @@ fn put_by_update(rows: &mut Vec<(u16, Version)>)
     rows.sort_unstable_by(|a, b| a.1.update.cmp(&b.1.update));
 }
 
-/// Whether rows in the order of their updates, those of one update, are of one length.
+/// Whether rows sorted by update have one length under each update.
 fn agree_with_next(rows: &[(u16, Version)]) -> bool
     requires { AscendByUpdate rows.now }
     ensures { MatchBool result (OneLength rows.now) (TwoLengths rows.now) }
 {
-    // It asks of each row and the next.
+    // It compares each row with the next.
     rows.is_sorted_by(|a, b| agree(a, b))
 }
 
-/// Whether two rows are of two updates, or of one length.
+/// Whether two rows have different updates, or the same length.
 fn agree(a: &(u16, Version), b: &(u16, Version)) -> bool
     ensures { result ≡ agrees a.now b.now }
 {
@@ -618,7 +616,7 @@ fn are_within(rows: &[(u16, Version)]) -> bool
     true
 }
 
-/// Whether all rows are of one length.
+/// Whether all rows have the same length.
 fn are_of_one_length(rows: &[(u16, Version)]) -> bool
     ensures { IsTrue result → OneLength rows.now }
 {
@@ -633,7 +631,7 @@ fn are_of_one_length(rows: &[(u16, Version)]) -> bool
     true
 }
 
-/// The length under the greatest update of rows, and the unit. `None` where there is no row.
+/// The length under the greatest update of rows, and the unit. `None` if there are no rows.
 fn form_of(unit: Option<Unit>, rows: &[(u16, Version)]) -> Option<(Length, Unit)>
     requires { Fits unit rows.now }
     ensures form { IsFormOfRows result rows.now }

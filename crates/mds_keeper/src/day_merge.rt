@@ -1,4 +1,4 @@
-//! A day of the store with what the lines so far claim of it.
+//! A day of the store with what the lines so far claim about it.
 
 ghost use Rattle.std.specs.Prelude.{◌≡◌, ◌≢◌, ◌+◌, ◌<◌, ◌≤◌, ℕ, ◌++◌, cond, false, length, Err, IsTrue, IfOk, IfErr, IfSome, IfNone, IsNone, None, OnErr, OnOk, Some, []};
 ghost use Rattle.std.specs.List.{AllPairs, slice_get};
@@ -37,12 +37,12 @@ use std::alloc::{AllocError, AllocFailed, Global};
 use std::collections::BTreeMap;
 use std::marker::Model;
 
-/// Why a claim isn't taken.
+/// Why a claim is refused.
 #[derive(Clone, Copy, Debug)]
 pub enum Stop {
     /// It breaks a rule.
     Refused(Refusal),
-    /// There was no memory, or the keeper can't answer.
+    /// Out of memory, or the keeper can't answer.
     Memory,
 }
 
@@ -70,22 +70,21 @@ impl From<Unavailable> for Stop {
     }
 }
 
-/// How many of the versions that were claimed of a day its book didn't have, which are added, and how
-/// many it had.
+/// How many of the versions claimed for a day are missing in its book, and so added, and how many the book has.
 #[derive(Clone, Copy)]
 pub struct MergeCounts {
     pub added: u64,
     pub known: u64,
 }
 
-/// A day's book, and what lines claim of the day beside it.
+/// A day's book, and what lines claim about the day in addition.
 #[derive(Drop)]
 pub struct DayMerge {
     book: DayBook,
     /// The unit of the book, or of the first claim.
     unit: Option<Unit>,
     claimed: ClaimedUpdates,
-    /// How many of the readings claimed the book has.
+    /// How many of the claimed readings the book has.
     held: u64,
     /// How many of them it doesn't have.
     fresh: u64,
@@ -106,8 +105,8 @@ impl Model for DayMerge {
         × AreCounts d.book (claimed_entries d.book d.claimed) d.held d.fresh };
 }
 
-/// The rule that a length and a unit break (M1, M2). The length is held against the one that is known
-/// under its update, and then the unit against the day's.
+/// The rule that a length and a unit break (M1, M2). The length is compared with the one known under its update, and then the unit
+/// with the day's.
 pub fn head_conflict(
     known: Option<Length>,
     of_day: Option<Unit>,
@@ -130,7 +129,7 @@ pub fn head_conflict(
     None
 }
 
-/// The refusal of a line that has another reading of an interval than is known under its update (M3).
+/// The refusal of a line with another reading of an interval than the one known under its update (M3).
 fn conflict(line: u64, interval: u16) -> Stop
     ensures { result ≡ Refused (record { code = VersionConflict; line = line; field = 0; interval = interval }) }
 {
@@ -147,7 +146,7 @@ fn has_reading(
 ) -> bool
     ensures { result ≡ is_held book.now length update interval reading.now }
 {
-    // For the proof: what a book says is a lawful World.
+    // For the proof: the facts of a book are a lawful World.
     book.is_lawful();
     match book.under(interval, update) {
         Some(held) => {
@@ -160,7 +159,7 @@ fn has_reading(
     }
 }
 
-/// The rows without those at their start that are of intervals before this one.
+/// The rows without those at the start whose intervals come before this one.
 fn rows_from(rows: &[(u16, Version)], interval: u16) -> &[(u16, Version)]
     requires { AllPairs IsBefore rows.now }
     ensures { IsFrom rows.now interval result.now }
@@ -175,7 +174,7 @@ fn rows_from(rows: &[(u16, Version)], interval: u16) -> &[(u16, Version)]
     left
 }
 
-/// The reading under an update that rows from an interval on have of this interval.
+/// The reading of this interval under an update, among rows from an interval on.
 fn reading_at(rows: &[(u16, Version)], interval: u16, update: Moment) -> Option<&Reading>
     requires { IsFrom rows.now interval rows.now }
     ensures some { IfSome result (λ reading. (minutes : ℕ) × Member (row_of minutes interval update reading.now) rows.now) }
@@ -195,8 +194,8 @@ fn reading_at(rows: &[(u16, Version)], interval: u16, update: Moment) -> Option<
     None
 }
 
-/// 1 where a book has the reading at this index under an update, and 0 where it has none of the interval. `None` where it has
-/// another. It looks at the book's rows from the interval on, which is the index and one.
+/// 1 if a book has the reading at this index under an update, and 0 if it has none of the interval. `None` if it has another. It
+/// looks at the book's rows from the interval on, whose number is the index plus one.
 fn count_at(
     book: &DayBook,
     rows: &[(u16, Version)],
@@ -218,7 +217,7 @@ fn count_at(
         → (other : ReadingValue) × (VersionIs (key_of book.now minutes (at + 1) update) other ∈ book_world book.now)
         × (other ≢ reading)) }
 {
-    // For the proof: what a book says is a lawful World.
+    // For the proof: the facts of a book are a lawful World.
     book.is_lawful();
     let Some(kept) = reading_at(rows, (at + 1) as u16, update) else {
         return Some(0);
@@ -230,8 +229,8 @@ fn count_at(
     }
 }
 
-/// How many of the readings a book has under the update, or the first interval of which it has another. What the book has under the
-/// update is of the readings' length.
+/// How many of the readings a book has under the update, or the first interval for which it has another reading. Its rows under the
+/// update have the readings' length.
 fn count_held(book: &DayBook, update: Moment, readings: &DayReadings) -> Result<u64, u16>
     requires few { length readings.now ≤ 1440 }
     requires whole { AreAsMany book.now update (length readings.now) }
@@ -248,7 +247,7 @@ fn count_held(book: &DayBook, update: Moment, readings: &DayReadings) -> Result<
     }
 }
 
-/// The same of a book that has these readings, one of each interval of a length under the update, and no others.
+/// The same for a book that has these readings, one for each interval of a length under the update, and no others.
 fn count_in_whole(
     book: &DayBook,
     of_known: Length,
@@ -268,7 +267,7 @@ fn count_in_whole(
     }
 }
 
-/// The same of a book that has these rows. It goes down the rows and the readings side by side.
+/// The same for a book with these rows. It walks over the rows and the readings in parallel.
 fn count_in_rows(
     book: &DayBook,
     rows: &[(u16, Version)],
@@ -296,8 +295,8 @@ fn count_in_rows(
     Ok(held)
 }
 
-/// The first interval of which a claim has another reading than one under the same update, of which
-/// the book has all readings.
+/// The first interval where a claim's reading differs from that of an earlier claim under the same update. The book has all
+/// readings of the earlier one.
 fn difference_in(book: &DayBook, update: Moment, readings: &DayReadings) -> Option<u16>
     requires as_many { length (readings_under update book.now.rows) ≡ length readings.now }
     requires few { length readings.now ≤ 1440 }
@@ -308,7 +307,7 @@ fn difference_in(book: &DayBook, update: Moment, readings: &DayReadings) -> Opti
     ensures none { IfNone result ((k : ℕ)
         → slice_get (readings_under update book.now.rows) k ≡ slice_get readings.now k) }
 {
-    // For the proof: what a book says is a lawful World.
+    // For the proof: the facts of a book are a lawful World.
     book.is_lawful();
     match count_held(book, update, readings) {
         Ok(_) => None,
@@ -316,7 +315,7 @@ fn difference_in(book: &DayBook, update: Moment, readings: &DayReadings) -> Opti
     }
 }
 
-/// The first interval of which two claims under one update have other readings.
+/// The first interval with different readings in two claims under one update.
 fn difference_between(claimed: &DayReadings, readings: &DayReadings) -> Option<u16>
     requires as_many { length claimed.now ≡ length readings.now }
     requires few { length readings.now ≤ 1440 }
@@ -330,8 +329,8 @@ fn difference_between(claimed: &DayReadings, readings: &DayReadings) -> Option<u
     }
 }
 
-/// The first interval of which a claim has another reading than one under the same update, by what
-/// is kept of that.
+/// The first interval where a claim's reading differs from that of an earlier claim, by what is kept of the earlier one. Both are
+/// under the same update.
 fn difference(
     book: &DayBook,
     update: Moment,
@@ -354,14 +353,14 @@ fn difference(
     }
 }
 
-/// What is kept of a claim's readings, of which a book has so many: none where it has all.
+/// What is kept of a claim's readings, `held` of which are in the book: nothing if it has all.
 fn kept_of(book: &DayBook, update: Moment, held: u64, readings: DayReadings) -> Option<DayReadings>
     requires held { (minutes : ℕ) → AreOfLength book.now minutes update → held ≡ held_count book.now minutes update 1 readings }
     requires whole { AreAsMany book.now update (length readings) }
     ensures same { (minutes : ℕ) → AreOfLength book.now minutes update → claimed_readings book.now update result ≡ readings }
     ensures kept { (minutes : ℕ) → AreOfLength book.now minutes update → IsNone result → IsInBook book.now minutes update }
 {
-    // For the proof: what a book says is a lawful World, and its rows ascend.
+    // For the proof: the facts of a book are a lawful World, and its rows ascend.
     book.is_lawful();
     book.lent_rows();
     let has_all = held == readings.len() as u64;
@@ -371,8 +370,8 @@ fn kept_of(book: &DayBook, update: Moment, held: u64, readings: DayReadings) -> 
     Some(readings)
 }
 
-/// Puts the head of an update behind the heads to be added, where a book has no row of it. The first of
-/// a day that isn't known goes behind those of new days.
+/// Appends the head of an update to the heads to be added, if a book has no row of it. The first head of a day that isn't known
+/// goes to those of new days.
 fn settle_head(
     book: &DayBook,
     unit: Unit,
@@ -402,7 +401,7 @@ fn settle_head(
     Ok(())
 }
 
-/// Puts the readings of an update behind the days to be added, as they lie. A book has none of them. There is one of each interval
+/// Appends the readings of an update, unchanged, to the days to be added. A book has none of them. There is one for each interval
 /// of their length.
 fn settle_whole(
     book: &DayBook,
@@ -426,7 +425,7 @@ fn settle_whole(
     Ok(())
 }
 
-/// Puts copies of the readings of an update that a book doesn't have behind the days to be added, where there are such.
+/// Appends copies of those readings of an update that a book doesn't have to the days to be added, if there are any.
 fn settle_some(
     alloc: Global,
     book: &DayBook,
@@ -466,9 +465,8 @@ fn settle_some(
     Ok(())
 }
 
-/// Puts the head of an update and those of its readings that a book doesn't have behind what is to be
-/// added. Where no readings are kept, the book has them all, and the head. Where all that was claimed
-/// is new, nothing is looked up or copied.
+/// Appends the head of an update and those of its readings that a book doesn't have to the additions. If no readings are kept, the
+/// book has them all, and the head. If all that was claimed is new, nothing is looked up or copied.
 fn settle_update(
     alloc: Global,
     book: &DayBook,
@@ -500,7 +498,7 @@ fn settle_update(
     Ok(())
 }
 
-/// The same for updates that lie in a map, none of which is the first of a day that isn't known.
+/// The same for updates in a map, none of which is the first of a day that isn't known.
 fn settle_others(
     alloc: Global,
     book: &DayBook,
@@ -523,9 +521,8 @@ fn settle_others(
     Ok(())
 }
 
-/// Puts the heads and the readings claimed that a book doesn't have behind what is to be added. So many
-/// readings are in the book and so many aren't: nothing is looked at where all are. Where something is
-/// claimed there is a unit. A new day's book has no row.
+/// Appends the claimed heads and readings that a book doesn't have to the additions. `held` readings are in the book and `fresh`
+/// ones aren't: if all are in it, nothing is looked at. If something is claimed there is a unit. A new day's book has no rows.
 fn settle_fresh(
     alloc: Global,
     book: &DayBook,
@@ -566,7 +563,7 @@ fn settle_fresh(
     Ok(())
 }
 
-/// The length under an update: that of what was claimed under it, or of what the book has.
+/// The length under an update: that of what was claimed under it, or of the book's rows.
 fn known_length(book: &DayBook, claimed: &ClaimedUpdates, update: Moment) -> Option<Length>
     ensures { IsKnownLength book.now (claimed_entries book.now claimed.now) update result }
 {
@@ -577,11 +574,11 @@ fn known_length(book: &DayBook, claimed: &ClaimedUpdates, update: Moment) -> Opt
 }
 
 impl DayMerge {
-    /// A day of the store, of which nothing was claimed yet.
+    /// A day of the store, for which nothing was claimed yet.
     pub fn new(alloc: Global, book: DayBook) -> DayMerge
         ensures { result ≡ record { book = book; said = set.empty } }
     {
-        // For the proof: what a book says is a lawful World, and a book with a unit has a row.
+        // For the proof: the facts of a book are a lawful World, and a book with a unit has a row.
         book.is_lawful();
         book.form();
         let unit = book.unit();
@@ -594,8 +591,7 @@ impl DayMerge {
         }
     }
 
-    /// Takes what a line claims of the day beside what the lines before it did, or says which rule
-    /// that breaks first.
+    /// Takes what a line claims about the day in addition to the lines before it, or returns the first rule that it breaks.
     pub fn take(&mut self, claim: Claim) -> Result<(), Stop>
         ensures ok { OnOk result ((self.new.book ≡ self.old.book)
             × (self.new.said ≡ union self.old.said (claim_world self.old.book.stream self.old.book.day claim))
@@ -606,7 +602,7 @@ impl DayMerge {
             (claim_world self.old.book.stream self.old.book.day claim))) refusal.code refusal.interval)) }
         ensures kept { IfErr result (λ stop. self.new ≡ self.old) }
 
-        // Memory is wanting only for a claim that breaks no rule, and of whose update nothing was said.
+        // Memory may run out only for a claim that breaks no rule, and for whose update nothing was claimed.
         ensures agrees { result ≡ Err Stop.Memory → Agrees (union (book_world self.old.book) (union self.old.said
             (claim_world self.old.book.stream self.old.book.day claim))) }
         ensures unsaid { result ≡ Err Stop.Memory → (minutes interval : ℕ) (reading : ReadingValue)
@@ -619,7 +615,7 @@ impl DayMerge {
             update,
             readings,
         } = claim;
-        // For the proof: what a book says is a lawful World, and a day has intervals of each length.
+        // For the proof: the facts of a book are a lawful World, and a day has intervals of each length.
         self.book.is_lawful();
         length.count();
         let known = known_length(&self.book, &self.claimed, update);
@@ -637,7 +633,7 @@ impl DayMerge {
             Err(interval) => return Err(conflict(line, interval)),
         };
         let fresh = readings.len() as u64 - held;
-        // There are fewer readings than 2^64 in a file.
+        // A file has fewer than 2^64 readings.
         let Some(all_held) = self.held.checked_add(held) else {
             return Err(Stop::Memory);
         };
@@ -653,8 +649,8 @@ impl DayMerge {
         Ok(())
     }
 
-    /// Puts what is claimed and isn't in the book behind what is to be added. It takes memory only where a version is new. Where
-    /// memory is wanting, a part of it may stand there.
+    /// Appends what is claimed and isn't in the book to the additions. Takes memory only if a version is new. After an error a part
+    /// of it may be there.
     pub fn settle(self, alloc: Global, additions: &mut Additions) -> Result<MergeCounts, AllocError>
         ensures ok { IfOk result (Settles self additions.old additions.new) }
         ensures kept { OnErr result (GoesOn additions.old additions.new) }
@@ -667,7 +663,7 @@ impl DayMerge {
             held,
             fresh,
         } = self;
-        // For the proof: what a book says is a lawful World.
+        // For the proof: the facts of a book are a lawful World.
         book.is_lawful();
         let is_new_day = book.form().is_none();
         settle_fresh(
@@ -681,8 +677,8 @@ impl DayMerge {
 }
 
 impl DayBook {
-    /// What claims of this day add to it, each once, or the first rule that one of them breaks. The claims come in the
-    /// order of their lines, as a file has them. The refused line is then the first that is reached.
+    /// What claims about this day add to it, each once, or the first rule that one of them breaks. The claims come in the order of
+    /// their lines, as a file has them. So the refused line is the first one reached.
     pub fn plan(&self, alloc: Global, claims: &[Claim]) -> Result<Additions, Stop>
         requires lines { AreAscending claims.now }
         ensures ok { IfOk result
@@ -690,7 +686,7 @@ impl DayBook {
         ensures refused { IfErr result (λ stop. IfRefused stop
             (IsRefusal (book_world self.now) (claims_upto self.now.stream self.now.day claims.now))) }
     {
-        // For the proof: what a book says is a lawful World.
+        // For the proof: the facts of a book are a lawful World.
         self.is_lawful();
         let book = self.try_clone(alloc)?;
         let mut merge = DayMerge::new(alloc, book);

@@ -1,4 +1,4 @@
-//! Who keeps a World.
+//! The trait of keepers of a World.
 
 ghost use Rattle.std.specs.Prelude.{◌≡◌, ◌↔◌, IsTrue, IfOk};
 ghost use Rattle.mds_world.specs.Current.{IsCurrentDetails};
@@ -33,11 +33,10 @@ impl<T: Drop> From<AllocFailed<T>> for Unavailable {
     }
 }
 
-/// Keeps a World, however it does. Any call may be unavailable, and then nothing is changed.
+/// Keeps a World, in whatever way. Any call may return `Unavailable`, and then nothing is changed.
 ///
-/// A keeper is honest while what lies outside of it is: a disk gives back what was written to it, and nobody else writes
-/// there. It answers only where it is sound: honest, and not shut by a fault. What the clauses say of the World they say
-/// where the keeper is sound.
+/// A keeper is honest while what lies outside of it is: a disk returns what was written to it, and nobody else writes there. It
+/// answers only if it is sound: honest, and not shut by a fault. The clauses state something of the World if the keeper is sound.
 pub trait Keeper {
     /// What is kept, whether it is honest and sound, and what a crash may leave.
     ghost kept: { Self → Kept };
@@ -47,7 +46,7 @@ pub trait Keeper {
         ensures of_day { IfOk result (λ book. (book.stream ≡ stream) × (book.day ≡ day)) }
         ensures book { Asks (kept self.old) (kept self.new) result IsDay };
 
-    /// The known days of a stream from a first to a last one, ascending.
+    /// The known days of a stream from `first` to `last`, ascending.
     fn days(&mut self, stream: Stream, first: Day, last: Day) -> Result<Vec<DayBook>, Unavailable>
         ensures { Asks (kept self.old) (kept self.new) result (λ w books. AreDaysOf w stream first last books.items) };
 
@@ -55,16 +54,16 @@ pub trait Keeper {
     fn streams(&mut self) -> Result<Vec<Stream>, Unavailable>
         ensures { Asks (kept self.old) (kept self.new) result (λ w streams. AreKnownStreams w streams.items) };
 
-    /// The last known day of a stream. `None` where it has none.
+    /// The last known day of a stream. `None` if it has none.
     fn last_day(&mut self, stream: Stream) -> Result<Option<Day>, Unavailable>
         ensures { Asks (kept self.old) (kept self.new) result (λ w. IsLastDayOf w stream) };
 
-    /// The current details of a day of a stream. They are its own, or those of the nearest earlier day that has some. The day need not
-    /// be known.
+    /// The current details of a day of a stream: its own, or those of the nearest earlier day that has some. The day need not be
+    /// known.
     fn details(&mut self, stream: Stream, day: Day) -> Result<Details, Unavailable>
         ensures { Asks (kept self.old) (kept self.new) result (λ w. IsCurrentDetails w stream day) };
 
-    /// The current details of days of a range, ascending, each day once. Each day that has details of its own is there.
+    /// The current details of days in a range, ascending, each day once. Every day with details of its own is included.
     fn details_between(
         &mut self,
         stream: Stream,
@@ -73,7 +72,7 @@ pub trait Keeper {
     ) -> Result<Vec<(Day, Details)>, Unavailable>
         ensures { Asks (kept self.old) (kept self.new) result (λ w rows. AreDetailsBetween w stream first last rows.items) };
 
-    /// Those of the days that don't have these details yet, current or not. They are ascending, each once.
+    /// Those of the days that don't have these details yet, current or not. Ascending, each once.
     fn days_without(&mut self, details: &DetailDays) -> Result<Vec<Day>, Unavailable>
         ensures { Asks (kept self.old) (kept self.new) result (λ w days. AreDaysWithout w details.now days.items) };
 
@@ -89,7 +88,7 @@ pub trait Keeper {
     fn period(&mut self, stream: Stream) -> Result<Vec<Period>, Unavailable>
         ensures { Asks (kept self.old) (kept self.new) result (λ w periods. ArePeriodsOf w stream periods.items) };
 
-    /// What is kept of the accumulation of a key. `None` where there is none.
+    /// The content of the accumulation with a key. `None` if it isn't kept.
     fn content(&mut self, key: &PeriodKey) -> Result<Option<PeriodContent>, Unavailable>
         ensures { Asks (kept self.old) (kept self.new) result (λ w. IsContentOf w key.now) };
 
@@ -97,12 +96,11 @@ pub trait Keeper {
     fn holidays(&mut self) -> Result<Vec<Day>, Unavailable>
         ensures { Asks (kept self.old) (kept self.new) result (λ w days. AreHolidays w days.items) };
 
-    /// The substitution job of an id, with the count of the readings that it made. `None` where there is none.
+    /// The substitution job with an id, and the count of the readings that it made. `None` if it isn't kept.
     fn job(&mut self, id: JobId) -> Result<Option<(Job, u64)>, Unavailable>
         ensures { Asks (kept self.old) (kept self.new) result (λ w. IsJobOf w id) };
 
-    /// Adds what isn't there yet: all of it, or nothing where it is unavailable. A crash after that may leave it all the
-    /// same, whole.
+    /// Adds what isn't kept yet: all of it, or nothing if it returns `Unavailable`. Even then a crash may leave all of it.
     fn commit(&mut self, additions: Additions) -> Result<(), Unavailable>
         requires new { (kept self.old).sound → IsLawful (kept self.old).world → AreNew (kept self.old).world additions }
         requires lawful { (kept self.old).sound → IsLawful (kept self.old).world
@@ -110,7 +108,7 @@ pub trait Keeper {
         requires placed { (kept self.old).sound → IsLawful (kept self.old).world → AreInPlace (kept self.old).world additions }
         ensures { Adds (kept self.old) (kept self.new) result (content additions) };
 
-    /// What is sound is honest.
+    /// A sound keeper is honest.
     ghost sound_honest: { (keeper : Self) → (kept keeper).sound → (kept keeper).honest };
 
     /// While it is sound, a crash leaves what is kept.

@@ -8,20 +8,21 @@ use mds_quantity::Quantity;
 use mds_terms::{Length, Moment};
 use std::alloc::AllocError;
 
-/// A version of an interval, whose mark is lent. It takes no memory, however the book keeps its versions.
+/// A version of an interval, with a borrowed mark. It takes no memory, in whatever form the book keeps
+/// its versions.
 #[derive(Clone, Copy)]
 pub struct LentVersion<'a> {
     pub update: Moment,
     /// The length of the interval.
     pub length: Length,
     pub mark: &'a Mark,
-    /// The value under that mark, and none under N.
+    /// The value under that mark; `None` under N.
     pub value: Option<Quantity>,
     pub ghost together: { IsTrue (is_reading mark.now.quality.flag value) },
 }
 
 impl LentVersion<'_> {
-    /// A copy of its reading. It takes memory only for the text of a reason.
+    /// A copy of its reading. Takes memory only for the text of a reason.
     pub fn reading(&self) -> Result<Reading, AllocError>
         ensures value { IfOk result (λ reading. reading ≡ record { mark = self.now.mark.now; value = self.now.value }) }
         ensures only { OnErr result (0 < length self.now.mark.now.reason.text) }

@@ -1,11 +1,11 @@
-//! Why the machine refuses what a request says.
+//! Why the machine refuses a request.
 
 ghost use Rattle.std.specs.Prelude.{◌≡◌, ◌↔◌, IsTrue, Some};
 ghost use Rattle.mds_keeper.specs.Refusals.{code_text, refusal_text};
 
 use std::fmt;
 
-/// The rule that is broken, or what isn't there. Each is printed as its code.
+/// The rule that is broken, or what is missing. Each is printed as its code.
 #[derive(Clone, Copy, Debug, PartialEq, Eq)]
 pub enum RefusalCode {
     /// M1: a day has another length of intervals.
@@ -16,19 +16,19 @@ pub enum RefusalCode {
     VersionConflict,
     /// M4: another substitution job has the id.
     JobReused,
-    /// M5: an interval that is to be filled has an actual or a final reading.
+    /// M5: an interval to be filled in has an actual or a final reading.
     Protected,
-    /// M6: an interval that is to be filled has a version that isn't older.
+    /// M6: an interval to be filled in has a version that isn't older.
     StaleUpdate,
     /// M7: no like day has the values that are needed.
     NoLikeDay,
-    /// M8: more than two hours are to be filled by interpolation.
+    /// M8: interpolation would fill in more than two hours.
     TooLong,
-    /// M9: a value beside the gap isn't there to interpolate from.
+    /// M9: a value next to the gap is missing for the interpolation.
     NoAnchor,
     /// M10: the day isn't known, or it has no such interval.
     UnknownDay,
-    /// M11: a substitution job can't be done on any store.
+    /// M11: no store can do the substitution job.
     BadJob,
     /// M12: a range has more than 400 days, or an export more than eight suffixes.
     RangeTooWide,
@@ -42,7 +42,7 @@ impl RefusalCode {
         ensures { (a b : ARefusalCode) → IsTrue (⟦<RefusalCode as PartialEq>⟧.eq a b) ↔ (a ≡ b) }
     {}
 
-    /// Its code, as `M3`.
+    /// Its code, such as `M3`.
     pub fn text(self) -> &'static str
         ensures { result.now ≡ code_text self }
     {
@@ -71,7 +71,7 @@ impl fmt::Display for RefusalCode {
     }
 }
 
-/// A refusal, with where it stands. A number that doesn't apply is 0.
+/// A refusal, and where it is. A number that doesn't apply is 0.
 #[derive(Clone, Copy, Debug, PartialEq, Eq)]
 pub struct Refusal {
     pub code: RefusalCode,
@@ -103,7 +103,7 @@ impl Refusal {
         }
     }
 
-    /// A refusal of a line, at no interval of it.
+    /// A refusal of a line, not of one of its intervals.
     pub const fn at_line(code: RefusalCode, line: u64) -> Refusal
         ensures { result ≡ record { code = code; line = line; field = 0; interval = 0 } }
     {

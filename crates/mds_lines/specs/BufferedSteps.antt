@@ -12,13 +12,13 @@ abbrev pub is_found : Result Bool LineFault → Bool
 is_found (Ok found) = found
 is_found (Err fault) = false
 
--- the next line was found, or there is none
+-- the next line was found, or there are no more
 abbrev pub Finds : Result Bool LineFault → Buffered → Buffered → Option (List ℕ) → Option (List ℕ) → Type 0
 Finds result old new known_old known_new = IfOk result (λ found. MatchBool found
     (FindsLine old new (text_left old known_old) (text_left new known_new))
     (FindsEnd old new (text_left old known_old) (text_left new known_new)))
 
--- the text that is still to come stays as it was
+-- the rest of the text is unchanged
 abbrev pub KeepsLeft : Buffered → Buffered → Option (List ℕ) → Option (List ℕ) → Type 0
 KeepsLeft old new known_old known_new = Keeps (text_left old known_old) (text_left new known_new)
 
@@ -39,7 +39,8 @@ pub record TakesPiece (old new : Buffered) (n : ℕ) : Type 0 where
   pub short : n ≤ longest_line
   pub few : new.number ≤ most_lines
 
--- the source was read once, and its bytes stand after the pending ones: where it gave none it has ended, or failed
+-- the source was read once, and its bytes were added after the pending ones: if there were none, it has ended or
+-- failed
 pub record Fills {S : Type 0} (gives : S → List ℕ → S → Type 0) (source_old source_new : S)
     (old new : Buffered) (is_read : Bool) : Type 0 where
   pub bytes : List ℕ
@@ -47,7 +48,7 @@ pub record Fills {S : Type 0} (gives : S → List ℕ → S → Type 0) (source_
   pub more : new.pending ≡ old.pending ++ bytes
   pub ended : is_read ≡ true → new.is_ended ≡ (length bytes == 0)
 
--- the source was read as often as was needed, and all its bytes stand after the pending ones
+-- the source was read as often as needed, and all its bytes were added after the pending ones
 pub record Gathers {S : Type 0} (gives : S → List ℕ → S → Type 0) (source_old source_new : S)
     (old new : Buffered) : Type 0 where
   pub given : List (List ℕ)

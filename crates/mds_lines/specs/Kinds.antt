@@ -11,7 +11,7 @@ use Rattle.mds_lines.specs.Lines.{field}
 abbrev pub is_text : List ℕ → Bool
 is_text bytes = utf8_valid_len bytes == length bytes
 
--- the kind that a record indicator names
+-- the kind named by a record indicator
 abbrev pub kind_named : List ℕ → Option Kind
 kind_named indicator =
     if bytes_eq indicator (codes "100") then Some Header
@@ -24,6 +24,7 @@ kind_named indicator =
     else (if bytes_eq indicator (codes "900") then Some EndOfData
     else None)))))))
 
--- the kind of a line, or why it has none: it isn't UTF-8, or its first field is no record indicator
+-- the kind of a line, or why it has none: it isn't UTF-8, or its first field isn't a record
+-- indicator
 unfoldable pub kind_of : List ℕ → Result Kind KindFault
 kind_of line = if not (is_text line) then Err NotText else ok_or (kind_named (field line 1)) Unknown

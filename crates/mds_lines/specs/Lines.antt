@@ -14,13 +14,13 @@ carriage_return = 13
 abbrev pub comma : ℕ
 comma = 44
 
--- a nonempty list of texts without the separator, whose join by the separator is the text
+-- a nonempty list of texts without the separator, which joined by the separator are the text
 pub record IsSplit (separator : ℕ) (text : List ℕ) (parts : List (List ℕ)) : Type 0 where
   pub some : 0 < length parts
   pub apart : All (λ part. All (λ c. c ≢ separator) part) parts
   pub joined : join_with_byte separator parts ≡ text
 
--- the one list that is so
+-- the one list with this property
 abbrev pub split : ℕ → List ℕ → List (List ℕ)
 split separator text = slice_split (λ c. c == separator) text
 
@@ -29,7 +29,7 @@ abbrev pub without_empty_last : List (List ℕ) → List (List ℕ)
 without_empty_last parts =
     if length (slice_index_or parts (length parts - 1) []) == 0 then take (length parts - 1) parts else parts
 
--- the pieces of a text between its line feeds, each of them a line: a last one that is empty isn't
+-- the pieces of a text between its line feeds, each of them a line: an empty last piece isn't one
 abbrev pub line_pieces : List ℕ → List (List ℕ)
 line_pieces text = without_empty_last (split line_feed text)
 
@@ -45,7 +45,7 @@ is_comma c = c == comma
 abbrev pub fields_of : List ℕ → List (List ℕ)
 fields_of line = split comma line
 
--- a field by its number, from 1, and the empty text where the line has fewer
+-- a field by its number, from 1, or the empty text if the line has fewer
 abbrev pub field : List ℕ → ℕ → List ℕ
 field line number = slice_index_or (fields_of line) (number - 1) []
 

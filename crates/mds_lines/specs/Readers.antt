@@ -8,7 +8,7 @@ use Rattle.mds_lines.specs.Buffered.{Buffered, text_left, FindsLine, FindsEnd, I
 use Rattle.mds_lines.specs.Lines.{line_text}
 use Rattle.mds_lines.specs.Numbered.{number_of, text_of}
 
--- what it reads from
+-- the source that it reads from
 abbrev pub reader_source : {R : Type 0} → LineReader R → R
 reader_source reader = reader.source
 
@@ -16,17 +16,18 @@ reader_source reader = reader.source
 abbrev pub reader_lines : {R : Type 0} → LineReader R → Buffered
 reader_lines reader = reader.lines
 
--- the text that is still to come, where the source's bytes are known
+-- the rest of the text, if the source's bytes are known
 abbrev pub reader_left : {R : Type 0} → (R → Option (List ℕ)) → LineReader R → Option (List ℕ)
 reader_left remaining reader = text_left (reader_lines reader) (remaining (reader_source reader))
 
--- the answer is a line
+-- the result is a line
 abbrev pub is_line : Result (Option Line) LineFault → Bool
 is_line (Ok (Some line)) = true
 is_line (Ok None) = false
 is_line (Err fault) = false
 
--- What a call for the next line answers, and leaves of a reader: the line that it went on to, or why there is none.
+-- What a call for the next line returns, and leaves of a reader: the line that it moved on to, or why there is
+-- none.
 pub record GoesOn {R : Type 0} (remaining : R → Option (List ℕ)) (failures : R → ℕ)
     (gives : R → List ℕ → R → Type 0) (old new : LineReader R) (result : Result (Option Line) LineFault) : Type 0 where
   pub next : IfOk result (λ found. MatchOption found
@@ -34,15 +35,15 @@ pub record GoesOn {R : Type 0} (remaining : R → Option (List ℕ)) (failures :
       (λ line. FindsLine (reader_lines old) (reader_lines new) (reader_left remaining old) (reader_left remaining new)
       × (number_of line ≡ (reader_lines new).number)
       × (text_of line ≡ line_text (reader_lines new).piece)))
-  -- a line is too large where that is answered, and the source fails where `Read` is
+  -- after `TooLarge` a line is too large, and after `Read` the source has failed
   pub too_large : (number : ℕ) → result ≡ Err (TooLarge number) → (reader_lines old).fault ≡ None
       → IsTooLarge (reader_lines old) (reader_lines new) (reader_left remaining old) (reader_left remaining new) number
   pub read : result ≡ Err Read → (reader_lines old).fault ≡ None
       → failures (reader_source new) ≡ failures (reader_source old) + 1
   pub no_failure : result ≢ Err Read → failures (reader_source new) ≡ failures (reader_source old)
-  -- each read of the source was needed, and what it gave is the line's, or in hand
+  -- each read of the source was needed, and the bytes it brought are part of the line, or in hand
   pub takes : Takes gives (reader_source old) (reader_source new) (reader_lines old) (reader_lines new) (is_line result)
-  -- a fault leaves the number, and is answered again
+  -- a fault leaves the number, and is returned again
   pub kept : IfErr result (λ fault. ((reader_lines new).fault ≡ Some fault)
       × ((reader_lines new).number ≡ (reader_lines old).number))
   pub again : IfSome (reader_lines old).fault (λ fault. (result ≡ Err fault)

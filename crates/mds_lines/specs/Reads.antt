@@ -2,7 +2,7 @@
 use Rattle.std.specs.Prelude.{◌≡◌, ◌≢◌, ℕ, ◌≤◌, Bool, false, ◌==◌, List, [], ◌∷◌, ◌++◌, length, take, All, Result, Ok, Err}
 use Rattle.mds_lines.specs.Lines.{line_feed, longest_line}
 
--- the bytes that a call brought to a buffer's front: none where it failed
+-- the bytes that a call brought to the start of a buffer: none if it failed
 abbrev pub bytes_read : {E : Type 0} → Result ℕ E → List ℕ → List ℕ
 bytes_read (Ok n) buffer = take n buffer
 bytes_read (Err error) buffer = []
@@ -12,13 +12,14 @@ abbrev pub Reads : {S : Type 0} → (S → List ℕ → S → Type 0) → S → 
 Reads gives old [] new = new ≡ old
 Reads {S = S} gives old (bytes ∷ more) new = (next : S) × gives old bytes next × Reads gives next more new
 
--- A read is needed: what is in hand has no whole line, and isn't too long for one, and the source has not ended.
+-- A read is needed: the bytes in hand have no whole line, and aren't too long for one, and the source has not
+-- ended.
 pub record IsNeeded (in_hand : List ℕ) (is_ended : Bool) : Type 0 where
   pub no_line : All (λ byte. byte ≢ line_feed) in_hand
   pub no_fault : length in_hand ≤ longest_line
   pub goes_on : is_ended ≡ false
 
--- Each of the reads was. One that brought no bytes found the end, or failed: none comes after it.
+-- Each of the reads was needed. One that brought no bytes found the end, or failed: none comes after it.
 abbrev pub AreNeeded : List ℕ → Bool → List (List ℕ) → Type 0
 AreNeeded in_hand is_ended [] = Unit {0}
 AreNeeded in_hand is_ended (bytes ∷ more) =

@@ -1,14 +1,14 @@
--- What is left of a line while its fields are taken one after the other.
+-- The rest of a line while its fields are taken one after the other.
 use Rattle.std.specs.Prelude.{ℕ, Bool, not, List, [], length, nat_lt, Option, Some, None, slice_index_or}
 use Rattle.std.specs.List.{list_any}
 use Rattle.mds_lines.specs.Lines.{fields_of}
 
--- the fields that are left, of which there are none where nothing is left
+-- the fields that are left; none if nothing is left
 abbrev pub fields_left : Option (List ℕ) → List (List ℕ)
 fields_left None = []
 fields_left (Some text) = fields_of text
 
--- the first of them, and the empty text where there is none
+-- the first field, or the empty text if there are none
 abbrev pub first_of : List (List ℕ) → List ℕ
 first_of fields = slice_index_or fields 0 []
 

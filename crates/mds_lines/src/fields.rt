@@ -5,7 +5,7 @@ ghost use Rattle.mds_lines.specs.Lines.{fields_of};
 
 use std::marker::Model;
 
-/// The fields of a line, which commas separate. There is at least one.
+/// The fields of a line, separated by commas. There is at least one.
 #[derive(Drop)]
 pub struct Fields<'a> {
     line: &'a [u8],
@@ -28,14 +28,14 @@ impl<'a> Fields<'a> {
         Fields { line }
     }
 
-    /// How many there are.
+    /// The number of fields.
     pub fn count(&self) -> usize
         ensures { result ≡ length self.now }
     {
         self.line.iter().filter(|byte| **byte == b',').count() + 1
     }
 
-    /// The field of a number, counted from 1, or `None` where the line has fewer.
+    /// The field with this number, counted from 1, or `None` if the line has fewer.
     pub fn get(&self, number: usize) -> Option<&'a [u8]>
         ensures { MatchOption result ((number ≡ 0) ⊎ (length self.now < number))
             (λ found. (0 < number) × (slice_get self.now (number - 1) ≡ Some found.now)) }

@@ -27,12 +27,12 @@ pub enum Kind {
     EndOfData,
 }
 
-/// Why a line is no record of a known kind.
+/// Why a line isn't a record of a known kind.
 #[derive(Clone, Copy)]
 pub enum KindFault {
     /// It isn't UTF-8 (L1).
     NotText,
-    /// Its first field is no record indicator (L2).
+    /// Its first field isn't a record indicator (L2).
     Unknown,
 }
 
@@ -48,7 +48,7 @@ impl<'a> Line<'a> {
     ghost use Rattle.mds_lines.specs.Numbered.{number_of, text_of};
 
     /// The line of a piece of a file between line feeds, and its number, from 1. One carriage return at the end of the
-    /// piece is no part of the line (profile).
+    /// piece isn't part of the line (profile).
     pub fn new(number: u64, piece: &'a [u8]) -> Line<'a>
         ensures number { number_of result ≡ number }
         ensures text { text_of result ≡ line_text piece.now }
@@ -88,7 +88,7 @@ impl<'a> Line<'a> {
         Fields::new(self.text)
     }
 
-    /// The kind of record that it is, or why it is none (L1, L2).
+    /// The kind of record that it is, or why it isn't one (L1, L2).
     pub fn kind(&self) -> Result<Kind, KindFault>
         ensures { result ≡ kind_of (text_of self.now) }
     {
@@ -100,7 +100,7 @@ impl<'a> Line<'a> {
     }
 }
 
-/// The kind that a record indicator names, or `None` where it names none (L2).
+/// The kind named by a record indicator, or `None` if it names none (L2).
 fn kind_named(indicator: &[u8]) -> Option<Kind>
     ensures { result ≡ named indicator.now }
 {
@@ -125,7 +125,7 @@ fn kind_named(indicator: &[u8]) -> Option<Kind>
     }
 }
 
-/// A law: a text is split at a separator in just one way.
+/// A law: a text is split at a separator in only one way.
 pub fn one_split()
     ensures is_split { (separator : ℕ) (text : List ℕ) → IsSplit separator text (split separator text) }
     ensures only { (separator : ℕ) (text : List ℕ) (parts : List (List ℕ)) →

@@ -1,4 +1,4 @@
-//! The lines of a source, one after the other, out of one buffer.
+//! The lines of a source, one after the other, in one buffer.
 
 ghost use Rattle.std.specs.Prelude.{◌≢◌, Err, IfSome, ◌≡◌, ◌+◌, ◌-◌, ◌^◌, ◌<◌, ◌≤◌, ℕ, List, length, Some, None, true, false, IfOk, IfErr, ◌⊎◌, if◌then◌else◌, is_ok, slice_range};
 ghost use Rattle.mds_lines.specs.Lines.{line_text, longest_line, most_lines};
@@ -16,7 +16,8 @@ use std::marker::Model;
 pub enum LineFault {
     /// The source failed.
     Read,
-    /// The line of this number has more than 16,384 bytes before its line feed, or its number is above 1,000,000 (L10).
+    /// The line with this number has more than 16,384 bytes before its line feed, or its number is above 1,000,000
+    /// (L10).
     TooLarge(u64),
 }
 
@@ -30,10 +31,10 @@ impl LineFault {
     {}
 }
 
-/// The most bytes that a line has before its line feed (L10).
+/// The most bytes of a line before its line feed (L10).
 const LONGEST_LINE: usize = 16_384;
 
-/// The most lines that a file has (L10).
+/// The most lines of a file (L10).
 const MOST_LINES: u64 = 1_000_000;
 
 /// How many bytes are read at a time: many lines.
@@ -77,7 +78,7 @@ impl LineBuffer {
     ghost use Rattle.mds_lines.specs.Reads.{block};
     ghost use Rattle.mds_lines.specs.BufferedSteps.{is_found, Finds, KeepsLeft, Reaches, TakesPiece, Fills, Gathers};
 
-    /// A buffer for a source of which nothing was read yet: 131,072 bytes.
+    /// A buffer for a source that nothing was read from yet: 131,072 bytes.
     pub fn new(alloc: Global) -> Result<LineBuffer, AllocError>
         ensures { IfOk result (λ buffer. buffer ≡ nothing_read) }
     {
@@ -93,13 +94,13 @@ impl LineBuffer {
         })
     }
 
-    /// Goes on to the next line, and says whether there is one. After a fault it answers the same fault.
+    /// Moves on to the next line, and returns whether there is one. After a fault it returns the same fault again.
     fn advance<R: Source>(&mut self, source: &mut R) -> Result<bool, LineFault>
         requires { R.failures source.old < 2 ^ 64 - 1 }
 
         ensures next { Finds result self.old self.new (R.remaining source.old) (R.remaining source.new) }
 
-        // Where `TooLarge` is answered, a line is too large. Where `Read` is answered, the source has failed.
+        // After `TooLarge` a line is too large. After `Read` the source has failed.
         ensures too_large { (number : ℕ) → result ≡ Err (LineFault.TooLarge number) → self.old.fault ≡ None
             → IsTooLarge self.old self.new
             (text_left self.old (R.remaining source.old)) (text_left self.new (R.remaining source.new)) number }
@@ -107,10 +108,10 @@ impl LineBuffer {
             → R.failures source.new ≡ R.failures source.old + 1 }
         ensures no_failure { result ≢ Err LineFault.Read → R.failures source.new ≡ R.failures source.old }
 
-        // Each read was needed. What it gave is the line's, or in hand.
+        // Each read was needed. The bytes it brought are part of the line, or in hand.
         ensures takes { Takes R.gives source.old source.new self.old self.new (is_found result) }
 
-        // A fault leaves the number, and is answered again.
+        // A fault leaves the number, and is returned again.
         ensures kept { IfErr result (λ fault. (self.new.fault ≡ Some fault) × (self.new.number ≡ self.old.number)) }
         ensures again { IfSome self.old.fault (λ fault. (result ≡ Err fault)
             × (self.new ≡ self.old) × (source.new ≡ source.old)) }
@@ -125,7 +126,7 @@ impl LineBuffer {
         found
     }
 
-    /// The line that it went on to last.
+    /// The line that it moved on to last.
     fn line(&self) -> Line<'_>
         ensures number { number_of result ≡ self.now.number }
         ensures text { text_of result ≡ line_text self.now.piece }
@@ -133,7 +134,7 @@ impl LineBuffer {
         Line::new(self.number, &self.bytes[self.piece_start..self.piece_end])
     }
 
-    /// Does what `advance` does where no fault was answered yet, but doesn't keep the fault.
+    /// Does what `advance` does if no fault was returned yet, but doesn't keep the fault.
     fn find_line<R: Source>(&mut self, source: &mut R) -> Result<bool, LineFault>
         requires { R.failures source.old < 2 ^ 64 - 1 }
         ensures next { self.old.fault ≡ None
@@ -154,7 +155,7 @@ impl LineBuffer {
         self.take_piece(size)
     }
 
-    /// Reads on until the pending bytes hold the next piece, or too long a part of it. It says how long that is.
+    /// Reads on until the pending bytes hold the next piece, or too long a part of it. Returns the length.
     fn piece_size<R: Source>(&mut self, source: &mut R) -> Result<usize, LineFault>
         requires { R.failures source.old < 2 ^ 64 - 1 }
         ensures reaches { IfOk result (λ n. Reaches self.new n) }
@@ -178,7 +179,7 @@ impl LineBuffer {
         }
     }
 
-    /// The bytes that came from the source and weren't given yet.
+    /// The bytes that came from the source and weren't returned yet.
     fn pending(&self) -> &[u8]
         ensures value { result.now ≡ self.now.pending }
         ensures held { length self.now.pending ≤ block }
@@ -186,8 +187,8 @@ impl LineBuffer {
         &self.bytes[self.start..self.end]
     }
 
-    /// Takes the piece of so many pending bytes, and the line feed after it, if one is there. It refuses a piece that
-    /// is too long, or a number that is too great (L10).
+    /// Takes the piece of `size` pending bytes, and the line feed after it, if one is there. It refuses a piece that is
+    /// too long, or a number that is too great (L10).
     fn take_piece(&mut self, size: usize) -> Result<bool, LineFault>
         requires { size ≤ length self.old.pending }
         ensures ok { IfOk result (λ found. (found ≡ true) × TakesPiece self.old self.new size) }
@@ -206,7 +207,7 @@ impl LineBuffer {
         Ok(true)
     }
 
-    /// Reads more after the pending bytes. Where there is no room after them, it moves them to the front first.
+    /// Reads more after the pending bytes. If there is no room after them, it moves them to the front first.
     fn fill<R: Source>(&mut self, source: &mut R) -> Result<(), LineFault>
         requires failures { R.failures source.old < 2 ^ 64 - 1 }
         requires room { length self.old.pending ≤ longest_line }
@@ -232,7 +233,7 @@ impl LineBuffer {
     }
 }
 
-/// Moves the bytes of a range to the front where there is no room after them. It says where they are then.
+/// Moves the bytes of a range to the front if there is no room after them. Returns where they are then.
 fn with_room(bytes: &mut [u8], start: usize, end: usize) -> (usize, usize)
     requires ordered { start ≤ end }
     requires within { end ≤ length bytes.old }
@@ -248,7 +249,7 @@ fn with_room(bytes: &mut [u8], start: usize, end: usize) -> (usize, usize)
     (0, end - start)
 }
 
-/// The lines of a source: of one that it owns, or of one that it was lent.
+/// The lines of a source, owned or borrowed.
 #[derive(Drop)]
 pub struct LineReader<R> {
     source: R,
@@ -263,7 +264,7 @@ impl<R: Source> LineReader<R> {
     ghost use Rattle.mds_lines.specs.contracts.reader.LineReader.{the_row};
     ghost use Rattle.mds_lines.specs.Readers.{reader_source, reader_lines, GoesOn};
 
-    /// The lines of a source, read into a buffer that `LineBuffer::new` made.
+    /// The lines of a source, read into a buffer made by `LineBuffer::new`.
     pub fn new(source: R, buffer: LineBuffer) -> LineReader<R>
         ensures source { reader_source result ≡ source }
         ensures lines { reader_lines result ≡ buffer }
@@ -274,7 +275,7 @@ impl<R: Source> LineReader<R> {
         }
     }
 
-    /// The next line, or `None` where there is no further one. After a fault it answers the same fault.
+    /// The next line, or `None` if there are no more. After a fault it returns the same fault again.
     pub fn next(&mut self) -> Result<Option<Line<'_>>, LineFault>
         requires { R.failures (reader_source self.old) < 2 ^ 64 - 1 }
         ensures* { sem 𝓛 (follows_so (the_row R.row) (the_row R.row) self.entry.ghost_name none (λ _ _. ⊤)
@@ -287,8 +288,8 @@ impl<R: Source> LineReader<R> {
         }
     }
 
-    /// Gives the source back. What was read of it and not given as lines is lost. The call ends a loan of the source,
-    /// so that a caller's proof knows what is left of it.
+    /// Returns the source. What was read from it and not returned as lines is lost. The call ends a loan of the source,
+    /// so a caller's proof knows what is left of it.
     pub fn into_source(self) -> R
         ensures { result ≡ reader_source self }
     {
@@ -304,8 +305,8 @@ impl<R: Source> LineReader<R> {
     ghost use Rattle.mds_lines.specs.Readers.{reader_source, reader_lines, GoesOn};
     ghost use Rattle.mds_lines.specs.Reads.{block};
 
-    /// A law: what a reader of lines takes from its source has a bound, whatever the source gives. It is as many lines
-    /// as a file may have, and one block. Each line is as long as a line may be, and has a line feed.
+    /// A law: what a reader of lines takes from its source is bounded, whatever the source brings. It is at most the
+    /// lines that a file may have, and one block. Each line has at most the allowed length, and a line feed.
     pub fn takes_few()
         ensures begins { (source : R) → HasTaken R.gives source source nothing_read }
         ensures goes_on { (begin : R) (old new : LineReader R) (result : Result (Option ALine) LineFault)

@@ -1,11 +1,11 @@
-//! What is left of a line while its fields are taken one after the other.
+//! The rest of a line while its fields are taken one after the other.
 
 ghost use Rattle.std.specs.Prelude.{◌≡◌, ◌≤◌, length, drop, option_copied};
 ghost use Rattle.std.specs.List.{position_or_len};
 ghost use Rattle.mds_lines.specs.Lines.{fields_of, is_comma};
 ghost use Rattle.mds_lines.specs.Rest.{fields_left, first_of, are_blank};
 
-/// The length of the field at the front of a text. The field ends before the first comma, or with the text.
+/// The length of the field at the start of a text. The field ends before the first comma, or at the end of the text.
 fn field_length(text: &[u8]) -> usize
     ensures value { result ≡ position_or_len is_comma text.now }
     ensures within { result ≤ length text.now }
@@ -15,7 +15,7 @@ fn field_length(text: &[u8]) -> usize
         .unwrap_or(text.len())
 }
 
-/// Takes the field at the front of what is left of a line, and says what is left after it. Where nothing is left, the
+/// Takes the field at the start of the rest of a line, and returns what is left after it. If nothing is left, the
 /// field is empty.
 pub fn next_field(rest: Option<&[u8]>) -> (&[u8], Option<&[u8]>)
     ensures taken { result.0.now ≡ first_of (fields_left (option_copied rest.entry)) }
@@ -33,7 +33,7 @@ pub fn next_field(rest: Option<&[u8]>) -> (&[u8], Option<&[u8]>)
     }
 }
 
-/// Whether all fields that are left of a line are empty, as they are where nothing is left.
+/// Whether all remaining fields of a line are empty. If nothing is left, they are.
 pub fn is_blank_from(rest: Option<&[u8]>) -> bool
     ensures { result ≡ are_blank (fields_left (option_copied rest.entry)) }
 {
@@ -43,7 +43,7 @@ pub fn is_blank_from(rest: Option<&[u8]>) -> bool
     }
 }
 
-/// Whether all fields of a text are empty: it is commas alone.
+/// Whether all fields of a text are empty, so that it is commas alone.
 fn is_blank(text: &[u8]) -> bool
     ensures { result ≡ are_blank (fields_of text.now) }
 {

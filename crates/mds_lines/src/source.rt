@@ -1,4 +1,4 @@
-//! Readers and writers as the crates above see them: with their bytes, and the number of their failed calls.
+//! Readers and writers as the crates above see them: with their bytes, and a count of failed calls.
 
 ghost use Rattle.std.specs.Prelude.{◌≡◌, ◌≢◌, ◌+◌, ◌-◌, ◌^◌, ◌<◌, ℕ, List, length, Option, if◌then◌else◌, is_ok, IfOk, IfErr};
 ghost use Rattle.std.specs.Io.{ReadsAtMost, WritesAtMost};
@@ -11,18 +11,17 @@ use std::io::{ErrorKind, Read, Write};
 
 /// A reader whose failed calls are counted.
 pub trait Source {
-    /// The bytes that it has still to give, where they are known.
+    /// The bytes that it has not brought yet, if they are known.
     ghost remaining: { Self → Option (List ℕ) };
 
     /// How many of its calls have failed.
     ghost failures: { Self → ℕ };
 
-    /// A call may bring these bytes, and leave this of the source. A call that fails brings none. Several calls are `Reads` of
-    /// it.
+    /// A call may bring these bytes, and leave the source like this. A failed call brings none. Several calls are `Reads` of it.
     ghost gives: { Self → List ℕ → Self → Type 0 };
 
-    /// Reads some bytes to the front of the buffer, and says how many. It says 0 only at the end, or where the buffer is empty. A
-    /// call that fails reads none. A call that is interrupted isn't one that fails.
+    /// Reads some bytes to the start of the buffer, and returns how many. It returns 0 only at the end, or if the buffer is
+    /// empty. A failed call reads none. An interrupted call doesn't count as failed.
     fn read(&mut self, buffer: &mut [u8]) -> io::Result<usize>
         requires { failures self.old < 2 ^ 64 - 1 }
         ensures bound { ReadsAtMost result buffer.new }
@@ -34,14 +33,14 @@ pub trait Source {
 
 /// A writer whose failed calls are counted.
 pub trait Sink {
-    /// The bytes that it holds, where they are known.
+    /// The bytes that it holds, if they are known.
     ghost contents: { Self → Option (List ℕ) };
 
     /// How many of its calls have failed.
     ghost failures: { Self → ℕ };
 
-    /// Writes some of the bytes, from their front, and says how many. It says 0 only where there are none. A call that fails
-    /// writes none. A call that is interrupted isn't one that fails.
+    /// Writes some of the bytes, from the start, and returns how many. It returns 0 only if there are none. A failed call writes
+    /// none. An interrupted call doesn't count as failed.
     fn write(&mut self, bytes: &[u8]) -> io::Result<usize>
         requires { failures self.old < 2 ^ 64 - 1 }
         ensures bound { WritesAtMost result bytes.now }
@@ -51,7 +50,7 @@ pub trait Sink {
         ensures counted { failures self.new ≡ failures self.old + (if is_ok result then 0 else 1) };
 }
 
-/// A `Source` of any reader, and a `Sink` of any writer. A call that is interrupted is made again, up to 2^64 - 1 times.
+/// A `Source` over any reader, and a `Sink` over any writer. An interrupted call is repeated, up to 2^64 - 1 times.
 #[derive(Drop)]
 pub struct Counted<T> {
     inner: T,
@@ -61,7 +60,7 @@ pub struct Counted<T> {
 impl<T> Counted<T> {
     ghost use Rattle.mds_lines.specs.Counted.{counted_inner, counted_failures};
 
-    /// A reader or a writer none of whose calls has failed yet.
+    /// A reader or a writer that has had no failed call yet.
     pub fn new(inner: T) -> Counted<T>
         ensures inner { counted_inner result ≡ inner }
         ensures failures { counted_failures result ≡ 0 }
@@ -100,7 +99,7 @@ impl<T: Read> Source for Counted<T> {
     }
 }
 
-/// A source that is lent is a source. What is read from it comes off the one that was lent.
+/// A borrowed source is a source. What is read from it is taken from the one that was lent.
 impl<R: Source> Source for &mut R {
     ghost remaining = { λ lent. R.remaining lent.now };
 

@@ -7,7 +7,7 @@ ghost use Rattle.mds_lines.specs.Streams.{ReadsBehind};
 use crate::source::{Sink, Source};
 use std::io;
 
-/// Writes all of a text. Where a call fails its error is the answer, and a part of the text was written.
+/// Writes all of a text. If a call fails, its error is returned, and a part of the text was written.
 pub fn write_whole<W: Sink>(text: &[u8], writer: &mut W) -> io::Result<()>
     requires { W.failures writer.old < 2 ^ 64 - 1 }
     ensures done { OnOk result (AppendsKnown (W.contents writer.old) (W.contents writer.new) text.now) }
@@ -25,7 +25,7 @@ pub fn write_whole<W: Sink>(text: &[u8], writer: &mut W) -> io::Result<()>
     Ok(())
 }
 
-/// Reads on, by one call, behind the first `filled` bytes of a buffer. It says how many bytes were read: 0 only at the
+/// Reads on, by one call, after the first `filled` bytes of a buffer. Returns how many bytes were read: 0 only at the
 /// end.
 pub fn read_more<R: Source>(buffer: &mut [u8], filled: usize, source: &mut R) -> io::Result<usize>
     requires failures { R.failures source.old < 2 ^ 64 - 1 }

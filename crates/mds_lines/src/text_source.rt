@@ -8,14 +8,14 @@ use std::io;
 /// A source that is a text in memory. It never fails.
 #[derive(Drop)]
 pub struct TextSource<'a> {
-    /// What has still to be read.
+    /// The part that was not read yet.
     left: &'a [u8],
 }
 
 impl<'a> TextSource<'a> {
     ghost use Rattle.mds_lines.specs.TextLeft.{text_left};
 
-    /// A source that gives this text.
+    /// A source of this text.
     pub fn new(text: &'a [u8]) -> TextSource<'a>
         ensures { text_left result ≡ text.now }
     {

@@ -1,5 +1,5 @@
-//! The flags of qualities, each as the letter that files, tables and JSON have for it. MDFF Specification, appendix of
-//! quality flags.
+//! The flags of qualities, each as the letter used in files, tables and JSON. MDFF Specification, appendix of quality
+//! flags.
 
 /// Actual data. No method follows it.
 pub const ACTUAL: u8 = b'A';
@@ -16,5 +16,5 @@ pub const NULL: u8 = b'N';
 /// Substituted data, by a method.
 pub const SUBSTITUTED: u8 = b'S';
 
-/// Variable data: the 400 records of a day say of which quality each interval is. No reading has it.
+/// Variable data: the 400 records of a day state the quality of each interval. No reading has this flag.
 pub const VARIABLE: u8 = b'V';

@@ -1,5 +1,5 @@
 -- The names of what is metered. MDFF Specification, the 200 record: NMI, CHAR(10), and NMISuffix, CHAR(2). By this
--- project's profile both are of capital letters and digits.
+-- project's profile both consist of capital letters and digits.
 use Rattle.std.specs.Prelude.{ℕ, Bool, ◌&&◌, ◌||◌, ◌==◌, if◌then◌else◌, List, ◌++◌, length, codes, Option, Some, None}
 use Rattle.std.specs.Char.{is_ascii_digit, is_ascii_uppercase}
 use Rattle.std.specs.List.{list_all}
@@ -8,26 +8,26 @@ use Rattle.std.specs.List.{list_all}
 abbrev pub is_name_char : ℕ → Bool
 is_name_char c = is_ascii_uppercase c || is_ascii_digit c
 
--- so many capital letters and digits
+-- exactly this many capital letters and digits
 abbrev pub is_name : ℕ → List ℕ → Bool
 is_name n text = (length text == n) && list_all is_name_char text
 
--- the characters of an NMI, and of a suffix
+-- the number of characters of an NMI, and of a suffix
 abbrev pub nmi_length : ℕ
 nmi_length = 10
 
 abbrev pub suffix_length : ℕ
 suffix_length = 2
 
--- the NMI that a text is
+-- the NMI that a text denotes
 abbrev pub nmi_of : List ℕ → Option (List ℕ)
 nmi_of text = if is_name nmi_length text then Some text else None
 
--- the suffix that a text is
+-- the suffix that a text denotes
 abbrev pub suffix_of : List ℕ → Option (List ℕ)
 suffix_of text = if is_name suffix_length text then Some text else None
 
--- the character that joins the two, as it does the fields of a record
+-- the character that joins the two, as it joins the fields of a record
 abbrev pub comma : ℕ
 comma = 44
 

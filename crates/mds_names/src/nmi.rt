@@ -30,8 +30,8 @@ impl Model for Nmi {
 }
 
 impl Nmi {
-    /// Reads an NMI from its text (MDFF Specification, NMI). `None` where the text isn't ten
-    /// capital letters and digits.
+    /// Reads an NMI from its text (MDFF Specification, NMI). `None` if the text isn't ten capital
+    /// letters and digits.
     pub fn read(text: &[u8]) -> Option<Nmi>
         ensures { result ≡ nmi_of text.now }
     {
@@ -57,7 +57,7 @@ impl Nmi {
         ensures name { IsTrue (is_name nmi_length self.now) }
         ensures equal { (other : List ℕ)
             → IsTrue (⟦<Nmi as PartialEq>⟧.eq self.now other) ↔ (self.now ≡ other) }
-        // By bytes: the first that differs decides.
+        // By bytes: the first difference decides.
         ensures order { (other : List ℕ)
             → ⟦<Nmi as Ord>⟧.cmp self.now other ≡ slice_cmp nat_cmp self.now other }
     {

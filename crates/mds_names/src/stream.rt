@@ -9,7 +9,7 @@ use crate::nmi::Nmi;
 use crate::suffix::Suffix;
 use std::alloc::AllocError;
 
-/// One datastream of one NMI. Its order goes by the NMI, and then by the suffix.
+/// One datastream of one NMI. Streams are ordered by the NMI, and then by the suffix.
 #[derive(Clone, Copy, Debug, PartialEq, Eq, PartialOrd, Ord)]
 pub struct Stream {
     pub nmi: Nmi,
@@ -17,8 +17,8 @@ pub struct Stream {
 }
 
 impl Stream {
-    /// Reads a stream from the texts of its NMI and its suffix. `None` where one of them isn't such
-    /// a name.
+    /// Reads a stream from the texts of its NMI and its suffix. `None` if one of them isn't such a
+    /// name.
     pub fn read(nmi: &[u8], suffix: &[u8]) -> Option<Stream>
         ensures some { IfSome result (λ stream.
             (nmi_of nmi.now ≡ Some stream.nmi) × (suffix_of suffix.now ≡ Some stream.suffix)) }
@@ -48,8 +48,8 @@ impl Stream {
         self.suffix
     }
 
-    /// Appends its text, as `NEM1201009,E1`, whose pieces read back (`names_read_back`). After an
-    /// error a front of it may be appended.
+    /// Appends its text, such as `NEM1201009,E1`, whose pieces read back (`names_read_back`). After
+    /// an error a prefix of it may be appended.
     pub fn write_to(self, out: &mut String) -> Result<(), AllocError>
         ensures done { OnOk result (string_bytes out.new ≡ string_bytes out.old
             ++ stream_text self.nmi self.suffix) }

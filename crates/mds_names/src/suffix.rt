@@ -31,8 +31,8 @@ impl Model for Suffix {
 }
 
 impl Suffix {
-    /// Reads a suffix from its text (MDFF Specification, NMISuffix). `None` where the text isn't
-    /// two capital letters and digits.
+    /// Reads a suffix from its text (MDFF Specification, NMISuffix). `None` if the text isn't two
+    /// capital letters and digits.
     pub fn read(text: &[u8]) -> Option<Suffix>
         ensures { result ≡ suffix_of text.now }
     {
@@ -58,7 +58,7 @@ impl Suffix {
         ensures name { IsTrue (is_name suffix_length self.now) }
         ensures equal { (other : List ℕ)
             → IsTrue (⟦<Suffix as PartialEq>⟧.eq self.now other) ↔ (self.now ≡ other) }
-        // By bytes: the first that differs decides.
+        // By bytes: the first difference decides.
         ensures order { (other : List ℕ)
             → ⟦<Suffix as Ord>⟧.cmp self.now other ≡ slice_cmp nat_cmp self.now other }
     {

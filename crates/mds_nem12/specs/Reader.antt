@@ -9,7 +9,7 @@ use Rattle.mds_nem12.specs.declared.delivery.DeliveryBuilder.{DeliveryBuilder}
 use Rattle.mds_nem12.specs.declared.file_reader.FileReader.{FileReader}
 use Rattle.mds_walk.specs.declared.fault.TakeFault.{TakeFault}
 
--- the fault that a reader has answered, if it has answered one
+-- the fault that a reader has returned, if any
 abbrev pub reader_fault : LineFeeder (FileReader DeliveryBuilder) → Option TakeFault
 reader_fault feeder = of_feeder feeder
 

@@ -41,7 +41,7 @@ impl Model for Reader {
 impl Reader {
     ghost use Rattle.mds_nem12.specs.Reader.{HasRead, reader_fault};
 
-    /// Before the first piece of a file. It takes no memory, and never fails.
+    /// The state before the first piece of a file. Takes no memory, and never fails.
     pub fn new(alloc: Global) -> Result<Reader, AllocError>
         ensures read { IfOk result (HasRead []) }
         ensures fresh { IfOk result (λ reader. reader_fault reader ≡ None) }
@@ -50,7 +50,7 @@ impl Reader {
         Ok(Reader::begin(alloc))
     }
 
-    /// Before the first piece of a file.
+    /// The state before the first piece of a file.
     pub(crate) fn begin(alloc: Global) -> Reader
         ensures read { HasRead [] result }
         ensures fresh { reader_fault result ≡ None }
@@ -61,8 +61,8 @@ impl Reader {
         }
     }
 
-    /// Takes the next piece, or answers the fault that the file so far has, whatever follows. Pieces may end anywhere, also
-    /// inside a line. After a fault, or want of memory, it answers the same.
+    /// Takes the next piece, or returns the fault that the file so far has, whatever follows. Pieces may end anywhere, also
+    /// inside a line. After a fault or an allocation error it returns the same again.
     pub fn feed(&mut self, piece: &[u8]) -> Result<(), TakeFault>
         ensures fed { (text : List ℕ) → HasRead text self.old → HasRead (text ++ piece.now) self.new }
         ensures answer { (text : List ℕ) → HasRead text self.old
@@ -74,7 +74,7 @@ impl Reader {
             × (reader_fault self.new ≡ Some fault)) }
         ensures kept { IfErr result (λ fault. reader_fault self.new ≡ Some fault) }
 
-        // A first want of memory is for a line that is copied, or for one for which it may be wanting.
+        // Memory first runs out for a line that is copied, or for one that may need memory (`MayLackMemory`).
         ensures memory { (text : List ℕ) → HasRead text self.old → reader_fault self.old ≡ None
             → result ≡ Err TakeFault.Memory → MayLackFor MayLackMemory nem12 text piece.now }
     {
@@ -95,8 +95,8 @@ impl Reader {
         feed_all(&mut self.feeder, pieces)
     }
 
-    /// Ends the file: what it states, or its first fault. What stands behind the last line feed is a line, if it isn't empty.
-    /// After a fault it answers the same.
+    /// Ends the file: what it states, or its first fault. What follows the last line feed is a line, if it isn't empty. After
+    /// a fault it returns the same again.
     pub fn finish(self) -> Result<Delivery, TakeFault>
         ensures ended { (text : List ℕ) → HasRead text self
             → MatchResult result
@@ -104,7 +104,7 @@ impl Reader {
             (IsRefusal (fault_of text)) }
         ensures again { IfSome (reader_fault self) (λ fault. result ≡ Err fault) }
 
-        // A first want of memory is for a last line without its line feed, for which it may be wanting.
+        // Memory first runs out for a last line without its line feed that may need memory (`MayLackMemory`).
         ensures memory { (text : List ℕ) → HasRead text self → reader_fault self ≡ None
             → result ≡ Err TakeFault.Memory → (open_piece text ≢ []) × MayLackHere MayLackMemory nem12 text }
     {
@@ -118,8 +118,7 @@ impl Reader {
     }
 }
 
-/// Reads a NEM12 file that lies in pieces, one behind the other: what it states, or its first fault. How it is cut changes
-/// nothing.
+/// Reads a NEM12 file from consecutive pieces: what it states, or its first fault. How it is cut has no effect.
 pub fn read_pieces(alloc: Global, pieces: &[&[u8]]) -> Result<Delivery, TakeFault>
     ensures answer { MatchResult result
         (λ delivery. (fault_of (concat (map (λ piece. piece.now) pieces.now)) ≡ None)

@@ -21,8 +21,8 @@ pub fn one_run_of_a_day()
         → IsTrue (holds interval run) → IsTrue (holds interval other) → run ≡ other }
 {}
 
-/// The fault of a line is decided by the lines up to it. A fault found in whole lines is the fault of
-/// every text that goes on after them.
+/// The fault of a line depends only on the lines up to it. A fault found in whole lines is the fault of every text that
+/// continues them.
 pub fn fault_is_of_every_longer_text()
     ensures line { (before more : List (List ℕ)) (k : ℕ) → k ≤ length before
         → fault_at (before ++ more) k ≡ fault_at before k }
@@ -32,8 +32,8 @@ pub fn fault_is_of_every_longer_text()
         → fault_of (text ++ line_feed ∷ more) ≡ Some fault }
 {}
 
-/// A fault that a file has so far is that of every file that begins so. The fault of a file is the one that it has so far,
-/// once the line of that fault is whole.
+/// A fault of the file so far is the fault of every file that begins with it. Once the line of a file's fault is whole,
+/// that fault is the one so far.
 pub fn fault_is_fed()
     ensures every { (text more : List ℕ) (fault : FileFault) → fault_so_far nem12 text ≡ Some fault
         → fault_of (text ++ more) ≡ Some fault }
@@ -41,9 +41,8 @@ pub fn fault_is_fed()
         → fault.line ≤ length (whole_pieces text) → fault_so_far nem12 text ≡ Some fault }
 {}
 
-/// The days that a text states stand on ascending lines, each with a reading for each interval of
-/// its length. In a well formed file they are no more than a file has lines, and each length is
-/// that of an interval.
+/// The days that a text states are on ascending lines, each with a reading for each interval of its length. In a well
+/// formed file they are no more than a file has lines, and each length is that of an interval.
 pub fn days_are_orderly()
     ensures lines { (text : List ℕ)
         → AllPairs (λ a b. a.line < b.line) (days_of (statements_of text)) }

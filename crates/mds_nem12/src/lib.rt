@@ -1,5 +1,13 @@
-//! The reader of NEM12 files (MDFF Specification). It finds the first fault of a file, or what it states. It tells that record
-//! by record with at most one day in hand, or all of it as a delivery. A file may come in pieces, cut anywhere.
+//! The reader of NEM12 files (MDFF Specification). It finds the first fault of a file, or what the file states. It
+//! passes the statements to a sink record by record, with at most one day in hand, or returns them all as a delivery. A
+//! file may come in pieces, cut anywhere.
+//!
+//! It decides which record may follow which (L3), what governs a record, when a day ends (L8) and how a file ends (L8,
+//! L9). A 300 without an update gets the moment of the header (`DeliveryBuilder::day`).
+//! Called by `mds_service`, `mds_desk` and `mds_http`, which need a delivery, and by `mds_check`, which is a
+//! `StatementSink`.
+//! Must not change: the order of faults in a line (`record_fault` in `Faults.antt`), and statements in the order of
+//! lines. A day is passed on before the fields of the next record are looked at. Public names are in `mds::nem12`.
 #![tactic(auto)]
 
 mod delivery;

@@ -13,7 +13,7 @@ period_of a = record {
   content = content_of (string_bytes a.content);
 }
 
--- the statements of accumulations
+-- the statements made by accumulations
 abbrev pub periods_of : List Accumulation → List Statement
 periods_of accumulations = map (λ a. PeriodOf (period_of a)) accumulations
 

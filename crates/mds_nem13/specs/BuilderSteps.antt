@@ -13,40 +13,40 @@ use Rattle.mds_nem13.specs.declared.builder.AccumulationBuilder.{AccumulationBui
 abbrev pub is_separator : ℕ → Bool
 is_separator c = (c == comma) || (c == line_feed)
 
--- a text without one
+-- a text without such a byte
 abbrev pub IsApart : List ℕ → Type 0
 IsApart text = All (λ c. is_separator c ≡ false) text
 
--- texts, each behind a comma
+-- texts, each after a comma
 abbrev pub led : List (List ℕ) → List ℕ
 led texts = flat_map (λ text. comma ∷ text) texts
 
--- these texts were appended, each behind a comma, and none has a separator
+-- these texts were appended, each after a comma, and none has a separator
 pub record AppendsEach (old new : List ℕ) (texts : List (List ℕ)) : Type 0 where
   pub bytes : new ≡ old ++ led texts
   pub apart : All IsApart texts
 
--- these texts were appended behind some bytes, joined by commas, and none has a separator
+-- these texts were appended after some bytes, joined by commas, and none has a separator
 pub record AppendsLine (front old new : List ℕ) (texts : List (List ℕ)) : Type 0 where
   pub bytes : new ≡ old ++ front ++ joined texts
   pub apart : All IsApart texts
 
--- the statements say a header first, and then these accumulations
+-- the statements have a header first, and then these accumulations
 abbrev pub AreTold : List Accumulation → List Statement → Type 0
 AreTold accumulations [] = accumulations ≡ []
 AreTold accumulations (HeaderOf header ∷ more) = periods_of accumulations ≡ more
 AreTold accumulations (statement ∷ more) = ⊥
 
--- a builder was told these statements, and no others
+-- a builder received these statements, and no others
 abbrev pub IsTold : AccumulationBuilder → List Statement → Type 0
 IsTold builder statements = AreTold builder.accumulations.items statements
 
--- The last of a list, if there is one, became another that is so related to it.
+-- The last of a list, if there is one, became another that is related to it by `R`.
 abbrev pub LastBecomes : {T : Type 0} → (T → T → Type 0) → List T → List T → Type 0
 LastBecomes {T = T} R old new = (front : List T) (last : T) → old ≡ front ++ last ∷ []
     → (next : T) × (new ≡ front ++ next ∷ []) × R last next
 
--- an accumulation got a line more
+-- an accumulation got one more line
 abbrev pub GainsLine : List (List ℕ) → Accumulation → Accumulation → Type 0
 GainsLine texts old new =
     (new ≡ record old { content = new.content })

@@ -21,13 +21,13 @@ record_fault before line kind =
     if is_in_place (last_kind_of before) kind then fields_fault before line kind
     else Some (at_line (length before + 1) code.OutOfPlace)
 
--- how a NEM13 file judges: L9 of an end where the last record is no end of data, or there is none
+-- how a NEM13 file judges: an end has L9 if the last record isn't an end of data, or there is no record
 abbrev pub nem13 : Judge
 nem13 = record {
   of_record = record_fault;
   of_end = λ lines. if is_this EndOfData (last_kind_of lines) then None else Some code.MissingEnd;
 }
 
--- the fault of a text: that of its least faulty line; a text without one is well formed
+-- the fault of a text: that of its least faulty line; a text without a fault is well formed
 unfoldable pub fault_of : List ℕ → Option FileFault
 fault_of text = of_file nem13 text

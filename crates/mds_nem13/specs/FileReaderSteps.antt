@@ -32,21 +32,21 @@ last_moment (state.Period moment) = Some moment
 last_moment (state.Note moment) = Some moment
 last_moment state.End = None
 
--- The lines are no records: they state nothing, whatever follows.
+-- The lines aren't records: they state nothing, whatever follows.
 pub record IsBlank (before : List (List ℕ)) (done : List Statement) : Type 0 where
   pub none : done ≡ []
   pub moment : (more : List (List ℕ)) → moment_of_header (before ++ more) ≡ moment_of_header more
   pub stated : (moment : ℕ) (more : List (List ℕ))
       → stated_from moment 1 (before ++ more) ≡ stated_from moment (length before + 1) more
 
--- Behind a header of a moment the lines state what was told, whatever follows.
+-- After a header with this moment the lines state what was passed on, whatever follows.
 pub record IsClosed (before : List (List ℕ)) (moment : ℕ) (done : List Statement) : Type 0 where
   pub headed : is_headed done ≡ true
   pub moment_is : (more : List (List ℕ)) → moment_of_header (before ++ more) ≡ moment
   pub stated : (more : List (List ℕ))
       → stated_from moment 1 (before ++ more) ≡ done ++ stated_from moment (length before + 1) more
 
--- They state what was told, the last of it a period that gets the notes that follow.
+-- They state what was passed on, ending in a period that gets the notes that follow.
 pub record IsOpen (before : List (List ℕ)) (moment : ℕ) (done : List Statement) : Type 0 where
   pub front : List Statement
   pub period : PeriodStatement
@@ -63,7 +63,7 @@ KnowsStated (state.Period moment) before done = IsOpen before moment done
 KnowsStated (state.Note moment) before done = IsOpen before moment done
 KnowsStated state.End before done = (moment : ℕ) × IsClosed before moment done
 
--- These lines were taken, and these statements told of them.
+-- These lines were taken, and these are the statements passed on.
 pub record Knows (before : List (List ℕ)) (last : LastRecord) (done : List Statement) : Type 0 where
   pub previous : last_kind_of before ≡ last_kind last
   pub stated : KnowsStated last before done
@@ -81,6 +81,6 @@ abbrev pub Takes : {T : Type 0} {U : Type 0} → (T → List Statement → Type 
 Takes told before line found result new =
     MatchResult result (λ _. (found ≡ None) × HasTaken told (before ++ line ∷ []) new) (IsStop found (MayLack line found))
 
--- All that these lines state was told, the header first.
+-- All that these lines state was passed on, the header first.
 abbrev pub HasTold : {T : Type 0} → (T → List Statement → Type 0) → T → List (List ℕ) → Type 0
 HasTold told sink lines = told sink (statements lines) × (is_headed (statements lines) ≡ true)

@@ -1,5 +1,5 @@
--- Where a record may stand. MDFF Specification, the blocking of a NEM13 file: a 100, then 250 records, each with its 550
--- records, then a 900.
+-- Where a record is allowed. MDFF Specification, the blocking of a NEM13 file: a 100, then 250 records, each with its
+-- 550 records, then a 900.
 use Rattle.std.specs.Prelude.{Bool, List, [], ◌∷◌, Option, Some, None}
 use Rattle.std.specs.List.{list_any}
 use Rattle.mds_lines.specs.declared.line.Kind.{Kind}
@@ -17,11 +17,11 @@ followers B2bDetails = []
 followers AccumulationB2bDetails = AccumulationB2bDetails ∷ AccumulationData ∷ EndOfData ∷ []
 followers EndOfData = []
 
--- the kinds that may stand after a record of a kind, or first where there is none
+-- the kinds that may come after a record of a kind, or first if there is no record
 abbrev pub next_kinds : Option Kind → List Kind
 next_kinds None = Header ∷ []
 next_kinds (Some previous) = followers previous
 
--- a kind may stand there
+-- a kind is allowed there
 abbrev pub is_in_place : Option Kind → Kind → Bool
 is_in_place previous kind = list_any (λ next. is_kind next kind) (next_kinds previous)

@@ -1,5 +1,5 @@
--- What the fields of a record say. MDFF Specification, the tables of the 250 and 550 records. In a well formed text each field
--- is what its layout says, so that what stands here for one that isn't is never met.
+-- The terms in the fields of a record. MDFF Specification, the tables of the 250 and 550 records. In a well formed text each
+-- field is what its layout says. So the values defined here for other fields are never met.
 use Rattle.std.specs.Prelude.{ℕ, ◌+◌, List, [], ◌∷◌, ◌++◌, pos, None, unwrap_or, option_map}
 use Rattle.std.specs.Result.{result_unwrap_or}
 use Rattle.mds_calendar.specs.Calendar.{moment_of}
@@ -14,8 +14,8 @@ use Rattle.mds_statements.specs.Statements.{PeriodStatement}
 use Rattle.mds_statements.specs.declared.periods.PeriodKey.{PeriodKey}
 use Rattle.mds_walk.specs.Said.{stream_in}
 
--- The one way in which a field is kept: a quality, a code, a direction, a quantity and a unit as they are written, and nothing
--- for one that is absent. Of the other fields no two texts say the same, so that they are kept as they stand.
+-- The one form in which a field is kept. A quality, a code, a direction, a quantity and a unit are in their written form,
+-- and an absent one is empty. In the other fields no two texts mean the same, so they are kept unchanged.
 abbrev pub kept_quality : List ℕ → List ℕ
 kept_quality text = unwrap_or (option_map quality_text (quality_of text)) []
 
@@ -31,7 +31,7 @@ kept_quantity text = written (result_unwrap_or (denoted text) (pos 0))
 abbrev pub kept_unit : List ℕ → List ℕ
 kept_unit text = unwrap_or (option_map unit_text (unit_of text)) []
 
--- 250: a read of a register, whose fields stand from a number on
+-- 250: a read of a register, whose fields begin at a number
 abbrev pub kept_read : List ℕ → ℕ → List (List ℕ)
 kept_read line n =
     field line n ∷ field line (n + 1) ∷ kept_quality (field line (n + 2)) ∷ kept_code (field line (n + 3))
@@ -51,7 +51,7 @@ abbrev pub kept_fields : List ℕ → List (List ℕ)
 kept_fields line =
     field line 3 ∷ (meter_fields line ++ kept_read line 9 ++ kept_read line 14 ++ amount_fields line)
 
--- 250: the stream, the register, the two reads and the update, which is the moment of the header where it is absent
+-- 250: the stream, the register, the two reads and the update, which is the moment of the header if it is absent
 abbrev pub key_in : ℕ → List ℕ → PeriodKey
 key_in moment line = record {
   stream = stream_in line;
@@ -61,7 +61,7 @@ key_in moment line = record {
   update = unwrap_or (unwrap_or (optional moment_of (field line 22)) None) moment;
 }
 
--- 250: what the record of a line of a number states, with these notes, under a header of a moment
+-- 250: what the record on the line with a number states, with these notes, under a header with this moment
 abbrev pub period_in : ℕ → ℕ → List ℕ → List (List (List ℕ)) → PeriodStatement
 period_in moment number line notes = record {
   line = number;
@@ -73,7 +73,7 @@ period_in moment number line notes = record {
 abbrev pub note_in : List ℕ → List (List ℕ)
 note_in line = field line 2 ∷ field line 3 ∷ field line 4 ∷ field line 5 ∷ []
 
--- a period with further notes
+-- a period with more notes
 abbrev pub with_notes : PeriodStatement → List (List (List ℕ)) → PeriodStatement
 with_notes period notes =
     record period { content = record { fields = period.content.fields; notes = period.content.notes ++ notes } }

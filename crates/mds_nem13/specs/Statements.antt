@@ -9,25 +9,25 @@ use Rattle.mds_walk.specs.Governing.{is_of, record_kind}
 use Rattle.mds_walk.specs.Said.{header_in}
 use Rattle.mds_nem13.specs.Said.{note_in, period_in}
 
--- the note of a line of a kind before further ones: a 550 is one, a line that is no record is passed over, and with any other
--- record there are no further ones
+-- the notes from a line of this kind on, given those after it. A 550 is a note, a line that isn't a record is skipped,
+-- and any other record ends the notes
 abbrev pub notes_from : Option Kind → List ℕ → List (List (List ℕ)) → List (List (List ℕ))
 notes_from None line further = further
 notes_from (Some AccumulationB2bDetails) line further = note_in line ∷ further
 notes_from (Some kind) line further = []
 
--- the notes of a 250: those of the 550 lines after it, up to the next record that is no 550
+-- the notes of a 250: the 550 lines after it, up to the next record that isn't a 550
 abbrev pub notes_after : List (List ℕ) → List (List (List ℕ))
 notes_after [] = []
 notes_after (line ∷ more) = notes_from (record_kind line) line (notes_after more)
 
--- what a line of a number and a kind states before these lines, under a header of a moment
+-- what a line of a kind states, with its number and the lines after it, under a header with this moment
 abbrev pub stated_by : ℕ → ℕ → Option Kind → List ℕ → List (List ℕ) → List Statement
 stated_by moment number (Some Header) line more = HeaderOf (header_in line) ∷ []
 stated_by moment number (Some AccumulationData) line more = PeriodOf (period_in moment number line (notes_after more)) ∷ []
 stated_by moment number kind line more = []
 
--- what lines state, of which the first has a number
+-- what lines state, where the first has this number
 abbrev pub stated_from : ℕ → ℕ → List (List ℕ) → List Statement
 stated_from moment number [] = []
 stated_from moment number (line ∷ more) =

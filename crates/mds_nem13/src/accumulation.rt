@@ -9,6 +9,6 @@ pub struct Accumulation {
     pub line: u64,
     pub key: PeriodKey,
     /// Its fields 3 to 21, joined by commas, and for each 550 record a line feed and its four texts, joined by commas.
-    /// What can be written in several ways is written in one.
+    /// A field that can be written in several ways has one form here.
     pub content: String,
 }

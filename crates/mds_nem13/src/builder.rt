@@ -1,4 +1,4 @@
-//! Accumulations in the making.
+//! Accumulations being built.
 
 ghost use Rattle.std.specs.Prelude.{◌≡◌, ℕ, [], List, OnOk};
 ghost use Rattle.mds_records.specs.Records.{IsAccumulationB2bDetails};
@@ -22,7 +22,7 @@ pub(crate) struct AccumulationBuilder {
 impl AccumulationBuilder {
     ghost use Rattle.mds_nem13.specs.BuilderSteps.{IsTold};
 
-    /// Before anything was told.
+    /// The state before the first statement.
     pub(crate) fn new(alloc: Global) -> AccumulationBuilder
         ensures { IsTold result [] }
     {
@@ -32,7 +32,7 @@ impl AccumulationBuilder {
         }
     }
 
-    /// All that was told.
+    /// All that was received.
     pub(crate) fn into_accumulations(self) -> Vec<Accumulation>
         ensures { result.items ≡ self.accumulations.items }
     {

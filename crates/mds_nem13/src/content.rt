@@ -50,7 +50,7 @@ pub(crate) fn write_note(
     push_text(note.current_ticket.text(), out)
 }
 
-/// Appends the fields from the register to the direction, each behind a comma.
+/// Appends the fields from the register to the direction, each after a comma.
 fn write_meter(period: &AccumulationDataRecord<'_>, out: &mut String) -> Result<(), AllocError>
     ensures { (line : List ℕ) → IsAccumulationData line period.now → OnOk result
         (AppendsEach (string_bytes out.old) (string_bytes out.new) (meter_fields line)) }
@@ -62,7 +62,7 @@ fn write_meter(period: &AccumulationDataRecord<'_>, out: &mut String) -> Result<
     push_text(period.direction.text(), out)
 }
 
-/// Appends the fields of a read, each behind a comma.
+/// Appends the fields of a read, each after a comma.
 fn write_read(read: &RegisterRead<'_>, out: &mut String) -> Result<(), AllocError>
     ensures { (reading moment quality code text : List ℕ) → IsRegisterRead reading moment quality code text read.now
         → OnOk result (AppendsEach (string_bytes out.old) (string_bytes out.new)
@@ -75,7 +75,7 @@ fn write_read(read: &RegisterRead<'_>, out: &mut String) -> Result<(), AllocErro
     push_text(read.reason.text(), out)
 }
 
-/// Appends the fields from the quantity to the date of the next read, each behind a comma.
+/// Appends the fields from the quantity to the date of the next read, each after a comma.
 fn write_amount(period: &AccumulationDataRecord<'_>, out: &mut String) -> Result<(), AllocError>
     ensures { (line : List ℕ) → IsAccumulationData line period.now → OnOk result
         (AppendsEach (string_bytes out.old) (string_bytes out.new) (amount_fields line)) }

@@ -1,4 +1,4 @@
-//! A NEM13 file read record by record: where each may stand, and what it states.
+//! A NEM13 file read record by record: where each record is allowed, and what it states.
 
 ghost use Rattle.std.specs.Prelude.{◌≡◌, ◌+◌, ℕ, List, [], length, true, Ok};
 ghost use Rattle.mds_lines.specs.Kinds.{kind_of};
@@ -16,12 +16,12 @@ use mds_records::{
 use mds_terms::Moment;
 use mds_walk::{RecordSink, TakeFault, at_field, at_line};
 
-/// The last record, with the moment of the header where a 250 record may follow.
+/// The last record, with the moment of the header if a 250 record may follow.
 #[derive(Clone, Copy)]
 pub(crate) enum LastRecord {
-    /// There is none.
+    /// There is no record yet.
     Nothing,
-    /// A 100 record, of this moment.
+    /// A 100 record, with this moment.
     Header(Moment),
     /// A 250 record.
     Period(Moment),
@@ -42,7 +42,7 @@ impl LastRecord {
     ghost use Rattle.mds_nem13.specs.FileReaderSteps.{last_kind, last_moment};
     ghost use Rattle.mds_nem13.specs.Place.{is_in_place};
 
-    /// Whether a record of a kind may stand next.
+    /// Whether a record of a kind may come next.
     fn allows(&self, kind: Kind) -> bool
         ensures { result ≡ is_in_place (last_kind self.now) kind }
     {
@@ -57,7 +57,7 @@ impl LastRecord {
         }
     }
 
-    /// The moment of the header, where a 250 record may follow.
+    /// The moment of the header, if a 250 record may follow.
     fn moment(&self) -> Option<Moment>
         ensures { result ≡ last_moment self.now }
     {
@@ -74,7 +74,7 @@ impl<T: PeriodSink + Drop> FileReader<T> {
     ghost use Rattle.mds_nem13.specs.FileReaderSteps.{last_kind, last_moment};
     ghost use Rattle.mds_nem13.specs.Place.{is_in_place};
 
-    /// Before the first line of a file, all of which the sink is to be told.
+    /// The state before the first line of a file, whose statements will all go to the sink.
     pub fn new(sink: T) -> FileReader<T>
         requires { T.told sink [] }
         ensures { HasTaken T.told [] result }

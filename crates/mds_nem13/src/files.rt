@@ -24,7 +24,7 @@ use mds_records::FileFault;
 use mds_walk::{LineFeeder, ReadFault, TakeFault, read_file};
 use std::alloc::Global;
 
-/// Reads a NEM13 file from a source, and tells a sink what it states. It holds a line at a time.
+/// Reads a NEM13 file from a source, and passes what it states to a sink. It holds a line at a time.
 #[tactic(auto, unfolding(crate::specs::Faults::fault_of, crate::specs::Statements::statements_of))]
 pub fn read_lines<R: Source, T: PeriodSink + Drop>(
     alloc: Global,
@@ -34,7 +34,7 @@ pub fn read_lines<R: Source, T: PeriodSink + Drop>(
     requires failures { R.failures source.old < 2 ^ 64 - 1 }
     requires nothing { T.told sink [] }
 
-    // The text is well formed, and the sink was told what it states, the header first.
+    // The text is well formed, and the sink received what it states, the header first.
     ensures done { IfOk result (λ out. IfSome (R.remaining source.old) (λ text. (fault_of text ≡ None)
         × T.told out (statements_of text) × (is_headed (statements_of text) ≡ true))) }
 
@@ -42,12 +42,12 @@ pub fn read_lines<R: Source, T: PeriodSink + Drop>(
     ensures fault { (fault : FileFault) → result ≡ Err (ReadFault.File fault)
         → IfSome (R.remaining source.old) (λ text. fault_of text ≡ Some fault) }
 
-    // `Read` is answered just where the source failed, once.
+    // `Read` is returned exactly if the source failed, once.
     ensures counted { R.failures source.new ≡ R.failures source.old + (if is_read_fault result then 1 else 0) }
 
-    // What it made is of what the source's calls brought, whatever that is. They brought no more than the lines that a file may
-    // have, and a block. Each call was needed: none comes behind the end, a failure, or a piece with a fault. It runs out
-    // of memory only at a line before which none has a fault.
+    // The output is made of what the source's calls brought, whatever that is. They brought no more than the lines that a file
+    // may have, and a block. Each call was needed: none comes after the end, a failure, or a piece with a fault. It runs out of
+    // memory only at a line before which none has a fault.
     ensures given { (given : List (List ℕ)) × Reads R.gives source.old given source.new
         × (length (concat given) ≤ most_lines * (longest_line + 1) + block)
         × AreCallsNeeded (fault_so_far nem13) [] false given

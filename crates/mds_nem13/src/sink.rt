@@ -1,4 +1,4 @@
-//! Who is told what a file states.
+//! What receives the statements of a file.
 
 ghost use Rattle.std.specs.Prelude.{◌≡◌, ℕ, true, List, [], ◌∷◌, ◌++◌, OnOk};
 ghost use Rattle.mds_records.specs.Records.{IsAccumulationB2bDetails, IsAccumulationData};
@@ -11,16 +11,17 @@ use mds_records::{AccumulationB2bDetailsRecord, AccumulationDataRecord, HeaderRe
 use mds_terms::Moment;
 use std::alloc::AllocError;
 
-/// Is told what a file states, in the order of its lines. Each call fails only for want of memory.
+/// Receives what a file states, in the order of its lines. A call fails only if memory is refused.
 pub trait PeriodSink {
-    /// It has been told these statements, and no others.
+    /// It has received these statements, and no others.
     ghost told: { Self → List Statement → Type 0 };
 
-    /// Is told the header, first of all.
+    /// Receives the header, first of all.
     fn header(&mut self, header: &HeaderRecord<'_>) -> Result<(), AllocError>
         ensures { told self.old [] → OnOk result (told self.new (HeaderOf (header_said header.now) ∷ [])) };
 
-    /// Is told the period that the 250 record of a line states, so far without notes, under a header of a moment.
+    /// Receives the period that the 250 record on a line states, without notes yet, under a header with this
+    /// moment.
     fn period(
         &mut self,
         line: u64,
@@ -31,7 +32,7 @@ pub trait PeriodSink {
             → IsAccumulationData text period.now
             → OnOk result (told self.new (done ++ PeriodOf (period_in moment line text []) ∷ [])) };
 
-    /// Is told a further note of the period that it was told last.
+    /// Receives another note of the period that it received last.
     fn note(&mut self, note: &AccumulationB2bDetailsRecord<'_>) -> Result<(), AllocError>
         ensures { (done : List Statement) (period : PeriodStatement) (text : List ℕ)
             → told self.old (done ++ PeriodOf period ∷ []) → is_headed done ≡ true

@@ -11,12 +11,12 @@ use Rattle.mds_runs.specs.Gaps.{runs_of}
 abbrev pub two : ℕ → List ℕ
 two n = to_be_bytes w16 n
 
--- a reason's code, or the number that stands for none
+-- a reason's code, or the number for no code
 abbrev pub code_number : Option ℕ → ℕ
 code_number None = 0xFFFF
 code_number (Some n) = n
 
--- a mark: its flag, its method, its reason's code, how many bytes its reason's text has, and that text
+-- a mark: its flag, its method, its reason's code, the number of bytes in its reason's text, and that text
 abbrev pub mark_bytes : Mark → List ℕ
 mark_bytes m =
     (m.quality.flag ∷ m.quality.method ∷ []) ++ two (code_number m.reason.code)
@@ -26,12 +26,12 @@ mark_bytes m =
 abbrev pub run_bytes : Run → List ℕ
 run_bytes run = two run.first ++ two run.last ++ mark_bytes run.mark
 
--- a value in millionths, as two's complement of eight bytes, or nothing where there is none
+-- a value in millionths, as two's complement of eight bytes, or nothing if there is no value
 abbrev pub value_bytes : Option ℤ → List ℕ
 value_bytes None = []
 value_bytes (Some z) = to_be_bytes w64 (cast_unsigned w64 z)
 
--- what a body has of one interval: the value of a held reading, or nothing
+-- the part of a body for one interval: the value of a held reading, or nothing
 abbrev pub reading_bytes : Option ReadingValue → List ℕ
 reading_bytes None = []
 reading_bytes (Some r) = value_bytes r.value
@@ -41,7 +41,7 @@ abbrev pub mark_in : Option ReadingValue → Option Mark
 mark_in None = None
 mark_in (Some r) = Some r.mark
 
--- the marks of readings, with gaps where none is held
+-- the marks of readings, with a gap for each that isn't held
 abbrev pub marks_of : List (Option ReadingValue) → List (Option Mark)
 marks_of readings = map mark_in readings
 
@@ -49,18 +49,18 @@ marks_of readings = map mark_in readings
 abbrev pub runs_in : List (Option ReadingValue) → List Run
 runs_in readings = runs_of 1 (marks_of readings)
 
--- the one body of readings: its version, how many intervals the day has, the runs, and the values
+-- the one body of readings: its version, the number of intervals in the day, the number of runs, the runs, the values
 unfoldable pub body_of : List (Option ReadingValue) → List ℕ
 body_of readings =
     (1 ∷ []) ++ two (length readings) ++ two (length (runs_in readings)) ++ flat_map run_bytes (runs_in readings)
     ++ flat_map reading_bytes readings
 
--- a reading is lawful where it is held
+-- a reading that is held is lawful
 abbrev pub is_held_lawful : Option ReadingValue → Bool
 is_held_lawful None = true
 is_held_lawful (Some r) = is_lawful r
 
--- the readings of a day of so many intervals: each is lawful, and at least one is held
+-- the readings of a day of `count` intervals: each is lawful, and at least one is held
 pub record IsDay (count : ℕ) (readings : List (Option ReadingValue)) : Type 0 where
   pub places : length readings ≡ count
   pub lawful : IsTrue (list_all is_held_lawful readings)

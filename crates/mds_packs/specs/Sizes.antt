@@ -1,14 +1,14 @@
--- How many bytes the values of a packed day have, by its head and its runs (profile). Marks aren't looked at yet.
+-- The size in bytes of the values of a packed day, by its head and its runs (profile). Marks aren't looked at yet.
 use Rattle.std.specs.Prelude.{ℕ, zero, suc, ◌+◌, ◌-◌, ◌*◌, not, ◌&&◌, ◌==◌, nat_lt, if◌then◌else◌, List, Option, Some, None, length}
 use Rattle.std.specs.Int.{w16}
 use Rattle.mds_marks.specs.Quality.{null}
 use Rattle.mds_packs.specs.Unpacked.{◌>>=◌, PartsValue, byte_at, number_at, parts_at}
 
--- how many bytes the values of the run of these fields have: N has none
+-- the size of the values of the run with these fields: N has no values
 abbrev pub parts_size : PartsValue → ℕ
 parts_size p = if p.flag == null then 0 else 8 * (p.last + 1 - p.first)
 
--- how many those of so many runs have, and the bytes after these runs
+-- the size of the values of this many runs, and the bytes after these runs
 abbrev pub sizes_at : ℕ → List ℕ → Option (ℕ × List ℕ)
 sizes_at zero bytes = Some (0, bytes)
 sizes_at (suc n) bytes = do
@@ -16,7 +16,7 @@ sizes_at (suc n) bytes = do
   others ← sizes_at n parts.1
   Some (parts_size parts.0 + others.0, others.1)
 
--- how many the values of a day of so many intervals have, where bytes begin as its body, and just so many stand behind the runs
+-- the size of the values of a day of `count` intervals, if the bytes begin as its body and exactly this many follow the runs
 unfoldable pub values_size : ℕ → List ℕ → Option ℕ
 values_size count bytes = do
   version ← byte_at bytes

@@ -1,5 +1,5 @@
--- The readings of a day that bytes are the body of, as they are read from the left (profile). The last definition says it.
--- Those before it are its steps.
+-- The readings of the day whose body the bytes are, as they are read from the left (profile). The last definition states
+-- it. Those before it are its steps.
 use Rattle.std.specs.Prelude.{ℕ, zero, suc, ℤ, unsigned_abs, not, ◌&&◌, ◌==◌, nat_lt, if◌then◌else◌, List, [], ◌∷◌, Option, Some, None, length, take, drop}
 use Rattle.std.specs.Int.{Width, w16, w64, byte_len, from_be_bytes, cast_signed}
 use Rattle.mds_quantity.specs.Quantity.{limit}
@@ -10,7 +10,7 @@ use Rattle.mds_marks.specs.declared.mark.Mark.{Mark}
 use Rattle.mds_runs.specs.declared.cover.Run.{Run}
 use Rattle.mds_runs.specs.GapSteps.{are_parted, marks_after}
 
--- a step that may give nothing, and then the next step
+-- a step that may fail, and then the next step
 infixl 10 ◌>>=◌
 abbrev pub ◌>>=◌ : {A B : Type 0} → Option A → (A → Option B) → Option B
 None >>= f = None
@@ -25,7 +25,7 @@ abbrev pub byte_at : List ℕ → Option (ℕ × List ℕ)
 byte_at [] = None
 byte_at (byte ∷ rest) = Some (byte, rest)
 
--- a text behind its length, and the bytes after it
+-- a text after its length, and the bytes after the text
 unfoldable pub text_at : List ℕ → Option (List ℕ × List ℕ)
 text_at bytes = do
   n ← number_at w16 bytes
@@ -51,21 +51,21 @@ parts_at bytes = do
   text ← text_at code.1
   Some (record { first = first.0; last = last.0; flag = flag.0; method = method.0; code = code.0; text = text.0 }, text.1)
 
--- the code that a number stands for
+-- the code denoted by a number
 abbrev pub code_in : ℕ → Option ℕ
 code_in n = if n == 0xFFFF then None else Some n
 
--- the mark that fields say
+-- the mark in these fields
 abbrev pub mark_said : PartsValue → Mark
 mark_said p = record { quality = record { flag = p.flag; method = p.method }; reason = record { code = code_in p.code; text = p.text } }
 
--- the run that fields say, where its mark is lawful
+-- the run in these fields, if its mark is lawful
 unfoldable pub run_in : PartsValue → Option Run
 run_in p =
     if is_mark (mark_said p)
     then Some (record { first = p.first; last = p.last; mark = mark_said p }) else None
 
--- so many runs, and the bytes after them
+-- this many runs, and the bytes after them
 unfoldable pub runs_at : ℕ → List ℕ → Option (List Run × List ℕ)
 runs_at zero bytes = Some ([], bytes)
 runs_at (suc n) bytes = do
@@ -81,7 +81,7 @@ value_at flag bytes =
     else (number_at w64 bytes >>= λ n.
     if nat_lt (unsigned_abs (cast_signed w64 n.0)) limit then Some (Some (cast_signed w64 n.0), n.1) else None)
 
--- the reading with a mark, and the bytes after it
+-- the reading with this mark, and the bytes after it
 unfoldable pub reading_at : Mark → List ℕ → Option (ReadingValue × List ℕ)
 reading_at mark bytes = do
   value ← value_at mark.quality.flag bytes
@@ -99,7 +99,7 @@ readings_at (Some mark ∷ marks) bytes = do
   others ← readings_at marks reading.1
   Some (Some reading.0 ∷ others.0, others.1)
 
--- the runs of a day of so many intervals, and the bytes after them
+-- the runs of a day of `count` intervals, and the bytes after them
 unfoldable pub head_at : ℕ → List ℕ → Option (List Run × List ℕ)
 head_at count bytes = do
   version ← byte_at bytes
@@ -109,7 +109,7 @@ head_at count bytes = do
     runs ← runs_at number.0 number.1
     if are_parted count None runs.0 then Some runs else None)
 
--- the readings of a day of so many intervals that bytes are the body of, if they are one
+-- the readings of the day of `count` intervals whose body the bytes are, if they are one
 unfoldable pub unpacked : ℕ → List ℕ → Option (List (Option ReadingValue))
 unpacked count bytes = do
   head ← head_at count bytes

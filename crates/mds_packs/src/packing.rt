@@ -1,4 +1,4 @@
-//! The readings of a day, as one body.
+//! From the readings of a day to one body.
 
 ghost use Rattle.std.specs.Prelude.{option_map, List, ◌≡◌, ◌≢◌, ◌↔◌, ◌+◌, ◌<◌, ◌≤◌, ◌^◌, ℕ, IsTrue, IfOk, OnOk, Some, [], ◌∷◌, ◌++◌, is_some, length, map, slice_get};
 ghost use Rattle.std.specs.List.{flat_map, list_all, list_any};
@@ -12,17 +12,17 @@ use mds_quantity::Quantity;
 use mds_runs::{DayReadings, Run};
 use std::alloc::{AllocError, Global};
 
-/// The bytes before the first run.
+/// The number of bytes before the first run.
 const HEAD: usize = 5;
 
-/// The bytes of a run, and of a short text. Most days have one run.
+/// The number of bytes of a run and of a short text. Most days have one run.
 const RUN: usize = 16;
 
-/// The bytes of a value.
+/// The number of bytes of a value.
 const VALUE: usize = 8;
 
-/// Packs the readings of a day, one place for each interval and at most 65,535. Where at least one is held, they are a
-/// day, and `unpack_day` gives them back. It fails only for want of memory.
+/// Packs the readings of a day, one place for each interval and at most 65,535. If at least one is held, they are a
+/// day, and `unpack_day` returns them. It fails only if memory is refused.
 pub fn pack_day(alloc: Global, readings: &[Option<Reading>]) -> Result<Vec<u8>, AllocError>
     requires few { length readings.now < 2 ^ 16 }
     ensures value { IfOk result (λ body. body.items ≡ body_of readings.now) }
@@ -41,7 +41,7 @@ pub fn pack_day(alloc: Global, readings: &[Option<Reading>]) -> Result<Vec<u8>, 
     Ok(out)
 }
 
-/// Packs a day of which each interval has a reading, as `pack_day` does. It fails only for want of memory.
+/// Packs a day in which each interval has a reading, as `pack_day` does. It fails only if memory is refused.
 pub fn pack_readings(alloc: Global, readings: &DayReadings) -> Result<Vec<u8>, AllocError>
     ensures value { IfOk result (λ body. body.items ≡ body_of (map (λ reading. Some reading) readings.now)) }
     ensures day { OnOk result (0 < length readings.now
@@ -61,7 +61,7 @@ pub fn pack_readings(alloc: Global, readings: &DayReadings) -> Result<Vec<u8>, A
     Ok(out)
 }
 
-/// Sets the number of runs, which the fourth byte and the fifth are.
+/// Sets the number of runs, in the fourth and the fifth byte.
 fn set_number(out: &mut Vec<u8>, number: u16)
     requires { 5 ≤ length out.old.items }
     ensures { (a b c d e : ℕ) (rest : List ℕ) → out.old.items ≡ a ∷ b ∷ c ∷ d ∷ e ∷ rest
@@ -79,7 +79,7 @@ fn put_two(out: &mut Vec<u8>, number: u16) -> Result<(), AllocError>
     out.extend_from_slice(&number.to_be_bytes())
 }
 
-/// Appends the runs of the readings, and tells how many they are.
+/// Appends the runs of the readings, and returns how many there are.
 fn put_runs(out: &mut Vec<u8>, readings: &[Option<Reading>]) -> Result<u16, AllocError>
     requires { length readings.now < 2 ^ 16 }
     ensures number { IfOk result (λ number. number ≡ length (runs_in readings.now)) }
@@ -95,7 +95,7 @@ fn put_runs(out: &mut Vec<u8>, readings: &[Option<Reading>]) -> Result<u16, Allo
     Ok(number)
 }
 
-/// The index of the first place after this one with another mark, or how many places there are. A gap differs from each
+/// The index of the first place after this one with another mark, or the number of places. A gap differs from each
 /// mark.
 fn end_of_stretch(readings: &[Option<Reading>], start: usize) -> usize
     requires { start < length readings.now }
@@ -114,7 +114,7 @@ fn end_of_stretch(readings: &[Option<Reading>], start: usize) -> usize
     readings.len()
 }
 
-/// Whether both readings have one mark, or neither is held.
+/// Whether both readings have the same mark, or neither is held.
 #[inline]
 fn are_alike(one: &Option<Reading>, other: &Option<Reading>) -> bool
     ensures { IsTrue result ↔ (mark_in one.now ≡ mark_in other.now) }
@@ -126,8 +126,8 @@ fn are_alike(one: &Option<Reading>, other: &Option<Reading>) -> bool
     }
 }
 
-/// Appends the run of intervals `first` to `last`, which have the mark of this reading. It tells that it is one run, or
-/// none where no reading is held.
+/// Appends the run of intervals `first` to `last`, which have the mark of this reading. It returns 1 for the one run,
+/// or 0 if no reading is held.
 fn put_stretch(
     out: &mut Vec<u8>,
     first: u16,
@@ -171,7 +171,7 @@ fn put_each_run(out: &mut Vec<u8>, runs: &[Run]) -> Result<(), AllocError>
     Ok(())
 }
 
-/// The number of a code, or the one that stands for none.
+/// The number of a code, or the number for no code.
 fn number_of(code: Option<u16>) -> u16
     ensures { result ≡ code_number code }
 {

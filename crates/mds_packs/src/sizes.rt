@@ -1,4 +1,4 @@
-//! How many bytes the values of a body have.
+//! The size of the values in a body.
 
 ghost use Rattle.std.specs.Prelude.{◌≡◌, ◌≤◌, option_map};
 ghost use Rattle.mds_packs.specs.LoopSteps.{parts_value};
@@ -8,8 +8,8 @@ use crate::layout::VERSION;
 use crate::unpacking::{Parts, read_parts, u8_at, u16_at};
 use mds_marks::flags::NULL;
 
-/// How many bytes the values of a day of so many intervals have, by the head and the runs of its body. `None` where bytes don't
-/// begin as such a body, or not just so many stand behind the runs. It takes no memory.
+/// The size in bytes of the values of a day of `count` intervals, by the head and the runs of its body. `None` if the bytes
+/// don't begin as such a body, or if another number of bytes follows the runs. Takes no memory.
 #[tactic(auto, unfolding(crate::specs::Sizes::values_size))]
 pub(crate) fn values_size(count: u16, body: &[u8]) -> Option<u64>
     ensures { result ≡ values_size count body.now }
@@ -27,7 +27,7 @@ pub(crate) fn values_size(count: u16, body: &[u8]) -> Option<u64>
     Some(size)
 }
 
-/// Reads past so many runs, and adds up how many bytes their values have. Behind them stand the bytes that are left.
+/// Reads past `number` runs, and adds up the size in bytes of their values. The rest of the bytes is returned with it.
 fn read_sizes(number: u16, bytes: &[u8]) -> Option<(u64, &[u8])>
     ensures { option_map (λ x. (x.0, x.1.now)) result ≡ sizes_at number bytes.now }
 {
@@ -43,7 +43,7 @@ fn read_sizes(number: u16, bytes: &[u8]) -> Option<(u64, &[u8])>
     Some((size, rest))
 }
 
-/// How many bytes the values of the run of these fields have. N has none.
+/// The size in bytes of the values of the run with these fields. N has no values.
 fn size_of(parts: &Parts<'_>) -> u64
     ensures value { result ≡ parts_size (parts_value parts.now) }
     ensures small { result ≤ 524_288 }

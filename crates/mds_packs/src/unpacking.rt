@@ -1,4 +1,4 @@
-//! The readings of a day, from their body.
+//! From a body to the readings of a day.
 
 ghost use Rattle.std.specs.Prelude.{nat_lt, nat_le, ◌&&◌, ◌≡◌, ◌+◌, ◌-◌, ◌<◌, ◌≤◌, ◌^◌, IsTrue, IfOk, OnOk, OnErr, IfSome, IfNone, IsSome, false, Some, None, [], ◌++◌, length as list_length, option_map, replicate, List, Option};
 ghost use Rattle.std.specs.Int.{w16, w64};
@@ -22,7 +22,7 @@ use mds_runs::Run;
 use std::alloc::{AllocError, Global};
 use std::str;
 
-/// The fields of a run, as they were read. Its text is borrowed.
+/// The fields of a run as read. The text is borrowed.
 #[derive(Clone, Copy)]
 pub struct Parts<'a> {
     pub(crate) first: u16,
@@ -33,9 +33,9 @@ pub struct Parts<'a> {
     text: &'a [u8],
 }
 
-/// Unpacks the body of a day with intervals of this length: a place for each interval, with its reading where one is
-/// held. `None` where these bytes are no body. So bytes that give readings are what `pack_day` makes of them. It takes
-/// memory only for bytes that have the head and the size of such a body.
+/// Unpacks the body of a day with intervals of this length: a place for each interval, with its reading if one is
+/// held. `None` if these bytes aren't a body. So bytes that unpack to readings are what `pack_day` makes of them.
+/// Takes memory only for bytes that have the head and the size of such a body.
 pub fn unpack_day(
     alloc: Global,
     length: Length,
@@ -59,7 +59,7 @@ pub(crate) fn intervals_of(length: Length) -> u16
     length.count() as u16
 }
 
-/// Reads all of a body, where it has the size of one.
+/// Reads all of a body, if it has the size of one.
 #[tactic(auto, unfolding(crate::specs::Unpacked::unpacked))]
 fn read_all(
     alloc: Global,
@@ -87,7 +87,7 @@ fn read_all(
     Ok(Some(readings))
 }
 
-/// Reads a number of two bytes. Behind it stand the bytes that are left, here and below.
+/// Reads a number of two bytes. Here and below the rest of the bytes is returned with it.
 pub(crate) fn u16_at(bytes: &[u8]) -> Option<(u16, &[u8])>
     ensures { option_map (λ x. (x.0, x.1.now)) result ≡ number_at w16 bytes.now }
 {
@@ -123,7 +123,7 @@ pub(crate) fn u8_at(bytes: &[u8]) -> Option<(u8, &[u8])>
     }
 }
 
-/// Reads a text behind its length.
+/// Reads a text after its length.
 #[tactic(auto, unfolding(crate::specs::Unpacked::text_at))]
 fn bytes_at(bytes: &[u8]) -> Option<(&[u8], &[u8])>
     ensures { option_map (λ x. (x.0.now, x.1.now)) result ≡ text_at bytes.now }
@@ -160,7 +160,7 @@ pub(crate) fn read_parts(bytes: &[u8]) -> Option<(Parts<'_>, &[u8])>
     ))
 }
 
-/// The code that a number stands for.
+/// The code denoted by a number.
 fn code_of(number: u16) -> Option<u16>
     ensures { result ≡ code_in number }
 {
@@ -170,7 +170,7 @@ fn code_of(number: u16) -> Option<u16>
     Some(number)
 }
 
-/// The text that bytes are. `None` for bytes that no reason has.
+/// These bytes as a text. `None` for bytes that no reason has.
 #[tactic(auto, using(mds_marks::proofs::Reasons::text_is_utf8))]
 fn text_of(bytes: &[u8]) -> Option<&str>
     ensures some { IfSome result (λ text. text.now ≡ bytes.now) }
@@ -185,7 +185,7 @@ fn text_of(bytes: &[u8]) -> Option<&str>
     Some(text)
 }
 
-/// The run of these fields, if they make a mark.
+/// The run of these fields, if they form a mark.
 #[tactic(auto, unfolding(crate::specs::Unpacked::run_in))]
 fn run_of(alloc: Global, parts: &Parts<'_>) -> Result<Option<Run>, AllocError>
     ensures { IfOk result (λ o. o ≡ run_in (parts_value parts.now)) }
@@ -206,7 +206,7 @@ fn run_of(alloc: Global, parts: &Parts<'_>) -> Result<Option<Run>, AllocError>
     }))
 }
 
-/// Reads so many runs, and appends them.
+/// Reads `number` runs, and appends them.
 fn read_runs<'a>(
     runs: &mut Vec<Run>,
     number: u16,
@@ -230,7 +230,7 @@ fn read_runs<'a>(
     Ok(Some(rest))
 }
 
-/// Whether each of the runs may follow the one before it, in a day of so many intervals.
+/// Whether each run may follow the one before it, in a day of `count` intervals.
 fn is_parted(count: u16, runs: &[Run]) -> bool
     ensures { result ≡ are_parted count None runs.now }
 {
@@ -251,7 +251,7 @@ fn may_follow(count: u16, last: Option<&Run>, run: &Run) -> bool
     is_within(count, end_of(last), run) && !touches(last, run)
 }
 
-/// Whether a run begins after an interval has ended, and lies in a day of so many.
+/// Whether a run begins after the interval `end`, and is within a day of `count` intervals.
 fn is_within(count: u16, end: u16, run: &Run) -> bool
     ensures { result
         ≡ (nat_lt end run.now.first && nat_le run.now.first run.now.last && nat_le run.now.last count) }
@@ -259,7 +259,7 @@ fn is_within(count: u16, end: u16, run: &Run) -> bool
     end < run.first && run.first <= run.last && run.last <= count
 }
 
-/// The interval that a run ends with, or 0 where there is none.
+/// The last interval of a run, or 0 if there is no run.
 fn end_of(last: Option<&Run>) -> u16
     ensures { result ≡ last_end (option_map (λ l. l.now) last.entry) }
 {
@@ -269,7 +269,7 @@ fn end_of(last: Option<&Run>) -> u16
     }
 }
 
-/// Whether a run goes on right after another, with its mark.
+/// Whether a run begins right after another, with the same mark.
 fn touches(last: Option<&Run>, run: &Run) -> bool
     ensures { result ≡ runs_touch (option_map (λ l. l.now) last.entry) run.now }
 {
@@ -293,7 +293,7 @@ fn is_one_mark(one: &Mark, other: &Mark) -> bool
     one.is_same(other)
 }
 
-/// Reads what stands before the values: the head and the runs.
+/// Reads what comes before the values: the head and the runs.
 #[tactic(auto, unfolding(crate::specs::Unpacked::head_at))]
 pub(crate) fn read_head<'a>(
     runs: &mut Vec<Run>,
@@ -350,7 +350,7 @@ fn read_readings<'a>(
     Ok(Some(rest))
 }
 
-/// Appends places without a reading until there are so many places.
+/// Appends places without a reading until there are `count` places.
 fn leave_out(readings: &mut Vec<Option<Reading>>, count: u16) -> Result<(), AllocError>
     ensures { OnOk result (readings.new.items
         ≡ readings.old.items ++ replicate (count - list_length readings.old.items) None) }

@@ -1,4 +1,4 @@
-//! The readings of a whole day, from their body.
+//! From a body to the readings of a whole day.
 
 ghost use Rattle.std.specs.Prelude.{◌≡◌, ◌+◌, ◌-◌, ◌<◌, ◌≤◌, ◌^◌, ℕ, IsTrue, IfOk, IfSome, IfNone, IsSome, OnErr, None, Some, [], List, get_or, length as list_length, map, option_map, replicate};
 ghost use Rattle.mds_calendar.specs.Length.{count_of};
@@ -18,9 +18,9 @@ use mds_quantity::Quantity;
 use mds_runs::{DayReadings, Run};
 use std::alloc::{AllocError, Global};
 
-/// Unpacks the body of a whole day with intervals of this length, as its readings lie. `None` where these bytes are no
-/// body of such a day, or an interval has no reading. It takes memory only for bytes that have the head and the size of
-/// such a body.
+/// Unpacks the body of a whole day with intervals of this length to `DayReadings`. `None` if these bytes aren't a body
+/// of such a day, or an interval has no reading. Takes memory only for bytes that have the head and the size of such a
+/// body.
 pub fn unpack_readings(
     alloc: Global,
     length: Length,
@@ -51,8 +51,8 @@ pub fn unpack_readings(
     Ok(Some(readings))
 }
 
-/// Reads a reading for each interval, and appends them. `None` where an interval has none, or the bytes don't say them.
-/// Behind them stand the bytes that are left, here and below.
+/// Reads a reading for each interval, and appends them. `None` if an interval has no reading, or the bytes don't
+/// contain them. Here and below the rest of the bytes is returned with it.
 fn read_each<'a>(
     alloc: Global,
     readings: &mut DayReadings,
@@ -105,7 +105,7 @@ fn read_run<'a>(
     Ok(Some(rest))
 }
 
-/// Reads the values of so many readings with this mark. They take the place of what stood in `values`.
+/// Reads the values of this many readings with this mark. They replace the contents of `values`.
 fn read_values<'a>(
     values: &mut Vec<Option<Quantity>>,
     mark: &Mark,

@@ -6,8 +6,8 @@ ghost use Rattle.mds_quantity.specs.Rounding.{IsRounded, line_times_steps};
 
 use crate::quantity::{Quantity, signed};
 
-/// The mean of so many quantities, whose sum is given in millionths. It is rounded to the nearest millionth, and a tie
-/// goes away from zero (profile). It takes no memory.
+/// The mean of `count` quantities, whose sum is given in millionths. It is rounded to the nearest millionth, and a tie
+/// goes away from zero (profile). Takes no memory.
 pub fn mean(sum: i128, count: u64) -> Quantity
     requires some { 1 ≤ count }
     requires of_quantities { unsigned_abs sum ≤ (limit - 1) * count }
@@ -17,8 +17,8 @@ pub fn mean(sum: i128, count: u64) -> Quantity
 }
 
 /// The value at the place `place` on the line from one quantity to another. The line has `count` values between the
-/// two, evenly apart, with places from 1. The value is rounded to the nearest millionth, and a tie goes away from zero
-/// (profile). It takes no memory.
+/// two, evenly spaced, with places from 1. The value is rounded to the nearest millionth, and a tie goes away from
+/// zero (profile). Takes no memory.
 pub fn between(before: Quantity, after: Quantity, place: u64, count: u64) -> Quantity
     requires first { 1 ≤ place }
     requires last { place ≤ count }
@@ -31,7 +31,7 @@ pub fn between(before: Quantity, after: Quantity, place: u64, count: u64) -> Qua
     rounded(start * i128::from(parts) + rise * i128::from(place), parts)
 }
 
-/// The quantity nearest to so many parts, `parts` of which make a millionth. A tie goes away from zero.
+/// The quantity nearest to `total` parts, of which `parts` make a millionth. A tie goes away from zero.
 fn rounded(total: i128, parts: u64) -> Quantity
     requires some { 1 ≤ parts }
     requires of_quantities { unsigned_abs total ≤ (limit - 1) * parts }
@@ -42,7 +42,7 @@ fn rounded(total: i128, parts: u64) -> Quantity
     signed(total < 0, nearest as u64)
 }
 
-/// A law: at most one whole number is the rounded one. The function does nothing.
+/// A law: a rounded number is unique. The function does nothing.
 pub fn one_rounding()
     ensures { (p : ℤ) (q : ℕ) (r s : ℤ) → 0 < q → IsRounded p q r → IsRounded p q s → r ≡ s }
 {}

@@ -1,5 +1,5 @@
--- What a range of days of a stream shows: its gaps and its finals (profile). A range is first day to last day, both
--- included; it holds no day where the last is before the first.
+-- What a range of days of a stream shows: its gaps and its finals (profile). A range is from a first day to a last
+-- day, both included; it is empty if the last is before the first.
 use Rattle.std.specs.Prelude.{◌≡◌, ◌↔◌, ◌⊎◌, ◌+◌, ◌<◌, ◌≤◌, ℕ, List}
 use Rattle.std.specs.List.{AllPairs}
 use Rattle.mds_names.specs.declared.stream.Stream.{Stream}
@@ -13,7 +13,7 @@ use Rattle.mds_registers.specs.declared.writing.GapRow.{GapRow}
 abbrev pub IsTooWide : ℕ → ℕ → Type 0
 IsTooWide first last = first + 400 ≤ last
 
--- The rows of a range: all that are such and of one of its days, ascending by day, and by first interval within a day.
+-- The rows of a range: all that satisfy `IsSuch` on one of its days, ascending by day and then by first interval.
 pub record AreRows {Row : Type 0} (day_in first_in : Row → ℕ) (IsSuch : Row → Type 0) (first last : ℕ) (rows : List Row)
     : Type 0 where
   pub each : (row : Row) → Member row rows ↔ ((first ≤ day_in row) × (day_in row ≤ last) × IsSuch row)

@@ -24,13 +24,13 @@ HasManySuffixes suffixes =
 abbrev pub Ascend : List (List ℕ) → Type 0
 Ascend suffixes = AllPairs (λ a b. slice_cmp nat_cmp a b ≡ Less) suffixes
 
--- The distinct ones of suffixes, ascending by their bytes.
+-- The distinct suffixes, ascending by their bytes.
 pub record AreDistinct (suffixes distinct : List (List ℕ)) : Type 0 where
   pub each : (suffix : List ℕ) → Member suffix distinct ↔ Member suffix suffixes
   pub ascending : Ascend distinct
 
--- A known day, with its current length and its unit, its current details, the greatest update among its current readings, and
--- these: the reading of each interval of that length.
+-- A known day, with its current length and its unit, its current details, and the greatest update among its current readings.
+-- Its readings are those of each interval of that length.
 pub record IsSelectedDay (w : World) (stream : Stream) (day : SelectedDay) : Type 0 where
   pub form : IsFormOf w stream day.date day.length day.unit
   pub details : IsCurrentDetails w stream day.date day.details
@@ -44,7 +44,7 @@ pub record AreSelectedDays (w : World) (stream : Stream) (first last : ℕ) (day
   pub ascending : AllPairs (λ a b. a.date < b.date) days
   pub each : All (IsSelectedDay w stream) days
 
--- a stream with those days, of which there may be none
+-- a stream with these days, which may be none
 abbrev pub IsSelectedStream : World → ℕ → ℕ → SelectedStream → Type 0
 IsSelectedStream w first last selected = AreSelectedDays w selected.stream first last selected.days.items
 

@@ -13,7 +13,7 @@ IsBefore suffix other = slice_cmp nat_cmp suffix other ≡ Less
 abbrev pub IsAfter : Option (List ℕ) → List ℕ → Type 0
 IsAfter last suffix = IfSome last (λ last. IsBefore last suffix)
 
--- The first of suffixes that is after the last one.
+-- The first suffix that is after the last one.
 abbrev pub IsNext : Option (List ℕ) → List (List ℕ) → Option (List ℕ) → Type 0
 IsNext last suffixes None = (suffix : List ℕ) → Member suffix suffixes → IsAfter last suffix → ⊥
 IsNext last suffixes (Some next) =

@@ -1,4 +1,10 @@
-//! What a range of days of a store shows: its gaps, its finals, and what an export selects. It works over any keeper.
+//! What a range of days of a store shows, over any keeper: its gaps, its finals, and what an export selects.
+//!
+//! It decides which ranges and exports are too wide (M12: `is_too_wide`, `distinct`), and which days an export selects.
+//! An interval without a version is read as bare N (`current_readings`).
+//! Called by `mds_service`, for the registers, for exports and for the readings of a day.
+//! Must not change: at most 400 days and eight suffixes, since a `Selection` has at most 3,200 days. The register of
+//! gaps has a row for an unknown day; finals and exports leave it out.
 #![tactic(auto)]
 
 mod range;

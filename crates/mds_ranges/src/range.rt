@@ -5,7 +5,7 @@ ghost use Rattle.mds_ranges.specs.Ranges.{IsTooWide};
 
 use mds_terms::Day;
 
-/// A range with more days between its first and its last is too wide.
+/// A range is too wide if its last day is at least this many days after its first.
 const MOST_BETWEEN: i64 = 400;
 
 /// Whether a range has more than 400 days.

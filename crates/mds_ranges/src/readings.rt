@@ -11,8 +11,8 @@ use mds_keeper::DayBook;
 use mds_terms::{Length, Mark, Reading};
 use std::alloc::{AllocError, Global};
 
-/// The current readings of a day whose current length is this: one for each interval of the day, in their order. Each is a copy of
-/// the interval's reading of that length with the greatest update. Where it has none it is bare N, quality N without a value.
+/// The current readings of a day with this current length: one for each interval of the day, in order. Each is a copy of the
+/// interval's reading of that length with the greatest update. Without a version it is bare N, quality N without a value.
 pub fn current_readings(
     alloc: Global,
     book: &DayBook,
@@ -29,7 +29,7 @@ pub fn current_readings(
     Ok(readings)
 }
 
-/// A copy of the current reading of an interval, or bare N where it has no version.
+/// A copy of the current reading of an interval, or bare N if it has no version.
 fn current_reading(book: &DayBook, interval: u16) -> Result<Reading, AllocError>
     ensures { IfOk result (IsDayReading (book_world book.now) book.now.stream book.now.day interval) }
 {

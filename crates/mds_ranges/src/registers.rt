@@ -14,7 +14,7 @@ use mds_registers::{FinalRow, Gap, GapRow, finals, gaps};
 use mds_terms::{Day, Stream};
 use std::alloc::{AllocError, Global};
 
-/// The gap that a day is which isn't known.
+/// The gap of a day that isn't known.
 const WHOLE_DAY: Gap = Gap { first: 0, last: 0 };
 
 /// The gaps of a range of days of a stream, ascending by day and then by first interval. A day that isn't known is the
@@ -46,7 +46,7 @@ pub fn finals_of<K: Keeper>(
     Ok(final_rows(alloc, &books)?)
 }
 
-/// The gaps of the days of a range, of which these are the known ones.
+/// The gaps of the days of a range, where `books` are those of the known ones.
 fn gap_rows(
     alloc: Global,
     books: &[DayBook],
@@ -68,7 +68,7 @@ fn gap_rows(
     Ok(rows)
 }
 
-/// The finals of the days of a range, of which these are the known ones.
+/// The finals of the days of a range, where `books` are those of the known ones.
 fn final_rows(alloc: Global, books: &[DayBook]) -> Result<Vec<FinalRow>, AllocError>
     ensures { (w : World) (stream : Stream) (first last : ℕ) → AreDaysOf w stream first last books.now
         → IfOk result (λ rows. AreFinalRows w stream first last rows.items) }
@@ -80,7 +80,7 @@ fn final_rows(alloc: Global, books: &[DayBook]) -> Result<Vec<FinalRow>, AllocEr
     Ok(rows)
 }
 
-/// Puts the gaps of a day behind rows.
+/// Appends the gaps of a day to rows.
 fn add_gaps(alloc: Global, rows: &mut Vec<GapRow>, book: &DayBook) -> Result<(), AllocError>
     ensures { OnOk result (AddsGaps book.now rows.old.items rows.new.items) }
 {
@@ -91,7 +91,7 @@ fn add_gaps(alloc: Global, rows: &mut Vec<GapRow>, book: &DayBook) -> Result<(),
     Ok(())
 }
 
-/// Puts the finals of a day behind rows.
+/// Appends the finals of a day to rows.
 fn add_finals(alloc: Global, rows: &mut Vec<FinalRow>, book: &DayBook) -> Result<(), AllocError>
     ensures { OnOk result (AddsFinals book.now rows.old.items rows.new.items) }
 {
@@ -102,7 +102,7 @@ fn add_finals(alloc: Global, rows: &mut Vec<FinalRow>, book: &DayBook) -> Result
     Ok(())
 }
 
-/// Puts a whole day behind rows for each day from a first one on that is before an end.
+/// Appends a whole day to rows for each day from `first` on and before `end`.
 fn add_unknown(rows: &mut Vec<GapRow>, first: u32, end: u32) -> Result<(), AllocError>
     requires { end ≤ last_day + 1 }
     ensures { OnOk result (rows.new.items ≡ rows.old.items ++ whole_days first (end - first)) }
@@ -119,7 +119,7 @@ fn add_unknown(rows: &mut Vec<GapRow>, first: u32, end: u32) -> Result<(), Alloc
     Ok(())
 }
 
-/// The day of a number, where there is one.
+/// The day of a number, if there is one.
 fn day_of(number: u32) -> Option<Day>
     ensures { SomeIff result (number ≤ last_day) number }
 {

@@ -17,7 +17,7 @@ use mds_terms::{Day, Details, Nmi, Stream, Suffix};
 use std::alloc::{AllocError, Global};
 
 /// What an export of the days of a range selects: the streams of an NMI with one of these suffixes. Each has its known
-/// days, of which there may be none, and each day has its current details and its current readings.
+/// days, which may be none, and each day has its current details and its current readings.
 pub fn selection_of<K: Keeper>(
     alloc: Global,
     keeper: &mut K,
@@ -36,11 +36,11 @@ pub fn selection_of<K: Keeper>(
     ensures unasked { length suffixes.now ≡ 0 → IfOk result (λ selection. selection.streams.items ≡ []) }
 {
     let streams = selected_streams(alloc, keeper, nmi, suffixes, first, last)?;
-    // It is one where the keeper is sound.
+    // These are a selection if the keeper is sound.
     made_of(streams).ok_or(Unavailable)
 }
 
-/// Streams as a selection. `None` where a range of at most 400 days and at most eight suffixes select no such streams.
+/// Streams as a selection. `None` if they can't be those of at most 400 days and at most eight suffixes.
 fn made_of(streams: Vec<SelectedStream>) -> Option<Selection>
     ensures some { IfSome result (λ selection. selection.streams ≡ streams) }
     ensures none { IfNone result ((w : World) (nmi : List ℕ) (suffixes : List (List ℕ)) (first last : ℕ)
@@ -96,7 +96,7 @@ fn selected_stream<K: Keeper>(
             days: Vec::new(alloc),
         });
     }
-    // Details change only where a row tells so: no other day is asked for.
+    // Details change only at the days of these rows, so no other day is asked for.
     let at_first = keeper.details(*stream, first)?;
     let rows = keeper.details_between(*stream, first, last)?;
     let days = selected_days(alloc, &books, &at_first, &rows)?;
@@ -106,7 +106,7 @@ fn selected_stream<K: Keeper>(
     })
 }
 
-/// The days of books, each with its details. They are those of the range's first day, until a row has others.
+/// The days of books, each with its details. These are those of the range's first day, until a row has others.
 fn selected_days(
     alloc: Global,
     books: &[DayBook],
@@ -128,7 +128,7 @@ fn selected_days(
     Ok(days)
 }
 
-/// The details of a day of a range: those of the last row up to it, else those of the range's first day.
+/// The details of a day of a range: those of the last row up to it, or else those of the range's first day.
 fn details_on(at_first: &Details, rows: &[(Day, Details)], day: Day) -> Result<Details, AllocError>
     ensures { (w : World) (stream : Stream) (first last : ℕ) → first ≤ day → day ≤ last
         → IsCurrentDetails w stream first at_first.now → AreDetailsBetween w stream first last rows.now
@@ -148,7 +148,7 @@ fn rows_upto(rows: &[(Day, Details)], day: Day) -> &[(Day, Details)]
     &rows[..rows.partition_point(|row| row.0 <= day)]
 }
 
-/// A day with its details and its current readings. `None` where it isn't known.
+/// A day with its details and its current readings. `None` if it isn't known.
 fn selected_day(
     alloc: Global,
     book: &DayBook,

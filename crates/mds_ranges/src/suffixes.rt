@@ -1,4 +1,4 @@
-//! The suffixes that an export is asked for.
+//! The suffixes of an export.
 
 ghost use Rattle.std.specs.Prelude.{◌≡◌, ◌↔◌, ◌≤◌, ℕ, List, IfNone, IfSome, IsTrue, length};
 ghost use Rattle.mds_ranges.specs.Selections.{AreDistinct, HasManySuffixes};
@@ -11,7 +11,7 @@ use std::ops::DerefSlice;
 /// The most distinct suffixes of an export.
 const MOST_SUFFIXES: usize = 8;
 
-/// At most eight suffixes, which lie in the value itself.
+/// At most eight suffixes, stored in the value itself.
 #[derive(Drop)]
 pub struct Suffixes {
     places: [Suffix; MOST_SUFFIXES],
@@ -38,14 +38,13 @@ impl DerefSlice for Suffixes {
     }
 }
 
-/// The distinct ones of these suffixes, in the order of their bytes. `None` where there are more than eight. It takes no
-/// memory.
+/// The distinct suffixes among these, in the order of their bytes. `None` if there are more than eight. Takes no memory.
 pub fn distinct(suffixes: &[Suffix]) -> Option<Suffixes>
     ensures some { IfSome result (AreDistinct suffixes.now) }
     ensures few { IfSome result (λ distinct. length distinct ≤ 8) }
     ensures none { IfNone result (HasManySuffixes suffixes.now) }
 {
-    // Each is the first after the one before it, so that none has to be moved.
+    // Each is the first after the one before it, so none has to be moved.
     let mut places = [blank(); MOST_SUFFIXES];
     let mut count = 0;
     let mut last = None;
@@ -73,7 +72,7 @@ fn next_after(last: &Option<Suffix>, suffixes: &[Suffix]) -> Option<Suffix>
     next
 }
 
-/// Whether a suffix is after one and before another, as far as there are these.
+/// Whether a suffix is after one and before another, if these exist.
 fn is_between(first: &Option<Suffix>, suffix: &Suffix, last: &Option<Suffix>) -> bool
     ensures { IsTrue result ↔ (IsAfter first.now suffix.now × IfSome last.now (IsBefore suffix.now)) }
 {
@@ -100,7 +99,7 @@ fn is_before(suffix: &Suffix, last: &Option<Suffix>) -> bool
     }
 }
 
-/// A suffix for places that are unused.
+/// A suffix for unused places.
 fn blank() -> Suffix {
     Suffix::read(b"E1").unwrap()
 }

@@ -25,7 +25,7 @@ is_of_other_file file EndOfData line = false
 abbrev pub layout_of : Kind → ℕ → List ℕ → List Rule
 layout_of kind n line = layout kind n (not (means_values (field line (n + 3))))
 
--- fewer fields than the least, or one past the last that isn't empty
+-- fewer fields than the least, or a field past the last that isn't empty
 abbrev pub has_wrong_count : Kind → ℕ → List ℕ → Bool
 has_wrong_count kind n line =
     let last = length (layout_of kind n line) + 1 in
@@ -36,13 +36,13 @@ has_wrong_count kind n line =
 abbrev pub is_bad : HeaderName → Rule → List ℕ → Bool
 is_bad file rule text = if length text == 0 then not rule.may_be_empty else not (fits file rule.form text)
 
--- the least number, from 2, of a bad field; a field that was left off is empty
+-- the least number, from 2, of a bad field; a field that was left out is empty
 abbrev pub least_bad : HeaderName → List Rule → List ℕ → Option ℕ
 least_bad file rules line =
     find (λ number. is_bad file (slice_index_or rules (number - 2) (may Nothing)) (field line number))
     (range_with_len 2 (length rules))
 
--- the first fault that stands
+-- the first fault that applies
 unfoldable pub field_fault : HeaderName → Kind → ℕ → List ℕ → Option FieldFault
 field_fault file kind n line =
     if is_of_other_file file kind line then Some WrongFile

@@ -1,6 +1,6 @@
 -- The layouts of the records, each as one row of a table: what its fields hold, from field 2 on. MDFF Specification,
 -- the tables of the 100, 200, 250, 300, 400, 500, 550 and 900 records. Which fields may be empty, how long a text may
--- be and which fields may be left off is this project's profile.
+-- be and which fields may be left out is this project's profile.
 use Rattle.std.specs.Prelude.{ℕ, ◌+◌, Bool, true, false, ◌&&◌, ◌==◌, nat_le, if◌then◌else◌, List, [], ◌∷◌, ◌++◌, length, replicate, codes, bytes_eq, Option, Some, None, is_some, is_ok}
 use Rattle.std.specs.List.{list_all, list_any}
 use Rattle.mds_quantity.specs.Quantity.{denoted}
@@ -22,7 +22,7 @@ use Rattle.mds_records.specs.declared.file.FileKind.TheVariants as kind
 use Rattle.mds_records.specs.declared.header_name.HeaderName.{HeaderName}
 use Rattle.mds_records.specs.declared.header_name.HeaderName.TheVariants.{Nem12, Nem13}
 
--- what a field that isn't empty has to be
+-- what a field that isn't empty must be
 pub data Form : Type 0 where
   FileName : Form
   DateTime : Form
@@ -58,7 +58,7 @@ abbrev pub other_file_name : HeaderName → List ℕ
 other_file_name Nem12 = codes "NEM13"
 other_file_name Nem13 = codes "NEM12"
 
--- the direction that a letter is
+-- the direction that a letter denotes
 abbrev pub direction_of : List ℕ → Option Direction
 direction_of text =
     if bytes_eq text (codes "I") then Some Import
@@ -74,16 +74,16 @@ abbrev pub has_flag : List ℕ → Option QualityValue → Bool
 has_flag letters None = false
 has_flag letters (Some quality) = list_any (λ letter. quality.flag == letter) letters
 
--- A quality that means that values are there: actual, or estimated, final substituted or substituted by a method. Null
--- and variable don't, and what is no quality says nothing of that.
+-- A quality that means that there are values: actual, or estimated, final substituted or substituted by a method. Null
+-- and variable don't, and a text that isn't a quality says nothing about values.
 abbrev pub means_values : List ℕ → Bool
 means_values quality = has_flag (codes "AEFS") (quality_of quality)
 
--- the quality of a run, or of a read of a register: any but variable, which says that runs follow
+-- the quality of a run, or of a read of a register: any but variable, which means that runs follow
 abbrev pub is_single_quality : List ℕ → Bool
 is_single_quality quality = has_flag (codes "AEFNS") (quality_of quality)
 
--- a field that isn't empty is of its form
+-- a field that isn't empty has its form
 abbrev pub fits : HeaderName → Form → List ℕ → Bool
 fits file FileName text = bytes_eq text (file_name file)
 fits file DateTime text = is_some (date_time_of text)
@@ -104,7 +104,7 @@ fits file TransLetter text = is_some (letter_of text)
 fits file DirectionLetter text = is_some (direction_of text)
 fits file Nothing text = false
 
--- a field: whether it may be empty, and what it has to be else
+-- a field: whether it may be empty, and what it must be otherwise
 pub record Rule : Type 0 where
   pub may_be_empty : Bool
   pub form : Form
@@ -140,7 +140,7 @@ layout AccumulationB2bDetails n values_may_be_empty =
     may TransLetter ∷ may Printable ∷ may TransLetter ∷ may Printable ∷ []
 layout EndOfData n values_may_be_empty = []
 
--- the least number of fields, the indicator included: trailing fields may be left off down to it
+-- the least number of fields, the indicator included: trailing fields may be left out down to it
 abbrev pub least_count : Kind → ℕ → ℕ
 least_count Header n = 3
 least_count NmiDataDetails n = 9

@@ -19,7 +19,7 @@ code_text TooLarge = codes "L10"
 code_text WrongFile = codes "L11"
 code_text NoValue = codes "L12"
 
--- the code, the line and, where one is at fault, the field, as `L5 line 3 field 290`
+-- the code, the line and, if one is at fault, the field, as in `L5 line 3 field 290`
 abbrev pub fault_text : FileFault → List ℕ
 fault_text fault =
     code_text fault.code ++ codes " line " ++ decimal fault.line

@@ -30,7 +30,7 @@ use Rattle.mds_records.specs.FieldFaults.{has_wrong_count}
 use Rattle.mds_records.specs.Layouts.{direction_of, is_single_quality}
 use Rattle.mds_records.specs.Records.{sum_of, values_of}
 
--- the first of these tests that failed, by its number from a number on
+-- the first of these tests that failed, numbered from `from` on
 abbrev pub first_false : ℕ → List Bool → Option ℕ
 first_false from [] = None
 first_false from (test ∷ tests) = if test then first_false (from + 1) tests else Some from
@@ -40,13 +40,13 @@ abbrev pub outcome : Bool → Bool → Option ℕ → Option FieldFault
 outcome is_other is_whole bad =
     if is_other then Some WrongFile else (if is_whole then option_map Bad bad else Some Count)
 
--- the lesser of two numbers, of which either may be absent
+-- the lesser of two numbers, either of which may be absent
 abbrev pub lesser : Option ℕ → Option ℕ → Option ℕ
 lesser None n = n
 lesser (Some m) None = Some m
 lesser (Some m) (Some n) = Some (min m n)
 
--- the first of two numbers that is there
+-- the first of two numbers that isn't absent
 abbrev pub or_else : Option ℕ → Option ℕ → Option ℕ
 or_else None n = n
 or_else (Some m) n = Some m
@@ -97,7 +97,7 @@ pub record HasAccumulationB2bFields (line : List ℕ) (f : AccumulationB2bFields
   pub current_ticket : f.current_ticket.now ≡ field line 5
   pub whole : f.is_whole ≡ not (has_wrong_count AccumulationB2bDetails 0 line)
 
--- these fields of a read stand from a place of these fields on
+-- these are the fields of a read, from a position of these fields on
 pub record HasReadFields (fields : List (List ℕ)) (place : ℕ) (f : ReadFields) : Type 0 where
   pub reading : f.reading.now ≡ slice_index_or fields place []
   pub moment : f.moment.now ≡ slice_index_or fields (place + 1) []
@@ -105,7 +105,7 @@ pub record HasReadFields (fields : List (List ℕ)) (place : ℕ) (f : ReadField
   pub reason_code : f.reason_code.now ≡ slice_index_or fields (place + 3) []
   pub reason_text : f.reason_text.now ≡ slice_index_or fields (place + 4) []
 
--- and these of a 250 before its reads
+-- and these are the fields of a 250 before its reads
 pub record HasMeterFields (fields : List (List ℕ)) (place : ℕ) (f : MeterFields) : Type 0 where
   pub nmi : f.nmi.now ≡ slice_index_or fields place []
   pub configuration : f.configuration.now ≡ slice_index_or fields (place + 1) []
@@ -149,7 +149,7 @@ abbrev pub accumulation_tests : AccumulationFields → List Bool
 accumulation_tests f =
     meter_tests f.meter ++ (read_tests true f.previous ++ (read_tests false f.current ++ amount_tests f))
 
--- what the fields before the reads spell
+-- the terms that the fields before the reads spell
 pub record AreMeter (f : MeterFields) (terms : MeterTerms) : Type 0 where
   pub nmi : nmi_of f.nmi.now ≡ Some terms.stream.nmi
   pub configuration : text_of terms.configuration ≡ f.configuration.now
@@ -159,7 +159,7 @@ pub record AreMeter (f : MeterFields) (terms : MeterTerms) : Type 0 where
   pub meter : text_of terms.meter ≡ f.meter.now
   pub direction : direction_of f.direction.now ≡ Some terms.direction
 
--- what those after them spell
+-- the terms that the fields after the reads spell
 pub record AreAmounts (f : AccumulationFields) (terms : AmountTerms) : Type 0 where
   pub quantity : denoted f.quantity.now ≡ Ok terms.quantity
   pub unit : unit_of f.unit.now ≡ Some terms.unit
@@ -174,7 +174,7 @@ is_empty_or_quantity text = (length text == 0) || is_ok (denoted text)
 abbrev pub is_there : List ℕ → Bool
 is_there text = not (length text == 0)
 
--- these are n values, the first of these fields, after which a further one stands
+-- these are n values, the first of these fields, and at least one more field follows
 pub record AreValues (n : ℕ) (fields : List (List ℕ)) (values : DayValues) : Type 0 where
   pub more : n < length fields
   pub rest : fields_of values.rest.now ≡ drop n fields
@@ -188,7 +188,7 @@ abbrev pub HasWrongCount : ℕ → List ℕ → Type 0
 HasWrongCount n line =
     (length (fields_of line) < n + 3) ⊎ (are_blank (drop (n + 7) (fields_of line)) ≡ false)
 
--- these are the fields of a 300 of n values, and the faults of these
+-- these are the fields of a 300 of n values, and the faults of its values
 pub record HasDayFields (n : ℕ) (line : List ℕ) (f : DayFields) (faults : ValueFaults) : Type 0 where
   pub least : n + 3 ≤ length (fields_of line)
   pub blank : are_blank (drop (n + 7) (fields_of line)) ≡ true

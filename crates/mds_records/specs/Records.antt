@@ -32,7 +32,7 @@ use Rattle.mds_records.specs.declared.record.Record.{Record}
 use Rattle.mds_records.specs.declared.record.Record.TheVariants as of
 use Rattle.mds_records.specs.Layouts.{direction_of, interval_number_of}
 
--- how many values a 300 has, by the length of its intervals
+-- the number of values of a 300, by the length of its intervals
 abbrev pub value_count : Option ℕ → ℕ
 value_count None = 0
 value_count (Some minutes) = count_of minutes
@@ -41,11 +41,11 @@ value_count (Some minutes) = count_of minutes
 abbrev pub values_of : ℕ → List ℕ → List (List ℕ)
 values_of n line = take n (drop 2 (fields_of line))
 
--- the quantity that a field is, in millionths: none where it is none or empty
+-- the quantity in a field, in millionths, or nothing if the field is empty or isn't a quantity
 abbrev pub quantity_in : List ℕ → Option ℤ
 quantity_in text = result_ok (denoted text)
 
--- what a value adds to a sum, in millionths: its quantity, and nothing where it is none
+-- what a value adds to a sum, in millionths: its quantity, or 0 if it isn't one
 abbrev pub amount_of : Result ℤ QuantityFault → ℤ
 amount_of (Ok amount) = amount
 amount_of (Err fault) = pos 0
@@ -72,7 +72,7 @@ pub record IsNmiDataDetails (line : List ℕ) (r : NmiDataDetailsRecord) : Type 
   pub length : length_of (field line 9) ≡ Some r.length
   pub next : optional day_of (field line 10) ≡ Some r.details.next
 
--- what a register showed, when, its quality, which may be absent, and the reason for that
+-- what a register showed, when, its quality, which may be absent, and the reason
 pub record IsRegisterRead (reading moment quality code text : List ℕ) (r : RegisterRead) : Type 0 where
   pub reading_is : text_of r.reading ≡ reading
   pub moment_is : moment_of moment ≡ Some r.moment
@@ -124,7 +124,7 @@ pub record IsAccumulationB2bDetails (line : List ℕ) (r : AccumulationB2bDetail
   pub current_trans : optional letter_of (field line 4) ≡ Some r.current_trans
   pub current_ticket : text_of r.current_ticket ≡ field line 5
 
--- the record that a line of a kind spells
+-- the record that a line of a given kind spells
 abbrev pub Spells : Kind → ℕ → List ℕ → Record → Type 0
 Spells Header n line (of.Header r) = IsHeader line r
 Spells NmiDataDetails n line (of.NmiDataDetails r) = IsNmiDataDetails line r
@@ -136,8 +136,8 @@ Spells AccumulationB2bDetails n line (of.AccumulationB2bDetails r) = IsAccumulat
 Spells EndOfData n line of.EndOfData = Unit {0}
 Spells kind n line r = ⊥
 
--- What a record says together with the values that were read with it (profile). The sum of a 300 is that of the values
--- that are there. A value is empty only where its quality is N or V. The quality of a 400 isn't V.
+-- How a record relates to the values that were read with it (profile). The sum of a 300 is that of its values. A value
+-- is empty only if its quality is N or V. The quality of a 400 isn't V.
 abbrev pub GoesWith : List (Option ℤ) → Record → Type 0
 GoesWith values (of.IntervalData r) =
     (r.sum ≡ fold (λ sum value. sum +ℤ value) (pos 0) (flat_map option_to_list values))

@@ -13,7 +13,7 @@ use mds_lines::{is_blank_from, next_field};
 use mds_terms::{PrintableText, TransCode};
 
 /// A 550 record: a transaction and a service order for the previous read, and for the current one.
-/// Each of these may be absent. A text that is absent is empty.
+/// Each of these may be absent. An absent text is empty.
 #[derive(Clone, Copy)]
 pub struct AccumulationB2bDetailsRecord<'a> {
     /// The transaction code of the previous read (PreviousTransCode).
@@ -26,18 +26,19 @@ pub struct AccumulationB2bDetailsRecord<'a> {
     pub current_ticket: PrintableText<'a>,
 }
 
-/// The fields of a 550 record, good or bad.
+/// The fields of a 550 record, valid or not.
 #[derive(Clone, Copy)]
 struct AccumulationB2bFields<'a> {
     previous_trans: &'a [u8],
     previous_ticket: &'a [u8],
     current_trans: &'a [u8],
     current_ticket: &'a [u8],
-    /// Whether all fields past the last are empty (L4). Each of the fields may be left off.
+    /// Whether all fields past the last are empty (L4). Any of the fields may be left out at the
+    /// end.
     is_whole: bool,
 }
 
-/// Reads the text of a 550 record, or says its first fault (L4, L5).
+/// Reads the text of a 550 record, or returns its first fault (L4, L5).
 pub fn read_accumulation_b2b_details(
     text: &[u8],
 ) -> Result<AccumulationB2bDetailsRecord<'_>, FieldFault>
@@ -65,7 +66,7 @@ pub fn read_accumulation_b2b_details(
     })
 }
 
-/// The fields of a 550 record, good or bad.
+/// The fields of a 550 record, valid or not.
 fn split_accumulation_b2b_details(text: &[u8]) -> AccumulationB2bFields<'_>
     ensures { HasAccumulationB2bFields text.now result }
 {

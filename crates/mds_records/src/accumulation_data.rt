@@ -30,13 +30,13 @@ pub struct AccumulationDataRecord<'a> {
     pub current: RegisterRead<'a>,
     pub quantity: Quantity,
     pub unit: Unit,
-    /// The next scheduled read, if it names one.
+    /// The next scheduled read, if the record states one.
     pub next: Option<Day>,
-    /// When it was updated, if it says so.
+    /// When it was updated, if the record states it.
     pub update: Option<Moment>,
 }
 
-/// The fields of a 250 record, good or bad.
+/// The fields of a 250 record, valid or not.
 #[derive(Clone, Copy)]
 struct AccumulationFields<'a> {
     meter: MeterFields<'a>,
@@ -51,7 +51,7 @@ struct AccumulationFields<'a> {
     is_whole: bool,
 }
 
-/// The fields of a 250 record before its reads, good or bad.
+/// The fields of a 250 record before its reads, valid or not.
 #[derive(Clone, Copy)]
 struct MeterFields<'a> {
     nmi: &'a [u8],
@@ -63,7 +63,7 @@ struct MeterFields<'a> {
     direction: &'a [u8],
 }
 
-/// What a 250 record says before its reads.
+/// The terms of a 250 record before its reads.
 #[derive(Clone, Copy)]
 struct MeterTerms<'a> {
     stream: Stream,
@@ -74,7 +74,7 @@ struct MeterTerms<'a> {
     direction: Direction,
 }
 
-/// What a 250 record says after its reads.
+/// The terms of a 250 record after its reads.
 #[derive(Clone, Copy)]
 struct AmountTerms {
     quantity: Quantity,
@@ -83,7 +83,7 @@ struct AmountTerms {
     update: Option<Moment>,
 }
 
-/// Reads the text of a 250 record, or says its first fault (L4, L5).
+/// Reads the text of a 250 record, or returns its first fault (L4, L5).
 pub fn read_accumulation_data(text: &[u8]) -> Result<AccumulationDataRecord<'_>, FieldFault>
     ensures { (file : HeaderName) (n : ℕ) → MatchResult result
         (λ r. (field_fault file Kind.AccumulationData n text.now ≡ None) × IsAccumulationData text.now r)
@@ -96,7 +96,7 @@ pub fn read_accumulation_data(text: &[u8]) -> Result<AccumulationDataRecord<'_>,
     read_fields(&fields)
 }
 
-/// The fields of a 250 record, good or bad.
+/// The fields of a 250 record, valid or not.
 fn split_accumulation_data(text: &[u8]) -> AccumulationFields<'_>
     ensures { HasAccumulationFields text.now result }
 {
@@ -123,7 +123,7 @@ fn split_accumulation_data(text: &[u8]) -> AccumulationFields<'_>
     }
 }
 
-/// The fields before the reads, good or bad, and what is left after them.
+/// The fields before the reads, valid or not, and what is left after them.
 fn split_meter(rest: Option<&[u8]>) -> (MeterFields<'_>, Option<&[u8]>)
     ensures fields { HasMeterFields (fields_left (option_copied rest.entry)) 0 result.0 }
     ensures left { fields_left (option_copied result.1) ≡ drop 7 (fields_left (option_copied rest.entry)) }
@@ -147,7 +147,7 @@ fn split_meter(rest: Option<&[u8]>) -> (MeterFields<'_>, Option<&[u8]>)
     (fields, rest)
 }
 
-/// Reads the record that these fields spell, or says which field is the first bad one (L5).
+/// Reads the record that these fields spell, or returns which field is the first bad one (L5).
 fn read_fields<'a>(
     fields: &AccumulationFields<'a>,
 ) -> Result<AccumulationDataRecord<'a>, FieldFault>
@@ -187,7 +187,8 @@ fn read_fields<'a>(
     })
 }
 
-/// Reads what the fields before the reads spell, or says which of them is the first bad one (L5).
+/// Reads the terms that the fields before the reads spell, or returns which field is the first bad
+/// one (L5).
 fn read_meter<'a>(fields: &MeterFields<'a>) -> Result<MeterTerms<'a>, FieldFault>
     ensures { MatchResult result
         (λ terms. (first_false 2 (meter_tests fields.now) ≡ None) × AreMeter fields.now terms)
@@ -221,7 +222,8 @@ fn read_meter<'a>(fields: &MeterFields<'a>) -> Result<MeterTerms<'a>, FieldFault
     })
 }
 
-/// Reads what the fields after the reads spell, or says which of them is the first bad one (L5).
+/// Reads the terms that the fields after the reads spell, or returns which field is the first bad
+/// one (L5).
 fn read_amount(fields: &AccumulationFields<'_>) -> Result<AmountTerms, FieldFault>
     ensures { MatchResult result
         (λ terms. (first_false 19 (amount_tests fields.now) ≡ None) × AreAmounts fields.now terms)

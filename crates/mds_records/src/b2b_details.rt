@@ -13,7 +13,7 @@ use mds_lines::{is_blank_from, next_field};
 use mds_terms::{Moment, PrintableText, TransCode};
 
 /// A 500 record: a transaction, a service order, and what was read when. Each of these may be
-/// absent. A text that is absent is empty.
+/// absent. An absent text is empty.
 #[derive(Clone, Copy)]
 pub struct B2bDetailsRecord<'a> {
     /// The transaction code (TransCode).
@@ -26,18 +26,19 @@ pub struct B2bDetailsRecord<'a> {
     pub reading: PrintableText<'a>,
 }
 
-/// The fields of a 500 record, good or bad.
+/// The fields of a 500 record, valid or not.
 #[derive(Clone, Copy)]
 struct B2bFields<'a> {
     trans: &'a [u8],
     ticket: &'a [u8],
     moment: &'a [u8],
     reading: &'a [u8],
-    /// Whether all fields past the last are empty (L4). Each of the fields may be left off.
+    /// Whether all fields past the last are empty (L4). Any of the fields may be left out at the
+    /// end.
     is_whole: bool,
 }
 
-/// Reads a 500 record, or says its first fault (L4, L5).
+/// Reads a 500 record, or returns its first fault (L4, L5).
 pub fn read_b2b_details(text: &[u8]) -> Result<B2bDetailsRecord<'_>, FieldFault>
     ensures { (file : HeaderName) (n : ℕ) → MatchResult result
         (λ r. (field_fault file Kind.B2bDetails n text.now ≡ None) × IsB2bDetails text.now r)
@@ -63,7 +64,7 @@ pub fn read_b2b_details(text: &[u8]) -> Result<B2bDetailsRecord<'_>, FieldFault>
     })
 }
 
-/// The fields of a 500 record, good or bad.
+/// The fields of a 500 record, valid or not.
 fn split_b2b_details(text: &[u8]) -> B2bFields<'_>
     ensures { HasB2bFields text.now result }
 {

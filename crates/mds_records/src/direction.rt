@@ -15,7 +15,7 @@ pub enum Direction {
 impl Direction {
     ghost use Rattle.mds_records.specs.declared.direction.Direction.{Direction as ADirection};
 
-    /// Reads a direction from its letter. `None` where the text is none.
+    /// Reads a direction from its letter. `None` for any other text.
     pub fn read(text: &[u8]) -> Option<Direction>
         ensures { result ≡ direction_of text.now }
     {

@@ -7,19 +7,19 @@ ghost use Rattle.mds_records.specs.declared.fault.FieldFault.TheVariants.{Bad};
 
 use mds_lines::is_blank_from;
 
-/// Why the fields of a line spell no record: the first of these that stands.
+/// Why the fields of a line don't form a record: the first of these that applies.
 #[derive(Clone, Copy, Debug)]
 pub enum FieldFault {
     /// The header is that of the other kind of file (L11).
     WrongFile,
     /// There are too few fields, or a field past the last isn't empty (L4).
     Count,
-    /// The field of this number, from 1, is the least that isn't what the layout says (L5).
+    /// The field with this number, from 1, is the first that isn't what the layout says (L5).
     Bad(usize),
 }
 
-/// The first fault of a line. It is of the other kind of file (L11), else it has a wrong number of
-/// fields (L4). Else one of its fields from field 2 on isn't good, and the first such field is
+/// The first fault of a line. It is that of the other kind of file (L11), or else a wrong number of
+/// fields (L4). Or else one of its fields from field 2 on isn't valid, and the first such field is
 /// named (L5).
 pub(crate) fn first_fault(is_other: bool, is_whole: bool, good: &[bool]) -> Result<(), FieldFault>
     requires { 2 + length good.now < 2 ^ 64 }
@@ -35,7 +35,7 @@ pub(crate) fn first_fault(is_other: bool, is_whole: bool, good: &[bool]) -> Resu
     first_bad(2, good)
 }
 
-/// The fault of fields that are numbered from `from` on. It names the first that isn't good (L5).
+/// The fault of fields that are numbered from `from` on. It names the first that isn't valid (L5).
 pub(crate) fn first_bad(from: usize, good: &[bool]) -> Result<(), FieldFault>
     requires { from + length good.now < 2 ^ 64 }
     ensures { MatchResult result (λ _. first_false from good.now ≡ None)
@@ -47,7 +47,7 @@ pub(crate) fn first_bad(from: usize, good: &[bool]) -> Result<(), FieldFault>
     }
 }
 
-/// The number of the first field that isn't good, where these fields are numbered from `from` on.
+/// The number of the first field that isn't valid, where these fields are numbered from `from` on.
 pub(crate) fn least_bad(from: usize, good: &[bool]) -> Option<usize>
     requires { from + length good.now < 2 ^ 64 }
     ensures { result ≡ first_false from good.now }
@@ -60,7 +60,7 @@ pub(crate) fn least_bad(from: usize, good: &[bool]) -> Option<usize>
     None
 }
 
-/// Whether a line has its least number of fields, and the rest of it is empty fields alone (L4).
+/// Whether a line has its least number of fields, and any fields after the layout's are empty (L4).
 pub(crate) fn has_right_count(has_least: bool, rest: Option<&[u8]>) -> bool
     ensures { result ≡ (has_least && are_blank (fields_left (option_copied rest.entry))) }
 {

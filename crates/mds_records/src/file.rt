@@ -24,7 +24,7 @@ impl FileKind {
         ensures { (a b : AFileKind) → IsTrue (⟦<FileKind as PartialEq>⟧.eq a b) ↔ (a ≡ b) }
     {}
 
-    /// The name in the headers of its files.
+    /// The name in the headers of such files.
     pub fn header_name(self) -> HeaderName
         ensures { result ≡ header_name self }
     {
@@ -40,7 +40,7 @@ impl FileKind {
 pub enum FaultCode {
     /// L1: the line isn't UTF-8.
     NotText,
-    /// L2: its first field is no record indicator.
+    /// L2: its first field isn't a record indicator.
     UnknownRecord,
     /// L3: its record isn't in place.
     OutOfPlace,
@@ -72,7 +72,7 @@ impl FaultCode {
         ensures { (a b : AFaultCode) → IsTrue (⟦<FaultCode as PartialEq>⟧.eq a b) ↔ (a ≡ b) }
     {}
 
-    /// Its code, as `L5`.
+    /// Its code, such as `L5`.
     pub fn text(self) -> &'static str
         ensures { result.now ≡ code_text self }
     {
@@ -102,7 +102,7 @@ impl fmt::Display for FaultCode {
 }
 
 /// The fault of a file: what is wrong, and where. Lines and fields are numbered from 1. The field
-/// is 0 where no field is at fault.
+/// is 0 if no field is at fault.
 #[derive(Clone, Copy, Debug, PartialEq, Eq)]
 pub struct FileFault {
     pub code: FaultCode,

@@ -20,7 +20,7 @@ pub struct HeaderRecord<'a> {
     pub receiver: PrintableText<'a>,
 }
 
-/// The fields of a header, good or bad.
+/// The fields of a header, valid or not.
 #[derive(Clone, Copy)]
 struct HeaderFields<'a> {
     name: &'a [u8],
@@ -31,8 +31,8 @@ struct HeaderFields<'a> {
     is_whole: bool,
 }
 
-/// Reads the text of a 100 record, the header of a file of this name, or says its first fault (L11,
-/// L4, L5).
+/// Reads the text of a 100 record, the header of a file with this name, or returns its first fault
+/// (L11, L4, L5).
 pub fn read_header(text: &[u8], file: HeaderName) -> Result<HeaderRecord<'_>, FieldFault>
     ensures { (n : ℕ) → MatchResult result
         (λ r. (field_fault file Kind.Header n text.now ≡ None) × IsHeader text.now r)
@@ -56,7 +56,7 @@ pub fn read_header(text: &[u8], file: HeaderName) -> Result<HeaderRecord<'_>, Fi
     })
 }
 
-/// The fields of a header, good or bad.
+/// The fields of a header, valid or not.
 fn split_header(text: &[u8]) -> HeaderFields<'_>
     ensures { HasHeaderFields text.now result }
 {

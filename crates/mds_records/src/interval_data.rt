@@ -23,11 +23,11 @@ pub struct IntervalDataRecord<'a> {
     /// The sum of the values, in millionths. An empty value adds nothing.
     pub sum: i128,
     pub mark: MarkRef<'a>,
-    /// When it was updated, if it says so.
+    /// When it was updated, if the record states it.
     pub update: Option<Moment>,
 }
 
-/// The fields of a 300 record, good or bad.
+/// The fields of a 300 record, valid or not.
 #[derive(Clone, Copy)]
 struct DayFields<'a> {
     date: &'a [u8],
@@ -40,8 +40,8 @@ struct DayFields<'a> {
     load: &'a [u8],
 }
 
-/// Reads a 300 record of so many values, or says its first fault (L4, L5). The values take the
-/// place of those that `values` held.
+/// Reads a 300 record with `count` values, or returns its first fault (L4, L5). The values replace
+/// those in `values`.
 pub fn read_interval_data<'a>(
     text: &'a [u8],
     count: usize,
@@ -84,8 +84,8 @@ pub fn read_interval_data<'a>(
     })
 }
 
-/// Splits a 300 record of so many values into its fields, good or bad, and says the faults of its
-/// values. `None` where there are too few fields, or one past the last isn't empty (L4).
+/// Splits a 300 record with `count` values into its fields, valid or not, and returns the faults of
+/// its values. `None` if there are too few fields, or one past the last isn't empty (L4).
 fn split_interval_data<'a>(
     text: &'a [u8],
     count: usize,
@@ -126,8 +126,8 @@ fn least_of(is_day: bool, in_values: Option<usize>, after: Option<usize>) -> Opt
     if is_day { in_values.or(after) } else { Some(2) }
 }
 
-/// The field number of the first bad value (L5). It is no quantity, or it is empty where values
-/// have to be there.
+/// The field number of the first bad value (L5). It isn't a quantity, or it is empty where the
+/// quality requires a value.
 fn first_bad(faults: ValueFaults, must_be_there: bool) -> Option<usize>
     ensures { result ≡ lesser faults.bad (if must_be_there then faults.empty else None) }
 {
@@ -138,8 +138,8 @@ fn first_bad(faults: ValueFaults, must_be_there: bool) -> Option<usize>
     }
 }
 
-/// Whether a quality means that values are there: A, E, F or S. N and V don't. A text that is no
-/// quality says nothing of values.
+/// Whether a quality means that there are values: A, E, F or S. N and V don't. A text that isn't a
+/// quality says nothing about values.
 fn means_values(quality: Option<Quality>) -> bool
     ensures { result ≡ has_flag (codes "AEFS") quality }
 {

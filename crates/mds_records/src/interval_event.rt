@@ -22,7 +22,7 @@ pub struct IntervalEventRecord<'a> {
     pub mark: MarkRef<'a>,
 }
 
-/// The fields of a 400 record, good or bad.
+/// The fields of a 400 record, valid or not.
 #[derive(Clone, Copy)]
 struct RunFields<'a> {
     first: &'a [u8],
@@ -34,7 +34,7 @@ struct RunFields<'a> {
     is_whole: bool,
 }
 
-/// Reads a 400 record, or says its first fault (L4, L5).
+/// Reads a 400 record, or returns its first fault (L4, L5).
 pub fn read_interval_event(text: &[u8]) -> Result<IntervalEventRecord<'_>, FieldFault>
     ensures read { (file : HeaderName) (n : ℕ) → MatchResult result
         (λ r. (field_fault file Kind.IntervalEvent n text.now ≡ None) × IsIntervalEvent text.now r)
@@ -65,7 +65,7 @@ pub fn read_interval_event(text: &[u8]) -> Result<IntervalEventRecord<'_>, Field
     })
 }
 
-/// The fields of a 400 record, good or bad.
+/// The fields of a 400 record, valid or not.
 fn split_run(text: &[u8]) -> RunFields<'_>
     ensures { HasRunFields text.now result }
 {

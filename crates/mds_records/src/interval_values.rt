@@ -1,4 +1,4 @@
-//! The values of a day, which are read once.
+//! The values of a day, read once.
 
 ghost use Rattle.std.specs.Prelude.{◌≡◌, ◌<◌, ◌≤◌, ◌||◌, [], not, length, map, take, if◌then◌else◌, is_some, Some, IfOk, IfSome, IfNone, OnSome};
 ghost use Rattle.mds_lines.specs.Lines.{fields_of};
@@ -9,14 +9,14 @@ use mds_quantity::Quantity;
 use std::alloc::{AllocError, Global};
 use std::marker::Model;
 
-/// The most values that a day has: those of intervals of 5 minutes.
+/// The most values of a day: those of intervals of 5 minutes.
 const MOST: usize = 288;
 
-/// The values of a day's intervals, in order: none where a field is empty.
+/// The values of a day's intervals, in order. A value is `None` if its field is empty.
 #[derive(Drop)]
 pub struct IntervalValues {
     slots: Vec<Option<Quantity>>,
-    /// How many of the slots are a day's, from the first on.
+    /// How many of the slots belong to a day, from the first on.
     count: usize,
 }
 
@@ -30,7 +30,7 @@ impl Model for IntervalValues {
     ghost invariant = { λ values. (vec_len values.slots ≡ 288) × (values.count ≤ 288) };
 }
 
-/// The first of the values that are no quantities.
+/// The first of the values that aren't quantities.
 #[derive(Clone, Copy)]
 pub(crate) struct ValueFaults {
     /// The field number of the first that is neither empty nor a quantity.
@@ -39,10 +39,10 @@ pub(crate) struct ValueFaults {
     pub(crate) empty: Option<usize>,
 }
 
-/// What the values of a day say together, and what follows them.
+/// What the values of a day amount to, and what follows them.
 #[derive(Clone, Copy)]
 pub(crate) struct DayValues<'a> {
-    /// What stands after the comma that ends the values.
+    /// The text after the comma that ends the values.
     pub(crate) rest: &'a [u8],
     /// Their sum, in millionths.
     pub(crate) sum: i128,
@@ -50,7 +50,7 @@ pub(crate) struct DayValues<'a> {
 }
 
 impl IntervalValues {
-    /// No values, and room for those of any day: the only memory that it ever takes.
+    /// No values, and room for those of any day. It never takes any other memory.
     pub fn new(alloc: Global) -> Result<IntervalValues, AllocError>
         ensures { IfOk result (λ values. values ≡ []) }
     {
@@ -68,7 +68,7 @@ impl IntervalValues {
         &self.slots[..self.count]
     }
 
-    /// Reads so many values at the front of a text, in place of those that it held. `None` where no
+    /// Reads `count` values at the start of a text, which replace those that it held. `None` if no
     /// field follows them.
     pub(crate) fn read<'a>(&mut self, text: &'a [u8], count: usize) -> Option<DayValues<'a>>
         requires few { (0 < count) × (count ≤ 288) }
@@ -83,7 +83,7 @@ impl IntervalValues {
 }
 
 impl ValueFaults {
-    /// Notes the field number of a value that is no quantity.
+    /// Records the field number of a value that isn't a quantity.
     #[cold]
     #[inline(never)]
     fn note(&mut self, number: usize, is_empty: bool)
@@ -100,8 +100,8 @@ impl ValueFaults {
     }
 }
 
-/// Reads so many values at the front of a text, one into each slot from the first on. `None` where
-/// no field follows them.
+/// Reads `count` values at the start of a text, one into each slot from the first on. `None` if no
+/// field follows them.
 fn read_front<'a>(
     text: &'a [u8],
     slots: &mut [Option<Quantity>],
@@ -115,9 +115,8 @@ fn read_front<'a>(
     read_values(text, &mut slots[..count])
 }
 
-/// Reads as many values at the front of a text as there are slots, one into each. `None` where no
-/// field follows them. It stands apart from its caller, so that its loop keeps what it counts in
-/// registers.
+/// Reads as many values at the start of a text as there are slots, one into each. `None` if no
+/// field follows them. It is kept out of line, so that its loop keeps its counters in registers.
 #[inline(never)]
 fn read_values<'a>(text: &'a [u8], slots: &mut [Option<Quantity>]) -> Option<DayValues<'a>>
     requires few { (0 < length slots.old) × (length slots.old ≤ 288) }

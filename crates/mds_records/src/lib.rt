@@ -1,5 +1,13 @@
 //! The records of MDFF files, whose texts are borrowed from the buffer that they were read into. The names of
-//! `mds_lines` for lines and fields are given on.
+//! `mds_lines` for lines and fields are re-exported.
+//!
+//! It decides what each field of a record may be, and which fault of its fields comes first (L11, L4, L5). It also
+//! decides how a file's fault is printed (`FaultCode::text`).
+//! Called by `mds_nem12` and `mds_nem13` to read records, and by `mds_days`. `mds_check`, `mds_messages`, `mds_answers`
+//! and `mds_http` report its `FileFault`.
+//! Must not change: L11 comes before L4, and L4 before L5 with the least field number. The codes `L1` to `L12` and the
+//! printed form are fixed. Reading a record takes no memory: the values of a 300 go into a buffer that the caller
+//! lends.
 #![tactic(auto)]
 
 mod accumulation_b2b_details;

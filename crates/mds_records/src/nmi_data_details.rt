@@ -13,7 +13,7 @@ use mds_lines::next_field;
 use mds_quantity::Unit;
 use mds_terms::{DetailsRef, Length, Nmi, PrintableText, Stream, Suffix};
 
-/// A 200 record, which says what the 300 records after it are of.
+/// A 200 record, which describes the 300 records after it.
 #[derive(Clone, Copy)]
 pub struct NmiDataDetailsRecord<'a> {
     pub stream: Stream,
@@ -22,7 +22,7 @@ pub struct NmiDataDetailsRecord<'a> {
     pub details: DetailsRef<'a>,
 }
 
-/// The fields of a 200 record, good or bad.
+/// The fields of a 200 record, valid or not.
 #[derive(Clone, Copy)]
 struct DetailsFields<'a> {
     nmi: &'a [u8],
@@ -38,7 +38,7 @@ struct DetailsFields<'a> {
     is_whole: bool,
 }
 
-/// Reads a 200 record, or says its first fault (L4, L5).
+/// Reads a 200 record, or returns its first fault (L4, L5).
 #[inline(always)]
 pub fn read_nmi_data_details(text: &[u8]) -> Result<NmiDataDetailsRecord<'_>, FieldFault>
     ensures { (file : HeaderName) (n : ℕ) → MatchResult result
@@ -82,7 +82,7 @@ pub fn read_nmi_data_details(text: &[u8]) -> Result<NmiDataDetailsRecord<'_>, Fi
     })
 }
 
-/// The fields of a 200 record, good or bad.
+/// The fields of a 200 record, valid or not.
 fn split_details(text: &[u8]) -> DetailsFields<'_>
     ensures { HasDetailsFields text.now result }
 {

@@ -36,10 +36,9 @@ pub enum Record<'a> {
     EndOfData,
 }
 
-/// Reads the record that a line of a known kind spells, or says its first fault (L11, L4, L5). For
-/// a 300, `length` is that of the 200 that governs it, and its values are left in `values`. Where
-/// it has a fault, any values may be left. The other kinds leave `values` as it is. It takes no
-/// memory.
+/// Reads the record in a line of a known kind, or returns its first fault (L11, L4, L5). For a 300,
+/// `length` is that of its governing 200, and its values are left in `values`. If it has a fault,
+/// any values may be left. The other kinds leave `values` unchanged. Takes no memory.
 pub fn read_record<'a>(
     line: &Line<'a>,
     kind: Kind,
@@ -98,7 +97,7 @@ pub fn read_record<'a>(
     }
 }
 
-/// Reads the text of a 900 record, which says nothing. It may have a wrong number of fields (L4).
+/// Reads the text of a 900 record, which states nothing. It may have a wrong number of fields (L4).
 pub fn read_end(text: &[u8]) -> Result<(), FieldFault>
     ensures { (file : AHeaderName) (n : ℕ) → MatchResult result
         (λ _. field_fault file Kind.EndOfData n text.now ≡ None)

@@ -17,15 +17,15 @@ use mds_terms::{Moment, PrintableText, Quality, ReasonRef};
 /// CurrentReasonDescription.
 #[derive(Clone, Copy)]
 pub struct RegisterRead<'a> {
-    /// What it showed, as it stands in the file with its zeros. It may be empty.
+    /// What it showed, exactly as in the file, with its zeros. It may be empty.
     pub reading: PrintableText<'a>,
     pub moment: Moment,
-    /// Any quality but V. A previous read may have none, a current read has one.
+    /// Any quality but V. A previous read may have none, a current read must have one.
     pub quality: Option<Quality>,
     pub reason: ReasonRef<'a>,
 }
 
-/// The fields of a read, good or bad.
+/// The fields of a read, valid or not.
 #[derive(Clone, Copy)]
 pub(crate) struct ReadFields<'a> {
     reading: &'a [u8],
@@ -35,8 +35,8 @@ pub(crate) struct ReadFields<'a> {
     reason_text: &'a [u8],
 }
 
-/// Splits off the fields of a read, good or bad, at the front of what is left of a line. It gives
-/// what is left after them, too.
+/// Splits off the fields of a read, valid or not, at the start of the rest of a line. It also
+/// returns what is left after them.
 pub(crate) fn split_read(rest: Option<&[u8]>) -> (ReadFields<'_>, Option<&[u8]>)
     ensures fields { HasReadFields (fields_left (option_copied rest.entry)) 0 result.0 }
     ensures left { fields_left (option_copied result.1) ≡ drop 5 (fields_left (option_copied rest.entry)) }
@@ -56,8 +56,8 @@ pub(crate) fn split_read(rest: Option<&[u8]>) -> (ReadFields<'_>, Option<&[u8]>)
     (fields, rest)
 }
 
-/// Reads the read that these fields spell, or says which field is the first bad one (L5). The first
-/// of them has the number `from`. Only the previous read may lack a quality.
+/// Reads the read that these fields spell, or returns which field is the first bad one (L5). The
+/// first of them has the number `from`. Only the previous read may lack a quality.
 pub(crate) fn read_register<'a>(
     fields: &ReadFields<'a>,
     from: usize,
@@ -91,7 +91,7 @@ pub(crate) fn read_register<'a>(
     })
 }
 
-/// Whether the quality of a read is good: any but V, or absent where it may be.
+/// Whether the quality of a read is valid: any but V, or absent if it may be.
 fn is_read_quality(text: &[u8], quality: &Option<Quality>, may_lack: bool) -> bool
     ensures { result ≡ ((may_lack && (length text.now == 0)) || has_flag (codes "AEFNS") quality.now) }
 {

@@ -1,4 +1,4 @@
-//! The terms that several kinds of records hold.
+//! The terms that several kinds of records share.
 
 ghost use Rattle.std.specs.Prelude.{◌≡◌, Some, None, codes, is_some, option_map};
 ghost use Rattle.mds_calendar.specs.Calendar.{day_of, moment_of};
@@ -13,18 +13,18 @@ ghost use Rattle.mds_terms.specs.Parts.{optional};
 use mds_marks::flags::{ACTUAL, ESTIMATED, FINAL, NULL, SUBSTITUTED};
 use mds_terms::{Day, MarkRef, Moment, Quality, ReasonRef, TransCode};
 
-/// What is good of the fields of a mark.
+/// Which fields of a mark are valid.
 #[derive(Clone, Copy)]
 pub(crate) struct MarkParts {
-    /// The quality, where its field is good.
+    /// The quality, if its field is valid.
     pub quality: Option<Quality>,
-    /// Whether the field of the reason's code is good.
+    /// Whether the field of the reason's code is valid.
     pub has_code: bool,
-    /// Whether the field of the reason's text is good.
+    /// Whether the field of the reason's text is valid.
     pub has_text: bool,
 }
 
-/// What is good of the fields that a mark was read from. They are read again only where there is no
+/// Which of the fields that a mark was read from are valid. They are read again only if there is no
 /// mark.
 pub(crate) fn mark_parts(
     mark: &Option<MarkRef<'_>>,
@@ -51,16 +51,16 @@ pub(crate) fn mark_parts(
     }
 }
 
-/// What is good of the fields of a reason.
+/// Which fields of a reason are valid.
 #[derive(Clone, Copy)]
 pub(crate) struct ReasonParts {
-    /// Whether the field of the code is good.
+    /// Whether the field of the code is valid.
     pub has_code: bool,
-    /// Whether the field of the text is good.
+    /// Whether the field of the text is valid.
     pub has_text: bool,
 }
 
-/// What is good of the fields that a reason was read from. They are read again only where there is
+/// Which of the fields that a reason was read from are valid. They are read again only if there is
 /// no reason.
 pub(crate) fn reason_parts(reason: &Option<ReasonRef<'_>>, code: &[u8], text: &[u8]) -> ReasonParts
     requires { option_map reason_value reason.now ≡ reason_of code.now text.now }
@@ -110,7 +110,7 @@ pub(crate) fn is_single_quality(quality: &Option<Quality>) -> bool
     }
 }
 
-/// Reads a day, or none from the empty text.
+/// Reads a day that may be absent: the empty text is an absent day.
 pub(crate) fn optional_day(text: &[u8]) -> Option<Option<Day>>
     ensures { result ≡ optional day_of text.now }
 {
@@ -120,7 +120,7 @@ pub(crate) fn optional_day(text: &[u8]) -> Option<Option<Day>>
     Some(Some(Day::read(text)?))
 }
 
-/// Reads a moment, or none from the empty text.
+/// Reads a moment that may be absent: the empty text is an absent moment.
 pub(crate) fn optional_moment(text: &[u8]) -> Option<Option<Moment>>
     ensures { result ≡ optional moment_of text.now }
 {
@@ -130,7 +130,7 @@ pub(crate) fn optional_moment(text: &[u8]) -> Option<Option<Moment>>
     Some(Some(Moment::read(text)?))
 }
 
-/// Reads a transaction code, or none from the empty text.
+/// Reads a transaction code that may be absent: the empty text is an absent code.
 pub(crate) fn optional_trans(text: &[u8]) -> Option<Option<TransCode>>
     ensures { result ≡ optional letter_of text.now }
 {

@@ -1,5 +1,5 @@
 -- The registers of gaps and of finals (profile): CSV texts with a head row and a row for each, as the library csv writes
--- rows by default. A date stands as the text that reads as its day, of which there is one.
+-- rows by default. A date is the one text that reads as its day.
 use Rattle.std.specs.Prelude.{◌≡◌, ℕ, List, [], ◌∷◌, ◌++◌, codes, decimal, Some}
 use Rattle.csv.specs.Writing.{default_writer, row_text}
 use Rattle.mds_calendar.specs.Calendar.{day_of}
@@ -30,7 +30,7 @@ abbrev pub gap_fields : Stream → GapRow → List ℕ → List (List ℕ)
 gap_fields stream row date =
     stream.nmi ∷ stream.suffix ∷ date ∷ decimal row.gap.first ∷ decimal row.gap.last ∷ []
 
--- the fields of a final: the code is empty where there is none
+-- the fields of a final: an absent code is empty
 abbrev pub final_fields : Stream → FinalRow → List ℕ → List (List ℕ)
 final_fields stream row date =
     let mark = row.stretch.mark in

@@ -5,7 +5,8 @@ use Rattle.std.specs.declared.vec.Vec.{Vec}
 use Rattle.csv.specs.Writing.{default_writer, fields_written, has_written, text_written, writer_setup}
 use Rattle.csv.specs.declared.writer.Writer.{Writer}
 
--- it stands between two rows, writes by default, and has written this text, to its buffer or beneath it
+-- it is between two rows, has the default settings, and has written this text, to its buffer or to what
+-- is beneath it
 pub record HasWritten (writer : Writer (Vec ℕ Global)) (text : List ℕ) : Type 0 where
   pub plain : writer_setup writer ≡ default_writer
   pub fields : fields_written writer ≡ 0

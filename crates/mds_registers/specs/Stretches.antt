@@ -1,5 +1,5 @@
--- The gaps and the finals of a day (profile): the longest runs of neighbouring intervals whose current readings are null, or
--- final under one mark. Intervals are those of the day's current length, and count from 1.
+-- The gaps and the finals of a day (profile). They are the longest runs of neighbouring intervals whose current readings are
+-- null, or final under one mark. Intervals are those of the day's current length, and counted from 1.
 use Rattle.std.specs.Prelude.{◌≡◌, ◌↔◌, ◌⊎◌, ◌+◌, ◌-◌, ◌<◌, ◌≤◌, ℕ, List}
 use Rattle.std.specs.List.{AllPairs}
 use Rattle.mds_calendar.specs.Length.{count_of}
@@ -14,8 +14,8 @@ use Rattle.mds_world.specs.World.{IsKnownDay, World}
 use Rattle.mds_registers.specs.declared.stretches.Final.{Final}
 use Rattle.mds_registers.specs.declared.stretches.Gap.{Gap}
 
--- First to last, within the intervals 1 to a count, are all such, and are part of no longer run of such. The one right before
--- isn't such, nor is the one right behind.
+-- All intervals from first to last, within 1 to a count, satisfy `IsSuch`, and are no part of a longer run. The interval
+-- right before doesn't satisfy it, nor does the one right after.
 pub record IsStretch (IsSuch : ℕ → Type 0) (count first last : ℕ) : Type 0 where
   pub from_one : 1 ≤ first
   pub in_order : first ≤ last
@@ -35,12 +35,12 @@ IsFinalWith w stream day mark interval =
     (reading : ReadingValue) × IsDayReading w stream day interval reading × (reading.mark.quality.flag ≡ final)
     × (reading.mark ≡ mark)
 
--- the day is known, and has so many intervals of its current length
+-- the day is known, and has this many intervals of its current length
 abbrev pub HasIntervals : World → Stream → ℕ → ℕ → Type 0
 HasIntervals w stream day count =
     (length : ℕ) × (unit : MeasureUnit) × IsFormOf w stream day length unit × (count_of length ≡ count)
 
--- A gap: a stretch of null readings, and 0 to 0 where the day isn't known.
+-- A gap: a stretch of null readings, or 0 to 0 if the day isn't known.
 abbrev pub IsGap : World → Stream → ℕ → Gap → Type 0
 IsGap w stream day gap =
     ((count : ℕ) × HasIntervals w stream day count × IsStretch (IsNull w stream day) count gap.first gap.last)

@@ -13,16 +13,16 @@ use mds_marks::Mark;
 use mds_marks::flags::{FINAL, NULL};
 use std::alloc::{AllocError, Global};
 
-/// Intervals `first` to `last` of a day, counted from 1, that have no reading. They are a longest run of those whose
-/// current flag is N. A day that isn't known has the gap 0 to 0.
+/// Intervals `first` to `last` of a day, counted from 1, that have no reading. They are a longest run of intervals with
+/// the current flag N. A day that isn't known has the gap 0 to 0.
 #[derive(Clone, Copy)]
 pub struct Gap {
     pub first: u16,
     pub last: u16,
 }
 
-/// Intervals `first` to `last` of a day, counted from 1, that are final under one mark. They are a longest run of those
-/// whose current flag is F, with one method and reason.
+/// Intervals `first` to `last` of a day, counted from 1, that are final under one mark. They are a longest run of
+/// intervals with the current flag F, one method and one reason.
 #[derive(Drop)]
 pub struct Final {
     pub first: u16,
@@ -33,7 +33,7 @@ pub struct Final {
 /// The gap of a day that isn't known.
 const WHOLE_DAY: Gap = Gap { first: 0, last: 0 };
 
-/// The gaps of a day, ascending. It takes memory only where an interval has no reading, or the day isn't known.
+/// The gaps of a day, ascending. Takes memory only if an interval has no reading, or the day isn't known.
 pub fn gaps(alloc: Global, book: &DayBook) -> Result<Vec<Gap>, AllocError>
     ensures gaps { (w : World) → IsDay w book.now
         → IfOk result (λ gaps. AreGaps w book.now.stream book.now.day gaps.items) }
@@ -58,7 +58,7 @@ pub fn gaps(alloc: Global, book: &DayBook) -> Result<Vec<Gap>, AllocError>
     Ok(gaps)
 }
 
-/// The finals of a day, ascending: none where it isn't known. It takes memory only where an interval is final.
+/// The finals of a day, ascending; none if it isn't known. Takes memory only if an interval is final.
 pub fn finals(alloc: Global, book: &DayBook) -> Result<Vec<Final>, AllocError>
     ensures finals { (w : World) → IsDay w book.now
         → IfOk result (λ finals. AreFinals w book.now.stream book.now.day finals.items) }
@@ -70,7 +70,7 @@ pub fn finals(alloc: Global, book: &DayBook) -> Result<Vec<Final>, AllocError>
         return Ok(finals);
     };
     let (length, _) = form;
-    // Each interval has one current reading.
+    // For the proof: each interval has one current reading.
     book.is_lawful();
     for i in 0..length.count() {
         let interval = i as u16 + 1;
@@ -95,7 +95,7 @@ fn is_null(book: &DayBook, interval: u16) -> bool
     }
 }
 
-/// The mark of an interval's current reading, where its flag is F.
+/// The mark of an interval's current reading, if its flag is F.
 fn final_mark(book: &DayBook, interval: u16) -> Option<&Mark>
     ensures { (w : World) → IsDay w book.now → MatchOption result
         ((mark : Mark) → IsFinalWith w book.now.stream book.now.day mark interval → ⊥)
@@ -112,7 +112,7 @@ fn final_mark(book: &DayBook, interval: u16) -> Option<&Mark>
     }
 }
 
-/// Takes an interval into the last gap, where that ends right before it. Else it begins a gap with it.
+/// Adds an interval to the last gap if that ends right before it. Otherwise a gap begins with it.
 fn take_in_null(gaps: &mut Vec<Gap>, interval: u16) -> Result<(), AllocError>
     requires { 1 ≤ interval }
     ensures { OnOk result (TakesInNull interval gaps.old.items gaps.new.items) }
@@ -130,8 +130,8 @@ fn take_in_null(gaps: &mut Vec<Gap>, interval: u16) -> Result<(), AllocError>
     Ok(())
 }
 
-/// Takes an interval with its mark into the last stretch, where that has this mark and ends right before it. Else it
-/// begins a stretch with it.
+/// Adds an interval with its mark to the last stretch if that has this mark and ends right before it. Otherwise a
+/// stretch begins with it.
 fn take_in_final(finals: &mut Vec<Final>, interval: u16, mark: &Mark) -> Result<(), AllocError>
     requires { 1 ≤ interval }
     ensures { OnOk result (TakesInFinal interval mark.now finals.old.items finals.new.items) }
@@ -150,7 +150,7 @@ fn take_in_final(finals: &mut Vec<Final>, interval: u16, mark: &Mark) -> Result<
     Ok(())
 }
 
-/// Whether a stretch goes on with an interval of this mark: it has this mark, and ends right before it.
+/// Whether a stretch continues with an interval of this mark: it has this mark, and ends right before the interval.
 fn goes_on(stretch: &Final, interval: u16, mark: &Mark) -> bool
     requires { 1 ≤ interval }
     ensures { MatchBool result (GoesOn interval mark.now stretch.now)

@@ -30,7 +30,7 @@ pub struct FinalRow {
 }
 
 /// Appends the register of a stream's gaps. The head row is `nmi,suffix,date,first,last`. A row for each gap follows,
-/// in the order that is given. After an error nothing is appended.
+/// in the given order. After an error nothing is appended.
 pub fn write_gaps(stream: &Stream, rows: &[GapRow], out: &mut Vec<u8>) -> Result<(), AllocError>
     ensures done { OnOk result ((text : List ℕ) × IsGapsText stream.now rows.now text
         × Appends out.old.items out.new.items text) }
@@ -41,8 +41,8 @@ pub fn write_gaps(stream: &Stream, rows: &[GapRow], out: &mut Vec<u8>) -> Result
 }
 
 /// Appends the register of a stream's finals. The head row is `nmi,suffix,date,first,last,method,code,text`. A row for
-/// each final follows, in the order that is given. The method has two digits, and the code is empty where there is
-/// none. After an error nothing is appended.
+/// each final follows, in the given order. The method has two digits, and an absent code is empty. After an error
+/// nothing is appended.
 pub fn write_finals(stream: &Stream, rows: &[FinalRow], out: &mut Vec<u8>) -> Result<(), AllocError>
     ensures done { OnOk result ((text : List ℕ) × IsFinalsText stream.now rows.now text
         × Appends out.old.items out.new.items text) }
@@ -52,7 +52,7 @@ pub fn write_finals(stream: &Stream, rows: &[FinalRow], out: &mut Vec<u8>) -> Re
     out.extend_from_slice(&text)
 }
 
-/// The register of a stream's gaps, in a buffer of its own, since a writer that fails may have written a part.
+/// The register of a stream's gaps, in its own buffer, since a writer that fails may have written a part.
 fn gaps_text(alloc: Global, stream: &Stream, rows: &[GapRow]) -> Result<Vec<u8>, AllocError>
     ensures { IfOk result (λ text. IsGapsText stream.now rows.now text.items) }
 {
@@ -72,7 +72,7 @@ fn gaps_text(alloc: Global, stream: &Stream, rows: &[GapRow]) -> Result<Vec<u8>,
     written(writer)
 }
 
-/// The register of a stream's finals, in a buffer of its own.
+/// The register of a stream's finals, in its own buffer.
 fn finals_text(alloc: Global, stream: &Stream, rows: &[FinalRow]) -> Result<Vec<u8>, AllocError>
     ensures { IfOk result (λ text. IsFinalsText stream.now rows.now text.items) }
 {
@@ -160,7 +160,7 @@ fn two_digits(number: u8) -> [u8; 2]
     [b'0' + number / 10, b'0' + number % 10]
 }
 
-/// The text of a reason's code, which is empty where there is none.
+/// The text of a reason's code, which is empty if there is no code.
 fn code_text(code: Option<u16>, buffer: &mut Buffer) -> &str
     ensures { result.now ≡ text_of_code code }
 {
@@ -170,7 +170,7 @@ fn code_text(code: Option<u16>, buffer: &mut Buffer) -> &str
     }
 }
 
-/// A writer of rows that has written a head row of these names.
+/// A writer of rows that has written a head row with these names.
 fn headed_writer(alloc: Global, names: &[&[u8]]) -> Result<Writer<Vec<u8>>, AllocError>
     ensures { IfOk result (λ writer.
         HasWritten writer (row_text default_writer (map (λ name. name.now) names.now))) }

@@ -1,5 +1,5 @@
--- The reading of an interval, from its mark and the value field that stands there (MDFF Specification, the 300 and 400 records).
--- By this project's profile an interval under N has no value, even if a number stands there.
+-- The reading of an interval, from its mark and its value field (MDFF Specification, the 300 and 400 records).
+-- By this project's profile an interval under N has no value, even if the field has a number.
 use Rattle.std.specs.Prelude.{◌==◌, if◌then◌else◌, ℤ, Option, None}
 use Rattle.mds_marks.specs.Quality.{null}
 use Rattle.mds_marks.specs.Reading.{ReadingValue}

@@ -23,19 +23,19 @@ pub struct Run {
     pub mark: Mark,
 }
 
-/// Why a run isn't taken: the first of these that stands (profile).
+/// Why a run is refused: the first of these that applies (profile).
 #[derive(Clone, Copy, PartialEq, Eq)]
 pub enum RunFault {
     /// It isn't within the day, or ends before it begins (L6).
     Range,
-    /// It doesn't begin after the last run has ended (L7).
+    /// It doesn't begin after the end of the last run (L7).
     Order,
-    /// There was no memory.
+    /// Out of memory.
     Memory,
 }
 
-/// Runs in ascending order without a common interval, in a day of at most 65,535 intervals. They
-/// need not hold each of them.
+/// Runs in ascending order, no two with a common interval, in a day of at most 65,535 intervals. They need not hold
+/// every interval.
 #[derive(Drop)]
 pub struct Cover {
     count: u16,
@@ -58,7 +58,7 @@ impl Model for Cover {
 }
 
 impl Cover {
-    /// The cover of a day of so many intervals, without runs. It takes no memory.
+    /// The cover of a day with `count` intervals, without runs. Takes no memory.
     pub fn new(alloc: Global, count: u16) -> Cover
         ensures { result ≡ record { count = count; runs = [] } }
     {
@@ -69,8 +69,8 @@ impl Cover {
         }
     }
 
-    /// Says why a run of intervals `first` to `last` isn't taken, want of memory aside. Either it doesn't lie in the
-    /// day (L6), or it doesn't begin after the last run has ended (L7). Only the last run is looked at.
+    /// Returns why a run of intervals `first` to `last` is refused, if it is, apart from memory. Either it isn't within
+    /// the day (L6), or it doesn't begin after the end of the last run (L7). Looks at the last run alone.
     pub fn refusal(&self, first: u16, last: u16) -> Option<RunFault>
         ensures { result ≡ refusal self.now.count self.now.runs first last }
     {
@@ -83,9 +83,8 @@ impl Cover {
         None
     }
 
-    /// Adds a run that lies in the day and begins after the last one has ended. It looks at the last run alone. It
-    /// fails with what `refusal` says, or else for want of memory. After an error nothing has changed, and the run is
-    /// gone.
+    /// Adds a run that is within the day and begins after the end of the last one. Looks at the last run alone. It fails
+    /// with the fault of `refusal`, or if memory is refused. After an error nothing has changed, and the run is dropped.
     pub fn push(&mut self, run: Run) -> Result<(), RunFault>
         ensures done { OnOk result (self.new
             ≡ record self.old { runs = self.old.runs ++ run ∷ [] }) }
@@ -108,7 +107,7 @@ impl Cover {
         }
     }
 
-    /// Its runs, in ascending order and without a common interval.
+    /// Its runs, in ascending order, no two with a common interval.
     pub fn runs(&self) -> &[Run]
         ensures value { result.now ≡ self.now.runs }
         ensures lawful { AreRuns self.now.count self.now.runs }
@@ -116,7 +115,7 @@ impl Cover {
         self.runs.as_slice()
     }
 
-    /// How many intervals the day has.
+    /// The number of intervals in the day.
     pub fn count(&self) -> u16
         ensures { result ≡ self.now.count }
     {
@@ -133,14 +132,14 @@ impl Cover {
     }
 }
 
-/// Whether intervals `first` to `last` lie in a day of so many, and are at least one.
+/// Whether intervals `first` to `last` are within a day of `count` intervals, and are at least one.
 fn is_in_range(count: u16, first: u16, last: u16) -> bool
     ensures { result ≡ is_in_range count first last }
 {
     1 <= first && first <= last && last <= count
 }
 
-/// The interval that the last run ends with, or 0 where there is none.
+/// The last interval of the last run, or 0 if there are no runs.
 pub(crate) fn last_end(runs: &[Run]) -> u16
     ensures { result ≡ last_end runs.now }
 {
@@ -150,8 +149,8 @@ pub(crate) fn last_end(runs: &[Run]) -> u16
     }
 }
 
-/// The mark of an interval, and the runs that later intervals may be in. Runs that end before this interval are passed
-/// over. Whoever goes on with the runs that are given passes over each run once.
+/// The mark of an interval, and the runs that later intervals may be in. Runs that end before this interval are skipped.
+/// A caller that goes on with the returned runs skips each run once.
 pub fn mark_from<'a>(runs: &'a [Run], default: &'a Mark, interval: u16) -> (&'a Mark, &'a [Run])
     requires { AreAscending runs.now }
     ensures mark { result.0.now ≡ mark_at runs.now default.now interval }
@@ -164,7 +163,7 @@ pub fn mark_from<'a>(runs: &'a [Run], default: &'a Mark, interval: u16) -> (&'a 
     (first_mark(left, default, interval), left)
 }
 
-/// These runs without those at their start that end before an interval.
+/// These runs without those at the start that end before an interval.
 fn runs_from(runs: &[Run], interval: u16) -> &[Run]
     ensures { result.now ≡ runs_from runs.now interval }
 {
@@ -178,7 +177,7 @@ fn runs_from(runs: &[Run], interval: u16) -> &[Run]
     left
 }
 
-/// The mark of the first run, or the default where it begins after the interval or there is none.
+/// The mark of the first run, or the default if it begins after the interval or there are no runs.
 fn first_mark<'a>(runs: &'a [Run], default: &'a Mark, interval: u16) -> &'a Mark
     ensures { result.now ≡ first_mark runs.now default.now interval }
 {
@@ -188,8 +187,8 @@ fn first_mark<'a>(runs: &'a [Run], default: &'a Mark, interval: u16) -> &'a Mark
     }
 }
 
-/// The marks of the day's intervals in their order. An interval has the mark of the run that holds it, or else the
-/// default. It goes over the runs once. It fails only for want of memory, and only for a day that isn't empty.
+/// The marks of the day's intervals in order. An interval has the mark of the run that holds it, or else the default. It
+/// makes one pass over the runs. It fails only if memory is refused, and only for a day that isn't empty.
 pub fn spread(alloc: Global, cover: &Cover, default: &Mark) -> Result<Vec<Mark>, AllocError>
     ensures done { IfOk result (λ marks. marks.items
         ≡ spread_of cover.now.count cover.now.runs default.now) }
@@ -204,7 +203,7 @@ pub fn spread(alloc: Global, cover: &Cover, default: &Mark) -> Result<Vec<Mark>,
     Ok(marks)
 }
 
-/// Appends copies of a mark until there are so many marks.
+/// Appends copies of a mark until there are `count` marks.
 fn fill(marks: &mut Vec<Mark>, mark: &Mark, count: u16) -> Result<(), AllocError>
     ensures done { OnOk result (marks.new.items
         ≡ marks.old.items ++ replicate (count - length marks.old.items) mark.now) }
@@ -216,8 +215,8 @@ fn fill(marks: &mut Vec<Mark>, mark: &Mark, count: u16) -> Result<(), AllocError
     Ok(())
 }
 
-/// The full cover with the fewest runs of a day with these marks, one for each interval and at most 65,535. It compares
-/// each mark with one before it. It fails only for want of memory, and only for a day that isn't empty.
+/// The full cover with the fewest runs of a day with these marks, one for each interval and at most 65,535. Each mark is
+/// compared with one before it. It fails only if memory is refused, and only for a day that isn't empty.
 pub fn gather(alloc: Global, marks: &[Mark]) -> Result<Cover, AllocError>
     requires { length marks.now < 2 ^ 16 }
     ensures count { IfOk result (λ cover. cover.count ≡ length marks.now) }
@@ -247,7 +246,7 @@ pub fn gather(alloc: Global, marks: &[Mark]) -> Result<Cover, AllocError>
     })
 }
 
-/// The index of the first mark after this one that differs from it, or how many marks there are.
+/// The index of the first mark after this one that differs from it, or the number of marks.
 fn end_of_run(marks: &[Mark], start: usize) -> usize
     requires { start < length marks.now }
     ensures within { (start < result) × (result ≤ length marks.now) }
@@ -266,7 +265,7 @@ fn end_of_run(marks: &[Mark], start: usize) -> usize
 }
 
 /// The cover with the fewest runs of a list of marks and gaps, one for each interval and at most 65,535. Its runs hold
-/// the intervals that have a mark, and no gap. It fails only for want of memory, and only for a day that isn't empty.
+/// exactly the intervals that have a mark. It fails only if memory is refused, and only for a day that isn't empty.
 pub fn gather_some(alloc: Global, marks: &[Option<Mark>]) -> Result<Cover, AllocError>
     requires { length marks.now < 2 ^ 16 }
     ensures count { IfOk result (λ cover. cover.count ≡ length marks.now) }
@@ -288,7 +287,7 @@ pub fn gather_some(alloc: Global, marks: &[Option<Mark>]) -> Result<Cover, Alloc
     Ok(Cover { count, held, runs })
 }
 
-/// Appends the run of intervals `first` to `last` where they have a mark, and tells how many it holds. A gap has no run.
+/// Appends the run of intervals `first` to `last` if they have a mark, and returns how many it holds. A gap has no run.
 fn push_stretch(
     runs: &mut Vec<Run>,
     first: u16,
@@ -307,8 +306,8 @@ fn push_stretch(
     Ok(last - first + 1)
 }
 
-/// The index of the first place after this one that differs from it, or how many places there are. A gap differs from
-/// each mark.
+/// The index of the first place after this one that differs from it, or the number of places. A gap differs from each
+/// mark.
 fn end_of_stretch(marks: &[Option<Mark>], start: usize) -> usize
     requires { start < length marks.now }
     ensures within { (start < result) × (result ≤ length marks.now) }
@@ -326,7 +325,7 @@ fn end_of_stretch(marks: &[Option<Mark>], start: usize) -> usize
     marks.len()
 }
 
-/// Whether both are one mark, or both are gaps.
+/// Whether both are the same mark, or both are gaps.
 fn are_alike(one: &Option<Mark>, other: &Option<Mark>) -> bool
     ensures { IsTrue result ↔ (one.now ≡ other.now) }
 {
@@ -337,9 +336,9 @@ fn are_alike(one: &Option<Mark>, other: &Option<Mark>) -> bool
     }
 }
 
-/// Lays a cover over marks and gaps. An interval has the mark of the run that holds it, or else what stood there. It
-/// goes over both once. It fails only for want of memory, and only where an interval gets a mark with a text. It drops
-/// the marks then.
+/// Lays a cover over marks and gaps. An interval has the mark of the run that holds it, or else keeps what it had. It
+/// makes one pass over both. It fails only if memory is refused, and only if an interval gets a mark with a text. The
+/// marks are dropped then.
 pub fn overlay(marks: Vec<Option<Mark>>, cover: &Cover) -> Result<Vec<Option<Mark>>, AllocError>
     requires { length marks.items < 2 ^ 16 }
     ensures value { IfOk result (λ new. new.items ≡ overlaid cover.now.runs 1 marks.items) }
@@ -351,7 +350,7 @@ pub fn overlay(marks: Vec<Option<Mark>>, cover: &Cover) -> Result<Vec<Option<Mar
     Ok(new)
 }
 
-/// Sets the mark of each interval that a run holds.
+/// Sets the mark of each interval held by a run.
 fn set_marks(marks: &mut Vec<Option<Mark>>, runs: &[Run]) -> Result<(), AllocError>
     requires few { length marks.old.items < 2 ^ 16 }
     requires lawful { AreAscending runs.now }
@@ -367,7 +366,7 @@ fn set_marks(marks: &mut Vec<Option<Mark>>, runs: &[Run]) -> Result<(), AllocErr
     Ok(())
 }
 
-/// Sets the mark of an interval to that of the first run, where this one has begun.
+/// Sets the mark of an interval to that of the first run, if that run has begun.
 fn set_mark(mark: &mut Option<Mark>, runs: &[Run], interval: u16) -> Result<(), AllocError>
     ensures done { OnOk result (mark.new ≡ over (first_begun runs.now interval) mark.old) }
     ensures only { OnErr result ((run : Run) × (first_begun runs.now interval ≡ Some run)
@@ -387,8 +386,8 @@ pub fn equal_faults()
         → IsTrue (⟦<RunFault as PartialEq>⟧.eq fault other) ↔ (fault ≡ other) }
 {}
 
-/// The laws of the run that holds an interval. At most one of the lawful runs does, and it is the one that `run_at`
-/// finds. The function does nothing.
+/// The laws of the run that holds an interval. At most one of the lawful runs does, and `run_at` finds it. The function
+/// does nothing.
 pub fn one_run_holds()
     ensures found { (count : ℕ) (runs : List Run) (interval : ℕ) (run : Run)
         → AreRuns count runs → Contains runs run → IsTrue (holds interval run)

@@ -21,9 +21,9 @@ use std::marker::Model;
 /// one mark takes some 420 bytes.
 #[derive(Drop)]
 pub struct DayReadings {
-    /// Runs that hold each interval. Two beside each other have different marks.
+    /// Runs that hold each interval. Two adjacent ones have different marks.
     runs: Vec<Run>,
-    /// The value of each interval in millionths, and 0 where it has none.
+    /// The value of each interval in millionths, or 0 if it has no value.
     millionths: Vec<i64>,
 }
 
@@ -40,7 +40,7 @@ impl Model for DayReadings {
 }
 
 impl DayReadings {
-    /// No readings yet, with room for so many.
+    /// No readings yet, with room for `count` of them.
     pub fn with_capacity(alloc: Global, count: usize) -> Result<DayReadings, AllocError>
         ensures value { IfOk result (λ readings. readings ≡ []) }
         ensures memory { OnErr result (0 < count) }
@@ -52,7 +52,7 @@ impl DayReadings {
         })
     }
 
-    /// These readings, in this order. It fails only for want of memory, and only where there is one.
+    /// These readings, in this order. It fails only if memory is refused, and only if there is at least one.
     pub fn of(alloc: Global, readings: &[Reading]) -> Result<DayReadings, AllocError>
         requires few { length readings.now < 2 ^ 16 }
         ensures value { IfOk result (λ kept. kept ≡ readings.now) }
@@ -65,8 +65,8 @@ impl DayReadings {
         Ok(kept)
     }
 
-    /// Appends a reading with this mark and this value, which go together. It fails only for want of memory. Which
-    /// readings there are after an error isn't said.
+    /// Appends a reading with this mark and this value, which go together. It fails only if memory is refused. After an error
+    /// it isn't specified which readings there are.
     pub fn push(&mut self, mark: &Mark, value: Option<Quantity>) -> Result<(), AllocError>
         requires few { length self.old + 1 < 2 ^ 16 }
         requires together { IsTrue (is_reading mark.now.quality.flag value) }
@@ -75,8 +75,8 @@ impl DayReadings {
         self.push_all(mark, &[value])
     }
 
-    /// Appends a reading with this mark for each of these value fields. Under N none has a value. It fails only for want
-    /// of memory. Which readings there are after an error isn't said.
+    /// Appends a reading with this mark for each of these value fields. Under N none has a value. It fails only if memory is
+    /// refused. After an error it isn't specified which readings there are.
     pub fn push_all(&mut self, mark: &Mark, values: &[Option<Quantity>]) -> Result<(), AllocError>
         requires few { length self.old + length values.now < 2 ^ 16 }
         requires together { (k : ℕ) → k < length values.now
@@ -95,7 +95,7 @@ impl DayReadings {
         put_values(&mut self.millionths, is_null(mark), values)
     }
 
-    /// How many they are.
+    /// The number of readings.
     pub fn len(&self) -> usize
         ensures value { result ≡ length self.now }
         ensures few { result < 2 ^ 16 }
@@ -103,7 +103,7 @@ impl DayReadings {
         self.millionths.len()
     }
 
-    /// The law of their parts. Each is lawful.
+    /// The law of their parts: each is lawful.
     pub fn are_lawful(&self)
         ensures { IsTrue (list_all is_lawful self.now) }
     {
@@ -130,7 +130,7 @@ impl DayReadings {
         zero_under(mark_at(&self.runs, at))
     }
 
-    /// A copy of the reading at an index. It takes memory only for the text of a reason.
+    /// A copy of the reading at an index. Takes memory only for the text of a reason.
     pub fn reading(&self, at: usize) -> Result<Reading, AllocError>
         requires { at < length self.now }
         ensures value { IfOk result (λ reading. (d : ReadingValue) → reading ≡ get_or self.now at d) }
@@ -142,7 +142,7 @@ impl DayReadings {
         Ok(Reading::new(mark, self.value(at)).unwrap())
     }
 
-    /// Whether the reading at an index is this one.
+    /// Whether the reading at an index equals this one.
     pub fn is_at(&self, at: usize, reading: &Reading) -> bool
         requires { at < length self.now }
         ensures { IsTrue result ↔ (slice_get self.now at ≡ Some reading.now) }
@@ -150,7 +150,7 @@ impl DayReadings {
         self.mark(at).is_same(reading.mark()) && are_same(self.value(at), reading.value())
     }
 
-    /// The first index at which these readings and others differ. Both are as many.
+    /// The first index at which these readings and others differ. Both have the same number.
     pub fn first_difference(&self, others: &DayReadings) -> Option<usize>
         requires as_many { length self.now ≡ length others.now }
         ensures some { IfSome result (λ at. (slice_get self.now at ≢ slice_get others.now at)
@@ -168,14 +168,14 @@ impl DayReadings {
         None
     }
 
-    /// The runs of the intervals that have one mark. They hold each interval, and two beside each other have different marks.
+    /// The runs of the intervals with one mark. They hold each interval, and two adjacent ones have different marks.
     pub fn runs(&self) -> &[Run]
         ensures { result.now ≡ runs_of 1 (map (λ reading. Some reading.mark) self.now) }
     {
         self.runs.as_slice()
     }
 
-    /// A copy of all of them. It takes memory only where there is one.
+    /// A copy of all of them. Takes memory only if there is at least one.
     pub fn try_clone(&self, alloc: Global) -> Result<DayReadings, AllocError>
         ensures value { IfOk result (λ copy. copy ≡ self.now) }
         ensures memory { OnErr result (0 < length self.now) }
@@ -186,7 +186,7 @@ impl DayReadings {
         Ok(DayReadings { runs, millionths })
     }
 
-    /// Whether these readings and others have the same one at an index.
+    /// Whether these readings and others are the same at an index.
     fn is_same_at(&self, others: &DayReadings, at: usize) -> bool
         requires here { at < length self.now }
         requires there { at < length others.now }
@@ -197,7 +197,7 @@ impl DayReadings {
     }
 }
 
-/// Whether both are the same runs.
+/// Whether both have the same runs.
 fn have_same_runs(one: &[Run], other: &[Run]) -> bool
     ensures { IsTrue result → one.now ≡ other.now }
 {
@@ -212,14 +212,14 @@ fn have_same_runs(one: &[Run], other: &[Run]) -> bool
     true
 }
 
-/// Whether both are one run.
+/// Whether both are the same run.
 fn is_same_run(one: &Run, other: &Run) -> bool
     ensures { IsTrue result → one.now ≡ other.now }
 {
     one.first == other.first && one.last == other.last && one.mark.is_same(&other.mark)
 }
 
-/// The first index at which numbers and others differ. Both are as many.
+/// The first index at which two lists of numbers differ. Both have the same length.
 fn first_other(one: &[i64], other: &[i64]) -> Option<usize>
     requires as_many { length one.now ≡ length other.now }
     ensures some { IfSome result (λ at. (slice_get one.now at ≢ slice_get other.now at)
@@ -247,7 +247,7 @@ fn mark_at(runs: &[Run], at: usize) -> &Mark
     &runs[place_of(runs, at)].mark
 }
 
-/// The place of the run that holds the interval at an index.
+/// The index of the run that holds the interval at an index.
 fn place_of(runs: &[Run], at: usize) -> usize
     requires { (count : ℕ) × AreClose 0 runs.now count }
     ensures { EndBefore runs.now at result }
@@ -255,7 +255,7 @@ fn place_of(runs: &[Run], at: usize) -> usize
     runs.partition_point(|run| usize::from(run.last) <= at)
 }
 
-/// The value that zero millionths keep under a mark.
+/// The value kept as zero millionths under a mark.
 fn zero_under(mark: &Mark) -> Option<Quantity>
     ensures { result ≡ kept_value mark.now.quality.flag (pos 0) }
 {
@@ -265,7 +265,7 @@ fn zero_under(mark: &Mark) -> Option<Quantity>
     Quantity::from_millionths(0)
 }
 
-/// Whether a mark says that there is no value.
+/// Whether a mark means that there is no value.
 fn is_null(mark: &Mark) -> bool
     ensures { result ≡ (mark.now.quality.flag == null) }
 {
@@ -283,8 +283,8 @@ fn are_same(one: Option<Quantity>, other: Option<Quantity>) -> bool
     }
 }
 
-/// Gives the intervals after the last run a mark, up to an end. The last run takes them in where it has this mark. Else
-/// they are a run of their own. After an error nothing has changed.
+/// Gives the intervals after the last run, up to `end`, a mark. If the last run has this mark it is extended. Otherwise they
+/// are a run of their own. After an error nothing has changed.
 fn put_stretch(runs: &mut Vec<Run>, mark: &Mark, end: u16) -> Result<(), AllocError>
     requires close { AreClose 0 runs.old.items (last_end runs.old.items) }
     requires more { last_end runs.old.items < end }
@@ -308,7 +308,7 @@ fn put_stretch(runs: &mut Vec<Run>, mark: &Mark, end: u16) -> Result<(), AllocEr
     Ok(())
 }
 
-/// Makes room for the first of the runs, and no more, as most days have one.
+/// Makes room for the first run and no more, as most days have one.
 fn make_room(runs: &mut Vec<Run>) -> Result<(), AllocError>
     ensures { runs.new.items ≡ runs.old.items }
 {
@@ -328,7 +328,7 @@ fn ends_with(runs: &[Run], mark: &Mark) -> bool
     }
 }
 
-/// Makes the last of the runs longer, up to an end.
+/// Extends the last run up to `end`.
 fn lengthen(runs: &mut Vec<Run>, end: u16)
     requires { 0 < length runs.old.items }
     ensures { runs.new.items ≡ lengthened end runs.old.items }
@@ -337,7 +337,7 @@ fn lengthen(runs: &mut Vec<Run>, end: u16)
     runs[place].last = end;
 }
 
-/// Appends what is kept of the value fields of one mark, which may be null. With room for all of them it succeeds.
+/// Appends what is kept of the value fields of one mark, which may be null. With enough room it succeeds.
 fn put_values(
     millionths: &mut Vec<i64>,
     is_null: bool,
@@ -354,7 +354,7 @@ fn put_values(
     Ok(())
 }
 
-/// What is kept of a value field: its millionths, or 0 where there are none, or where the mark is null.
+/// What is kept of a value field: its millionths, or 0 if the field is empty or the mark is null.
 fn number_of(is_null: bool, value: Option<Quantity>) -> i64
     ensures value { result ≡ number_of is_null value }
     ensures small { IsTrue (is_small is_null value) }

@@ -23,7 +23,7 @@ day_in block day = record {
   readings = day.readings;
 }
 
--- the stream of a block of a file whose header is of a moment
+-- the stream of a block, in a file whose header has this moment
 abbrev pub stream_of : ℕ → Block → StreamStatement
 stream_of moment block = record {
   line = block.line;

@@ -4,12 +4,12 @@ use Rattle.mds_calendar.specs.Length.{count_of}
 use Rattle.mds_statements.specs.declared.blocks.Block.{Block}
 use Rattle.mds_statements.specs.declared.blocks.DeliveredDay.{DeliveredDay}
 
--- a line stands after the last line, if there is one
+-- a line comes after the last line, if there is one
 abbrev pub is_after : Option ℕ → ℕ → Bool
 is_after None line = true
 is_after (Some last) line = nat_lt last line
 
--- a day stands after the last line, and has so many readings
+-- a day comes after the last line, and has `count` readings
 abbrev pub day_follows : ℕ → Option ℕ → DeliveredDay → Bool
 day_follows count last day = is_after last day.line && (length day.readings == count)
 
@@ -18,7 +18,7 @@ abbrev pub days_follow : ℕ → Option ℕ → List DeliveredDay → Bool
 days_follow count last [] = true
 days_follow count last (day ∷ days) = day_follows count last day && days_follow count (Some day.line) days
 
--- the last line after some days
+-- the last line after these days
 abbrev pub last_line : Option ℕ → List DeliveredDay → Option ℕ
 last_line last [] = last
 last_line last (day ∷ days) = last_line (Some day.line) days

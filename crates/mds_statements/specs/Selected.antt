@@ -1,5 +1,5 @@
--- What each selection keeps (profile). Its streams ascend, and so do the days of each. A day has a reading for each interval of
--- its length. There are so few days that their lines are fewer than a file may have (L10). So it is even where each day is of
+-- The invariant of a selection (profile). Its streams ascend, and so do the days of each. A day has a reading for each interval
+-- of its length. There are so few days that they have fewer lines than a file may have (L10). This holds even if each day is of
 -- five minutes, with a run for each interval and a 200 of its own.
 use Rattle.std.specs.Prelude.{◌≡◌, ◌<◌, ◌≤◌, ℕ, List, length}
 use Rattle.std.specs.Cmp.Lexicographic.{slice_cmp}

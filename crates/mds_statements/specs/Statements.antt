@@ -25,7 +25,7 @@ pub record StreamStatement : Type 0 where
   pub moment : ℕ
   pub details : DetailsValue
 
--- the details that a 300 states of its day: those of the 200 that governs it, with the header's moment
+-- the details that a 300 states for its day: those of its governing 200, with the header's moment
 pub record DetailsStatement : Type 0 where
   pub stream : Stream
   pub date : ℕ
@@ -57,7 +57,7 @@ pub data Statement : Type 0 where
   EventOf : EventValue → Statement
   PeriodOf : PeriodStatement → Statement
 
--- the day that a statement is of, if it is of one
+-- the day in a statement, if it has one
 abbrev pub days_in : Statement → List DayStatement
 days_in (DayOf day) = day ∷ []
 days_in statement = []

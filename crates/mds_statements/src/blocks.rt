@@ -11,7 +11,7 @@ pub struct Header {
     pub moment: Moment,
     /// Who sent it (FromParticipant), which may be empty.
     pub sender: PrintableString,
-    /// For whom it is (ToParticipant), which may be empty.
+    /// Whom it is for (ToParticipant), which may be empty.
     pub receiver: PrintableString,
 }
 
@@ -34,7 +34,7 @@ pub struct DeliveredDay {
     /// The number of its line, from 1.
     pub line: u64,
     pub date: Day,
-    /// When it was updated: the moment of the header where the record doesn't say so.
+    /// When it was updated: the moment of the header if the record doesn't state it.
     pub update: Moment,
     /// One for each interval, in order.
     pub readings: DayReadings,

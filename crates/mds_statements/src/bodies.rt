@@ -1,4 +1,4 @@
-//! The body in which an accumulation is kept: the text of its content, with its update behind the fields.
+//! The body in which an accumulation is kept: the text of its content, with its update after the fields.
 
 ghost use Rattle.std.specs.Prelude.{◌≡◌, ◌<◌, ◌≤◌, ◌+◌, ℕ, List, IfOk, MatchOption, OnErr, OnOk, length, string_bytes, string_capacity, string_len};
 ghost use Rattle.mds_quantity.specs.Append.{Appends, AppendsPart};
@@ -11,8 +11,8 @@ use std::alloc::{AllocError, Global};
 use std::str;
 
 impl Period {
-    /// Appends its body: the text of its content, where a comma and its update stand behind the fields. Fails only where `out`
-    /// had no room for all of it and can't grow; a front of it may be appended then.
+    /// Appends its body: the text of its content, with a comma and its update after the fields. Fails only if `out` has no room
+    /// for all of it and can't grow. A prefix of it may be appended then.
     pub fn write_body(&self, out: &mut String) -> Result<(), AllocError>
         ensures done { OnOk result ((body : List ℕ) × IsPeriodBody self.now body
             × Appends (string_bytes out.old) (string_bytes out.new) body) }
@@ -30,8 +30,8 @@ impl Period {
 }
 
 impl PeriodContent {
-    /// The content that a body says, whatever stands where the update does. `None` where there is one field alone. It fails only
-    /// where memory is refused: never where there is one field alone, and never for an empty text.
+    /// The content in a body, whatever is in the place of the update. `None` if there is only one field. It fails only if memory
+    /// is refused, and never if there is only one field or the text is empty.
     pub fn from_body(alloc: Global, body: &str) -> Result<Option<PeriodContent>, AllocError>
         ensures ok { IfOk result (λ found. MatchOption found (length (content_of body.now).fields ≤ 1)
             (λ content. content ≡ content_of_body body.now)) }
@@ -51,7 +51,7 @@ impl PeriodContent {
     }
 }
 
-/// The first line of a text, and what stands behind it.
+/// The first line of a text, and what follows it.
 fn first_line(text: &str) -> (&str, &str)
     ensures { IsFirstLine text.now result.0.now result.1.now }
 {

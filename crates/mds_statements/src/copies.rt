@@ -11,7 +11,7 @@ use mds_terms::Event;
 use std::alloc::{AllocError, Global};
 
 impl Delivery {
-    /// A copy of the delivery: it states the same. It fails only where memory is refused: never where both texts of its header
+    /// A copy of the delivery, which states the same. It fails only if memory is refused, and never if both texts of its header
     /// are empty and it has no block.
     pub fn try_clone(&self) -> Result<Delivery, AllocError>
         ensures value { IfOk result (λ delivery. delivery_statements delivery ≡ delivery_statements self.now) }
@@ -24,7 +24,7 @@ impl Delivery {
 }
 
 impl Header {
-    /// A copy of the header. It fails only where memory is refused: never where both texts are empty.
+    /// A copy of the header. It fails only if memory is refused, and never if both texts are empty.
     pub fn try_clone(&self) -> Result<Header, AllocError>
         ensures value { IfOk result (λ header. header ≡ self.now) }
         ensures full { OnErr result (0 < length self.now.sender + length self.now.receiver) }
@@ -38,7 +38,7 @@ impl Header {
 }
 
 impl Block {
-    /// A copy of the block with its days. It fails only where memory is refused: never where the texts of its details are empty
+    /// A copy of the block with its days. It fails only if memory is refused, and never if the texts of its details are empty
     /// and it has no day.
     pub fn try_clone(&self) -> Result<Block, AllocError>
         ensures value { IfOk result (λ block. (moment : ℕ) → block_statements moment block ≡ block_statements moment self.now) }
@@ -57,7 +57,7 @@ impl Block {
 }
 
 impl DeliveredDay {
-    /// A copy of the day with its readings and events. It fails only where memory is refused: never where it has neither.
+    /// A copy of the day with its readings and events. It fails only if memory is refused, and never if it has neither.
     pub fn try_clone(&self) -> Result<DeliveredDay, AllocError>
         ensures value { IfOk result (λ day. (moment : ℕ) (block : ABlock) → day_statements moment block day ≡ day_statements moment block self.now) }
         ensures full { OnErr result (0 < length self.now.readings + length self.now.events.items) }
@@ -72,7 +72,7 @@ impl DeliveredDay {
     }
 }
 
-/// Copies of blocks, in the same order. It takes memory only where there is one.
+/// Copies of blocks, in the same order. Takes memory only if there are any.
 fn copy_blocks(alloc: Global, blocks: &[Block]) -> Result<Vec<Block>, AllocError>
     ensures value { IfOk result (λ copies. (moment : ℕ)
         → flat_map (block_statements moment) copies.items ≡ flat_map (block_statements moment) blocks.now) }
@@ -85,7 +85,7 @@ fn copy_blocks(alloc: Global, blocks: &[Block]) -> Result<Vec<Block>, AllocError
     Ok(copies)
 }
 
-/// Copies of days, in the same order. It takes memory only where there is one.
+/// Copies of days, in the same order. Takes memory only if there are any.
 fn copy_days(alloc: Global, days: &[DeliveredDay]) -> Result<Vec<DeliveredDay>, AllocError>
     ensures value { IfOk result (λ copies. (moment : ℕ) (block : ABlock)
         → flat_map (day_statements moment block) copies.items ≡ flat_map (day_statements moment block) days.now) }
@@ -98,7 +98,7 @@ fn copy_days(alloc: Global, days: &[DeliveredDay]) -> Result<Vec<DeliveredDay>, 
     Ok(copies)
 }
 
-/// Copies of events, in the same order. It takes memory only where there is one.
+/// Copies of events, in the same order. Takes memory only if there are any.
 fn copy_events(alloc: Global, events: &[Event]) -> Result<Vec<Event>, AllocError>
     ensures value { IfOk result (λ copies. copies.items ≡ events.now) }
     ensures full { OnErr result (0 < length events.now) }

@@ -5,7 +5,7 @@ ghost use Rattle.mds_statements.specs.Orderly.{AreOrderly};
 
 use crate::blocks::{Block, DeliveredDay, Header};
 
-/// What a NEM12 file states, in the order of its lines. Its days stand on ascending lines, and each has a reading for each
+/// What a NEM12 file states, in the order of its lines. Its days are on ascending lines, and each has a reading for each
 /// interval of its length.
 #[derive(Drop)]
 pub struct Delivery {
@@ -16,8 +16,8 @@ pub struct Delivery {
 }
 
 impl Delivery {
-    /// A delivery of these blocks under a header. `None` where the days don't stand on ascending lines, or one hasn't a
-    /// reading for each interval.
+    /// A delivery of these blocks under a header. `None` if the days aren't on ascending lines, or one of them doesn't
+    /// have a reading for each interval.
     pub fn new(header: Header, blocks: Vec<Block>) -> Option<Delivery>
         ensures some { IfSome result (λ delivery. (delivery.header ≡ header) × (delivery.blocks ≡ blocks)) }
         ensures none { IfNone result (AreOrderly blocks.items → ⊥) }
@@ -31,7 +31,7 @@ impl Delivery {
 
 ghost use Rattle.mds_statements.specs.OrderlySteps.{day_follows, days_follow, is_after, last_line};
 
-/// Whether the days of blocks stand on ascending lines, and each has a reading for each interval.
+/// Whether the days of blocks are on ascending lines, and each has a reading for each interval.
 fn are_orderly(blocks: &[Block]) -> bool
     ensures { IsTrue result ↔ AreOrderly blocks.now }
 {
@@ -45,7 +45,7 @@ fn are_orderly(blocks: &[Block]) -> bool
     true
 }
 
-/// Whether days follow the last line before them: they stand after it on ascending lines, and each has so many readings.
+/// Whether days follow the line `before`: they are on ascending lines after it, and each has `count` readings.
 fn days_follow(days: &[DeliveredDay], before: Option<u64>, count: usize) -> bool
     ensures { result ≡ days_follow count before days.now }
 {
@@ -59,14 +59,14 @@ fn days_follow(days: &[DeliveredDay], before: Option<u64>, count: usize) -> bool
     true
 }
 
-/// Whether a day stands after the last line, and has so many readings.
+/// Whether a day comes after the last line, and has `count` readings.
 fn day_follows(day: &DeliveredDay, last: Option<u64>, count: usize) -> bool
     ensures { result ≡ day_follows count last day.now }
 {
     is_after(last, day.line) && day.readings.len() == count
 }
 
-/// Whether a line stands after the last line, if there is one.
+/// Whether a line comes after the last line, if there is one.
 fn is_after(last: Option<u64>, line: u64) -> bool
     ensures { result ≡ is_after last line }
 {
@@ -76,7 +76,7 @@ fn is_after(last: Option<u64>, line: u64) -> bool
     }
 }
 
-/// The line of the last of some days, or the last line before them where there is none.
+/// The line of the last of these days, or `before` if there are none.
 fn last_line(days: &[DeliveredDay], before: Option<u64>) -> Option<u64>
     ensures { result ≡ last_line before days.now }
 {

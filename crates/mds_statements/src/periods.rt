@@ -7,23 +7,23 @@ use mds_terms::{Moment, PrintableString, Stream};
 use std::alloc::AllocError;
 use std::marker::Model;
 
-/// What an accumulation is of: a register, from one read of it to another, as it was updated. Keys are ordered by their parts, as
-/// they stand here.
+/// What identifies an accumulation: a register, two reads of it, and the update. Keys are ordered by their parts, in the order in
+/// which they are declared here.
 #[derive(PartialEq, Eq, PartialOrd, Ord, Drop)]
 pub struct PeriodKey {
     pub stream: Stream,
     /// The register (RegisterID), which may be empty.
     pub register: PrintableString,
-    /// When the previous read was.
+    /// The moment of the previous read.
     pub start: Moment,
-    /// When the current read was.
+    /// The moment of the current read.
     pub finish: Moment,
-    /// When it was updated: the moment of the header, where the record doesn't say.
+    /// When it was updated: the moment of the header if the record doesn't state it.
     pub update: Moment,
 }
 
 impl PeriodKey {
-    /// A copy of the key. It fails only where memory is refused: never where the register is empty.
+    /// A copy of the key. It fails only if memory is refused, and never if the register is empty.
     pub fn try_clone(&self) -> Result<PeriodKey, AllocError>
         ensures value { IfOk result (λ key. key ≡ self.now) }
         ensures full { OnErr result (0 < length self.now.register) }
@@ -38,8 +38,8 @@ impl PeriodKey {
     }
 }
 
-/// What else is kept of an accumulation: the fields 3 to 21 of its 250 record, and its notes in order. A note is a 550 record.
-/// The update, which the record or the header states, is of its key alone. A content has one text.
+/// The rest of an accumulation: the fields 3 to 21 of its 250 record, and its notes in order. A note is a 550 record. The update,
+/// which the record or the header states, is only in its key. A content has one text.
 #[derive(Drop)]
 pub struct PeriodContent {
     text: String,
@@ -55,8 +55,7 @@ impl Model for PeriodContent {
 }
 
 impl PeriodContent {
-    /// The content that a text says. Its first line has the fields, and each other line the four texts of a note, joined by
-    /// commas.
+    /// The content in a text. The first line has the fields, and each other line the four texts of a note, joined by commas.
     pub fn new(text: String) -> PeriodContent
         ensures { result ≡ content_of (string_bytes text) }
     {
@@ -70,7 +69,7 @@ impl PeriodContent {
         self.text.as_str()
     }
 
-    /// A copy of the content. It fails only where memory is refused: never where its text is empty.
+    /// A copy of the content. It fails only if memory is refused, and never if its text is empty.
     pub fn try_clone(&self) -> Result<PeriodContent, AllocError>
         ensures value { IfOk result (λ content. content ≡ self.now) }
         ensures full { OnErr result ((text : List ℕ) × (content_of text ≡ self.now) × (0 < length text)) }
@@ -88,7 +87,7 @@ impl PeriodContent {
     }
 }
 
-/// An accumulation: what it is of, and what else is kept of it.
+/// An accumulation: its key, and the rest of what is kept of it.
 #[derive(Drop)]
 pub struct Period {
     pub key: PeriodKey,

@@ -9,7 +9,7 @@ pub struct SelectedDay {
     pub date: Day,
     pub length: Length,
     pub unit: Unit,
-    /// What is known of its meter on that day.
+    /// The details of its meter on that day.
     pub details: Details,
     /// When its readings were updated.
     pub update: Moment,
@@ -17,7 +17,7 @@ pub struct SelectedDay {
     pub readings: Vec<Reading>,
 }
 
-/// A stream and its selected days, of which there may be none.
+/// A stream and its selected days, which may be none.
 #[derive(Drop)]
 pub struct SelectedStream {
     pub stream: Stream,

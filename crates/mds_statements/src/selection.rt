@@ -1,13 +1,12 @@
-//! What is selected to be written.
+//! What is selected for an export.
 
 ghost use Rattle.std.specs.Prelude.{◌≡◌, ◌≤◌, ◌↔◌, IfNone, IfSome, IsTrue, length, option_map};
 ghost use Rattle.mds_statements.specs.Selected.{AreOrderly, days_of, most_days};
 
 use crate::selected::{SelectedDay, SelectedStream};
 
-/// What is selected to be written: streams in the order of their bytes, and the days of each by their dates. Each day has a
-/// reading for each interval of its length. There are at most 3,200 days, so that the text has fewer lines than a file may have
-/// (L10).
+/// What is selected for an export: streams in the order of their bytes, and the days of each by date. Each day has a reading for
+/// each interval of its length. There are at most 3,200 days, so that the text has fewer lines than a file may have (L10).
 #[derive(Drop)]
 pub struct Selection {
     pub streams: Vec<SelectedStream>,
@@ -18,9 +17,8 @@ pub struct Selection {
 const MOST_DAYS: usize = 3_200;
 
 impl Selection {
-    /// A selection of these streams. `None` where the streams don't ascend by the bytes of the NMI and then of the suffix. `None`
-    /// where the days of a stream don't ascend by their dates. `None` where a day hasn't a reading for each interval, or there
-    /// are more than 3,200 days.
+    /// A selection of these streams. `None` if the streams don't ascend by the bytes of the NMI and then of the suffix, or the
+    /// days of a stream by date. `None` too if a day doesn't have a reading for each interval, or there are more than 3,200 days.
     pub fn new(streams: Vec<SelectedStream>) -> Option<Selection>
         ensures some { IfSome result (λ selection. selection.streams ≡ streams) }
         ensures none { IfNone result (AreOrderly streams.items → ⊥) }
@@ -35,14 +33,14 @@ impl Selection {
 ghost use Rattle.std.specs.Prelude.{None, ◌&&◌, nat_le};
 ghost use Rattle.mds_statements.specs.SelectedSteps.{day_follows, days_follow, is_after, stream_follows, streams_follow};
 
-/// Whether streams and days ascend, each day has a reading for each interval, and there are at most so many days.
+/// Whether streams and days ascend, each day has a reading for each interval, and there aren't too many days.
 fn are_orderly(streams: &[SelectedStream]) -> bool
     ensures { IsTrue result ↔ AreOrderly streams.now }
 {
     are_few(streams) && are_in_order(streams)
 }
 
-/// Whether there are at most so many days.
+/// Whether there are at most 3,200 days.
 fn are_few(streams: &[SelectedStream]) -> bool
     ensures { result ≡ nat_le (length (days_of streams.now)) most_days }
 {
@@ -56,7 +54,7 @@ fn are_few(streams: &[SelectedStream]) -> bool
     true
 }
 
-/// Whether streams ascend, and the days of each, and each day has a reading for each interval.
+/// Whether streams ascend, the days of each ascend, and each day has a reading for each interval.
 fn are_in_order(streams: &[SelectedStream]) -> bool
     ensures { result ≡ streams_follow None streams.now }
 {

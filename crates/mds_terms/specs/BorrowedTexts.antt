@@ -1,4 +1,4 @@
--- What contracts see of the borrowed terms.
+-- The values of the borrowed terms in contracts.
 use Rattle.std.specs.Prelude.{ℕ, List}
 use Rattle.mds_terms.specs.Details.{DetailsValue}
 use Rattle.mds_terms.specs.Event.{EventValue}

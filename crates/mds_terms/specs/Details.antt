@@ -1,4 +1,4 @@
--- What a 200 record says of a meter, beside its stream, unit and length. MDFF Specification, the 200 record:
+-- The details of a meter in a 200 record: all but its stream, unit and length. MDFF Specification, the 200 record:
 -- NMIConfiguration, RegisterID, MDMDataStreamIdentifier, MeterSerialNumber and NextScheduledReadDate. By this project's
 -- profile each may be empty.
 use Rattle.std.specs.Prelude.{◌≡◌, ℕ, Bool, if◌then◌else◌, List, [], ◌∷◌, Option, Some, None, option_map}
@@ -24,7 +24,7 @@ abbrev pub is_details : DetailsValue → Bool
 is_details details =
     list_all is_printable (details.configuration ∷ details.register ∷ details.datastream ∷ details.meter ∷ [])
 
--- the details that five texts are
+-- the details denoted by five texts
 unfoldable pub details_of : List ℕ → List ℕ → List ℕ → List ℕ → List ℕ → Option DetailsValue
 details_of configuration register datastream meter next =
     if list_all is_printable (configuration ∷ register ∷ datastream ∷ meter ∷ [])
@@ -37,7 +37,7 @@ details_of configuration register datastream meter next =
     }) (optional day_of next)
     else None
 
--- The written text: the five parts joined by commas, the day as the text that reads as it.
+-- The written text: the five parts joined by commas, where the day is the text that reads as it.
 abbrev pub IsDetailsText : DetailsValue → List ℕ → Type 0
 IsDetailsText details text =
     (next : List ℕ) × (optional day_of next ≡ Some details.next)

@@ -1,5 +1,5 @@
--- What a 500 record says of a stream on a day. MDFF Specification, the 500 record: TransCode, RetServiceOrder,
--- ReadDateTime and IndexRead. Each may be empty by this project's profile, which also says what texts they are.
+-- What a 500 record states of a stream on a day. MDFF Specification, the 500 record: TransCode, RetServiceOrder,
+-- ReadDateTime and IndexRead. By this project's profile each may be empty; the profile also says which texts they are.
 use Rattle.std.specs.Prelude.{◌≡◌, ℕ, Bool, true, ◌&&◌, ◌==◌, if◌then◌else◌, List, [], ◌∷◌, length, slice_index, Option, Some, None, option_and_then}
 use Rattle.std.specs.Char.{is_ascii_uppercase}
 use Rattle.std.specs.Cmp.Lexicographic.{slice_cmp}
@@ -23,7 +23,7 @@ pub record EventValue : Type 0 where
   pub moment : Option ℕ
   pub reading : List ℕ
 
--- the transaction code that a text is: one capital letter
+-- the transaction code that a text denotes: one capital letter
 abbrev pub letter_of : List ℕ → Option ℕ
 letter_of text =
     if (length text == 1) && is_ascii_uppercase (slice_index text 0) then Some (slice_index text 0) else None
@@ -33,13 +33,13 @@ abbrev pub is_trans : Option ℕ → Bool
 is_trans None = true
 is_trans (Some letter) = is_ascii_uppercase letter
 
--- the names are names, the transaction code is one, and the texts are printable
+-- the names and the transaction code are valid, and the texts are printable
 abbrev pub is_event : EventValue → Bool
 is_event event =
     is_name nmi_length event.nmi && is_name suffix_length event.suffix && is_trans event.trans
     && list_all is_printable (event.ticket ∷ event.reading ∷ [])
 
--- the event that seven texts are
+-- the event denoted by seven texts
 unfoldable pub event_of : List ℕ → List ℕ → List ℕ → List ℕ → List ℕ → List ℕ → List ℕ → Option EventValue
 event_of nmi suffix day trans ticket moment reading =
     option_and_then (λ named.
@@ -65,7 +65,7 @@ abbrev pub trans_text : Option ℕ → List ℕ
 trans_text None = []
 trans_text (Some letter) = letter ∷ []
 
--- The written text: the seven parts joined by commas, the day and the moment each as the text that reads as it.
+-- The written text: the seven parts joined by commas, where the day and the moment are the texts that read as them.
 abbrev pub IsEventText : EventValue → List ℕ → Type 0
 IsEventText event text =
     (day : List ℕ) × (moment : List ℕ) × (day_of day ≡ Some event.day)
@@ -73,7 +73,7 @@ IsEventText event text =
     × (text
     ≡ joined (event.nmi ∷ event.suffix ∷ day ∷ trans_text event.trans ∷ event.ticket ∷ moment ∷ event.reading ∷ []))
 
--- The order of events: field by field, texts by their bytes, what is absent first (profile).
+-- The order of events: field by field, texts by their bytes, an absent field first (profile).
 unfoldable pub event_cmp : EventValue → EventValue → Ordering
 event_cmp =
     then_cmp (on (λ e. e.nmi) (slice_cmp nat_cmp))

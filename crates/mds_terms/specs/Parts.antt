@@ -7,6 +7,6 @@ use Rattle.mds_names.specs.Names.{comma}
 abbrev pub joined : List (List ℕ) → List ℕ
 joined texts = join_with_byte comma texts
 
--- An absent part is the empty text; another text is what it reads as.
+-- An absent part is the empty text; any other text is what it denotes.
 abbrev pub optional : (List ℕ → Option ℕ) → List ℕ → Option (Option ℕ)
 optional read text = if length text == 0 then Some None else option_map Some (read text)

@@ -1,4 +1,4 @@
-//! What is known of a meter.
+//! The details of a meter.
 
 ghost use Rattle.std.specs.Prelude.{◌≡◌, ◌<◌, ◌+◌, ◌↔◌, ℕ, List, [], ◌∷◌, length, IsTrue, true, IfOk, IsSome, OnOk, OnErr, Some, string_bytes, string_capacity, string_len, refl};
 ghost use Rattle.std.specs.Cmp.{eq_by_cmp_equiv, partial_equiv_from_equiv, partial_order_from_total};
@@ -17,8 +17,8 @@ use std::alloc::{AllocError, Global};
 use std::cmp::Ordering;
 use std::marker::Model;
 
-/// What is known of a meter: four printable texts, each empty where it is absent, and its next scheduled read date.
-/// Details are ordered field by field, texts by their bytes. An absent date stands first.
+/// The details of a meter: four printable texts, each empty if absent, and the next scheduled read date. Details are
+/// ordered field by field, texts by their bytes, and an absent date comes first.
 #[derive(Drop)]
 pub struct Details {
     configuration: String,
@@ -52,9 +52,8 @@ impl Model for Details {
 }
 
 impl Details {
-    /// Reads details from five texts, each empty where it is absent: four printable ones and a day (CCYYMMDD). `None`
-    /// where one of them isn't what it has to be. It takes memory only for details with a text: never where the first
-    /// four are empty.
+    /// Reads details from five texts, each empty if absent: four printable ones and a day (CCYYMMDD). `None` if one
+    /// of them isn't valid. Takes memory only for details with a text: none if the first four are empty.
     pub fn read(
         alloc: Global,
         configuration: &[u8],
@@ -105,15 +104,16 @@ impl Details {
         self.meter.as_str()
     }
 
-    /// The next scheduled read date (NextScheduledReadDate), if there is one.
+    /// The next scheduled read date (NextScheduledReadDate), if present.
     pub fn next(&self) -> Option<Day>
         ensures { result ≡ self.now.next }
     {
         self.next_read
     }
 
-    /// Appends their one text, the five parts joined by commas, as `E1,1,N1,01009,20240201` (`details_read_back`). It
-    /// fails only where `out` has no room for all of it and can't grow. A front of it may be appended then.
+    /// Appends their one text, the five parts joined by commas, such as `E1,1,N1,01009,20240201`
+    /// (`details_read_back`). It fails only if `out` has no room for all of it and can't grow. A prefix of it may be
+    /// appended then.
     pub fn write_to(&self, out: &mut String) -> Result<(), AllocError>
         ensures done { OnOk result ((text : List ℕ) × IsDetailsText self.now text
             × Appends (string_bytes out.old) (string_bytes out.new) text) }
@@ -141,7 +141,7 @@ impl Details {
         )
     }
 
-    /// A copy of the details. It fails only where memory is refused: never where all texts are empty.
+    /// A copy of the details. It fails only if memory is refused, and never if all texts are empty.
     pub fn try_clone(&self) -> Result<Details, AllocError>
         ensures value { IfOk result (λ details. details ≡ self.now) }
         ensures full { OnErr result (0 < length self.now.configuration + length self.now.register
@@ -157,7 +157,7 @@ impl Details {
         )
     }
 
-    /// Whether both say the same.
+    /// Whether both are equal.
     #[tactic(auto, using(crate::proofs::TermOrder::details_decided))]
     pub fn is_same(&self, other: &Details) -> bool
         ensures { IsTrue result ↔ (self.now ≡ other.now) }
@@ -165,7 +165,7 @@ impl Details {
         self.cmp(other).is_eq()
     }
 
-    /// A law: details are equal where they say the same, and their order goes field by field.
+    /// A law: details are equal exactly if all fields are, and they are ordered field by field.
     #[tactic(auto, using(crate::proofs::TermOrder::details_decided))]
     pub fn one_order()
         ensures equal { (a b : DetailsValue) → IsTrue (⟦<Details as PartialEq>⟧.eq a b) ↔ (a ≡ b) }
@@ -217,7 +217,7 @@ impl Ord for Details {
     }
 }
 
-/// Details with texts of their own.
+/// The details with their own copies of the texts.
 pub(crate) fn own_details(
     alloc: Global,
     configuration: &str,
@@ -246,8 +246,8 @@ pub(crate) fn own_details(
     })
 }
 
-/// The laws of the text of details. The pieces between its commas read back as these details, and details have one
-/// text.
+/// The laws of the text of details. The pieces between its commas read back as these details, and details have only
+/// one text.
 pub fn details_read_back()
     ensures pieces { (details : DetailsValue) (text : List ℕ) → is_details details ≡ true → IsDetailsText details text
         → (next : List ℕ) × (slice_split is_comma text ≡ details.configuration ∷ details.register

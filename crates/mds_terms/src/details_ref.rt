@@ -1,4 +1,4 @@
-//! What a 200 record says of a meter, borrowed from it.
+//! The details of a meter in a 200 record, borrowed from it.
 
 ghost use Rattle.std.specs.Prelude.{◌≡◌, ◌<◌, ◌+◌, IfSome, IfOk, OnErr, length, option_map};
 
@@ -8,7 +8,7 @@ use crate::printable::PrintableText;
 use mds_calendar::Day;
 use std::alloc::{AllocError, Global};
 
-/// What a 200 record says of a meter, borrowed from the record. A text that is absent is empty.
+/// The details of a meter in a 200 record, borrowed from the record. An absent text is empty.
 #[derive(Clone, Copy)]
 pub struct DetailsRef<'a> {
     /// The configuration of the NMI's datastreams (NMIConfiguration).
@@ -27,8 +27,8 @@ impl<'a> DetailsRef<'a> {
     ghost use Rattle.mds_terms.specs.BorrowedTexts.{text_of, details_in};
     ghost use Rattle.mds_terms.specs.Details.{details_of};
 
-    /// Reads details from five texts: four printable ones, and one that is empty or a day (CCYYMMDD). `None` where one
-    /// of them isn't what it has to be.
+    /// Reads details from five texts: four printable ones, and one that is empty or a day (CCYYMMDD). `None` if one of
+    /// them isn't valid.
     #[tactic(auto, unfolding(crate::specs::Details::details_of))]
     pub fn read(
         configuration: &'a [u8],
@@ -52,8 +52,7 @@ impl<'a> DetailsRef<'a> {
         })
     }
 
-    /// A copy of the details with texts of their own. It fails only where memory is refused: never where all texts are
-    /// empty.
+    /// A copy of the details with its own texts. It fails only if memory is refused, and never if all texts are empty.
     pub fn to_details(&self, alloc: Global) -> Result<Details, AllocError>
         ensures value { IfOk result (λ details. details ≡ details_in self.now) }
         ensures full { OnErr result (0 < length (text_of self.now.configuration) + length (text_of self.now.register)

@@ -22,8 +22,9 @@ use std::alloc::{AllocError, Global};
 use std::cmp::Ordering;
 use std::marker::Model;
 
-/// What happened to a stream on a day, as a 500 record says it: a transaction, a service order, and what was read when.
-/// Each of these may be absent. Events are ordered field by field, texts by their bytes. What is absent stands first.
+/// What happened to a stream on a day, as stated by a 500 record: a transaction, a service order, and what was read
+/// when. Each of these may be absent. Events are ordered field by field, texts by their bytes. An absent field comes
+/// first.
 #[derive(Drop)]
 pub struct Event {
     stream: Stream,
@@ -63,9 +64,9 @@ impl Model for Event {
 
 impl Event {
     /// Reads an event from seven texts. The first three are an NMI, a suffix and a day (CCYYMMDD). The others are a
-    /// capital letter, a printable text, a moment (CCYYMMDDhhmmss) and a printable text, each empty where it is absent.
-    /// `None` where one of them isn't what it has to be. It takes memory only for an event with a text: never where the
-    /// service order and the index read are empty.
+    /// capital letter, a printable text, a moment (CCYYMMDDhhmmss) and a printable text, each empty if absent. `None`
+    /// if one of them isn't valid. Takes memory only for an event with a text: none if the service order and the index
+    /// read are empty.
     pub fn read(
         alloc: Global,
         nmi: &[u8],
@@ -110,36 +111,36 @@ impl Event {
         self.on
     }
 
-    /// The transaction code (TransCode), if there is one.
+    /// The transaction code (TransCode), if present.
     pub fn trans(&self) -> Option<TransCode>
         ensures { result ≡ self.now.trans }
     {
         self.code
     }
 
-    /// The service order (RetServiceOrder), empty where it is absent.
+    /// The service order (RetServiceOrder), empty if absent.
     pub fn ticket(&self) -> &str
         ensures { result.now ≡ self.now.ticket }
     {
         self.ticket.as_str()
     }
 
-    /// The moment of the read (ReadDateTime), if there is one.
+    /// The moment of the read (ReadDateTime), if present.
     pub fn moment(&self) -> Option<Moment>
         ensures { result ≡ self.now.moment }
     {
         self.read_at
     }
 
-    /// The index read (IndexRead), empty where it is absent.
+    /// The index read (IndexRead), empty if absent.
     pub fn reading(&self) -> &str
         ensures { result.now ≡ self.now.reading }
     {
         self.reading.as_str()
     }
 
-    /// Appends its one text, the seven parts joined by commas, as `NEM1201009,E1,20240102,O,,20240102000000,15.5`
-    /// (`events_read_back`). It fails only where `out` has no room for all of it and can't grow. A front of it may be
+    /// Appends its one text, the seven parts joined by commas, such as `NEM1201009,E1,20240102,O,,20240102000000,15.5`
+    /// (`events_read_back`). It fails only if `out` has no room for all of it and can't grow. A prefix of it may be
     /// appended then.
     pub fn write_to(&self, out: &mut String) -> Result<(), AllocError>
         ensures done { OnOk result ((text : List ℕ) × IsEventText self.now text
@@ -173,7 +174,7 @@ impl Event {
         )
     }
 
-    /// A copy of the event. It fails only where memory is refused: never where the service order and the index read are
+    /// A copy of the event. It fails only if memory is refused, and never if the service order and the index read are
     /// empty.
     pub fn try_clone(&self) -> Result<Event, AllocError>
         ensures value { IfOk result (λ event. event ≡ self.now) }
@@ -190,7 +191,7 @@ impl Event {
         })
     }
 
-    /// Whether both say the same.
+    /// Whether both are equal.
     #[tactic(auto, using(crate::proofs::TermOrder::event_decided))]
     pub fn is_same(&self, other: &Event) -> bool
         ensures { IsTrue result ↔ (self.now ≡ other.now) }
@@ -198,7 +199,7 @@ impl Event {
         self.cmp(other).is_eq()
     }
 
-    /// A law: events are equal where they say the same, and their order goes field by field.
+    /// A law: events are equal exactly if all fields are, and they are ordered field by field.
     #[tactic(auto, using(crate::proofs::TermOrder::event_decided))]
     pub fn one_order()
         ensures equal { (a b : EventValue) → IsTrue (⟦<Event as PartialEq>⟧.eq a b) ↔ (a ≡ b) }
@@ -252,7 +253,8 @@ impl Ord for Event {
     }
 }
 
-/// The laws of the text of an event. The pieces between its commas read back as this event, and an event has one text.
+/// The laws of the text of an event. The pieces between its commas read back as this event, and an event has only one
+/// text.
 pub fn events_read_back()
     ensures pieces { (event : EventValue) (text : List ℕ) → is_event event ≡ true → IsEventText event text
         → (day : List ℕ) × (moment : List ℕ) × (slice_split is_comma text ≡ event.nmi ∷ event.suffix ∷ day
@@ -265,7 +267,7 @@ pub fn events_read_back()
     one_moment_text();
 }
 
-/// An event with texts of its own. The empty ones take no memory.
+/// The event with its own copies of the texts. Empty ones take no memory.
 pub(crate) fn own_event(alloc: Global, event: &EventRef<'_>) -> Result<Event, AllocError>
     ensures value { IfOk result (λ own. own ≡ event_in event.now) }
     ensures full { OnErr result (0 < length (text_of event.now.ticket) + length (text_of event.now.reading)) }

@@ -1,4 +1,4 @@
-//! An event whose texts are borrowed.
+//! An event with borrowed texts.
 
 ghost use Rattle.std.specs.Prelude.{◌≡◌, ◌<◌, ◌+◌, true, IfSome, IfOk, OnErr, length, option_map};
 ghost use Rattle.mds_terms.specs.Event.{is_trans};
@@ -11,7 +11,7 @@ use mds_calendar::{Day, Moment};
 use mds_names::{Nmi, Suffix};
 use std::alloc::{AllocError, Global};
 
-/// An event whose texts are borrowed.
+/// An event with borrowed texts.
 #[derive(Clone, Copy)]
 pub struct EventRef<'a> {
     /// The NMI of the stream.
@@ -20,13 +20,13 @@ pub struct EventRef<'a> {
     pub suffix: Suffix,
     /// The day.
     pub day: Day,
-    /// The transaction code (TransCode), if there is one.
+    /// The transaction code (TransCode), if present.
     pub trans: Option<TransCode>,
-    /// The service order (RetServiceOrder), empty where it is absent.
+    /// The service order (RetServiceOrder), empty if absent.
     pub ticket: PrintableText<'a>,
-    /// The moment of the read (ReadDateTime), if there is one.
+    /// The moment of the read (ReadDateTime), if present.
     pub moment: Option<Moment>,
-    /// The index read (IndexRead), empty where it is absent.
+    /// The index read (IndexRead), empty if absent.
     pub reading: PrintableText<'a>,
 }
 
@@ -35,8 +35,8 @@ impl<'a> EventRef<'a> {
     ghost use Rattle.mds_terms.specs.BorrowedTexts.{event_in, text_of};
 
     /// Reads an event from seven texts. The first three are an NMI, a suffix and a day (CCYYMMDD). The others are a
-    /// capital letter, a printable text, a moment (CCYYMMDDhhmmss) and a printable text, each empty where it is absent.
-    /// `None` where one of them isn't what it has to be. It takes no memory.
+    /// capital letter, a printable text, a moment (CCYYMMDDhhmmss) and a printable text, each empty if absent. `None`
+    /// if one of them isn't valid. Takes no memory.
     #[tactic(auto, unfolding(crate::specs::Event::event_of))]
     pub fn read(
         nmi: &[u8],
@@ -64,8 +64,8 @@ impl<'a> EventRef<'a> {
         })
     }
 
-    /// A copy of the event with texts of its own. It fails only where memory is refused: never where the service order
-    /// and the index read are empty.
+    /// A copy of the event with its own texts. It fails only if memory is refused, and never if the service order and
+    /// the index read are empty.
     pub fn to_event(&self, alloc: Global) -> Result<Event, AllocError>
         ensures value { IfOk result (λ event. event ≡ event_in self.now) }
         ensures full { OnErr result (0 < length (text_of self.now.ticket) + length (text_of self.now.reading)) }
@@ -85,7 +85,7 @@ impl<'a> EventRef<'a> {
     }
 }
 
-/// A law: a transaction code that may be absent is lawful. The function does nothing.
+/// A law: an optional transaction code is absent or lawful. The function does nothing.
 fn code_is_lawful(trans: &Option<TransCode>)
     ensures { is_trans trans.now ≡ true }
 {

@@ -1,6 +1,11 @@
-//! The terms of metering data. Here stands what records say of meters and events. The days, moments, lengths, names and
-//! marks of the crates below are given on. Each term is read from its texts, and written as the one text that reads
-//! back.
+//! The terms of metering data. This crate has the details of meters, events and printable texts. It re-exports the
+//! days, moments, lengths, names and marks of the crates below. Each term is read from its texts, and written as the
+//! one text that reads back.
+//!
+//! It decides which details, events and printable texts are valid, and how details and events are ordered.
+//! Called by all crates above: records borrow terms (`DetailsRef`, `EventRef`, `PrintableText`), and keepers own them.
+//! Must not change: the order of details. The greatest of those under one moment are current, and the SQL of
+//! `mds_day_details` has the same order. The names that `mds::terms` makes public stay.
 #![tactic(auto)]
 
 mod details;

@@ -1,4 +1,4 @@
-//! Parts of terms: texts of their own, parts that may be absent, and how parts are written.
+//! Parts of terms: owned texts, parts that may be absent, and how parts are written.
 
 ghost use Rattle.std.specs.Prelude.{◌≡◌, ◌<◌, ◌+◌, true, [], ◌∷◌, map, Some, IfSome, IfOk, OnOk, OnErr, length, string_bytes, string_capacity, string_len};
 ghost use Rattle.std.specs.Char.{is_ascii_digit, is_ascii_uppercase};
@@ -13,7 +13,7 @@ use mds_calendar::{Day, Moment};
 use std::alloc::{AllocError, Global};
 use std::str;
 
-/// A text of its own with these bytes. The empty one takes no memory.
+/// An owned text with these bytes. The empty one takes no memory.
 pub(crate) fn own_text(alloc: Global, text: &str) -> Result<String, AllocError>
     ensures value { IfOk result (λ own. string_bytes own ≡ text.now) }
     ensures full { OnErr result (0 < length text.now) }
@@ -23,7 +23,7 @@ pub(crate) fn own_text(alloc: Global, text: &str) -> Result<String, AllocError>
     Ok(own)
 }
 
-/// Reads a day that may be absent: no day from the empty text. `None` where the text is no day.
+/// Reads a day that may be absent: the empty text is an absent day. `None` if the text isn't a day.
 pub(crate) fn read_optional_day(text: &[u8]) -> Option<Option<Day>>
     ensures { result ≡ optional day_of text.now }
 {
@@ -33,8 +33,8 @@ pub(crate) fn read_optional_day(text: &[u8]) -> Option<Option<Day>>
     Day::read(text).map(Some)
 }
 
-/// Reads a moment that may be absent: no moment from the empty text. `None` where the text is no
-/// moment.
+/// Reads a moment that may be absent: the empty text is an absent moment. `None` if the text isn't
+/// a moment.
 pub(crate) fn read_optional_moment(text: &[u8]) -> Option<Option<Moment>>
     ensures { result ≡ optional moment_of text.now }
 {
@@ -44,8 +44,8 @@ pub(crate) fn read_optional_moment(text: &[u8]) -> Option<Option<Moment>>
     Moment::read(text).map(Some)
 }
 
-/// Reads a transaction code that may be absent: no code from the empty text. `None` where the text
-/// is no code.
+/// Reads a transaction code that may be absent: the empty text is an absent code. `None` if the
+/// text isn't a code.
 pub(crate) fn read_optional_trans(text: &[u8]) -> Option<Option<TransCode>>
     ensures { result ≡ optional letter_of text.now }
 {
@@ -55,7 +55,7 @@ pub(crate) fn read_optional_trans(text: &[u8]) -> Option<Option<TransCode>>
     TransCode::read(text).map(Some)
 }
 
-/// Appends texts joined by commas. After an error a front of that may be appended.
+/// Appends texts joined by commas. After an error a prefix of the result may be appended.
 pub fn write_joined(out: &mut String, texts: &[&str]) -> Result<(), AllocError>
     ensures done { OnOk result (Appends (string_bytes out.old) (string_bytes out.new)
         (joined (map (λ text. text.now) texts.now))) }
@@ -75,7 +75,7 @@ pub fn write_joined(out: &mut String, texts: &[&str]) -> Result<(), AllocError>
     }
 }
 
-/// The digits of a day, CCYYMMDD, or zeros where there is none.
+/// The digits of a day, CCYYMMDD, or zeros if it is absent.
 pub(crate) fn day_digits(day: Option<Day>) -> [u8; 8]
     ensures digits { list_all is_ascii_digit result ≡ true }
     ensures value { IfSome day (λ day. day_of result ≡ Some day) }
@@ -86,7 +86,7 @@ pub(crate) fn day_digits(day: Option<Day>) -> [u8; 8]
     }
 }
 
-/// The text of a day that has these digits, or the empty text where there is none.
+/// The text of a day that has these digits, or the empty text if it is absent.
 pub(crate) fn day_text(day: Option<Day>, digits: &[u8; 8]) -> &str
     requires digits { list_all is_ascii_digit digits.now ≡ true }
     requires value { IfSome day (λ day. day_of digits.now ≡ Some day) }
@@ -98,7 +98,7 @@ pub(crate) fn day_text(day: Option<Day>, digits: &[u8; 8]) -> &str
     str::from_utf8(digits).unwrap()
 }
 
-/// The digits of a moment, CCYYMMDDhhmmss, or zeros where there is none.
+/// The digits of a moment, CCYYMMDDhhmmss, or zeros if it is absent.
 pub(crate) fn moment_digits(moment: Option<Moment>) -> [u8; 14]
     ensures digits { list_all is_ascii_digit result ≡ true }
     ensures value { IfSome moment (λ moment. moment_of result ≡ Some moment) }
@@ -109,7 +109,7 @@ pub(crate) fn moment_digits(moment: Option<Moment>) -> [u8; 14]
     }
 }
 
-/// The text of a moment that has these digits, or the empty text where there is none.
+/// The text of a moment that has these digits, or the empty text if it is absent.
 pub(crate) fn moment_text(moment: Option<Moment>, digits: &[u8; 14]) -> &str
     requires digits { list_all is_ascii_digit digits.now ≡ true }
     requires value { IfSome moment (λ moment. moment_of digits.now ≡ Some moment) }
@@ -121,7 +121,7 @@ pub(crate) fn moment_text(moment: Option<Moment>, digits: &[u8; 14]) -> &str
     str::from_utf8(digits).unwrap()
 }
 
-/// The letter of a transaction code, or an A where there is none.
+/// The letter of a transaction code, or an A if it is absent.
 pub(crate) fn trans_letter(trans: Option<TransCode>) -> [u8; 1]
     ensures letter { list_all is_ascii_uppercase result ≡ true }
     ensures value { IfSome trans (λ code. result ≡ code ∷ []) }
@@ -132,7 +132,7 @@ pub(crate) fn trans_letter(trans: Option<TransCode>) -> [u8; 1]
     }
 }
 
-/// The text of a transaction code that has this letter, or the empty text where there is none.
+/// The text of a transaction code that has this letter, or the empty text if it is absent.
 pub(crate) fn trans_text(trans: Option<TransCode>, letter: &[u8; 1]) -> &str
     requires letter { list_all is_ascii_uppercase letter.now ≡ true }
     requires value { IfSome trans (λ code. letter.now ≡ code ∷ []) }

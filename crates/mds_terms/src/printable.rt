@@ -6,20 +6,20 @@ ghost use Rattle.std.specs.List.{list_all};
 
 use std::str;
 
-/// A printable text, borrowed: at most 240 characters of printable ASCII, none of them a comma (profile).
+/// A borrowed printable text: at most 240 characters of printable ASCII, without commas (profile).
 #[derive(Clone, Copy)]
 pub struct PrintableText<'a> {
     text: &'a [u8],
     pub ghost printable: { is_printable text.now ≡ true },
 }
 
-/// The most bytes that a printable text has.
+/// The most bytes of a printable text.
 const LONGEST: usize = 240;
 
 impl<'a> PrintableText<'a> {
     ghost use Rattle.mds_terms.specs.BorrowedTexts.{text_of};
 
-    /// The printable text of these bytes, or `None` where they are none.
+    /// The printable text of these bytes, or `None` if they aren't one.
     pub fn read(text: &'a [u8]) -> Option<PrintableText<'a>>
         ensures accepted { is_some result ≡ is_printable text.now }
         ensures value { IfSome result (λ read. text_of read ≡ text.now) }
@@ -39,7 +39,7 @@ impl<'a> PrintableText<'a> {
     }
 }
 
-/// Whether each byte is printable ASCII and no comma.
+/// Whether all bytes are printable ASCII other than a comma.
 fn is_printable_ascii(text: &[u8]) -> bool
     ensures { result ≡ list_all is_printable_char text.now }
 {

@@ -1,4 +1,4 @@
-//! Printable texts of their own.
+//! Owned printable texts.
 
 ghost use Rattle.std.specs.Prelude.{◌≡◌, ◌<◌, ◌↔◌, ℕ, List, IsTrue, true, IfOk, IfSome, OnErr, is_some, length, refl};
 ghost use Rattle.std.specs.Cmp.{eq_by_cmp_equiv, partial_equiv_from_equiv, partial_order_from_total};
@@ -13,8 +13,8 @@ use std::alloc::{AllocError, Global};
 use std::cmp::Ordering;
 use std::marker::Model;
 
-/// A printable text of its own: at most 240 characters of printable ASCII, none of them a comma (profile). Texts are ordered by
-/// their bytes.
+/// An owned printable text: at most 240 characters of printable ASCII, without commas (profile). Texts are ordered by their
+/// bytes.
 #[derive(Drop)]
 pub struct PrintableString {
     text: String,
@@ -32,7 +32,7 @@ impl Model for PrintableString {
 }
 
 impl PrintableString {
-    /// The printable text of these bytes, or `None` where they are none. It takes memory only for a printable text that isn't
+    /// The printable text of these bytes, or `None` if they aren't one. Takes memory only for a printable text that isn't
     /// empty.
     pub fn read(alloc: Global, text: &[u8]) -> Result<Option<PrintableString>, AllocError>
         ensures accepted { IfOk result (λ read. is_some read ≡ is_printable text.now) }
@@ -46,7 +46,7 @@ impl PrintableString {
         }
     }
 
-    /// A copy of a printable text, as one of its own. It fails only where memory is refused: never where the text is empty.
+    /// An owned copy of a printable text. It fails only if memory is refused, and never if the text is empty.
     pub fn of(alloc: Global, printable: &PrintableText<'_>) -> Result<PrintableString, AllocError>
         ensures value { IfOk result (λ own. own ≡ text_of printable.now) }
         ensures full { OnErr result (0 < length (text_of printable.now)) }
@@ -71,7 +71,7 @@ impl PrintableString {
         PrintableText::read(self.text().as_bytes()).unwrap()
     }
 
-    /// A copy of the text. It fails only where memory is refused: never where the text is empty.
+    /// A copy of the text. It fails only if memory is refused, and never if the text is empty.
     pub fn try_clone(&self) -> Result<PrintableString, AllocError>
         ensures value { IfOk result (λ own. own ≡ self.now) }
         ensures full { OnErr result (0 < length self.now) }
@@ -88,7 +88,7 @@ impl PrintableString {
         self.text() == other.text()
     }
 
-    /// A law: texts are equal where they are the same, and their order is that of their bytes.
+    /// A law: texts are equal exactly if their bytes are, and they are ordered by their bytes.
     #[tactic(auto, using(crate::proofs::TermOrder::text_decided))]
     pub fn one_order()
         ensures equal { (a b : List ℕ) → IsTrue (⟦<PrintableString as PartialEq>⟧.eq a b) ↔ (a ≡ b) }

@@ -27,7 +27,7 @@ impl Model for TransCode {
 }
 
 impl TransCode {
-    /// Reads a transaction code from its text (MDFF Specification, TransCode). `None` where the text
+    /// Reads a transaction code from its text (MDFF Specification, TransCode). `None` if the text
     /// isn't one capital letter.
     pub fn read(text: &[u8]) -> Option<TransCode>
         ensures { result ≡ letter_of text.now }

@@ -1,5 +1,5 @@
--- The faults of a file, by those of its records and of its end. MDFF Specification, CSV format; the faults and their order are
--- this project's profile. A file is refused with the fault of its least faulty line.
+-- The faults of a file, from those of its records and of its end. MDFF Specification, CSV format; the faults and their order
+-- are this project's profile. A file is refused with the fault of its least faulty line.
 use Rattle.std.specs.Prelude.{ℕ, ◌+◌, ◌-◌, ◌||◌, ◌==◌, nat_lt, if◌then◌else◌, List, [], ◌∷◌, ◌++◌, length, take, map, Option, Some, None, option_map, Result, Ok, Err}
 use Rattle.std.specs.List.{range_with_len}
 use Rattle.mds_lines.specs.Kinds.{kind_of}
@@ -23,7 +23,7 @@ at_field number WrongFile = at_line number code.WrongFile
 at_field number Count = at_line number code.FieldCount
 at_field number (Bad field) = record { code = code.BadField; line = number; field = field }
 
--- How a kind of file judges: the first fault of a record of a kind after these lines, and what is wrong with an end after them.
+-- How a kind of file judges: the first fault of a record after these lines, and what is wrong with an end there.
 pub record Judge : Type 0 where
   pub of_record : List (List ℕ) → List ℕ → Kind → Option FileFault
   pub of_end : List (List ℕ) → Option FaultCode
@@ -49,16 +49,16 @@ line_fault judge before piece =
 abbrev pub end_fault : Judge → List (List ℕ) → Option FileFault
 end_fault judge lines = option_map (at_line (length lines + 1)) (judge.of_end lines)
 
--- the first fault of the line of a number
+-- the first fault of the line with a number
 abbrev pub fault_at : Judge → List (List ℕ) → ℕ → Option FileFault
 fault_at judge pieces k = line_fault judge (map line_text (take (k - 1) pieces)) (line_at pieces k)
 
--- that of each line, and after them that of the line after the last
+-- the faults of all lines, and then that of the line after the last
 abbrev pub faults_of : Judge → List (List ℕ) → List (Option FileFault)
 faults_of judge pieces =
     map (fault_at judge pieces) (range_with_len 1 (length pieces)) ++ end_fault judge (map line_text pieces) ∷ []
 
--- the first fault of a list that has one
+-- the first fault in a list of optional ones
 abbrev pub first_of : List (Option FileFault) → Option FileFault
 first_of [] = None
 first_of (None ∷ rest) = first_of rest
@@ -68,6 +68,6 @@ first_of (Some found ∷ rest) = Some found
 abbrev pub lines_of : List ℕ → List (List ℕ)
 lines_of text = map line_text (line_pieces text)
 
--- the fault of a text: that of its least faulty line; a text without one is well formed
+-- the fault of a text: that of its least faulty line; a text without a fault is well formed
 unfoldable pub fault_of : Judge → List ℕ → Option FileFault
 fault_of judge text = first_of (faults_of judge (line_pieces text))

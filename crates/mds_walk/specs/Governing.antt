@@ -1,5 +1,5 @@
--- What stands before a line: lines by their numbers, from 1, empty ones included, and the last of them that is a record of a
--- kind. MDFF Specification: a record belongs to the last record of a kind before it.
+-- What comes before a line: lines by their numbers, from 1, empty ones included, and the last record of a kind. MDFF
+-- Specification: a record belongs to the last record of a kind before it.
 use Rattle.std.specs.Prelude.{ℕ, suc, zero, Bool, false, ◌==◌, List, [], length, filter, slice_index_or, Option, Some, None, unwrap_or, is_some}
 use Rattle.std.specs.List.{last_or, range_with_len}
 use Rattle.std.specs.Result.{result_ok}
@@ -22,7 +22,7 @@ indicator EndOfData = 900
 abbrev pub is_kind : Kind → Kind → Bool
 is_kind a b = indicator a == indicator b
 
--- a line by its number, and the empty line where there is none of that number
+-- a line by its number, or the empty line if no line has that number
 abbrev pub line_at : List (List ℕ) → ℕ → List ℕ
 line_at lines zero = []
 line_at lines (suc before) = slice_index_or lines before []
@@ -38,7 +38,7 @@ is_this kind (Some found) = is_kind found kind
 abbrev pub is_of : Kind → List ℕ → Bool
 is_of kind line = is_this kind (record_kind line)
 
--- the greatest number of a line that passes a test, 0 where there is none
+-- the greatest number of a line that passes a test, or 0 if none does
 abbrev pub greatest : (List ℕ → Bool) → List (List ℕ) → ℕ
 greatest test lines =
     unwrap_or (last_or None (filter (λ k. test (line_at lines k)) (range_with_len 1 (length lines)))) 0

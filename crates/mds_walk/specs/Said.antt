@@ -1,5 +1,5 @@
--- What records of both kinds of files say alike, as terms. MDFF Specification, the tables of the 100, 200 and 250 records. In a
--- well formed text each field is what its layout says, so that what stands here for one that isn't is never met.
+-- The terms of records that both kinds of files have. MDFF Specification, the tables of the 100, 200 and 250 records. In a well
+-- formed text each field is what its layout says. So the values defined here for other fields are never met.
 use Rattle.std.specs.Prelude.{ℕ, Bool, List, ◌∷◌, Option, Some, None, is_some, unwrap_or}
 use Rattle.mds_calendar.specs.Calendar.{date_time_of}
 use Rattle.mds_lines.specs.Lines.{field}
@@ -17,7 +17,7 @@ header_in line = record {
   receiver = field line 5;
 }
 
--- what a 100 that was read says
+-- the terms of a 100 that was read
 abbrev pub header_said : HeaderRecord → HeaderValue
 header_said r = record { moment = r.moment; sender = text_of r.sender; receiver = text_of r.receiver }
 
@@ -25,7 +25,7 @@ header_said r = record { moment = r.moment; sender = text_of r.sender; receiver 
 abbrev pub stream_in : List ℕ → Stream
 stream_in line = record { nmi = field line 2; suffix = field line 5 }
 
--- the moment of the header, where it comes first
+-- the moment of the header, if it comes first
 abbrev pub header_moment : List Statement → Option ℕ
 header_moment (HeaderOf header ∷ more) = Some header.moment
 header_moment statements = None

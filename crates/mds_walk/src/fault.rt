@@ -1,4 +1,4 @@
-//! Why a file, or one of its lines, isn't taken.
+//! Why a file, or one of its lines, is refused.
 
 ghost use Rattle.std.specs.Prelude.{◌≡◌, ◌^◌, ◌-◌, ◌<◌, ◌+◌};
 ghost use Rattle.mds_lines.specs.Numbered.{number_of};
@@ -8,12 +8,12 @@ use mds_lines::Line;
 use mds_records::{FaultCode, FieldFault, FileFault};
 use std::alloc::AllocError;
 
-/// Why a file, or its next line, isn't taken.
+/// Why a file, or its next line, is refused.
 #[derive(Clone, Copy, Debug, PartialEq, Eq)]
 pub enum TakeFault {
     /// The file isn't well formed.
     File(FileFault),
-    /// There was no memory.
+    /// Out of memory.
     Memory,
 }
 
@@ -21,7 +21,7 @@ impl TakeFault {
     ghost use Rattle.std.specs.Prelude.{◌↔◌, IsTrue};
     ghost use Rattle.mds_walk.specs.declared.fault.TakeFault.{TakeFault as AFault};
 
-    /// A law: faults are equal where they are the same.
+    /// A law: `==` says whether two faults are the same.
     pub fn one_equality()
         ensures { (a b : AFault) → IsTrue (⟦<TakeFault as PartialEq>⟧.eq a b) ↔ (a ≡ b) }
     {}
@@ -37,14 +37,14 @@ impl From<AllocError> for TakeFault {
     }
 }
 
-/// Why a file isn't read.
+/// Why a file can't be read.
 #[derive(Clone, Copy, Debug, PartialEq, Eq)]
 pub enum ReadFault {
     /// The file isn't well formed.
     File(FileFault),
     /// The source failed.
     Read,
-    /// There was no memory.
+    /// Out of memory.
     Memory,
 }
 
@@ -52,7 +52,7 @@ impl ReadFault {
     ghost use Rattle.std.specs.Prelude.{◌↔◌, IsTrue};
     ghost use Rattle.mds_walk.specs.declared.fault.ReadFault.{ReadFault as AFault};
 
-    /// A law: faults are equal where they are the same.
+    /// A law: `==` says whether two faults are the same.
     pub fn one_equality()
         ensures { (a b : AFault) → IsTrue (⟦<ReadFault as PartialEq>⟧.eq a b) ↔ (a ≡ b) }
     {}
@@ -69,7 +69,7 @@ pub fn at_line(code: FaultCode, line: &Line<'_>) -> TakeFault
     })
 }
 
-/// A fault of the line after so many.
+/// A fault of the line after `lines` lines.
 pub fn at_end(code: FaultCode, lines: u64) -> TakeFault
     requires { lines < 2 ^ 64 - 1 }
     ensures { result ≡ TakeFault.File (fault_at (lines + 1) code) }

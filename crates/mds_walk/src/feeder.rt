@@ -14,21 +14,21 @@ use mds_records::FaultCode;
 use memchr::memchr;
 use std::alloc::Global;
 
-/// A text that is fed in pieces. Its lines go to a walk as soon as they are whole. What stands behind the last line feed is in
-/// hand, and is no longer than a line may be. After a fault it answers the same fault to every further piece.
+/// A text that is fed in pieces. Its lines go to a walk as soon as they are whole. What follows the last line feed is in hand, and
+/// is no longer than a line may be. After a fault it returns the same fault for every further piece.
 #[derive(Drop)]
 pub struct LineFeeder<T> {
     walk: Walk<T>,
     /// The line that isn't whole yet.
     rest: Vec<u8>,
-    /// How many lines the walk has taken.
+    /// The number of lines that the walk has taken.
     lines: u32,
 }
 
 impl<T: RecordSink + Drop> LineFeeder<T> {
     ghost use Rattle.mds_walk.specs.Feeding.{HasFed, MayLackFor, MayLackHere, WasFed, fault_answered};
 
-    /// Before the first piece of a text, whose records go to a sink that has taken none.
+    /// The state before the first piece of a text, with a sink for its records that has taken none.
     pub fn new(alloc: Global, sink: T) -> LineFeeder<T>
         requires { T.taken sink [] }
         ensures fed { WasFed T.judge T.taken [] result }
@@ -41,8 +41,8 @@ impl<T: RecordSink + Drop> LineFeeder<T> {
         }
     }
 
-    /// Takes the next piece, or answers the fault that the text so far has, whatever follows. Pieces may end anywhere. After a
-    /// fault, or want of memory, it answers the same.
+    /// Takes the next piece, or returns the fault that the text so far has, whatever follows. Pieces may end anywhere. After a
+    /// fault or an allocation error it returns the same again.
     pub fn feed(&mut self, piece: &[u8]) -> Result<(), TakeFault>
         ensures fed { (text : List ℕ) → WasFed T.judge T.taken text self.old
             → WasFed T.judge T.taken (text ++ piece.now) self.new }
@@ -55,7 +55,7 @@ impl<T: RecordSink + Drop> LineFeeder<T> {
             × (fault_answered self.new ≡ Some fault)) }
         ensures kept { IfErr result (λ fault. fault_answered self.new ≡ Some fault) }
 
-        // A first want of memory is for a line that is copied, or for one for which the sink may lack it.
+        // Memory first runs out for a line that is copied, or for one for which the sink may lack it.
         ensures memory { (text : List ℕ) → WasFed T.judge T.taken text self.old → fault_answered self.old ≡ None
             → result ≡ Err TakeFault.Memory → MayLackFor T.may_lack T.judge text piece.now }
     {
@@ -65,7 +65,7 @@ impl<T: RecordSink + Drop> LineFeeder<T> {
         }
     }
 
-    /// Takes the next piece where no fault was answered yet, and keeps its fault.
+    /// Takes the next piece if no fault was returned yet, and keeps its fault.
     fn feed_next(&mut self, piece: &[u8]) -> Result<(), TakeFault>
         ensures fed { (text : List ℕ) → HasFed T.judge T.taken text self.old
             → MatchResult result
@@ -84,7 +84,7 @@ impl<T: RecordSink + Drop> LineFeeder<T> {
         }
     }
 
-    /// Takes the next piece, but keeps no fault.
+    /// Takes the next piece, but doesn't keep a fault.
     fn feed_lines(&mut self, piece: &[u8]) -> Result<(), TakeFault>
         ensures fed { (text : List ℕ) → HasFed T.judge T.taken text self.old
             → MatchResult result
@@ -104,7 +104,7 @@ impl<T: RecordSink + Drop> LineFeeder<T> {
         self.keep(left)
     }
 
-    /// Ends the line in hand, by the bytes before its line feed.
+    /// Ends the line in hand with the bytes before its line feed.
     fn end_line(&mut self, front: &[u8]) -> Result<(), TakeFault>
         ensures fed { (text : List ℕ) → HasFed T.judge T.taken text self.old → All (λ byte. byte ≢ line_feed) front.now
             → MatchResult result
@@ -122,7 +122,7 @@ impl<T: RecordSink + Drop> LineFeeder<T> {
         }
     }
 
-    /// Takes a line that lies in one piece, where none is in hand. It isn't copied.
+    /// Takes a line that is within one piece, with none in hand. It isn't copied.
     fn take_front(&mut self, front: &[u8]) -> Result<(), TakeFault>
         requires { self.old.rest.items ≡ [] }
         ensures fed { (text : List ℕ) → HasFed T.judge T.taken text self.old → All (λ byte. byte ≢ line_feed) front.now
@@ -161,7 +161,7 @@ impl<T: RecordSink + Drop> LineFeeder<T> {
         }
     }
 
-    /// Puts bytes without a line feed behind those in hand. The line may get too long (L10).
+    /// Adds bytes without a line feed to those in hand. The line may get too long (L10).
     fn keep(&mut self, front: &[u8]) -> Result<(), TakeFault>
         ensures fed { (text : List ℕ) → HasFed T.judge T.taken text self.old → All (λ byte. byte ≢ line_feed) front.now
             → MatchResult result
@@ -177,8 +177,8 @@ impl<T: RecordSink + Drop> LineFeeder<T> {
         Ok(())
     }
 
-    /// Ends the text: what stands behind the last line feed is a line, if it isn't empty. Answers what the sink made of all lines,
-    /// or the fault of the whole text. After a fault it answers the same.
+    /// Ends the text: what follows the last line feed is a line, if it isn't empty. Returns what the sink made of all lines, or
+    /// the fault of the whole text. After a fault it returns the same again.
     pub fn finish(self) -> Result<T::Output, TakeFault>
         ensures ended { (text : List ℕ) → WasFed T.judge T.taken text self
             → MatchResult result
@@ -186,7 +186,7 @@ impl<T: RecordSink + Drop> LineFeeder<T> {
             (IsRefusal (fault_of T.judge text)) }
         ensures again { IfSome (fault_answered self) (λ fault. result ≡ Err fault) }
 
-        // A first want of memory is for a last line without its line feed, for which the sink may lack it.
+        // Memory first runs out for a last line without its line feed, for which the sink may lack it.
         ensures memory { (text : List ℕ) → WasFed T.judge T.taken text self → fault_answered self ≡ None
             → result ≡ Err TakeFault.Memory → (open_piece text ≢ []) × MayLackHere T.may_lack T.judge text }
     {
@@ -196,7 +196,7 @@ impl<T: RecordSink + Drop> LineFeeder<T> {
         self.end()
     }
 
-    /// Ends the text where no fault was answered yet.
+    /// Ends the text if no fault was returned yet.
     fn end(mut self) -> Result<T::Output, TakeFault>
         ensures ended { (text : List ℕ) → HasFed T.judge T.taken text self
             → MatchResult result

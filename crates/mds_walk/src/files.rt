@@ -17,12 +17,12 @@ use crate::sink::RecordSink;
 use mds_lines::Source;
 use std::alloc::Global;
 
-/// How many bytes are read at a time. With a line in hand they are 131,072 at most. They lie on the stack, so that no memory is taken
-/// before a line wants it.
+/// How many bytes are read at a time. With a line in hand they are 131,072 at most. They are on the stack, so no memory is taken
+/// before a line needs it.
 const BLOCK: usize = (1 << 17) - 16_384;
 
-/// Reads a file from a source, and gives its records to a sink, which has taken none yet. It holds a block
-/// of bytes at a time, and a line that goes on in the next one.
+/// Reads a file from a source, and passes its records to a sink, which has taken none yet. It holds a block of bytes at a time, and a
+/// line that continues in the next one.
 pub fn read_file<R: Source, T: RecordSink + Drop>(
     alloc: Global,
     source: &mut R,
@@ -39,12 +39,12 @@ pub fn read_file<R: Source, T: RecordSink + Drop>(
     ensures fault { (fault : FileFault) → result ≡ Err (ReadFault.File fault)
         → IfSome (R.remaining source.old) (λ text. fault_of T.judge text ≡ Some fault) }
 
-    // `Read` is answered just where the source failed, once.
+    // `Read` is returned exactly if the source failed, once.
     ensures counted { R.failures source.new ≡ R.failures source.old + (if is_read_fault result then 1 else 0) }
 
-    // What it made is of what the source's calls brought, whatever that is. They brought no more than the lines that a file may
-    // have, and a block. Each call was needed: none comes behind the end, a failure, or a piece with a fault. Memory may be
-    // wanting only for what the last call brought.
+    // The output is made of what the source's calls brought, whatever that is. They brought no more than the lines that a file may
+    // have, and a block. Each call was needed: none comes after the end, a failure, or a piece with a fault. Memory may run out only
+    // for what the last call brought.
     ensures given { (given : List (List ℕ)) × Reads R.gives source.old given source.new
         × (length (concat given) ≤ most_lines * (longest_line + 1) + block)
         × AreCallsNeeded (fault_so_far T.judge) [] false given
@@ -52,7 +52,7 @@ pub fn read_file<R: Source, T: RecordSink + Drop>(
 {
     let mut buffer = [0; BLOCK];
     let mut feeder = LineFeeder::new(alloc, sink);
-    // For the proof: the bytes that were fed. A file has so few that the loop ends.
+    // For the proof: the number of bytes fed. A file has few enough that the loop ends.
     let mut count = 0;
     loop {
         match source.read(&mut buffer) {
@@ -73,7 +73,7 @@ pub fn read_file<R: Source, T: RecordSink + Drop>(
     }
 }
 
-/// The fault of a file that isn't taken.
+/// The fault of a file that is refused.
 fn read_fault(fault: TakeFault) -> ReadFault
     ensures { result ≡ read_fault_of fault }
 {

@@ -1,4 +1,4 @@
-//! Laws of a text so far, whatever follows, and of any list of pieces. The first function does nothing.
+//! Laws of the text so far, whatever follows, and of any list of pieces. The first function does nothing.
 
 ghost use Rattle.std.specs.Prelude.{◌≡◌, ◌≢◌, ◌≤◌, ◌++◌, ◌∷◌, [], ℕ, List, length, map, None, Some, Ok, Err, IfSome, IfOk, IfErr, MatchResult};
 ghost use Rattle.std.specs.List.{concat};
@@ -13,8 +13,8 @@ use crate::fault::TakeFault;
 use crate::feeder::LineFeeder;
 use crate::sink::RecordSink;
 
-/// The fault of a text so far is that of every text that begins so. None is held back: where there is none, no line that is
-/// whole has one, whatever follows.
+/// The fault of a text so far is that of every text that begins with it. No fault is held back: if the text so far has none,
+/// no line that is whole has one, whatever follows.
 pub fn fault_so_far_is_of_every_longer_text()
     ensures lines { (text more : List ℕ) → line_pieces (text ++ more) ≡ whole_pieces text ++ line_pieces (open_piece text ++ more) }
     ensures stays { (judge : Judge) (text more : List ℕ) (fault : FileFault) → fault_so_far judge text ≡ Some fault
@@ -25,8 +25,8 @@ pub fn fault_so_far_is_of_every_longer_text()
         → k ≤ length (whole_pieces text) → fault_at judge (line_pieces (text ++ more)) k ≡ None }
 {}
 
-/// Feeds pieces one after the other, as far as there is no fault. How a text is cut changes nothing. After a fault, or want of
-/// memory, it answers the same. No piece at all changes nothing.
+/// Feeds pieces one after the other, as far as there is no fault. How a text is cut has no effect. After a fault or an
+/// allocation error it returns the same again. Without pieces nothing changes.
 pub fn feed_all<T: RecordSink + Drop>(
     feeder: &mut LineFeeder<T>,
     pieces: &[&[u8]],
@@ -44,7 +44,7 @@ pub fn feed_all<T: RecordSink + Drop>(
     ensures kept { IfErr result (λ fault. fault_answered feeder.new ≡ Some fault) }
     ensures nothing { pieces.now ≡ [] → (result ≡ Ok tt) × (feeder.new ≡ feeder.old) }
 
-    // A first want of memory is for one of the pieces, and what stands before it has no fault.
+    // Memory first runs out for one of the pieces, and the text before that piece has no fault.
     ensures memory { (text : List ℕ) → WasFed T.judge T.taken text feeder.old → fault_answered feeder.old ≡ None
         → result ≡ Err TakeFault.Memory → MayLackForOne T.may_lack T.judge text (map (λ piece. piece.now) pieces.now) }
 {

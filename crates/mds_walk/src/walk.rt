@@ -1,4 +1,4 @@
-//! A walk through the lines of a file.
+//! A walk over the lines of a file.
 
 ghost use Rattle.std.specs.Prelude.{◌≡◌, ◌^◌, ◌-◌, ◌<◌, ◌≤◌, ◌+◌, ℕ, List, [], ◌∷◌, ◌++◌, length, None, Some, Err, IfSome, IfOk, IfErr, MatchResult};
 ghost use Rattle.mds_lines.specs.Lines.{line_text, longest_line, most_lines};
@@ -11,14 +11,14 @@ use crate::sink::RecordSink;
 use mds_lines::{KindFault, Line};
 use mds_records::FaultCode;
 
-/// The most bytes that a line has before its line feed (L10).
+/// The most bytes of a line before its line feed (L10).
 pub(crate) const LONGEST_LINE: usize = 16_384;
 
-/// The most lines that a file has (L10).
+/// The most lines of a file (L10).
 const MOST_LINES: u64 = 1_000_000;
 
-/// A walk through the lines of a file, as far as it has come. Its records go to a sink. After a fault it
-/// answers the same fault to every further line.
+/// A walk over the lines of a file, as far as it has come. Its records go to a sink. After a fault it returns the same fault for
+/// every further line.
 #[derive(Drop)]
 pub struct Walk<T> {
     sink: T,
@@ -26,7 +26,7 @@ pub struct Walk<T> {
 }
 
 impl<T: RecordSink + Drop> Walk<T> {
-    /// Before the first line of a file.
+    /// The state before the first line of a file.
     pub fn new(sink: T) -> Walk<T>
         requires { T.taken sink [] }
         ensures { HasWalked T.taken result [] }
@@ -34,8 +34,8 @@ impl<T: RecordSink + Drop> Walk<T> {
         Walk { sink, fault: None }
     }
 
-    /// Takes the next line, or answers the fault that it has after the lines before it. After a
-    /// fault, or want of memory, it answers the same.
+    /// Takes the next line, or returns the fault that it has after the lines before it. After a fault or an allocation error it
+    /// returns the same again.
     pub fn take(&mut self, line: &Line<'_>) -> Result<(), TakeFault>
         ensures taken { (before : List (List ℕ)) → HasWalked T.taken self.old before
             → number_of line.now ≡ length before + 1
@@ -57,7 +57,7 @@ impl<T: RecordSink + Drop> Walk<T> {
         }
     }
 
-    /// Takes the next line, by the bytes before its line feed. It comes after so many lines. It may be too long, or one too many
+    /// Takes the next line, by the bytes before its line feed. It comes after `lines` lines. It may be too long, or one too many
     /// (L10).
     pub(crate) fn take_piece(&mut self, lines: u32, piece: &[u8]) -> Result<(), TakeFault>
         ensures taken { (before : List (List ℕ)) → HasWalked T.taken self.old before → lines ≡ length before
@@ -77,22 +77,22 @@ impl<T: RecordSink + Drop> Walk<T> {
         self.take(&Line::new(number, piece))
     }
 
-    /// The fault that it has answered, if it has answered one.
+    /// The fault that it has returned, if any.
     pub(crate) fn fault(&self) -> Option<TakeFault>
         ensures { result ≡ fault_answered self.now }
     {
         self.fault
     }
 
-    /// Makes it answer a fault from now on, as it does after one of its own.
+    /// Makes it return a fault from now on, as it does after one of its own.
     pub(crate) fn refuse(&mut self, fault: TakeFault)
         ensures { fault_answered self.new ≡ Some fault }
     {
         self.fault = Some(fault);
     }
 
-    /// Ends the file after so many lines, and gives what the sink made of them; or answers the fault
-    /// of the line after the last. After a fault it answers the same.
+    /// Ends the file after `lines` lines, and returns what the sink made of them, or the fault of the line after the last. After
+    /// a fault it returns the same again.
     pub fn finish(self, lines: u64) -> Result<T::Output, TakeFault>
         requires { lines < 2 ^ 64 - 1 }
         ensures ended { (before : List (List ℕ)) → HasWalked T.taken self before → lines ≡ length before
@@ -110,7 +110,7 @@ impl<T: RecordSink + Drop> Walk<T> {
     }
 }
 
-/// Gives a sink the next line.
+/// Passes the next line to a sink.
 fn take_line<T: RecordSink>(sink: &mut T, line: &Line<'_>) -> Result<(), TakeFault>
     ensures { (before : List (List ℕ)) → T.taken sink.old before → number_of line.now ≡ length before + 1
         → Takes T.taken T.may_lack before (text_of line.now) (text_fault T.judge before (text_of line.now))

@@ -1,4 +1,4 @@
--- How many facts count, and how many of them come in (profile). What counts is each version and each period.
+-- How many facts count, and how many of them are new (profile). Each version and each period counts.
 use Rattle.std.specs.Prelude.{ℕ, Bool, true, false}
 use Rattle.std.specs.FinSet as set
 use Rattle.mds_world.specs.Facts.{Fact}
@@ -19,14 +19,14 @@ is_counted (JobIs id content count) = false
 abbrev pub countable : World → World
 countable w = set.retain w is_counted
 
--- how many these are
+-- the number of these facts
 abbrev pub counted : World → ℕ
 counted w = set.len (countable w)
 
--- how many of those that are stated the World doesn't have yet
+-- how many of the stated facts the World doesn't have yet
 abbrev pub added_by : World → World → ℕ
 added_by w stated = set.len (set.difference (countable stated) (countable w))
 
--- how many of those that are stated it has
+-- how many of the stated facts it has
 abbrev pub known_by : World → World → ℕ
 known_by w stated = set.len (set.intersection (countable stated) (countable w))

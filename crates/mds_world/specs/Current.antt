@@ -1,5 +1,5 @@
--- What is current: of an interval, of a day, and of a stream (profile). Each is a greatest one of the facts, whenever they came. A
--- meter that is exchanged on a day has its details from that day on.
+-- What is current: of an interval, of a day, and of a stream (profile). It is always the greatest of some facts, whenever they
+-- came. A meter that is exchanged on a day has its details from that day on.
 use Rattle.std.specs.Prelude.{◌≡◌, ◌↔◌, ◌⊎◌, ◌≤◌, ℕ, [], None, true}
 use Rattle.std.specs.Ordering.{is_le, nat_cmp, ordering_then}
 use Rattle.std.specs.declared.cmp.Ordering.{Ordering}
@@ -27,7 +27,7 @@ no_reading = record {
   value = None;
 }
 
--- The reading of an interval of a length: the current one, and bare N where there is no version.
+-- The reading of an interval of a length: the current one, or bare N if there is no version.
 abbrev pub IsReading : World → Stream → ℕ → ℕ → ℕ → ReadingValue → Type 0
 IsReading w stream day length interval reading =
     ((update : ℕ) × IsCurrent w stream day length interval update reading)
@@ -47,7 +47,7 @@ abbrev pub IsFormOf : World → Stream → ℕ → ℕ → MeasureUnit → Type 
 IsFormOf w stream day length unit =
     (head : Head) × IsForm w stream day head × (head.length ≡ length) × (head.unit ≡ unit)
 
--- The reading that a day shows of an interval: that of the day's current length, and bare N where the day isn't known.
+-- The reading that a day shows of an interval: that of the day's current length, or bare N if the day isn't known.
 abbrev pub IsDayReading : World → Stream → ℕ → ℕ → ReadingValue → Type 0
 IsDayReading w stream day interval reading =
     ((length : ℕ) × (unit : MeasureUnit) × IsFormOf w stream day length unit × IsReading w stream day length interval reading)
@@ -64,7 +64,7 @@ abbrev pub detail_cmp : Detail → Detail → Ordering
 detail_cmp a b =
     ordering_then (nat_cmp a.day b.day) (ordering_then (nat_cmp a.moment b.moment) (details_cmp a.details b.details))
 
--- Details of a stream that hold on a day: they are of that day, or of one before.
+-- Details of a stream that apply on a day: they are of that day, or of an earlier one.
 abbrev pub IsUpto : World → Stream → ℕ → Detail → Type 0
 IsUpto w stream day detail = (DetailIs detail ∈ w) × (detail.stream ≡ stream) × (detail.day ≤ day)
 
@@ -73,12 +73,12 @@ pub record IsGreatestDetail (w : World) (stream : Stream) (day : ℕ) (detail : 
   pub held : IsUpto w stream day detail
   pub greatest : (other : Detail) → IsUpto w stream day other → is_le (detail_cmp other detail) ≡ true
 
--- five empty ones
+-- five empty fields
 abbrev pub no_details : DetailsValue
 no_details = record { configuration = []; register = []; datastream = []; meter = []; next = None }
 
--- The current details of a day: those of its greatest pair of moment and details. Where it has none they are those of the
--- nearest earlier day of the stream that has some, else five empty ones. The day needn't be known.
+-- The current details of a day: those of its greatest pair of moment and details. If it has none, they are those of the nearest
+-- earlier day of the stream that has some, or else five empty fields. The day needn't be known.
 abbrev pub IsCurrentDetails : World → Stream → ℕ → DetailsValue → Type 0
 IsCurrentDetails w stream day details =
     ((detail : Detail) × IsGreatestDetail w stream day detail × (details ≡ detail.details))
@@ -89,13 +89,13 @@ pub record IsLastDay (w : World) (stream : Stream) (day : ℕ) : Type 0 where
   pub known : IsKnownDay w stream day
   pub last : (other : ℕ) → IsKnownDay w stream other → other ≤ day
 
--- What is known of a stream's meter now: the current details of its last known day, and five empty ones where it has no known day.
+-- A stream's details: the current ones of its last known day, or five empty fields if it has no known day.
 abbrev pub IsStreamDetails : World → Stream → DetailsValue → Type 0
 IsStreamDetails w stream details =
     ((day : ℕ) × IsLastDay w stream day × IsCurrentDetails w stream day details)
     ⊎ (((day : ℕ) → IsKnownDay w stream day → ⊥) × (details ≡ no_details))
 
--- Details that come back to a World, each of a day and current there. Nothing is said of their moments.
+-- Details that come back to a World, each of a day and current there. Their moments may be any.
 abbrev pub DetailsComeFrom : World → World → Type 0
 DetailsComeFrom w back = (detail : Detail) → DetailIs detail ∈ back → IsCurrentDetails w detail.stream detail.day detail.details
 
@@ -104,7 +104,7 @@ abbrev pub HasSameDetails : World → World → Stream → ℕ → Type 0
 HasSameDetails a b stream day =
     (details : DetailsValue) → IsCurrentDetails a stream day details ↔ IsCurrentDetails b stream day details
 
--- Details of just this day, under the latest header, and among those the greatest.
+-- Details of this day alone, under the latest header, and the greatest among those.
 pub record IsGreatestOfDay (w : World) (stream : Stream) (day : ℕ) (detail : Detail) : Type 0 where
   pub held : IsUpto w stream day detail
   pub here : detail.day ≡ day

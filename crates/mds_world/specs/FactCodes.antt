@@ -1,4 +1,5 @@
--- The code of a fact, from those of its parts: what its order is made of (profile).
+-- The code of a fact, made of those of its parts: the order of facts is the order of codes
+-- (profile).
 use Rattle.std.specs.Prelude.{◌≡◌, ◌⊎◌, ℕ, List, [], ◌∷◌, Option, refl}
 use Rattle.std.proofs.Common.{inl, inr, suc, zero}
 use Rattle.std.specs.Coded.{Coded, code_by, coded×, coded⊎, coded_ℕ, coded_ℤ, coded_list, coded_option}
@@ -21,7 +22,7 @@ use Rattle.mds_world.specs.Facts.Fact.{HeadIs, VersionIs, DetailIs, EventIs, Per
 coded_text : Coded (List ℕ)
 coded_text = coded_list coded_ℕ
 
--- a unit's place in the standard's list
+-- a unit's position in the standard's list
 abbrev place : MeasureUnit → ℕ
 place MWh = 0
 place KWh = 1
@@ -52,7 +53,7 @@ units =
     MWh ∷ KWh ∷ Wh ∷ MVArh ∷ KVArh ∷ VArh ∷ MVAr ∷ KVAr ∷ VAr ∷ MW ∷ KW ∷ W ∷ MVAh ∷ KVAh ∷ VAh ∷ MVA ∷ KVA ∷ VA ∷ KV
     ∷ V ∷ KA ∷ A ∷ Pf ∷ []
 
--- the unit at a place of a list
+-- the unit at a position in a list
 abbrev unit_at : List MeasureUnit → ℕ → MeasureUnit
 unit_at [] n = MWh
 unit_at (unit ∷ rest) zero = unit
@@ -217,7 +218,7 @@ coded_job =
     })
     (λ _. refl)
 
--- what a fact of each kind has
+-- the parts of a fact of each kind
 abbrev Parts : Type 0
 Parts =
     Head ⊎ ((Key × ReadingValue) ⊎ (Detail ⊎ (EventValue

@@ -1,4 +1,5 @@
--- An order of the facts, so that they can be members of finite sets (profile). Nothing turns on which one it is.
+-- An order of the facts, so that they can be members of finite sets (profile). It doesn't matter which order it
+-- is.
 use Rattle.std.specs.declared.cmp.Ordering.{Ordering}
 use Rattle.std.specs.Cmp.{IsTotalOrder}
 use Rattle.std.specs.FinSet.{IsAntisymmetric}
@@ -13,7 +14,7 @@ pub total : IsTotalOrder fact_cmp
 unfolding fact_cmp
 total = coded_total coded_fact
 
--- facts that compare alike are one
+-- facts that compare equal are the same
 pub exact : IsAntisymmetric fact_cmp
 unfolding fact_cmp
 exact = coded_exact coded_fact

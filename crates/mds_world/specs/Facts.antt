@@ -1,5 +1,5 @@
--- What the store knows, as facts (profile). A day stands by its number, a moment and an update by its seconds, and the
--- length of intervals by its minutes.
+-- What the store knows, as facts (profile). A day is its number, a moment and an update are its seconds, and the length of intervals
+-- is its minutes.
 use Rattle.std.specs.Prelude.{ℕ, List, Option}
 use Rattle.mds_quantity.specs.declared.unit.Unit.{Unit as MeasureUnit}
 use Rattle.mds_names.specs.declared.stream.Stream.{Stream}
@@ -12,7 +12,7 @@ use Rattle.mds_world.specs.declared.facts.Detail.{Detail}
 use Rattle.mds_world.specs.declared.facts.Head.{Head}
 use Rattle.mds_world.specs.declared.facts.Key.{Key}
 
--- where a version stands: an interval of a day of a stream, of a length, under an update
+-- the key of a version: an interval of a day of a stream, of a length, under an update
 abbrev pub key_at : Stream → ℕ → ℕ → ℕ → ℕ → Key
 key_at stream day length interval update =
     record { stream = stream; day = day; length = length; interval = interval; update = update }
@@ -41,7 +41,7 @@ pub record JobContent : Type 0 where
   pub update : ℕ
 
 -- A fact that a World may hold: the head of a day under an update, a version of a reading, or a meter's details. Or it is an event, an
--- accumulation, a holiday, or a substitution job with the count of what it made.
+-- accumulation, a holiday, or a substitution job with the count of readings that it made.
 pub data Fact : Type 0 where
   HeadIs : Head → Fact
   VersionIs : Key → ReadingValue → Fact

@@ -1,7 +1,7 @@
--- Lists by their members.
+-- The members of lists.
 use Rattle.std.specs.Prelude.{◌≡◌, ◌⊎◌, List, [], ◌∷◌}
 
--- it is one of the list
+-- it is a member of the list
 abbrev pub Member : {K : Type 0} → K → List K → Type 0
 Member x [] = ⊥
 Member x (k ∷ ks) = (x ≡ k) ⊎ Member x ks

@@ -9,13 +9,13 @@ use Rattle.std.specs.Cmp.Lexicographic.{slice_cmp, nat_list_cmp_total}
 use Rattle.std.specs.FinMap.{IsAntisymmetric, nat_cmp-IsAntisymmetric, slice_cmp-IsAntisymmetric}
 use base.Stored.{Gv, gnil, gnum, gcons}
 
--- a ghost value's numbers, in order, each part marked by its kind
+-- a ghost value's numbers, in order, each part preceded by its kind
 cells : Gv → List ℕ
 cells gnil = 0 ∷ []
 cells (gnum n) = 1 ∷ n ∷ []
 cells (gcons a b) = 2 ∷ cells a ++ cells b
 
--- no value's cells begin those of another
+-- no value's cells are a prefix of another's
 same_cells : (a b : Gv) (x y : List ℕ) → cells a ++ x ≡ cells b ++ y → (a ≡ b) × (x ≡ y)
 unfolding cells
 same_cells gnil gnil x y e = (refl, cc)
@@ -42,7 +42,7 @@ pub coded_total : {A : Type 0} (c : Coded A) → IsTotalOrder (coded_cmp c)
 unfolding coded_cmp
 coded_total c = on_total (λ a. cells (c.code a)) nat_list_cmp_total
 
--- values that compare alike are one
+-- values that compare equal are the same
 pub coded_exact : {A : Type 0} (c : Coded A) → IsAntisymmetric (coded_cmp c)
 unfolding coded_cmp
 coded_exact c x y e =

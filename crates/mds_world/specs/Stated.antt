@@ -1,5 +1,5 @@
--- The facts that the statements of a file are. MDFF Specification, the 200, 300, 400 and 500 records of NEM12 and the 250 and
--- 550 records of NEM13.
+-- The facts of a file's statements. MDFF Specification, the 200, 300, 400 and 500 records of NEM12 and the 250 and 550
+-- records of NEM13.
 use Rattle.std.specs.Prelude.{ℕ, ◌+◌, List, [], ◌∷◌}
 use Rattle.std.specs.List.{flat_map}
 use Rattle.std.specs.FinSet as set
@@ -12,7 +12,7 @@ use Rattle.mds_world.specs.Facts.{Fact, detail_at, head_at, key_at}
 use Rattle.mds_world.specs.Facts.Fact.{HeadIs, VersionIs, DetailIs, EventIs, PeriodIs}
 use Rattle.mds_world.specs.World.{World}
 
--- the versions of a day's readings of a length in order under one update, the first of which is of the interval
+-- the versions of a day's readings, in order, of a length and under one update; the first is of this interval
 abbrev pub versions_from : Stream → ℕ → ℕ → ℕ → ℕ → List ReadingValue → List Fact
 versions_from stream day length update interval [] = []
 versions_from stream day length update interval (reading ∷ rest) =
@@ -25,7 +25,7 @@ day_facts stream day length unit update readings =
     HeadIs (head_at stream day update length unit)
     ∷ versions_from stream day length update 1 readings
 
--- A header and a 200 state no fact of their own: what they say stands in what they govern.
+-- A header and a 200 state no fact of their own: their content is in the facts of the records that they govern.
 abbrev pub facts_of : Statement → List Fact
 facts_of (HeaderOf header) = []
 facts_of (StreamOf of_stream) = []

@@ -1,5 +1,5 @@
 -- The World: what the store holds, as one set of facts, and the rules that it keeps (profile). Two equal facts are one,
--- and nothing says in which order they came.
+-- and their order of arrival isn't known.
 use Rattle.std.specs.Prelude.{◌≡◌, ◌⊎◌, ◌≤◌, ℕ, List}
 use Rattle.std.specs.FinSet as set
 use Rattle.std.specs.FinSet.{FinSet}
@@ -20,12 +20,12 @@ use Rattle.mds_world.specs.Sets.{◌∈◌}
 abbrev pub World : Type 0
 World = FinSet fact_cmp
 
--- two Worlds together
+-- the union of two Worlds
 abbrev pub union : World → World → World
 union a b = set.union a b
 
--- One length for each stream, day and update, one unit for each stream and day, one reading for each stream, day, length,
--- interval and update, one content for each period.
+-- One length for each stream, day and update, and one unit for each stream and day. One reading for each stream, day,
+-- length, interval and update. One content for each period.
 pub record Agrees (w : World) : Type 0 where
   pub one_length : (a b : Head) → HeadIs a ∈ w → HeadIs b ∈ w → a.stream ≡ b.stream → a.day ≡ b.day → a.update ≡ b.update
       → a.length ≡ b.length
@@ -33,15 +33,15 @@ pub record Agrees (w : World) : Type 0 where
   pub one_reading : (key : Key) (a b : ReadingValue) → VersionIs key a ∈ w → VersionIs key b ∈ w → a ≡ b
   pub one_content : (key : PeriodKey) (a b : PeriodContent) → PeriodIs key a ∈ w → PeriodIs key b ∈ w → a ≡ b
 
--- the head that a version is under: of its day, its update and its length, with a unit
+-- the head of a version: of its day, its update and its length, with a unit
 abbrev pub head_over : Key → MeasureUnit → Head
 head_over key unit = head_at key.stream key.day key.update key.length unit
 
--- where a version of an interval stands that is under a head
+-- the key of a version of an interval under a head
 abbrev pub key_under : Head → ℕ → Key
 key_under head interval = key_at head.stream head.day head.length interval head.update
 
--- a version's head is there, and its interval is one of that head's
+-- a version has its head, and its interval is one of that head's
 abbrev pub HasHead : World → Key → Type 0
 HasHead w key =
     (unit : MeasureUnit) × (HeadIs (head_over key unit) ∈ w) × (1 ≤ key.interval) × (key.interval ≤ count_of key.length)
@@ -54,7 +54,7 @@ HasVersion w head = (interval : ℕ) × (reading : ReadingValue) × (VersionIs (
 abbrev pub IsKnownDay : World → Stream → ℕ → Type 0
 IsKnownDay w stream day = (head : Head) × (HeadIs head ∈ w) × (head.stream ≡ stream) × (head.day ≡ day)
 
--- What each fact needs is there: a version has its head, a head has a version, and details are of a known day.
+-- What each fact needs exists: a version has its head, a head has a version, and details are of a known day.
 pub record IsClosed (w : World) : Type 0 where
   pub headed : (key : Key) (reading : ReadingValue) → VersionIs key reading ∈ w → HasHead w key
   pub versioned : (head : Head) → HeadIs head ∈ w → HasVersion w head
@@ -89,7 +89,7 @@ IsKnownStream w stream =
     ((head : Head) × (HeadIs head ∈ w) × (head.stream ≡ stream))
     ⊎ ((key : PeriodKey) × (content : PeriodContent) × (PeriodIs key content ∈ w) × (key.stream ≡ stream))
 
--- the event is of a day of a stream
+-- the event is on a day of a stream
 abbrev pub IsEventOf : Stream → ℕ → EventValue → Type 0
 IsEventOf stream day event =
     (event.nmi ≡ stream.nmi) × (event.suffix ≡ stream.suffix) × (event.day ≡ day)

@@ -8,7 +8,7 @@ use mds_terms::{Day, Details, Length, Moment, Stream};
 use std::alloc::Global;
 use std::cmp::Ordering;
 
-/// A day of a stream. Its order goes by the stream, and then by the day.
+/// A day of a stream. Ordered by the stream, and then by the day.
 #[derive(Clone, Copy, PartialEq, Eq)]
 pub struct StreamDay {
     pub stream: Stream,
@@ -45,7 +45,7 @@ impl Ord for StreamDay {
 
     ghost matches_eq = { Prim.search (comparing, rules) };
 
-    // Days that meet in a map are mostly of one stream. Whether two streams are one is told at once, and their order byte by byte.
+    // Days that meet in a map are mostly of one stream. Testing two streams for equality is fast; ordering them goes byte by byte.
     fn cmp(&self, other: &StreamDay) -> Ordering {
         if self.stream == other.stream {
             self.day.cmp(&other.day)
@@ -55,7 +55,7 @@ impl Ord for StreamDay {
     }
 }
 
-/// The head of a known day under an update: the length that its intervals have there, and the unit of the day.
+/// The head of a known day under an update: the length of its intervals under it, and the unit of the day.
 #[derive(Clone, Copy)]
 pub struct Head {
     pub stream: Stream,
@@ -65,8 +65,7 @@ pub struct Head {
     pub unit: Unit,
 }
 
-/// Where a version of a reading stands: an interval of a day, of a length and numbered from 1, and
-/// when it was updated.
+/// The key of a version of a reading. It has an interval of a day, numbered from 1, the length of the intervals, and the update.
 #[derive(Clone, Copy)]
 pub struct Key {
     pub stream: Stream,
@@ -76,7 +75,7 @@ pub struct Key {
     pub update: Moment,
 }
 
-/// The details of a day of a stream, and the moment of the header that they came under.
+/// The details of a day of a stream, with the moment of the header that they came under.
 #[derive(Drop)]
 pub struct Detail {
     pub stream: Stream,
@@ -85,7 +84,7 @@ pub struct Detail {
     pub details: Details,
 }
 
-/// Details of which nothing is known: five empty ones. They take no memory.
+/// Details with five empty fields, for an unknown meter. Takes no memory.
 #[tactic(auto, unfolding(mds_terms::specs::Details::details_of))]
 pub fn empty_details(alloc: Global) -> Details
     ensures { result ≡ no_details }

@@ -15,7 +15,7 @@ ghost use Rattle.mds_world.specs.World.{World, Agrees, IsCurrent, IsKnownDay, Is
 ghost use Rattle.mds_world.specs.Counts.{counted, added_by, known_by};
 ghost use Rattle.mds_world.specs.Stated.{stated};
 
-/// What a World counts grows by just what is added.
+/// What a World counts grows by exactly what is added.
 pub fn counts_grow()
     ensures { (w s : World) → counted (union w s) ≡ counted w + added_by w s }
 {}
@@ -31,7 +31,7 @@ pub fn repeated_facts_add_nothing()
     ensures world { (w s : World) → union (union w s) s ≡ union w s }
 {}
 
-/// In whatever order facts come, and however the statements are split, the World is the same.
+/// In any order of facts, and any split of the statements, the World is the same.
 pub fn any_order()
     ensures worlds { (w a b : World) → union (union w a) b ≡ union (union w b) a }
     ensures split { (xs ys : List Statement) → stated (xs ++ ys) ≡ union (stated xs) (stated ys) }
@@ -45,8 +45,8 @@ pub fn one_current()
         → IsCurrent w stream day length interval other another → (update ≡ other) × (reading ≡ another) }
 {}
 
-/// A known day has one head that decides its form, and its update is the greatest among the day's current readings. Each interval
-/// has one reading that the day shows.
+/// A known day has one head that decides its form, and its update is the greatest among the day's current readings. The day shows
+/// one reading of each interval.
 pub fn one_form()
     ensures some { (w : World) (stream : Stream) (day : ℕ)
         → ((head : HeadValue) × IsForm w stream day head) ⊎ (IsKnownDay w stream day → ⊥) }
@@ -60,7 +60,7 @@ pub fn one_form()
         → IsDayReading w stream day interval r → IsDayReading w stream day interval q → r ≡ q }
 {}
 
-/// A part of a World that agrees agrees as well.
+/// A part of a World that agrees agrees too.
 pub fn parts_agree()
     ensures { (w part : World) → ((fact : Fact) → fact ∈ part → fact ∈ w) → Agrees w → Agrees part }
 {}

@@ -1,6 +1,11 @@
-//! The World: what a store of metering data holds, as one set of facts. The definitions stand in
-//! `specs`: the rules that it keeps, what of it counts, and what of it is current. They say, too,
-//! which facts a file states. The code here has what facts are about, and the laws.
+//! The World: what a store of metering data holds, as one set of facts. The definitions are in `specs`, the laws and
+//! the types that facts are about are here.
+//!
+//! It decides which rules a World keeps (`World.antt`) and what of it is current (`Current.antt`). It also decides
+//! which facts count as added or known (`Counts.antt`), and which facts a file states (`Stated.antt`).
+//! Called by `mds_jobs`, `mds_keeper` and all crates of the store. The contracts of `mds_service` are about its World.
+//! Must not change: the meaning of the rules and of what is current. M1, M2, M3 and each answer depend on them. The
+//! order of facts has no meaning, but the order of `StreamDay` is that of a keeper's days.
 #![tactic(auto)]
 
 mod facts;
