@@ -1,6 +1,8 @@
-//! One place to call the libraries from: each public call under the name of its part. The crate has no code of its own.
+//! One place from which to call the libraries: each public call under the name of its part. The crate has no code of its own.
 //!
-//! What stands on `sqlite` or `clap` is in `mds_full`, so that users of this crate don't carry these.
+//! It decides which calls are public. What needs `sqlite` or `clap` is in `mds_full`, so that users of this crate don't carry these.
+//! Callers: programs that use the libraries. In this repository that is `mds_trials`.
+//! Must not change: the parts and the names in them, which "Public calls by name" in `docs/CODE.md` lists.
 #![tactic(auto)]
 
 pub mod fill;

@@ -1,4 +1,4 @@
-//! The versions of a day, what a file or a job adds to them, and who keeps them.
+//! The versions of a day, what a file or a job adds to them, and the keepers that hold them.
 
 pub use mds_jobs::{Job, JobId, JobManner, JobPlace, Method};
 pub use mds_keeper::{

@@ -1,5 +1,5 @@
--- What the machine answers, as JSON (RFC 8259; which members there are is the profile's). A value and its compact text are those
--- of the library `serde_json`. A day, and a moment, stands as the text that reads as it, of which there is one.
+-- The answers of the machine as JSON (RFC 8259; the profile says which members there are). A value and its compact text are
+-- those of the library `serde_json`. A day or a moment is written as the only text that reads as it.
 use Rattle.std.specs.Prelude.{◌≡◌, ℕ, ◌==◌, Bool, true, false, if◌then◌else◌, List, [], ◌∷◌, ◌++◌, map, codes, decimal, Some}
 use Rattle.serde_json.specs.Data.{Data, array, number, object, string, boolean, unsigned, Members, no_members, member}
 use Rattle.serde_json.specs.View.{items_of}
@@ -30,7 +30,7 @@ whole n = number (unsigned n)
 abbrev pub texts : List (List ℕ) → Data
 texts parts = array (items_of (map string parts))
 
--- each in turn is one of these
+-- the data of each thing, in their order
 abbrev pub AreEach : {T : Type 0} → (T → Data → Type 0) → List T → List Data → Type 0
 AreEach Is [] [] = Unit {0}
 AreEach Is (thing ∷ things) (json ∷ more) = Is thing json × AreEach Is things more
@@ -45,11 +45,11 @@ abbrev pub filled : ℕ → Bool → Data
 filled count is_known =
     object (member (codes "count") (whole count) (member (codes "known") (boolean is_known) no_members))
 
--- a member with a number, where that isn't 0
+-- a member with a number, unless that is 0
 abbrev pub place : List ℕ → ℕ → Members → Members
 place name n rest = if n == 0 then rest else member name (whole n) rest
 
--- a refusal: its code, and where it stands
+-- a refusal: its code, and its place
 abbrev pub refused : (code : List ℕ) → (field interval line : ℕ) → Data
 refused code field interval line =
     object (member (codes "error") (string code)
@@ -98,7 +98,7 @@ IsVersionsData answer json =
     (member (codes "suffix") (string answer.stream.suffix)
     (member (codes "versions") (array (items_of versions)) no_members))))))
 
--- an accumulation: the fields of its 250 record that are kept, behind them its update, whoever stated it, and its 550 records
+-- an accumulation: the kept fields of its 250 record, then its update, no matter who stated it, and its 550 records
 abbrev pub IsPeriod : Period → Data → Type 0
 IsPeriod period json =
     (update : List ℕ) × (moment_of update ≡ Some period.key.update)
@@ -131,7 +131,7 @@ AreStreams answers json =
     (streams : List Data) × AreEach IsStream answers streams
     × (json ≡ object (member (codes "streams") (array (items_of streams)) no_members))
 
--- What is told of an answer. The texts of registers and exports are no JSON.
+-- The JSON data of an answer. The texts of registers and exports are no JSON.
 abbrev pub IsData : Answer → Data → Type 0
 IsData (told.Imported added known) json = json ≡ counts added known
 IsData (told.Substituted count) json = json ≡ filled count false
@@ -153,6 +153,6 @@ IsData told.Unavailable json = json ≡ refused (codes "U1") 0 0 0
 abbrev pub IsJson : Answer → List ℕ → Type 0
 IsJson answer text = (json : Data) × IsData answer json × (text ≡ compact_text json)
 
--- the room that the JSON text of an answer without a list fits in
+-- room for the JSON text of an answer without a list
 abbrev pub short_room : ℕ
 short_room = 160

@@ -3,6 +3,6 @@ use Rattle.std.specs.Prelude.{◌≡◌, ◌≤◌, ℕ, List, ◌++◌, codes, 
 use Rattle.serde_json.specs.Data.{string}
 use Rattle.serde_json.specs.Written.{compact_text}
 
--- at most three bytes, which stand as they are between the quotation marks of a JSON text
+-- at most three bytes, which a JSON text has unchanged between its quotation marks
 abbrev pub IsPlain : List ℕ → Type 0
 IsPlain code = (length code ≤ 3) × (compact_text (string code) ≡ codes "\"" ++ code ++ codes "\"")

@@ -40,7 +40,7 @@ impl ToJson for Version {
     }
 }
 
-/// Appends the texts of a version. The list is lent, so that nothing is dropped where memory is refused.
+/// Appends the texts of a version. The list is borrowed, so that nothing is dropped if memory is refused.
 fn push_version(list: &mut Vec<Value>, alloc: Global, version: &Version) -> Result<(), AllocError>
     requires none { list.old.items ≡ [] }
     ensures { OnOk result (IsVersion version.now (array (items_of (map view list.new.items)))) }
@@ -52,7 +52,7 @@ fn push_version(list: &mut Vec<Value>, alloc: Global, version: &Version) -> Resu
     push(list, Value::from(length))
 }
 
-/// Appends the texts of a reading. The list is lent, so that nothing is dropped where memory is refused.
+/// Appends the texts of a reading. The list is borrowed, so that nothing is dropped if memory is refused.
 fn push_reading(list: &mut Vec<Value>, alloc: Global, reading: &Reading) -> Result<(), AllocError>
     ensures { OnOk result (map view list.new.items
         ≡ map view list.old.items ++ map string (reading_texts reading.now)) }
@@ -76,7 +76,7 @@ fn quality_text(alloc: Global, quality: Quality) -> Result<String, AllocError>
     Ok(text)
 }
 
-/// The text of a reason's code, or the empty text where there is none.
+/// The text of a reason's code, or the empty text if it is absent.
 fn code_text(alloc: Global, code: Option<u16>) -> Result<String, AllocError>
     ensures { IfOk result (λ text. string_bytes text ≡ code_text code) }
 {
@@ -87,7 +87,7 @@ fn code_text(alloc: Global, code: Option<u16>) -> Result<String, AllocError>
     Ok(text)
 }
 
-/// The text of a value, or the empty text where there is none.
+/// The text of a value, or the empty text if it is absent.
 fn value_text(alloc: Global, value: Option<Quantity>) -> Result<String, AllocError>
     ensures { IfOk result (λ text. string_bytes text ≡ value_text value) }
 {
@@ -118,7 +118,7 @@ impl ToJson for Event {
     }
 }
 
-/// Appends the texts of an event. The list is lent, so that nothing is dropped where memory is refused.
+/// Appends the texts of an event. The list is borrowed, so that nothing is dropped if memory is refused.
 fn push_event(list: &mut Vec<Value>, alloc: Global, event: &Event) -> Result<(), AllocError>
     requires none { list.old.items ≡ [] }
     ensures { OnOk result (IsEvent event.now (array (items_of (map view list.new.items)))) }
@@ -131,7 +131,7 @@ fn push_event(list: &mut Vec<Value>, alloc: Global, event: &Event) -> Result<(),
     push(list, Value::try_from_str(alloc, event.reading())?)
 }
 
-/// The text of a transaction code, or the empty text where there is none.
+/// The text of a transaction code, or the empty text if it is absent.
 fn trans_text(alloc: Global, trans: Option<TransCode>) -> Result<String, AllocError>
     ensures { IfOk result (λ text. string_bytes text ≡ text_of_trans trans) }
 {
@@ -142,7 +142,7 @@ fn trans_text(alloc: Global, trans: Option<TransCode>) -> Result<String, AllocEr
     Ok(text)
 }
 
-/// Readings, in turn.
+/// Readings, in their order.
 fn readings_list(alloc: Global, readings: &[Reading]) -> Result<Value, AllocError>
     ensures { IfOk result (λ value. view value
         ≡ array (items_of (map (λ reading. texts (reading_texts reading)) readings.now))) }
@@ -159,7 +159,8 @@ pub(crate) fn day_value(alloc: Global, answer: &DayAnswer) -> Result<Value, Allo
     Ok(Value::Object(members))
 }
 
-/// Puts the members of a known day. The object is lent, so that nothing is dropped where memory is refused.
+/// Puts the members of a known day. The object is borrowed, so that nothing is dropped if memory is
+/// refused.
 fn put_day(
     members: &mut Map<String, Value>,
     alloc: Global,

@@ -17,7 +17,7 @@ use mds_terms::{one_day_text, one_moment_text};
 use serde_json::Value;
 use std::alloc::{AllocError, Global};
 
-/// The JSON text of an answer with a list: compact, keys in the order of their bytes, numbers whole.
+/// The JSON text of an answer with a list: compact, with keys in the order of their bytes, and whole numbers.
 pub fn list_json(alloc: Global, answer: &Answer) -> Result<Vec<u8>, AllocError>
     requires { has_list answer.now ≡ true }
     ensures { IfOk result (λ text. IsJson answer.now text.items) }
@@ -25,8 +25,8 @@ pub fn list_json(alloc: Global, answer: &Answer) -> Result<Vec<u8>, AllocError>
     value_of(alloc, answer)?.to_vec(alloc)
 }
 
-/// Appends the JSON text of an answer without a list, in the same form. It fits in 160 bytes, and takes no memory where there is
-/// room for them. After want of memory nothing is appended.
+/// Appends the JSON text of an answer without a list, in the same form. It fits in 160 bytes, and takes no memory if there is room
+/// for them. If it runs out of memory, nothing is appended.
 pub fn short_json(answer: &Answer, out: &mut Vec<u8>) -> Result<(), AllocError>
     requires text { has_text answer.now ≡ false }
     requires list { has_list answer.now ≡ false }
@@ -37,8 +37,8 @@ pub fn short_json(answer: &Answer, out: &mut Vec<u8>) -> Result<(), AllocError>
     out.extend_from_slice(line_of(answer).as_str().as_bytes())
 }
 
-/// Appends the JSON text of an answer that isn't a text of its own. Only an answer with a list takes memory where there is room for
-/// 160 bytes. If it is out of memory nothing is appended.
+/// Appends the JSON text of an answer that isn't a text of its own. If there is room for 160 bytes, only an answer with a list
+/// takes memory. If it runs out of memory, nothing is appended.
 pub fn answer_json(alloc: Global, answer: &Answer, out: &mut Vec<u8>) -> Result<(), AllocError>
     requires { has_text answer.now ≡ false }
     ensures done { OnOk result ((text : List ℕ) × IsJson answer.now text × Appends out.old.items out.new.items text) }
@@ -54,7 +54,7 @@ pub fn answer_json(alloc: Global, answer: &Answer, out: &mut Vec<u8>) -> Result<
     }
 }
 
-/// The value that tells an answer with a list.
+/// The JSON value of an answer with a list.
 fn value_of(alloc: Global, answer: &Answer) -> Result<Value, AllocError>
     requires { has_list answer.now ≡ true }
     ensures { IfOk result (λ value. IsData answer.now (view value)) }
@@ -68,8 +68,8 @@ fn value_of(alloc: Global, answer: &Answer) -> Result<Value, AllocError>
     }
 }
 
-/// Appends the JSON text of a list of holidays that differs from a row on, counted from 1: it is told as the line. Where there
-/// is room for 160 bytes it takes no memory.
+/// Appends the JSON text for a list of holidays that differs from some row on, counted from 1. The row is its `line`. It takes no
+/// memory if there is room for 160 bytes.
 pub fn holidays_json(row: u64, out: &mut Vec<u8>) -> Result<(), AllocError>
     ensures done { OnOk result (Appends out.old.items out.new.items (compact_text (refused (codes "H1") 0 0 row))) }
     ensures kept { OnErr result (out.new.items ≡ out.old.items) }

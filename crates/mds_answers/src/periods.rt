@@ -13,7 +13,7 @@ use mds_statements::Period;
 use serde_json::{Value, json};
 use std::alloc::{AllocError, Global};
 
-/// Its fields with its update behind them, and its notes: the lines of its body.
+/// Its fields followed by its update, and its notes: the lines of its body.
 impl ToJson for Period {
     ghost told_as = { IsPeriod };
 

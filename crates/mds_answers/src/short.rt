@@ -1,4 +1,4 @@
-//! Answers without a list: their texts are put together on the stack, so that they take no memory.
+//! Answers without a list. Their texts are put together on the stack, so that they take no memory.
 
 ghost use Rattle.std.specs.Prelude.{◌≡◌, ◌+◌, ◌≤◌, ◌++◌, false, codes, decimal, length};
 ghost use Rattle.serde_json.specs.Data.{boolean};
@@ -72,7 +72,7 @@ fn truth_text(value: bool) -> &'static str
     if value { "true" } else { "false" }
 }
 
-/// A refusal: its code, and where it stands.
+/// A refusal: its code, and its place.
 #[tactic(auto, using(crate::proofs::ShortTexts::refused_text))]
 fn refused_line(code: &str, field: u64, interval: u64, line: u64) -> Line
     requires { IsPlain code.now }
@@ -110,7 +110,7 @@ fn refusal_line(refusal: &Refusal) -> Line
     )
 }
 
-/// There is no answer now.
+/// For an answer that is unavailable now.
 #[tactic(auto, unfolding(serde_json::proofs::OnLiterals::serde_json_on_literals))]
 fn unavailable_line() -> Line
     ensures { result.bytes ≡ compact_text (refused (codes "U1") 0 0 0) }
@@ -118,7 +118,7 @@ fn unavailable_line() -> Line
     refused_line("U1", 0, 0, 0)
 }
 
-/// A list of holidays that differs from a row on.
+/// For a list of holidays that differs from some row on.
 #[tactic(auto, unfolding(serde_json::proofs::OnLiterals::serde_json_on_literals))]
 pub(crate) fn holidays_line(row: u64) -> Line
     ensures { result.bytes ≡ compact_text (refused (codes "H1") 0 0 row) }
@@ -126,7 +126,7 @@ pub(crate) fn holidays_line(row: u64) -> Line
     refused_line("H1", 0, 0, row)
 }
 
-/// Appends a number behind its name.
+/// Appends a number after its name.
 fn push_number(line: &mut Line, name: &str, number: u64)
     requires { length line.old.bytes + length name.now + 20 ≤ ROOM }
     ensures bytes { line.new.bytes ≡ line.old.bytes ++ name.now ++ decimal number }
@@ -136,7 +136,7 @@ fn push_number(line: &mut Line, name: &str, number: u64)
     line.push_str(Buffer::new().format(number));
 }
 
-/// Appends a number behind its name where it isn't 0.
+/// Appends a number after its name, unless it is 0.
 fn push_place(line: &mut Line, name: &str, number: u64)
     requires { length line.old.bytes + length name.now + 20 ≤ ROOM }
     ensures bytes { line.new.bytes ≡ line.old.bytes ++ place_text name.now number }

@@ -21,7 +21,8 @@ impl ToJson for StreamAnswer {
     }
 }
 
-/// Puts the members of a known stream. The object is lent, so that nothing is dropped where memory is refused.
+/// Puts the members of a known stream. The object is borrowed, so that nothing is dropped if memory is
+/// refused.
 fn put_stream(
     members: &mut Map<String, Value>,
     alloc: Global,

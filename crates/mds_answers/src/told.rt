@@ -1,4 +1,4 @@
-//! What is told in lists, as JSON values, and the texts in them.
+//! What is listed in answers, as JSON values, and the texts in them.
 
 ghost use Rattle.std.specs.Prelude.{◌≡◌, List, Some, IfOk, OnOk, string_bytes};
 ghost use Rattle.std.specs.List.{slice_split};
@@ -13,17 +13,17 @@ use mds_terms::{Day, Moment};
 use serde_json::{Map, Value, put};
 use std::alloc::{AllocError, Global};
 
-/// What is told as JSON.
+/// What can be written as JSON.
 pub(crate) trait ToJson {
-    /// Whether data tell it.
+    /// Which JSON data say it.
     ghost told_as: { Self → Data → Type 0 };
 
-    /// The value that tells it.
+    /// The JSON value that says it.
     fn to_json(&self, alloc: Global) -> Result<Value, AllocError>
         ensures { IfOk result (λ value. told_as self.now (view value)) };
 }
 
-/// The list of what tells each thing, in turn.
+/// The list of the values of all things, in their order.
 pub(crate) fn list_of<T: ToJson>(alloc: Global, things: &[T]) -> Result<Value, AllocError>
     ensures { IfOk result (λ value. (json : List Data) × AreEach T.told_as things.now json
         × (view value ≡ array (items_of json))) }
@@ -77,7 +77,7 @@ pub(crate) fn moment_text(alloc: Global, moment: Moment) -> Result<String, Alloc
     Ok(text)
 }
 
-/// The text of a day, or the empty text where there is none.
+/// The text of a day, or the empty text if it is absent.
 pub(crate) fn optional_day_text(alloc: Global, day: Option<Day>) -> Result<String, AllocError>
     ensures { IfOk result (λ text. optional day_of (string_bytes text) ≡ Some day) }
 {
@@ -87,7 +87,7 @@ pub(crate) fn optional_day_text(alloc: Global, day: Option<Day>) -> Result<Strin
     }
 }
 
-/// The text of a moment, or the empty text where there is none.
+/// The text of a moment, or the empty text if it is absent.
 pub(crate) fn optional_moment_text(
     alloc: Global,
     moment: Option<Moment>,

@@ -25,12 +25,12 @@ argument_name Moment = codes "MOMENT"
 argument_name Sender = codes "SENDER"
 argument_name Receiver = codes "RECEIVER"
 
--- the first that isn't what it is to be
+-- the first that is bad
 abbrev pub first_bad : List (Argument × Bool) → Option Argument
 first_bad [] = None
 first_bad ((argument, good) ∷ rest) = if good then first_bad rest else Some argument
 
--- Which texts are what they are to be, in the order of a command's words: those of a stream,
+-- Which texts are good, in the order of a command's words: those of a stream,
 abbrev pub stream_tests : (nmi suffix : List ℕ) → List (Argument × Bool)
 stream_tests nmi suffix = (Nmi, is_some (nmi_of nmi)) ∷ (Suffix, is_some (suffix_of suffix)) ∷ []
 
@@ -62,8 +62,8 @@ export_tests nmi from to moment sender receiver suffixes =
 abbrev pub IsFirstBad : List (Argument × Bool) → Argument → Type 0
 IsFirstBad tests argument = first_bad tests ≡ Some argument
 
--- Why they ask for no export. Memory is wanted only for what is copied: the sender, the receiver and the suffixes. No text in
--- front of these is bad then.
+-- Why there is no request for an export. Memory is needed only for what is copied: the sender, the receiver and the suffixes.
+-- No earlier text is bad then.
 abbrev pub IsExportFault : (nmi from to moment sender receiver : List ℕ) → List (List ℕ) → ArgumentsFault → Type 0
 IsExportFault nmi from to moment sender receiver suffixes (fault.Bad argument) =
     IsFirstBad (export_tests nmi from to moment sender receiver suffixes) argument
@@ -71,7 +71,7 @@ IsExportFault nmi from to moment sender receiver suffixes fault.Memory =
     (first_bad (take 4 (export_tests nmi from to moment sender receiver suffixes)) ≡ None)
     × (0 < length sender + length receiver + length suffixes)
 
--- texts spell a stream
+-- the texts name a stream
 abbrev pub SpellStream : (nmi suffix : List ℕ) → Stream → Type 0
 SpellStream nmi suffix stream = (nmi_of nmi ≡ Some stream.nmi) × (suffix_of suffix ≡ Some stream.suffix)
 

@@ -4,7 +4,7 @@ use Rattle.mds_arguments.specs.declared.arguments.ExportArguments.{ExportArgumen
 use Rattle.mds_arguments.specs.declared.arguments.RangeArguments.{RangeArguments}
 use Rattle.mds_arguments.specs.declared.words.QueryWords.{QueryWords}
 
--- each is that of its argument's id
+-- each is the word of its argument's id
 pub record AreFound (word_of : List ℕ → List ℕ) (words : QueryWords) : Type 0 where
   pub nmi : words.nmi.now ≡ word_of (codes "nmi")
   pub suffix : words.suffix.now ≡ word_of (codes "suffix")

@@ -18,15 +18,15 @@ pub enum Argument {
     From,
     /// The last day of a range, CCYYMMDD.
     To,
-    /// When the file is made, CCYYMMDDhhmm or CCYYMMDDhhmmss.
+    /// The time at which the file is made, CCYYMMDDhhmm or CCYYMMDDhhmmss.
     Moment,
-    /// Who makes it: a printable text.
+    /// The sender: a printable text.
     Sender,
-    /// For whom: a printable text.
+    /// The receiver: a printable text.
     Receiver,
 }
 
-/// What asks for a register of a stream in a range of days.
+/// The arguments of a query for a register of a stream in a range of days.
 #[derive(Clone, Copy)]
 pub struct RangeArguments<'a> {
     pub nmi: &'a [u8],
@@ -35,7 +35,7 @@ pub struct RangeArguments<'a> {
     pub to: &'a [u8],
 }
 
-/// What asks for an export.
+/// The arguments of an export.
 #[derive(Drop)]
 pub struct ExportArguments<'a> {
     pub nmi: &'a [u8],

@@ -1,4 +1,9 @@
-//! The arguments of a query, as texts: the words that are theirs, and the request that they ask for.
+//! The arguments of a query, as texts: which words are theirs, and which request they ask for.
+//!
+//! It decides what each argument may be. If several are bad, the first in the order of the command's words is named.
+//! Callers: `mds_words` finds the words, and `mdstore` makes requests of them. `mds_requests` does so for queries over HTTP, and `mds_desk`
+//! prints the name of a bad argument.
+//! Must not change: the names of the arguments, which are printed, and the order in which they are checked.
 #![tactic(auto)]
 
 mod arguments;

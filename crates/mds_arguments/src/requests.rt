@@ -13,10 +13,10 @@ use mds_statements::Header;
 use mds_terms::{Day, Moment, Nmi, PrintableString, Stream, Suffix};
 use std::alloc::{AllocError, Global};
 
-/// Why arguments ask for nothing.
+/// Why there is no request.
 #[derive(Clone, Copy)]
 pub enum ArgumentsFault {
-    /// One isn't what it is to be: the first of them, in the order of the command's words.
+    /// An argument is bad: the first one, in the order of the command's words.
     Bad(Argument),
     /// There was no memory.
     Memory,
@@ -106,7 +106,7 @@ pub fn finals_request(arguments: &RangeArguments<'_>) -> Result<Request, Argumen
     })
 }
 
-/// The stream that texts spell.
+/// The stream that the texts name.
 fn read_stream(nmi: &[u8], suffix: &[u8]) -> Result<Stream, Argument>
     ensures { MatchResult result (SpellStream nmi.now suffix.now) (IsFirstBad (stream_tests nmi.now suffix.now)) }
 {
@@ -123,7 +123,7 @@ struct StreamRange {
     last: Day,
 }
 
-/// The range that texts spell.
+/// The range that the texts name.
 fn read_range(words: &RangeArguments<'_>) -> Result<StreamRange, Argument>
     ensures { MatchResult result
         (λ range. SpellStream words.now.nmi.now words.now.suffix.now range.stream
@@ -186,7 +186,7 @@ pub fn export_request(
     })
 }
 
-/// The suffixes that texts are, or `None` where one of them is none. It takes memory only where there is a text.
+/// The suffixes that the texts name, or `None` if one isn't a suffix. It takes memory only if there is a text.
 fn read_suffixes(alloc: Global, texts: &[&[u8]]) -> Result<Option<Vec<Suffix>>, AllocError>
     ensures value { IfOk result (λ found. MatchOption found
         (list_all (λ text. is_some (suffix_of text)) (map (λ text. text.now) texts.now) ≡ false)

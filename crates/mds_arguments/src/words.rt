@@ -5,19 +5,19 @@ ghost use Rattle.mds_arguments.specs.Words.{AreFound, IsExportOf, IsRangeOf};
 
 use crate::arguments::{ExportArguments, RangeArguments};
 
-/// Where the words of arguments are found, by the ids that the arguments have in a grammar of commands.
+/// The words of arguments, found by the ids that the arguments have in a grammar of commands.
 pub trait FoundWords<'a> {
     ghost use Rattle.std.specs.Prelude.{◌≡◌, ℕ, List};
 
     /// The word of each id.
     ghost word_of: { Self → List ℕ → List ℕ };
 
-    /// The word of an argument. It is empty where the command has no such argument.
+    /// The word of an argument. It is empty if the command has no such argument.
     fn word(&self, id: &str) -> &'a str
         ensures { result.now ≡ word_of self.now id.now };
 }
 
-/// The words of a query's arguments, as far as its command has them. The others are empty.
+/// The words of a query's arguments, if its command has them. The others are empty.
 #[derive(Clone, Copy)]
 pub struct QueryWords<'a> {
     pub nmi: &'a str,

@@ -1,4 +1,4 @@
--- What queries of mds_daydetail show, and what their rows say. A row that is shown has no rowid before its columns.
+-- What queries of mds_daydetail show, and what their rows say. A shown row has no rowid before its columns.
 use Rattle.std.specs.Prelude.{◌≡◌, ◌≤◌, ◌<◌, ◌+◌, ◌-◌, ◌^◌, ◌↔◌, ◌⊎◌, ℕ, List, [], ◌∷◌, ◌++◌, length, map, option_map, slice_get, true, All, IfSome, IsTrue, Some}
 use Rattle.std.specs.List.{AllPairs}
 use Rattle.std.specs.Ordering.{is_le, nat_cmp, ordering_then}
@@ -22,7 +22,7 @@ HasRow trees key = (row : Row) × Member row (trees daydetail_tree) × Begins ke
 
 -- ---- the nearest day
 
--- What is shown of the nearest day up to one: nothing where no day up to it has a row. A row that says a day says the nearest one.
+-- What is shown of the nearest day up to one: nothing if no day up to it has a row. A row that says a day says the nearest one.
 abbrev pub ShowsNearest : Stream → ℕ → Trees → List Row → Type 0
 ShowsNearest s day trees [] = (of : ℕ) → of ≤ day → HasRow trees (day_cells s of) → ⊥
 ShowsNearest s day trees (shown ∷ more) =
@@ -36,7 +36,7 @@ ShowsNearest s day trees (shown ∷ more) =
 abbrev pub details_columns : List ℕ
 details_columns = 4 ∷ 5 ∷ 6 ∷ 7 ∷ 8 ∷ 9 ∷ []
 
--- the details of a row, behind its moment
+-- the details of a row, after its moment
 abbrev pub shown_details : Row → DetailsValue
 shown_details row = details_from row 1
 
@@ -44,26 +44,26 @@ shown_details row = details_from row 1
 abbrev pub IsDetailRow : Row → Type 0
 IsDetailRow row = (natural_at row 0 < 2 ^ 63) × IfSome (optional_at row 5) (λ day. day < 2 ^ 63)
 
--- a is no later than b, and of one moment its details are no greater
+-- a is no later than b, and at the same moment its details are no greater
 abbrev pub IsBelow : Row → Row → Type 0
 IsBelow a b =
     is_le (ordering_then (nat_cmp (natural_at a 0) (natural_at b 0)) (details_cmp (shown_details a) (shown_details b))) ≡ true
 
--- rows of later moments first, and of one moment those of greater details
+-- rows of later moments first, and at one moment those of greater details first
 abbrev pub AreLatestFirst : List Row → Type 0
 AreLatestFirst rows = AllPairs (λ a b. IsBelow b a) rows
 
--- all rows of a day, in that order where the store can have written them
+-- all rows of a day, in that order if the store can have written them
 abbrev pub ShowsDetails : Stream → ℕ → Trees → List Row → Type 0
 ShowsDetails s day trees rows =
     Selects daydetail_tree (day_cells s day) details_columns trees rows × (All (λ row. IsDetailRow row) rows → AreLatestFirst rows)
 
--- the first row tells the details
+-- the first row has these details
 abbrev pub TellsFirst : List Row → DetailsValue → Type 0
 TellsFirst [] details = ⊥
 TellsFirst (row ∷ rows) details = shown_details row ≡ details
 
--- a row is shown of details that the store writes
+-- a row shows details that the store writes
 pub record IsRowOf (row : Row) (seconds : ℕ) (details : DetailsValue) : Type 0 where
   pub cells : row
       ≡ number_cell seconds ∷ Text details.configuration ∷ Text details.register ∷ Text details.datastream ∷ Text details.meter
@@ -94,7 +94,7 @@ range_columns = 4 ∷ 5 ∷ 6 ∷ 7 ∷ 8 ∷ 9 ∷ 3 ∷ []
 abbrev pub shown_day : Row → ℕ
 shown_day row = natural_at row 6
 
--- a is of an earlier day than b, or of the same one and no less
+-- a is of an earlier day than b, or of the same day and no less
 abbrev pub ComesFirst : Row → Row → Type 0
 ComesFirst a b = (shown_day a ≤ shown_day b) × (shown_day a ≡ shown_day b → IsBelow b a)
 
@@ -102,7 +102,7 @@ ComesFirst a b = (shown_day a ≤ shown_day b) × (shown_day a ≡ shown_day b �
 abbrev pub AreByDay : List Row → Type 0
 AreByDay rows = AllPairs (λ a b. ComesFirst a b) rows
 
--- all rows of a range of days, in that order where the store can have written them
+-- all rows of a range of days, in that order if the store can have written them
 abbrev pub ShowsRange : Stream → ℕ → ℕ → Trees → List Row → Type 0
 ShowsRange s first last trees rows =
     ((shown : Row) → Member shown rows
@@ -113,13 +113,13 @@ ShowsRange s first last trees rows =
 abbrev pub EndsOn : ℕ → List (ℕ × DetailsValue) → Type 0
 EndsOn day told = option_map (λ entry. entry.0) (slice_get told (length told - 1)) ≡ Some day
 
--- The details of a row come to the end, unless the last entry is of its day.
+-- The details of a row are appended, unless the last entry is of its day.
 abbrev pub TellsRow : List (ℕ × DetailsValue) → Row → List (ℕ × DetailsValue) → Type 0
 TellsRow old row new =
     (EndsOn (shown_day row) old × (new ≡ old))
     ⊎ ((EndsOn (shown_day row) old → ⊥) × (new ≡ old ++ (shown_day row, shown_details row) ∷ []))
 
--- One of the rows is of the entry's day, none of that day is above it, and it tells the entry's details.
+-- One of the rows is of the entry's day, none of that day is above it, and it has the entry's details.
 abbrev pub IsTold : List Row → ℕ × DetailsValue → Type 0
 IsTold rows entry =
     (row : Row) × Member row rows × (shown_day row ≡ entry.0) × (shown_details row ≡ entry.1)
@@ -146,7 +146,7 @@ ShowsDaysWith details first last trees rows =
     (shown : Row) → Member shown rows
     ↔ ((day : ℕ) × (first ≤ day) × (day ≤ last) × HasRow trees (detail_cells (detail_on details day)) × (shown ≡ number_cell day ∷ []))
 
--- those days of a list that no row says are left
+-- the days of a list that no row says are left
 abbrev pub AreLeft : List ℕ → List Row → List ℕ → Type 0
 AreLeft old rows left =
     (day : ℕ) → Member day left ↔ (Member day old × ((row : Row) → Member row rows → column row 0 ≡ number_cell day → ⊥))

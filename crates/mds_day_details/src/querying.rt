@@ -1,5 +1,4 @@
-//! What is asked of the details of days, found by queries. A store that can't answer is unavailable (U1). So is one that holds a
-//! row that it didn't write.
+//! Queries about details of days. A store that can't answer is unavailable (U1), and so is one with a row that it didn't write.
 
 ghost use Rattle.std.specs.Prelude.{◌≡◌, ◌≢◌, ◌↔◌, ◌<◌, ◌≤◌, ◌^◌, ℕ, List, [], ◌∷◌, false, All, IfNone, IfOk, IfSome, IsTrue, OnErr, OnOk, Some};
 ghost use Rattle.std.specs.Bool.{OnFalse};
@@ -29,9 +28,10 @@ use sqlite::{Alter, Connection, Row};
 use std::alloc::{AllocError, Global};
 use std::collections::BTreeSet;
 
-/// The current details of a day of a stream. They are its own, or those of the nearest earlier day that has some. The day need not be
-/// known. Most days have some, so these are asked for first.
-/// All rows of that one day are read. A single row of a query with a LIMIT wouldn't tell of one beside it that the store didn't write.
+/// The current details of a day of a stream: its own, or those of the nearest earlier day that has some. The day need not be known.
+/// Most days have details of their own, so these are asked for first.
+/// All rows of that one day are read. A query with a LIMIT would return a single row, and hide another one that the store didn't
+/// write.
 pub fn current_details<S: Alter>(
     alloc: Global,
     conn: &mut Connection<S>,
@@ -58,7 +58,7 @@ pub fn current_details<S: Alter>(
     first_details(alloc, &rows)
 }
 
-/// The day of the first row. `None` where there is no row.
+/// The day of the first row. `None` if there is no row.
 fn first_day(rows: &[Row]) -> Result<Option<Day>, Unavailable>
     ensures ok { IfOk result (SaysDay rows.now) }
     ensures err { OnErr result ((row : RowValue) × (later : List RowValue) × (rows.now ≡ row ∷ later)
@@ -70,7 +70,7 @@ fn first_day(rows: &[Row]) -> Result<Option<Day>, Unavailable>
     }
 }
 
-/// The details of the first row, where all rows are ones that the store can have written.
+/// The details of the first row, if the store can have written all of the rows.
 fn first_details(alloc: Global, rows: &[Row]) -> Result<Details, Unavailable>
     ensures first { IfOk result (TellsFirst rows.now) }
     ensures all { IfOk result (λ details. All (λ row. IsDetailRow row) rows.now) }
@@ -80,12 +80,12 @@ fn first_details(alloc: Global, rows: &[Row]) -> Result<Details, Unavailable>
     test_detail_rows(rows)?;
     match rows {
         [first, ..] => details_at(alloc, first),
-        // The query before has shown that the day has some.
+        // The query before has shown that the day has details.
         [] => Err(Unavailable),
     }
 }
 
-/// Tests that all rows are ones of details that the store can have written.
+/// Tests that all rows are details that the store can have written.
 fn test_detail_rows(rows: &[Row]) -> Result<(), Unavailable>
     ensures ok { OnOk result (All (λ row. IsDetailRow row) rows.now) }
     ensures err { OnErr result (¬ All IsWritten rows.now) }
@@ -97,7 +97,7 @@ fn test_detail_rows(rows: &[Row]) -> Result<(), Unavailable>
     Ok(())
 }
 
-/// Whether all rows are ones of details that the store can have written.
+/// Whether all rows are details that the store can have written.
 pub fn are_detail_rows(rows: &[Row]) -> bool
     ensures yes { IsTrue result → All (λ row. IsDetailRow row) rows.now }
     ensures no { OnFalse result (¬ All IsWritten rows.now) }
@@ -111,9 +111,10 @@ pub fn are_detail_rows(rows: &[Row]) -> bool
     true
 }
 
-/// The current details of the days of a range that have details of their own, ascending, each day once. It is one query, whatever the
+/// The current details of each day of a range that has details of its own, ascending, each day once. This is one query, whatever the
 /// count of days.
-/// All rows of these days are read, and tested to be ones that the store can have written. A row that it didn't write hides none.
+/// All rows of these days are read, and tested to be ones that the store can have written. So a row that it didn't write hides
+/// nothing.
 pub fn details_between<S: Alter>(
     alloc: Global,
     conn: &mut Connection<S>,
@@ -132,7 +133,7 @@ pub fn details_between<S: Alter>(
     tell_days(alloc, &rows)
 }
 
-/// The details of the first row of each day, where all rows are ones that the store can have written. The rows are by day.
+/// The details of the first row of each day, if the store can have written all of the rows. The rows are ordered by day.
 fn tell_days(alloc: Global, rows: &[Row]) -> Result<Vec<(Day, Details)>, Unavailable>
     ensures told { IfOk result (λ told. AreByDay rows.now → TellsDays rows.now told.items) }
     ensures all { IfOk result (λ told. All (λ row. IsDetailRow row) rows.now) }
@@ -168,8 +169,8 @@ fn ends_on(days: &[(Day, Details)], day: Day) -> bool
     }
 }
 
-/// Those of the days that don't have these details yet, current or not. They are ascending, each once. It is one query, whatever the
-/// count of days.
+/// The days among these that don't have these details yet, current or not, ascending, each once. This is one query, whatever the count
+/// of days.
 pub fn days_without<S: Alter>(
     alloc: Global,
     conn: &mut Connection<S>,
@@ -208,12 +209,12 @@ fn ends_of(days: &BTreeSet<Day>) -> Option<(Day, Day)>
     Some((*days.first()?, *days.last()?))
 }
 
-/// The numbers of details are far below the greatest that a column can hold. The function does nothing.
+/// The numbers in details are far below the greatest that a column can hold. The function does nothing.
 fn are_small(details: &DetailDays)
     ensures moment { details.now.moment < 2 ^ 63 }
     ensures next { (n : ℕ) → details.now.details.next ≡ Some n → n < 2 ^ 63 }
 {
-    // For the proof: the seconds of a moment are below those of all days there are.
+    // For the proof: the seconds of a moment are below those of all possible days.
     let _ = details.moment.seconds();
     is_small_day(details.details.next());
 }
@@ -228,7 +229,7 @@ fn is_small_day(day: Option<Day>)
     }
 }
 
-/// Takes the days that rows say out of a set.
+/// Removes the days that rows say from a set.
 fn take_shown(left: &mut BTreeSet<Day>, rows: &[Row]) -> Result<(), Unavailable>
     ensures { OnOk result (AreLeft left.old.keys rows.now left.new.keys) }
 {
@@ -238,7 +239,7 @@ fn take_shown(left: &mut BTreeSet<Day>, rows: &[Row]) -> Result<(), Unavailable>
     Ok(())
 }
 
-/// Takes the day that a row says out of a set.
+/// Removes the day that a row says from a set.
 fn take_day(left: &mut BTreeSet<Day>, row: &Row) -> Result<(), Unavailable>
     ensures { OnOk result (AreLeft left.old.keys (row.now ∷ []) left.new.keys) }
 {

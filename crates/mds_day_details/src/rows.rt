@@ -1,4 +1,4 @@
-//! The queries, and the rows that they answer.
+//! The queries, and the rows that they return.
 
 ghost use Rattle.std.specs.Prelude.{◌≡◌};
 ghost use Rattle.sqlite.specs.Held.{state};
@@ -15,7 +15,7 @@ use mds_terms::{Day, Stream};
 use sqlite::types::ValueRef;
 use sqlite::{Alter, Connection, Error, Row};
 
-/// The nearest day up to this one that has details of the stream.
+/// The nearest day, up to and including this one, that has details of the stream.
 pub(crate) fn nearest_rows<S: Alter>(
     conn: &mut Connection<S>,
     stream: &Stream,
@@ -29,7 +29,7 @@ pub(crate) fn nearest_rows<S: Alter>(
     )
 }
 
-/// The details of a day, those of the latest header first, and of one header the greatest first.
+/// The details of a day: those of the latest header first, and for one header the greatest first.
 pub(crate) fn details_rows<S: Alter>(
     conn: &mut Connection<S>,
     stream: &Stream,
@@ -43,7 +43,8 @@ pub(crate) fn details_rows<S: Alter>(
     )
 }
 
-/// The details of the days of a range, each with its day: by day, and those of one day as its details are.
+/// The details of the days of a range, each with its day. They are ordered by day, and then as the details
+/// of one day are.
 pub(crate) fn range_rows<S: Alter>(
     conn: &mut Connection<S>,
     stream: &Stream,
@@ -73,7 +74,7 @@ pub(crate) fn days_with_rows<S: Alter>(
     )
 }
 
-/// The columns of details, with the first and the last day of a range in place of their day.
+/// The columns of details, with the first and the last day of a range instead of their day.
 fn asked_cells<'a>(details: &'a DetailDays, first: Day, last: Day) -> [ValueRef<'a>; 10]
     ensures { bound result ≡ days_cells details.now first last }
 {
@@ -91,7 +92,7 @@ fn asked_cells<'a>(details: &'a DetailDays, first: Day, last: Day) -> [ValueRef<
     ]
 }
 
-/// The number of a day, and -1 where there is none.
+/// The number of a day, or -1 if it is absent.
 fn next_cell(day: Option<Day>) -> i64
     ensures { Int result ≡ row.optional_cell day }
 {

@@ -1,4 +1,4 @@
-//! Rows of details of days, as terms. `None` where a row isn't one that the store writes.
+//! Rows of details of days, as terms. `None` if the store doesn't write such a row.
 
 ghost use Rattle.std.specs.Prelude.{◌≡◌, ◌≢◌, ◌<◌, ◌^◌, ℕ, List, Option, IfNone, IfOk, IfSome, IsTrue, OnErr};
 ghost use Rattle.std.specs.Bool.{OnFalse};
@@ -49,7 +49,7 @@ fn is_optional_at(row: &Row, at: usize) -> bool
     }
 }
 
-/// The details that a row tells behind its moment. It takes memory only for their texts.
+/// The details in a row, after its moment. It takes memory only for their texts.
 pub fn details_at(alloc: Global, row: &Row) -> Result<Details, Unavailable>
     ensures ok { IfOk result (λ details. shown_details row.now ≡ details) }
     ensures err { OnErr result ((moment : ℕ) (details : DetailsValue) → IsRowOf row.now moment details → 0 < text_length details) }
@@ -57,7 +57,7 @@ pub fn details_at(alloc: Global, row: &Row) -> Result<Details, Unavailable>
     told(details_read(alloc, row)?)
 }
 
-/// The details that a row tells, where they read.
+/// The details in a row, if they read.
 fn details_read(alloc: Global, row: &Row) -> Result<Option<Details>, AllocError>
     ensures some { IfOk result (λ read. IfSome read (λ details. shown_details row.now ≡ details)) }
     ensures none { IfOk result (λ read. IfNone read ((moment : ℕ) (details : DetailsValue) → ¬ IsRowOf row.now moment details)) }
@@ -92,7 +92,7 @@ fn printable_at<'a>(row: &'a Row, at: usize) -> Option<PrintableText<'a>>
     PrintableText::read(text_at(row, at)?)
 }
 
-/// The day in a column, which is -1 where there is none. `None` where the number is neither.
+/// The day in a column, which is -1 if absent. `None` if the number is neither.
 fn next_at(row: &Row, at: usize) -> Option<Option<Day>>
     ensures some { IfSome result (λ day. optional_at row.now at ≡ day) }
     ensures none { IfNone result ((day : Option ℕ) → IfSome day IsDay → column row.now at ≢ optional_cell day) }

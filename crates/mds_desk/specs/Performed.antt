@@ -15,7 +15,7 @@ use Rattle.mds_desk.specs.declared.outcome.Status.TheVariants as status
 abbrev pub IsJsonLine : Answer → List ℕ → Type 0
 IsJsonLine answer text = (json : List ℕ) × IsJson answer json × (text ≡ json ++ codes "\n")
 
--- what is printed of an answer: a line, the text that it has, or its JSON text as a line
+-- what is printed of an answer: a line, its own text, or its JSON text as a line
 abbrev pub IsAnswerText : Answer → List ℕ → Type 0
 IsAnswerText (told.Imported added known) text =
     text ≡ codes "added " ++ decimal added ++ codes " known " ++ decimal known ++ codes "\n"
@@ -34,7 +34,8 @@ IsAnswerText (told.Gaps text) printed = printed ≡ text.items
 IsAnswerText (told.Finals text) printed = printed ≡ text.items
 IsAnswerText (told.Exported text) printed = printed ≡ text.items
 
--- An answer is told as it is, or one with a list as Unavailable, where there is no memory for its text.
+-- An answer is printed as it is. One with a list is printed as Unavailable if there is no memory for
+-- its text.
 abbrev pub IsToldAs : Answer → Answer → Type 0
 IsToldAs answer other = (other ≡ answer) ⊎ ((has_list answer ≡ true) × (other ≡ told.Unavailable))
 
@@ -54,7 +55,7 @@ answer_status (told.Gaps text) = status.Done
 answer_status (told.Finals text) = status.Done
 answer_status (told.Exported text) = status.Done
 
--- it answers that the writer failed
+-- the result is that the writer failed
 abbrev pub is_write_failure : {T : Type 0} → Result T PerformFault → Bool
 is_write_failure (Ok status) = false
 is_write_failure (Err Write) = true

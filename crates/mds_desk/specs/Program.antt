@@ -20,7 +20,7 @@ status_code status.Fault = 1
 status_code status.Usage = 2
 status_code status.Unavailable = 3
 
--- what a check comes to
+-- the result of a check
 abbrev pub of_check : {T : Type 0} → Result T CheckFault → Outcome
 of_check (Ok done) = outcome.Done
 of_check (Err (check.File fault)) = outcome.Fault fault
@@ -28,20 +28,20 @@ of_check (Err check.Read) = outcome.NoInput
 of_check (Err check.Write) = outcome.NoOutput
 of_check (Err check.Memory) = outcome.Unavailable
 
--- what a request comes to
+-- the result of a request
 abbrev pub of_request : Result Status PerformFault → Outcome
 of_request (Ok s) = outcome.Answered s
 of_request (Err perform.Write) = outcome.NoOutput
 of_request (Err perform.Memory) = outcome.Unavailable
 
--- what the import of a file comes to
+-- the result of importing a file
 abbrev pub of_import : Result Status ImportFault → Outcome
 of_import (Ok s) = outcome.Answered s
 of_import (Err import.Read) = outcome.NoInput
 of_import (Err import.Write) = outcome.NoOutput
 of_import (Err import.Memory) = outcome.Unavailable
 
--- the status of it
+-- its status
 abbrev pub status_of : Outcome → Status
 status_of outcome.Done = status.Done
 status_of outcome.Created = status.Done
@@ -61,7 +61,7 @@ status_of outcome.Unavailable = status.Unavailable
 status_of outcome.EarlierSchema = status.Unavailable
 status_of outcome.OtherSchema = status.Unavailable
 
--- what is still to be printed of it: a line or nothing
+-- what remains to be printed of it: a line or nothing
 abbrev pub outcome_text : Outcome → List ℕ
 outcome_text outcome.Done = []
 outcome_text outcome.Created = codes "created\n"

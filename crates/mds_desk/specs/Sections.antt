@@ -9,7 +9,7 @@ is_number_sign c = c == 35
 abbrev pub is_colon : ℕ → Bool
 is_colon c = c == 58
 
--- what a section begins with, up to its first colon, without the blank before it
+-- the beginning of a section, up to its first colon, without the blank before it
 abbrev pub name_of : List ℕ → List ℕ
 name_of section = trim_start (before_first is_colon section)
 

@@ -1,4 +1,4 @@
-//! A NEM12 file, taken in as it is read. No more of it is held than a line and what it states.
+//! Imports a NEM12 file as it is read. Only a line, and what the file states, are held.
 
 ghost use Rattle.std.specs.Prelude.{◌≡◌, ◌+◌, ◌-◌, ◌*◌, ◌<◌, ◌≤◌, ◌^◌, ◌≢◌, ℕ, List, [], false, Err, IfErr, IfOk, MatchResult, if◌then◌else◌, is_ok, length, take};
 ghost use Rattle.std.specs.Io.KnownBytes.{Appends as AppendsKnown, Keeps};
@@ -23,19 +23,19 @@ use mds_nem12::{Delivery, ReadFault, read_delivery};
 use mds_service::import_delivery;
 use std::alloc::Global;
 
-/// Why a file wasn't taken in, or not everything was printed.
+/// Why a file wasn't imported, or not everything was printed.
 #[derive(Clone, Copy)]
 pub enum ImportFault {
     /// The reader failed. Nothing was done or written.
     Read,
-    /// The writer failed. Some front of the text was written, and the file was answered.
+    /// The writer failed. Some front of the text was written, and the request was done.
     Write,
     /// There was no memory. Nothing was done or written.
     Memory,
 }
 
-/// Takes in the NEM12 file that a reader gives, writes what a command prints of its answer, and answers the status to end with. It
-/// reads no block behind the one that holds the first line with a fault.
+/// Imports the NEM12 file that a reader brings, writes what a command prints of its answer, and returns the status to end with. It
+/// reads no block after the one with the first faulty line.
 pub fn import_file<K: Keeper, R: Source, W: Sink>(
     alloc: Global,
     keeper: &mut K,
@@ -45,28 +45,28 @@ pub fn import_file<K: Keeper, R: Source, W: Sink>(
     requires reader { R.failures reader.old < 2 ^ 64 - 1 }
     requires writer { W.failures writer.old < 2 ^ 64 - 1 }
 
-    // The step of an import of what the reader gave was done, whatever that is, and its answer printed, whole and nothing else.
+    // The step of an import of what the reader brought was done, whatever that is. Its answer was printed, whole and nothing else.
     ensures done { IfOk result (λ status. (answer : AnAnswer)
         × IsImportFrom R.remaining R.gives reader.old reader.new (K.kept keeper.old) (K.kept keeper.new) answer
         × (status ≡ answer_status answer) × (text : List ℕ) × IsAnswerText answer text
         × AppendsKnown (W.contents writer.old) (W.contents writer.new) text) }
 
-    // Where the writer fails the step was done all the same, and a part of its answer was printed.
+    // If the writer fails, the step was done all the same, and a part of its answer was printed.
     ensures part { result ≡ Err ImportFault.Write → (answer : AnAnswer)
         × IsImportFrom R.remaining R.gives reader.old reader.new (K.kept keeper.old) (K.kept keeper.new) answer
         × (text : List ℕ) × IsAnswerText answer text × (n : ℕ) × (n < length text)
         × AppendsKnown (W.contents writer.old) (W.contents writer.new) (take n text) }
 
-    // Where the reader fails, or without memory, nothing was done or written.
+    // If the reader fails, or without memory, nothing was done or written.
     ensures read { result ≡ Err ImportFault.Read → (keeper.new ≡ keeper.old) × Keeps (W.contents writer.old) (W.contents writer.new) }
     ensures memory { result ≡ Err ImportFault.Memory → (keeper.new ≡ keeper.old) × Keeps (W.contents writer.old) (W.contents writer.new) }
 
-    // `Read` is answered just where the reader failed, and `Write` just where the writer did, each once.
+    // `Read` is returned just if the reader failed, and `Write` just if the writer did, each once.
     ensures reader { R.failures reader.new ≡ R.failures reader.old + (if is_read_failure result then 1 else 0) }
     ensures writer { W.failures writer.new ≡ W.failures writer.old + (if is_write_failure result then 1 else 0) }
 
-    // It reads at most the lines that a file may have, and a block, whatever the reader gives. Each call was needed: none comes
-    // behind the end, a failure, or a piece with a fault.
+    // It reads at most the lines that a file may have, and a block, whatever the reader brings. Each call was needed: none comes
+    // after the end, a failure, or a piece with a fault.
     ensures bounded { (given : List (List ℕ)) × Reads R.gives reader.old given reader.new
         × (length (concat given) ≤ most_lines * (longest_line + 1) + block)
         × AreCallsNeeded (fault_so_far nem12) [] false given }
@@ -75,8 +75,8 @@ pub fn import_file<K: Keeper, R: Source, W: Sink>(
     import_read(alloc, keeper, read, writer)
 }
 
-/// Takes in what was read of a NEM12 file, as `import_file` does. So a file may be read before the store is opened. A delivery that
-/// no file states is taken in all the same.
+/// Imports what was read of a NEM12 file, as `import_file` does. So a file may be read before the store is opened. A delivery that
+/// no file states is imported, too.
 pub fn import_read<K: Keeper, W: Sink>(
     alloc: Global,
     keeper: &mut K,
@@ -95,7 +95,7 @@ pub fn import_read<K: Keeper, W: Sink>(
         × (text : List ℕ) × IsAnswerText answer text × (n : ℕ) × (n < length text)
         × AppendsKnown (W.contents writer.old) (W.contents writer.new) (take n text) }
 
-    // What couldn't be read changes nothing, and nothing else answers so.
+    // What couldn't be read changes nothing. `Read` and `Memory` are returned in no other case.
     ensures unread { MatchResult read (λ _. (result ≢ Err ImportFault.Read) × (result ≢ Err ImportFault.Memory))
         (λ fault. (keeper.new ≡ keeper.old) × IsUnread fault result (Keeps (W.contents writer.old) (W.contents writer.new))) }
     ensures writer { W.failures writer.new ≡ W.failures writer.old + (if is_write_failure result then 1 else 0) }
@@ -106,7 +106,7 @@ pub fn import_read<K: Keeper, W: Sink>(
     }
 }
 
-/// Tells why a file isn't read. Only a fault of the file is an answer, and is printed.
+/// Prints why a file isn't read, if that is a fault of the file. Any other reason is only returned.
 fn tell_unread<W: Sink>(
     alloc: Global,
     fault: ReadFault,
@@ -129,7 +129,7 @@ fn tell_unread<W: Sink>(
     }
 }
 
-/// Writes what a command prints of an answer, and answers the status to end with.
+/// Writes what a command prints of an answer, and returns the status to end with.
 fn tell<W: Sink>(alloc: Global, answer: &Answer, writer: &mut W) -> Result<Status, ImportFault>
     requires { W.failures writer.old < 2 ^ 64 - 1 }
     ensures done { IfOk result (λ status. (told : AnAnswer) × (text : List ℕ) × IsToldAs answer.now told

@@ -1,5 +1,10 @@
-//! What the program does over any keeper and writer: a request to a store, and what it, or the check of a file, comes to. What
-//! the codes mean that it prints.
+//! What the program does over any keeper and writer: it does a request or imports a NEM12 file, and prints the result.
+//!
+//! It decides what a command prints of an answer (`performing.rt`), and which status a run ends with (`outcome.rt`). It says what each
+//! printed code means (`explaining.rt`).
+//! Callers: `mdstore` alone.
+//! Must not change: the printed lines and the statuses 0 to 3, which `docs/USE.md` lists, and the contracts of `perform` and `import_file`,
+//! which README names. Printing a change takes no memory.
 #![tactic(auto)]
 
 mod explaining;

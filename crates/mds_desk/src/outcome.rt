@@ -1,4 +1,4 @@
-//! What a run comes to, what is printed of it, and the status that it ends with.
+//! The result of a run: what is printed of it, and the status that it ends with.
 
 ghost use Rattle.std.specs.Prelude.{◌≡◌, Some};
 ghost use Rattle.mds_desk.specs.Program.{of_check, of_import, of_request, outcome_text, status_code, status_of};
@@ -17,48 +17,48 @@ pub enum Status {
     Done,
     /// The file isn't well formed, or what it states or asks for was refused.
     Fault,
-    /// The words ask for nothing that the program does, one of them isn't what it is to be, or the file says no job.
+    /// The words ask for nothing that the program does, an argument is bad, or the file is no job.
     Usage,
-    /// Something that is needed can't be had: the file, the store, the output or memory.
+    /// Something needed is unavailable: the file, the store, the output or memory.
     Unavailable,
 }
 
-/// What a run comes to.
+/// The result of a run.
 #[derive(Clone, Copy)]
 pub enum Outcome {
-    /// All was done, and all that is to be printed was.
+    /// All was done, and everything was printed.
     Done,
     /// A store was made.
     Created,
     /// A store of an earlier schema became one of this schema.
     Migrated,
-    /// The store that was to become one of this schema is that already.
+    /// The store that was to be migrated is one of this schema already.
     AlreadyCurrent,
     /// A request was answered, and the answer was printed.
     Answered(Status),
     /// The file isn't well formed.
     Fault(FileFault),
-    /// The file says no substitution job.
+    /// The file is no substitution job.
     BadJob,
-    /// The file is no list of holidays: the row of this number, from 1, is the first that differs (H1).
+    /// The file is no list of holidays: the row with this number, from 1, is the first that differs (H1).
     BadHolidays(u64),
-    /// An argument isn't what it is to be.
+    /// An argument is bad.
     BadArgument(Argument),
-    /// The words ask for nothing that the program does, and what they may be was printed.
+    /// The words ask for nothing that the program does. What they may be was printed.
     Usage,
-    /// A word isn't text in UTF-8.
+    /// A word isn't UTF-8 text.
     NoText,
     /// The file can't be read.
     NoInput,
-    /// What is to be printed can't be.
+    /// The output can't be written.
     NoOutput,
-    /// It can't listen to the port.
+    /// The port can't be listened to.
     NoPort,
-    /// There is no memory, or the store can't be had (U1).
+    /// Memory or the store is unavailable (U1).
     Unavailable,
     /// The database is a store of an earlier schema (U2).
     EarlierSchema,
-    /// The database isn't a store of this schema, or not an empty one to make a store in (U3).
+    /// The database isn't a store of this schema, or isn't an empty one in which to make a store (U3).
     OtherSchema,
 }
 
@@ -77,7 +77,7 @@ impl Status {
 }
 
 impl Outcome {
-    /// What a run comes to that checked a file.
+    /// The result of a run that checked a file.
     pub fn of_check(answer: Result<(), CheckFault>) -> Outcome
         ensures { result ≡ of_check answer }
     {
@@ -90,7 +90,7 @@ impl Outcome {
         }
     }
 
-    /// What a run comes to that did a request.
+    /// The result of a run that did a request.
     pub fn of_request(answer: Result<Status, PerformFault>) -> Outcome
         ensures { result ≡ of_request answer }
     {
@@ -101,7 +101,7 @@ impl Outcome {
         }
     }
 
-    /// What a run comes to that took in a file as it was read.
+    /// The result of a run that imported a file as it was read.
     pub fn of_import(answer: Result<Status, ImportFault>) -> Outcome
         ensures { result ≡ of_import answer }
     {
@@ -136,7 +136,7 @@ impl Outcome {
     }
 }
 
-/// What is still to be printed of it, each time one line or nothing.
+/// What remains to be printed of it: one line or nothing.
 impl fmt::Display for Outcome {
     ghost output = { λ outcome. Some (outcome_text outcome) };
 

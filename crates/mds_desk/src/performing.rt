@@ -1,4 +1,4 @@
-//! One request over a store, for whoever asked by a command.
+//! One request over a store, as a command does it.
 
 ghost use Rattle.std.specs.Prelude.{◌≡◌, ◌+◌, ◌-◌, ◌<◌, ◌≤◌, ◌^◌, ◌++◌, ℕ, List, true, Err, OnErr, IfErr, IfOk, if◌then◌else◌, is_ok, codes, decimal, length, take};
 ghost use Rattle.std.specs.Io.KnownBytes.{Appends as AppendsKnown, Keeps};
@@ -24,10 +24,10 @@ use std::alloc::{AllocError, Global};
 /// Room for a line. The longest is a refusal's, of at most 87 bytes.
 const LONGEST: usize = 100;
 
-/// A line that is put together on the stack, so that it takes no memory.
+/// A line put together on the stack, so that it takes no memory.
 type Line = ArrayString<LONGEST>;
 
-/// What is printed of an answer: a line, a text that the answer has, which isn't copied, or its JSON text as a line.
+/// What is printed of an answer: a line, the answer's own text, which isn't copied, or its JSON text as a line.
 #[derive(Drop)]
 enum Printed<'a> {
     Line(Line),
@@ -36,7 +36,7 @@ enum Printed<'a> {
 }
 
 impl<'a> Printed<'a> {
-    /// What is printed of an answer. It takes memory for a JSON text alone, and fails just where there is none for it.
+    /// What is printed of an answer. Only a JSON text takes memory, and it fails just if memory for it runs out.
     fn of(alloc: Global, answer: &'a Answer) -> Result<Printed<'a>, AllocError>
         ensures text { IfOk result (λ printed. IsAnswerText answer.now (printed_bytes printed)) }
         ensures memory { OnErr result (has_list answer.now ≡ true) }
@@ -79,7 +79,7 @@ pub enum PerformFault {
     Memory,
 }
 
-/// Does one request over a keeper, writes what a command prints of its answer, and answers the status to end with.
+/// Does one request over a keeper, writes what a command prints of its answer, and returns the status to end with.
 pub fn perform<K: Keeper, W: Sink>(
     alloc: Global,
     keeper: &mut K,
@@ -89,13 +89,13 @@ pub fn perform<K: Keeper, W: Sink>(
     requires { W.failures writer.old < 2 ^ 64 - 1 }
 
     // A step of the machine was done, and its answer printed, whole and nothing else. It is one from every lawful World that is
-    // kept where the keeper is sound, so also after a fault that shut it.
+    // kept if the keeper is sound, so also after a fault that shut it.
     ensures done { IfOk result (λ status. (answer : AnAnswer)
         × Goes (K.kept keeper.old) (K.kept keeper.new) request.now answer
         × (status ≡ answer_status answer) × (text : List ℕ) × IsAnswerText answer text
         × AppendsKnown (W.contents writer.old) (W.contents writer.new) text) }
 
-    // Where the writer fails the step was done all the same, and a part of its answer was printed.
+    // If the writer fails, the step was done all the same, and a part of its answer was printed.
     ensures part { result ≡ Err PerformFault.Write → (answer : AnAnswer)
         × Goes (K.kept keeper.old) (K.kept keeper.new) request.now answer
         × (text : List ℕ) × IsAnswerText answer text × (n : ℕ) × (n < length text)
@@ -105,7 +105,7 @@ pub fn perform<K: Keeper, W: Sink>(
     ensures memory { result ≡ Err PerformFault.Memory → (keeper.new ≡ keeper.old)
         × Keeps (W.contents writer.old) (W.contents writer.new) }
 
-    // `Write` is answered just where the writer failed, once.
+    // `Write` is returned just if the writer failed, once.
     ensures writer { W.failures writer.new ≡ W.failures writer.old + (if is_write_failure result then 1 else 0) }
 {
     let Ok(answers) = run(alloc, keeper, std::slice::from_ref(request)) else {
@@ -117,8 +117,8 @@ pub fn perform<K: Keeper, W: Sink>(
     print_answer(alloc, answer, writer)
 }
 
-/// Writes what a command prints of an answer, and answers the status to end with. It takes no memory but for the JSON text of a
-/// query's answer: where there is none, the answer is told as unavailable.
+/// Writes what a command prints of an answer, and returns the status to end with. Only the JSON text of a query's answer takes
+/// memory: if that runs out, the answer is printed as unavailable.
 pub(crate) fn print_answer<W: Sink>(
     alloc: Global,
     answer: &Answer,
@@ -144,7 +144,7 @@ pub(crate) fn print_answer<W: Sink>(
     }
 }
 
-/// Writes a text, and answers a status.
+/// Writes a text, and returns a status.
 fn print_text<W: Sink>(text: &[u8], status: Status, writer: &mut W) -> Result<Status, PerformFault>
     requires { W.failures writer.old < 2 ^ 64 - 1 }
     ensures done { IfOk result (λ answered. (answered ≡ status)
@@ -243,7 +243,7 @@ fn unavailable_line() -> Line
     line
 }
 
-/// Appends a number behind its name.
+/// Appends a number after its name.
 fn push_number(line: &mut Line, name: &str, number: u64)
     requires { length line.old.bytes + length name.now + 20 ≤ LONGEST }
     ensures bytes { line.new.bytes ≡ line.old.bytes ++ name.now ++ decimal number }
@@ -253,7 +253,7 @@ fn push_number(line: &mut Line, name: &str, number: u64)
     line.push_str(Buffer::new().format(number));
 }
 
-/// Appends a number behind its name where it isn't 0.
+/// Appends a number after its name, unless it is 0.
 fn push_place(line: &mut Line, name: &str, number: u64)
     requires { length line.old.bytes + length name.now + 20 ≤ LONGEST }
     ensures bytes { line.new.bytes ≡ line.old.bytes ++ place_text name.now number }

@@ -1,4 +1,4 @@
--- What the steps of a commit do, before all of it is told (profile).
+-- What the steps of a commit do, before the contract of all of it (profile).
 use Rattle.std.specs.Prelude.{◌≡◌, ◌⊎◌, List, IsTrue}
 use Rattle.sqlite.specs.State.{HasCleanDisk, State}
 use Rattle.sqlite_catalog.specs.Listing.{IsSound}
@@ -14,8 +14,8 @@ use Rattle.mds_pack_rows.specs.FormLayout.{day_in, unit_in}
 use Rattle.mds_pack_rows.specs.FormTables.{schema_4}
 use Rattle.mds_form_rows.specs.FormPutting.{SayUnits, day_of}
 
--- Rows for the days of these heads were put among those of mds_head, which stay. The unit found for a row stays, too, but where the
--- row is on the day of one of these heads.
+-- Rows for the days of these heads were added to those of mds_head, which stay. The unit found for a row stays, too, unless the row
+-- is on the day of one of these heads.
 pub record KeepsUnits (heads : List Head) (old new : List Row) : Type 0 where
   pub rows : (row : Row) → Member row old → Member row new
   pub units : (row : Row) → (unit_in new row ≡ unit_in old row) ⊎ ((head : Head) × Member head heads × (day_in row ≡ day_of head))
@@ -27,7 +27,7 @@ module _ (old new : State) (additions : Additions) where
     pub keeps : KeepsUnits additions.new_days.items (old.now.trees head_tree) (new.now.trees head_tree)
     pub say : SayUnits (heads_of additions) new.now.trees
 
-  -- the same, where the connection is open and the schema is 4
+  -- the same, if the connection is open and the schema is 4
   pub record PutsDaysThere : Type 0 where
     pub was_open : HasCleanDisk new → IsTrue new.is_open → IsTrue old.is_open
     pub is_open : HasCleanDisk new → IsTrue old.is_open → IsTrue new.is_open

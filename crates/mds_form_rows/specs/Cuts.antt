@@ -1,4 +1,5 @@
--- Rows of a range of days, cut by day (profile). They are shown as rows of a day are, with the day in their third column.
+-- Rows of a range of days, cut by day (profile). They are shown as the rows of one day are, with the day in their third
+-- column.
 use Rattle.std.specs.Prelude.{◌≡◌, ◌≢◌, ◌⊎◌, ◌<◌, ℕ, List, [], ◌∷◌, ◌++◌, map}
 use Rattle.std.specs.List.{AllPairs, flat_map}
 use Rattle.sqlite_value.specs.Order.{Row}
@@ -10,7 +11,7 @@ use Rattle.mds_tables.specs.RowFacts.{natural_at, text_at, unit_named}
 use Rattle.mds_form_rows.specs.FormRows.{IsBookOf}
 use Rattle.mds_form_rows.specs.Ranges.{AreOfDay}
 
--- the columns of a row of mds_form or of mds_pack that are shown of a range
+-- the columns of a row of mds_form or of mds_pack that a query of a range shows
 abbrev pub range_columns : List ℕ
 range_columns = 4 ∷ 5 ∷ 3 ∷ []
 
@@ -22,7 +23,7 @@ day_columns = 3 ∷ 5 ∷ []
 abbrev pub day_unit : Row → ℕ × MeasureUnit
 day_unit row = (natural_at row 0, unit_named (text_at row 1))
 
--- each day stands before those after it
+-- each day is before those after it
 abbrev pub DaysAscend : List (ℕ × MeasureUnit) → Type 0
 DaysAscend days = AllPairs (λ a b. a.0 < b.0) days
 
@@ -33,7 +34,7 @@ pub record DayCut : Type 0 where
   pub forms : List Row
   pub packs : List Row
 
--- A day that is known is one of these days with their units. Its book is made of its rows, of which mds_form has one at least.
+-- A known day is one of these days with their units. Its book is made of its rows, of which at least one is in mds_form.
 pub record IsCut (s : Stream) (days : List (ℕ × MeasureUnit)) (cut : DayCut) : Type 0 where
   pub listed : Member (cut.book.day, cut.unit) days
   pub some : cut.forms ≢ []
@@ -41,7 +42,7 @@ pub record IsCut (s : Stream) (days : List (ℕ × MeasureUnit)) (cut : DayCut) 
   pub of_packs : AreOfDay cut.book.day cut.packs
   pub made : IsBookOf s cut.book.day cut.unit cut.forms cut.packs cut.book
 
--- The books are those of the known ones of these days, in turn. All rows are theirs.
+-- The books are those of the known days among these, in the same order. All rows are theirs.
 pub record AreCut (s : Stream) (days : List (ℕ × MeasureUnit)) (forms packs : List Row) (books : List BookValue) : Type 0 where
   pub cuts : List DayCut
   pub each : (cut : DayCut) → Member cut cuts → IsCut s days cut
@@ -50,7 +51,7 @@ pub record AreCut (s : Stream) (days : List (ℕ × MeasureUnit)) (forms packs :
   pub of_forms : forms ≡ flat_map (λ (cut : DayCut). cut.forms) cuts
   pub of_packs : packs ≡ flat_map (λ (cut : DayCut). cut.packs) cuts
 
--- A day adds its book where it has a row of mds_form. Where it has none it isn't known, and has no row of mds_pack either.
+-- A day adds its book if it has a row of mds_form. If it has none it isn't known, and has no row of mds_pack either.
 abbrev pub AddsDay : Stream → ℕ → MeasureUnit → List Row → List Row → List BookValue → List BookValue → Type 0
 AddsDay s day unit forms packs old new =
     ((forms ≡ []) × (packs ≡ []) × (new ≡ old))

@@ -28,7 +28,7 @@ pub record IsThereFormed (old new : State) : Type 0 where
   pub schema : old.now.schema ≡ schema_4
   pub sound : IsSound schema_4 old.now.trees
 
--- mds_form stands behind the tables of schema 3, which are as they were, and has no row. Nothing is committed.
+-- mds_form follows the tables of schema 3, which are as they were, and has no row. Nothing is committed.
 pub record MakesForm (old new : State) : Type 0 where
   pub is_open : IsTrue new.is_open
   pub schema : new.now.schema ≡ schema_4
@@ -37,7 +37,7 @@ pub record MakesForm (old new : State) : Type 0 where
   pub committed : new.committed ≡ old.committed
   pub sound : IsSound schema_4 new.now.trees
 
--- A head, kept as a row of mds_form. The row doesn't say its unit: in its place stands that of no text.
+-- A head, kept as a row of mds_form. The row doesn't say its unit: here it is the unit of the empty text.
 abbrev pub form_part : Part Head
 form_part = record {
   place = 10;
@@ -56,8 +56,8 @@ abbrev pub SayUnits : List Head → Trees → Type 0
 SayUnits heads trees =
     (head : Head) → Member head heads → (row : Row) → Member row (trees head_tree) → day_in row ≡ day_of head → unit_named (text_at row 5) ≡ head.unit
 
--- mds_head has a row for each new day, mds_form one for each head, mds_pack says the versions, and mds_daydetail has a row for the
--- details of each day: all of these beside what was there.
+-- Each new day has a row in mds_head, and each head one in mds_form. The versions are in mds_pack, and the details of each day
+-- have a row in mds_daydetail. All of these are in addition to what was there.
 abbrev pub GainsForms : Gained
 GainsForms old new additions =
     Gains head_tree (map unit_cells additions.new_days.items) old new

@@ -1,5 +1,5 @@
--- What rows of mds_form and of mds_pack that are shown of a day say (profile). Those of mds_form are an update and a length, and
--- those of mds_pack an update and a body.
+-- What the rows of mds_form and of mds_pack say that a query of a day shows (profile). Those of mds_form are an update and a
+-- length, and those of mds_pack an update and a body.
 use Rattle.std.specs.Prelude.{◌≡◌, ◌↔◌, ◌⊎◌, ℕ, List, [], ◌∷◌, ◌++◌, Some, map}
 use Rattle.sqlite_value.specs.Order.{Row}
 use Rattle.mds_names.specs.declared.stream.Stream.{Stream}
@@ -12,7 +12,7 @@ use Rattle.mds_keeper.specs.declared.day_book.Version.{Version}
 use Rattle.mds_tables.specs.RowFacts.{natural_at}
 use Rattle.mds_pack_rows.specs.DayRows.{AreHeldIn, shown_facts}
 
--- the columns of a row of mds_form that are shown of a day: the update, and the length
+-- the columns of a row of mds_form that a query of a day shows: the update, and the length
 abbrev pub form_columns : List ℕ
 form_columns = 4 ∷ 5 ∷ []
 
@@ -39,7 +39,7 @@ pub record AreUnder (forms packs : List Row) (versions : List (ℕ × Version)) 
   pub heads : AreHeadsIn forms versions
   pub held : AreHeldIn packs versions
 
--- One row of each adds its versions, under its head.
+-- One row of each table adds its versions, under its head.
 pub record AddsRow (form pack : Row) (old new : List (ℕ × Version)) : Type 0 where
   pub held : (s : Stream) (day : ℕ) → map (row_fact s day) new ≡ map (row_fact s day) old ++ shown_facts s day pack
   pub head : (s : Stream) (day : ℕ) (unit : MeasureUnit) (f : Fact)

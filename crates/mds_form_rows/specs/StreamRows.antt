@@ -1,4 +1,4 @@
--- What rows say of streams, where they are shown as the columns that name one.
+-- What rows say of streams, if their shown columns are those that name one.
 use Rattle.std.specs.Prelude.{◌≡◌, ◌↔◌, ◌⊎◌, List}
 use Rattle.sqlite.specs.declared.types.Value.TheVariants.{Text}
 use Rattle.sqlite_value.specs.Order.{Row, column}

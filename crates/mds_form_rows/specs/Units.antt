@@ -12,8 +12,8 @@ use Rattle.mds_tables.specs.Tables.{More, head_tree, schema_with}
 use Rattle.mds_pack_rows.specs.PackTables.{packs_then}
 use Rattle.mds_pack_rows.specs.Putting.{FindsThere, GoesOn}
 
--- Queries of an open connection, where all are answered, tell this of the trees. They change and commit nothing, whatever tables stand
--- behind mds_pack.
+-- Queries of an open connection, if all are answered, say this of the trees. They change and commit nothing, whatever tables follow
+-- mds_pack.
 pub record AsksThere {X E : Type 0} (old new : State) (result : Result X E) (Tells : X → Trees → Type 0) : Type 0 where
   pub ok : HasCleanDisk new → IsTrue old.is_open → IfOk result (λ x. FindsThere old new (Tells x))
   pub goes_on : OnOk result (GoesOn old new)

@@ -1,5 +1,5 @@
-//! The book of a day, from its rows of mds_form and of mds_pack: both have one of each update, in the same order. Rows that aren't
-//! so are unavailable.
+//! The book of a day, from its rows of mds_form and of mds_pack. Both tables have one row for each update, in the same order. Rows
+//! that don't match in this way are unavailable.
 
 ghost use Rattle.std.specs.Prelude.{◌≡◌, ◌<◌, ◌^◌, ◌++◌, ◌∷◌, [], ℕ, length as list_length, map, IfOk, IfSome, OnOk};
 ghost use Rattle.mds_names.specs.declared.stream.Stream.{Stream as StreamValue};
@@ -19,8 +19,8 @@ use mds_terms::{Day, Length, Moment, Stream};
 use sqlite::Row;
 use std::alloc::Global;
 
-/// The book of a day with this unit. Each row of mds_form says a head of it, and each row of mds_pack the versions under one, in
-/// pairs. Unavailable where the versions aren't those of a day.
+/// The book of a day with this unit. Rows of mds_form and of mds_pack are taken in pairs: a head, and the versions under it.
+/// Unavailable if the versions aren't those of a day.
 pub(crate) fn book_of(
     alloc: Global,
     stream: &Stream,
@@ -40,7 +40,7 @@ pub(crate) fn book_of(
     }
 }
 
-/// The versions that rows of a day hold. Those of a whole day under one update stay as they lie.
+/// The versions that rows of a day hold. Those of a whole day under one update are never spread.
 fn versions_in(alloc: Global, forms: &[Row], packs: &[Row]) -> Result<VersionRows, Unavailable>
     ensures under { IfOk result (λ versions. AreUnder forms.now packs.now (rows_of versions)) }
     ensures paired { OnOk result (list_length forms.now ≡ list_length packs.now) }
@@ -51,7 +51,7 @@ fn versions_in(alloc: Global, forms: &[Row], packs: &[Row]) -> Result<VersionRow
     }
 }
 
-/// The versions of an update that is alone and has a reading of each interval, as they lie. `None` where there is no such update.
+/// The versions of the only update, without spreading them, if it has a reading of each interval. Else `None`.
 fn whole_in(alloc: Global, forms: &[Row], packs: &[Row]) -> Result<Option<VersionRows>, Unavailable>
     ensures under { IfOk result (λ o. IfSome o (λ versions. AreUnder forms.now packs.now (rows_of versions))) }
     ensures paired { IfOk result (λ o. IfSome o (λ _. list_length forms.now ≡ list_length packs.now)) }
@@ -72,12 +72,12 @@ fn whole_in(alloc: Global, forms: &[Row], packs: &[Row]) -> Result<Option<Versio
     let Some(readings) = unpack_whole(alloc, length, body)? else {
         return Ok(None);
     };
-    // For the proof: so many intervals of this length are a day, so it has one.
+    // For the proof: a day has at least one interval of this length.
     let _ = length.count();
     Ok(Some(VersionRows::Whole(length, update, readings)))
 }
 
-/// The versions that rows of a day hold, one by one. Unavailable where one table has more rows than the other.
+/// The versions that rows of a day hold, one by one. Unavailable if one table has more rows than the other.
 fn each_in(alloc: Global, forms: &[Row], packs: &[Row]) -> Result<Vec<(u16, Version)>, Unavailable>
     ensures under { IfOk result (λ versions. AreUnder forms.now packs.now versions.items) }
     ensures paired { OnOk result (list_length forms.now ≡ list_length packs.now) }
@@ -92,7 +92,7 @@ fn each_in(alloc: Global, forms: &[Row], packs: &[Row]) -> Result<Vec<(u16, Vers
     Ok(versions)
 }
 
-/// Adds the versions of an update. Unavailable where the rows aren't of one, or the body has no reading of this length.
+/// Adds the versions of an update. Unavailable if the rows are of two updates, or the body has no reading of this length.
 fn add_row(
     alloc: Global,
     form: &Row,
@@ -107,7 +107,7 @@ fn add_row(
     add_held(length, update, readings, versions)
 }
 
-/// The update and the length that a row of mds_form says. `None` where the row of mds_pack is of another update.
+/// The update and the length that a row of mds_form says. `None` if the row of mds_pack is of another update.
 fn head_in(form: &Row, pack: &Row) -> Option<(Moment, Length)>
     ensures update { IfSome result (λ head. natural_at form.now 0 ≡ head.0) }
     ensures length { IfSome result (λ head. natural_at form.now 1 ≡ head.1) }
@@ -123,7 +123,7 @@ fn head_in(form: &Row, pack: &Row) -> Option<(Moment, Length)>
     }
 }
 
-/// Adds a version of a length for each reading.
+/// Adds a version with this length for each reading.
 fn add_held(
     length: Length,
     update: Moment,
@@ -142,7 +142,7 @@ fn add_held(
     Ok(())
 }
 
-/// Adds the version of an interval of a length, if it has a reading.
+/// Adds the version of an interval with this length, if it has a reading.
 fn add_one(
     interval: u16,
     length: Length,

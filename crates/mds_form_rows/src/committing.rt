@@ -1,4 +1,4 @@
-//! A commit of additions to a store of schema 4.
+//! Commits additions to a store of schema 4.
 
 ghost use Rattle.std.specs.Prelude.{◌≡◌, false, OnErr, OnOk};
 ghost use Rattle.sqlite.specs.Held.{state};
@@ -21,8 +21,7 @@ use mds_tables::{or_unavailable, ready};
 use sqlite::{Alter, Connection, Transaction};
 use std::alloc::Global;
 
-/// Puts the rows of new days, and tests that mds_head says the unit of each head that is added. So the heads that it had keep their
-/// units.
+/// Puts the rows of new days, and tests that mds_head says the unit of each added head. So the earlier heads keep their units.
 fn put_new_days<S: Alter>(
     tx: &mut Transaction<'_, S>,
     additions: &Additions,
@@ -51,7 +50,7 @@ fn put_all_forms<S: Alter>(
     put_forms(tx, &additions.heads)
 }
 
-/// Puts heads, versions and details of days: first new days, since rows of mds_pack and mds_daydetail refer to them.
+/// Puts heads, versions and details of days. New days come first, since rows of mds_pack and mds_daydetail refer to them.
 fn put_own<S: Alter>(
     alloc: Global,
     tx: &mut Transaction<'_, S>,
@@ -74,7 +73,7 @@ fn put_own<S: Alter>(
     put_details(tx, &additions.details)
 }
 
-/// Puts all of them.
+/// Puts all additions.
 fn put_all<S: Alter>(
     alloc: Global,
     tx: &mut Transaction<'_, S>,
@@ -93,7 +92,7 @@ fn put_all<S: Alter>(
     or_unavailable(put_rest(tx, additions, periods, jobs))
 }
 
-/// Puts all of them in a transaction of its own.
+/// Puts all additions in a transaction of its own.
 fn write<S: Alter>(
     alloc: Global,
     conn: &mut Connection<S>,
@@ -116,8 +115,8 @@ fn write<S: Alter>(
 }
 
 /// Commits additions to the World that a store of schema 4 keeps: all of them, or nothing. A crash leaves what was kept, or that
-/// with all of them. For accumulations and jobs the rows are given (`period_rows`, `job_rows` of `mds_inserts`). It is unavailable,
-/// too, where mds_head says another unit of the day of a head.
+/// with all of them. The caller passes the rows of accumulations and jobs (`period_rows`, `job_rows` of `mds_inserts`). Also
+/// unavailable if mds_head says another unit of the day of a head.
 pub fn commit<S: Alter>(
     alloc: Global,
     conn: &mut Connection<S>,

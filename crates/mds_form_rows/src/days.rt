@@ -1,4 +1,4 @@
-//! A day, asked of a store. A store that can't answer is unavailable (U1). So is one that holds a row that it didn't write.
+//! Reads a day of a store. A store that can't answer is unavailable (U1), and so is one with a row that it didn't write.
 
 ghost use Rattle.std.specs.Prelude.{◌≡◌, ◌∷◌, [], false, IfOk};
 ghost use Rattle.sqlite.specs.Held.{state};
@@ -21,7 +21,7 @@ use mds_terms::{Day, Stream};
 use sqlite::{Alter, Connection, Row};
 use std::alloc::Global;
 
-/// A day of a stream with all its heads and versions. It is known where mds_form has a row of it.
+/// A day of a stream with all its heads and versions. It is known if mds_form has a row of it.
 pub fn day_of<S: Alter>(
     alloc: Global,
     conn: &mut Connection<S>,
@@ -52,7 +52,8 @@ fn unknown_day(alloc: Global, stream: &Stream, day: Day) -> DayBook
     DayBook::unknown(alloc, *stream, day)
 }
 
-/// The book of a day with such rows, whose unit the one row of mds_head says. Unavailable where there isn't just one.
+/// The book of a day with these rows. Its unit is that of the only row of mds_head, and a day without just one such row is
+/// unavailable.
 fn known_day(
     alloc: Global,
     stream: &Stream,

@@ -1,4 +1,4 @@
-//! Knows the tables of schema 4 again.
+//! Recognizes the tables of schema 4.
 
 ghost use Rattle.std.specs.Prelude.{◌≡◌, ◌≢◌, ◌↔◌, [], ◌∷◌, IsTrue, codes};
 ghost use Rattle.std.specs.Bool.{MatchBool};
@@ -10,14 +10,14 @@ use mds_tables::{is_key_index, is_keyed};
 use sqlite_schema::schema::{Action, Index, Kind, Reference, Schema, Table};
 use sqlite_value::value::Bytes;
 
-/// Whether a name is this one.
+/// Whether a name is the wanted one.
 fn is_name(name: &Bytes, wanted: &str) -> bool
     ensures { IsTrue result ↔ (name.now ≡ wanted.now) }
 {
     name.as_slice() == wanted.as_bytes()
 }
 
-/// Whether these are the names of the columns that a row of mds_pack begins with.
+/// Whether these are the names of the first columns of mds_pack.
 fn are_key_names(names: &[Bytes]) -> bool
     ensures { IsTrue result ↔ (names.now ≡ codes "nmi" ∷ codes "suffix" ∷ codes "day" ∷ codes "moment" ∷ []) }
 {
@@ -32,7 +32,7 @@ fn are_key_names(names: &[Bytes]) -> bool
     }
 }
 
-/// Whether a reference is that to the row of mds_pack with the head's versions.
+/// Whether a reference is the one to the row of mds_pack with the head's versions.
 fn is_to_pack(reference: &Reference) -> bool
     ensures { IsTrue result ↔ (reference.now ≡ to_pack) }
 {
@@ -44,7 +44,7 @@ fn is_to_pack(reference: &Reference) -> bool
         && !reference.is_deferred
 }
 
-/// Whether there is this one reference.
+/// Whether the only reference is that one.
 fn are_to_pack(references: &[Reference]) -> bool
     ensures { IsTrue result ↔ (references.now ≡ to_pack ∷ []) }
 {
@@ -81,7 +81,7 @@ fn is_form_index(index: &Index) -> bool
     is_key_index(index, "sqlite_autoindex_mds_form_1", 20, &[1, 2, 3, 4])
 }
 
-/// Whether these are the tables of schema 3, and behind them that of the heads of days.
+/// Whether these are the tables of schema 3, followed by that of the heads of days.
 fn are_formed_tables(tables: &[Table]) -> bool
     ensures { IsTrue result ↔ (tables.now ≡ tables_4) }
 {

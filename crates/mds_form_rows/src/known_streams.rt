@@ -1,5 +1,5 @@
-//! The known streams and their last days. A day is known where mds_form has a row of it. A store that can't answer is unavailable
-//! (U1). So is one that holds a row that it didn't write.
+//! The known streams and their last days. A day is known if mds_form has a row of it. A store that can't answer is unavailable
+//! (U1), and so is one with a row that it didn't write.
 
 ghost use Rattle.std.specs.Prelude.{◌≡◌, ◌≢◌, ℕ, List, ◌∷◌, false, IfOk, OnErr, OnOk, Option};
 ghost use Rattle.std.specs.List.{AllPairs};
@@ -25,7 +25,7 @@ use sqlite::{Alter, Connection, Row};
 use std::alloc::Global;
 use std::collections::BTreeSet;
 
-/// The last known day of a stream. `None` where it has none.
+/// The last known day of a stream. `None` if it has none.
 pub fn last_day<S: Alter>(
     conn: &mut Connection<S>,
     stream: &Stream,
@@ -40,7 +40,7 @@ pub fn last_day<S: Alter>(
     last_of(&first, &last)
 }
 
-/// The day that the row of the last one says. Where the row of the first one says a day too, no day of the stream is below 0.
+/// The day of the last row. If the first row says a day too, no day of the stream is below 0.
 fn last_of(first: &[Row], last: &[Row]) -> Result<Option<Day>, Unavailable>
     ensures first { IfOk result (λ _. (day : Option ℕ) × SaysDay first.now day) }
     ensures last { IfOk result (SaysDay last.now) }
@@ -49,7 +49,7 @@ fn last_of(first: &[Row], last: &[Row]) -> Result<Option<Day>, Unavailable>
     first_day(last)
 }
 
-/// The day of the first row. `None` where there is no row.
+/// The day of the first row. `None` if there is no row.
 fn first_day(rows: &[Row]) -> Result<Option<Day>, Unavailable>
     ensures ok { IfOk result (SaysDay rows.now) }
     ensures err { OnErr result ((row : RowValue) × (later : List RowValue) × (rows.now ≡ row ∷ later)

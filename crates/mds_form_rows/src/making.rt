@@ -15,7 +15,7 @@ use mds_pack_rows::{make_daydetail, make_pack};
 use mds_tables::{make_empty, ready, say_version};
 use sqlite::{Alter, Connection, Error, Transaction};
 
-/// Makes mds_form, without a row, behind the tables of schema 3.
+/// Makes mds_form, without a row, after the tables of schema 3.
 pub fn make_form<S: Alter>(tx: &mut Transaction<'_, S>) -> Result<(), Error>
     ensures same_reference { tx.new.conn.ghost_name ≡ tx.old.conn.ghost_name }
     ensures ok { OnOk result (MakesThere schema_3 schema_4 (state S.Store tx.old.conn.now) (state S.Store tx.new.conn.now)) }
@@ -67,13 +67,13 @@ fn make_all<S: Alter>(conn: &mut Connection<S>) -> Result<(), Error>
     tx.commit()
 }
 
-/// Makes the tables of schema 4 in a database that has none, and says in them that it is 4. It does all of that in one
-/// transaction. A crash leaves what was there, or all of it.
+/// Makes the tables of schema 4 in a database that has none, and says in them that it is 4, all in one transaction. A
+/// crash leaves what was there, or all of it.
 pub fn make_tables<S: Alter>(conn: &mut Connection<S>) -> Result<(), Error>
     requires { conn.old.in_transaction ≡ false }
     ensures ok { HasCleanDisk (state S.Store conn.new) → OnOk result (IsMadeOf forms_layout (state S.Store conn.old) (state S.Store conn.new)) }
     ensures err { HasCleanDisk (state S.Store conn.new) → OnErr result (KeepsCommit (state S.Store conn.old) (state S.Store conn.new)) }
-    // No rule of the database is against these tables. So it is the store that fails, or the limit of steps.
+    // No rule of the database is against these tables. So the store fails, or the limit of steps is reached.
     ensures cause { HasCleanDisk (state S.Store conn.new)
         → (IsTrue (state S.Store conn.old).is_open → (state S.Store conn.old).committed.schema ≡ no_schema)
         → IfErr result (HasFailed (state S.Store conn.old) (state S.Store conn.new)) }

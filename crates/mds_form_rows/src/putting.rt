@@ -17,7 +17,7 @@ use mds_world::Head;
 use sqlite::types::ValueRef;
 use sqlite::{Alter, Transaction};
 
-/// Puts the rows of heads, each of which has its versions in mds_pack. Eight in turn go in by one statement. It is unavailable where
+/// Puts the rows of heads, each of which has its versions in mds_pack. Eight adjacent ones go in with one statement. Unavailable if
 /// a day has a head of its update already.
 pub fn put_forms<S: Alter>(tx: &mut Transaction<'_, S>, heads: &[Head]) -> Result<(), Unavailable>
     ensures same_reference { tx.new.conn.ghost_name ≡ tx.old.conn.ghost_name }
@@ -45,7 +45,7 @@ fn put_each<S: Alter>(tx: &mut Transaction<'_, S>, heads: &[Head]) -> Result<(),
     Ok(())
 }
 
-/// Puts the rows of eight heads by one statement.
+/// Puts the rows of eight heads with one statement.
 fn put_eight<S: Alter>(
     tx: &mut Transaction<'_, S>,
     heads: &[Head; TOGETHER],
@@ -88,7 +88,7 @@ fn eight_cells<'a>(heads: &'a [Head]) -> [[ValueRef<'a>; 5]; 8]
     ]
 }
 
-/// Puts the row of a head, which has its versions in mds_pack. It is unavailable where the day has a head of its update already.
+/// Puts the row of a head, which has its versions in mds_pack. Unavailable if the day has a head of its update already.
 pub fn put_form<S: Alter>(tx: &mut Transaction<'_, S>, head: &Head) -> Result<(), Unavailable>
     ensures same_reference { tx.new.conn.ghost_name ≡ tx.old.conn.ghost_name }
     ensures ok { OnOk result (PutsThere schema_4 form_part (state S.Store tx.old.conn.now) (state S.Store tx.new.conn.now) (head.now ∷ [])) }

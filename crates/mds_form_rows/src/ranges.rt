@@ -1,5 +1,5 @@
-//! The days of a range, found by three queries, whatever its length. A store that can't answer is unavailable (U1). So is one that
-//! holds a row that it didn't write.
+//! The days of a range, found by three queries, whatever the length of the range. A store that can't answer is unavailable (U1),
+//! and so is one with a row that it didn't write.
 
 ghost use Rattle.std.specs.Prelude.{◌≡◌, ◌≢◌, ◌≤◌, ◌↔◌, List, [], ◌∷◌, drop, false, length, map, take, IfOk, IfSome, IsTrue, OnOk};
 ghost use Rattle.std.specs.Bool.{OnFalse};
@@ -24,7 +24,7 @@ use mds_terms::{Day, Stream};
 use sqlite::{Alter, Connection, Row};
 use std::alloc::Global;
 
-/// The known days of a stream from a first to a last one, ascending, each with all its heads and versions.
+/// The known days of a stream in a range, ascending, each with all its heads and versions.
 pub fn days_of<S: Alter>(
     alloc: Global,
     conn: &mut Connection<S>,
@@ -45,7 +45,7 @@ pub fn days_of<S: Alter>(
     all_books(alloc, stream, &heads, &forms, &packs)
 }
 
-/// The books of the days that rows of mds_head say, but for those that aren't known.
+/// The books of the days that rows of mds_head say, without the days that aren't known.
 fn all_books(
     alloc: Global,
     stream: &Stream,
@@ -57,7 +57,7 @@ fn all_books(
     ensures ascending { IfOk result (λ _. DaysAscend (map day_unit heads.now)) }
 {
     let days = days_in(alloc, heads)?;
-    // The query gives them in this order, and there is one row of a day.
+    // The query returns them in this order, and each day has one row.
     if !do_ascend(&days) {
         return Err(Unavailable);
     }
@@ -90,7 +90,7 @@ fn do_ascend(days: &[(Day, Unit)]) -> bool
     days.is_sorted_by(|a, b| a.0 < b.0)
 }
 
-/// A book for each known day. Its rows are cut off the front of those that are left. At the end none may be left.
+/// A book for each known day. Its rows are cut off the front of those that are left, and none may be left at the end.
 fn cut_by_day(
     alloc: Global,
     stream: &Stream,
@@ -118,14 +118,14 @@ fn cut_by_day(
     Ok(books)
 }
 
-/// Whether there is no row of either table.
+/// Whether neither table has a row.
 pub(crate) fn are_none(forms: &[Row], packs: &[Row]) -> bool
     ensures { IsTrue result ↔ ((forms.now ≡ []) × (packs.now ≡ [])) }
 {
     forms.is_empty() && packs.is_empty()
 }
 
-/// Adds the book of a day. One without a row of either table isn't known, and has no book.
+/// Adds the book of a day. A day without a row in either table isn't known, and has no book.
 fn add_day(
     alloc: Global,
     stream: &Stream,

@@ -1,4 +1,4 @@
-//! The queries, and the rows that they answer.
+//! The queries, and the rows that they return.
 
 ghost use Rattle.std.specs.Prelude.{[]};
 ghost use Rattle.sqlite.specs.Held.{state};

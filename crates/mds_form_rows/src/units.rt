@@ -1,4 +1,4 @@
-//! The units of days, asked of mds_head.
+//! The units of days, read from mds_head.
 
 ghost use Rattle.std.specs.Prelude.{◌≡◌, IsTrue};
 ghost use Rattle.std.specs.List.{AllByRecursion};
@@ -18,12 +18,12 @@ use mds_terms::{Day, Stream};
 use mds_world::Head;
 use sqlite::{Alter, Row, Transaction};
 
-/// Heads of one stream are asked for at once where fewer than so many days lie between them: each row of these days is read.
+/// Heads of one stream are asked for at once if fewer than this many days are between them. Each row of these days is read.
 const MOST_APART: i64 = 64;
 
 /// Unavailable unless each row of mds_head on the day of one of these heads says the head's unit.
 ///
-/// Heads of a stream lie together, by day. So eight in turn are asked for at once where they have one unit and are near each other.
+/// Heads of a stream are adjacent, by day. So eight in a row are asked for at once, if they have one unit and are near each other.
 pub(crate) fn have_units<S: Alter>(
     tx: &mut Transaction<'_, S>,
     heads: &[Head],
@@ -72,7 +72,7 @@ fn have_each<S: Alter>(tx: &mut Transaction<'_, S>, heads: &[Head]) -> Result<()
     Ok(())
 }
 
-/// Whether these heads have the stream and the unit of one head, on days from its to a last one.
+/// Whether these heads have the stream and the unit of one head, on days from that head's to a last one.
 fn are_like(heads: &[Head], first: &Head, last: Day) -> bool
     ensures { IsTrue result → AllByRecursion (IsLike first.now last) heads.now }
 {
@@ -82,7 +82,7 @@ fn are_like(heads: &[Head], first: &Head, last: Day) -> bool
     }
 }
 
-/// Whether a head has the stream and the unit of another, on a day from that one's to a last one.
+/// Whether a head has the stream and the unit of another, on a day from that head's to a last one.
 fn is_like(head: &Head, first: &Head, last: Day) -> bool
     ensures { IsTrue result → IsLike first.now last head.now }
 {
@@ -128,7 +128,7 @@ fn says(row: &Row, unit: Unit) -> bool
     }
 }
 
-/// The units that mds_head says of the days of a stream, from a first to a last one.
+/// The units that mds_head says of the days of a stream in a range.
 fn unit_rows<S: Alter>(
     tx: &mut Transaction<'_, S>,
     stream: &Stream,
@@ -138,7 +138,7 @@ fn unit_rows<S: Alter>(
     ensures same_reference { tx.new.conn.ghost_name ≡ tx.old.conn.ghost_name }
     ensures asks { AsksThere (state S.Store tx.old.conn.now) (state S.Store tx.new.conn.now) result (λ rows. ShowUnits stream.now first last rows.items) }
 {
-    // For the proof: a day's number is at most that of the last day there is.
+    // For the proof: a day's number is at most that of the last possible day.
     let _ = last.number();
     or_unavailable(tx.query_all(
         "SELECT unit FROM mds_head WHERE nmi = ?1 AND suffix = ?2 AND day >= ?3 AND day <= ?4",

@@ -1,4 +1,4 @@
--- What is made of the body of a request while it comes (profile).
+-- The body of a request while it comes (profile).
 use Rattle.std.specs.Prelude.{◌≡◌, ◌≢◌, ◌⊎◌, ◌<◌, ◌≤◌, ℕ, List, [], length, None, IfSome, vec_capacity}
 use Rattle.mds_nem12.specs.Answers.{MayLackMemory, fault_so_far}
 use Rattle.mds_nem12.specs.Faults.{nem12}
@@ -16,20 +16,20 @@ use Rattle.mds_wire.specs.declared.route.Route.{Route}
 use Rattle.mds_http.specs.declared.body.Body.{Body}
 use Rattle.mds_http.specs.declared.body.Body.TheVariants.{IntervalData, Whole}
 
--- a reader hasn't answered that memory is wanting
+-- a reader hasn't answered that it ran out of memory
 abbrev pub HadMemory : LineFeeder (FileReader DeliveryBuilder) → Type 0
 HadMemory reader = IfSome (reader_fault reader) (λ found. found ≢ Memory)
 
--- A body was begun for a route, a target and so many bytes, and was fed these: a reader where they ask for an import of interval
--- data, and the bytes themselves where they don't, or where there are none. For them there is room.
+-- A body was begun for a route, a target and a size, and was fed these bytes. It is a reader if they ask for an import of
+-- interval data. Else, or if there are no bytes, it is the bytes themselves, for which there is room.
 abbrev pub HoldsBody : Body → Route → (target : List ℕ) → (size : ℕ) → (bytes : List ℕ) → Type 0
 HoldsBody (IntervalData reader) route target size bytes =
     ImportsIntervalData route target × HasRead bytes reader × HadMemory reader × (length bytes ≤ longest_body)
 HoldsBody (Whole held) route target size bytes =
     (ImportsIntervalData route target → size ≡ 0) × (held.items ≡ bytes) × (size ≤ vec_capacity held)
 
--- What takes memory before a step: a query that has a pair, a body with bytes before they come, a piece of interval data for
--- which its reader may lack memory, and a whole body of which a request takes memory.
+-- What takes memory before a step. A query with a pair, and a body with bytes before they come. A piece of interval data for
+-- which its reader may lack memory. A whole body whose request takes memory.
 abbrev pub TakesMemoryAt : Route → (target : List ℕ) → (size : ℕ) → (came piece : List ℕ) → Type 0
 TakesMemoryAt route target size came piece =
     (pairs_of (query_of target) ≢ [])

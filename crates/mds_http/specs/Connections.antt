@@ -6,8 +6,8 @@ use Rattle.mds_http.specs.Laws.{AreServed}
 use Rattle.mds_http.specs.declared.handling.StoreHandler.{StoreHandler}
 
 module _ {K : Type 0} (kept : K → Kept) where
-  -- At most so many connections, one after the other, changed the store: each as its bytes mean, with the answer that they mean.
-  -- A connection that failed before its request was whole isn't among them.
+  -- At most this many connections, one after the other, changed the store. Each changed it as its bytes mean, with the answer
+  -- that they mean. A connection that failed before its request was whole isn't among them.
   abbrev pub HasServed : StoreHandler K → ℕ → StoreHandler K → Type 0
   HasServed old count new = (connections : List (List ℕ × Answer)) × (length connections ≤ count)
       × AreServed kept old connections new

@@ -1,4 +1,4 @@
--- What a request over HTTP does to a store, and what is answered (profile).
+-- What a request over HTTP does to a store, and its answer (profile).
 use Rattle.std.specs.Prelude.{◌≡◌, ◌⊎◌, ℕ, List, codes}
 use Rattle.serde_json.specs.Written.{compact_text}
 use Rattle.mds_keeper.specs.declared.refusal.RefusalCode.{RefusalCode}
@@ -21,7 +21,7 @@ use Rattle.mds_wire.specs.declared.answer.Status.TheVariants.{Success, BadReques
 use Rattle.mds_wire.specs.declared.route.Route.{Route}
 use Rattle.mds_http.specs.declared.handling.StoreHandler.{StoreHandler}
 
--- the status of a refusal: what isn't there is 404, what another state of the store would take is 409
+-- the status of a refusal: 404 for what doesn't exist, 409 for what another state of the store would accept
 abbrev pub status_of_rule : RefusalCode → Status
 status_of_rule LengthConflict = Conflict
 status_of_rule UnitConflict = Conflict
@@ -50,15 +50,15 @@ Tells (told.Finals text) kind body = (kind ≡ Csv) × (body ≡ text.items)
 Tells (told.Exported text) kind body = (kind ≡ Csv) × (body ≡ text.items)
 Tells answer kind body = (kind ≡ Json) × IsJson answer body
 
--- what a target and a body that ask for nothing are told
+-- the answer to a target and a body that ask for nothing
 abbrev pub TellsFault : TargetFault → Status → Kind → List ℕ → Type 0
 TellsFault fault.Bad status kind body = (status ≡ BadRequest) × (kind ≡ Json) × (body ≡ refusal_body BadRequest)
 TellsFault (fault.BadHolidays row) status kind body =
     (status ≡ Unprocessable) × (kind ≡ Json) × (body ≡ compact_text (refused (codes "H1") 0 0 row))
 TellsFault fault.Memory status kind body = ⊥
 
--- A request that a target and a body ask for went so, and its answer is told. Or they ask for none, this is told, and nothing is
--- changed.
+-- A request that a target and a body ask for was done in this way, and its answer is sent. Or they ask for none: that is
+-- answered, and nothing is changed.
 abbrev pub Handled : Route → (target body : List ℕ) → Status → Kind → (text : List ℕ) → (is_same : Type 0)
     → (goes : Request → Answer → Type 0) → Type 0
 Handled route target body status kind text is_same goes =
@@ -66,7 +66,7 @@ Handled route target body status kind text is_same goes =
     × (status ≡ status_of answer) × Tells answer kind text)
     ⊎ ((fault : TargetFault) × IsFaultAt route target body fault × TellsFault fault status kind text × is_same)
 
--- A step of a store over HTTP, by its keeper before and after: the request is done by a step of the machine.
+-- A step of a store over HTTP, between two states of its keeper: the request is done by a step of the machine.
 module _ {K : Type 0} (kept : K → Kept) where
   abbrev pub HandlesBy : StepOf K
   HandlesBy old route target body status kind text new =

@@ -1,4 +1,4 @@
--- What follows of what bytes mean to a store.
+-- What follows from the meaning of bytes to a store.
 use Rattle.std.specs.Prelude.{◌≡◌, ◌≢◌, ◌⊎◌, ◌≤◌, ℕ, false, List, [], ◌∷◌, length, take}
 use Rattle.httparse.specs.Grammar.{RequestHead, ReadsRequest}
 use Rattle.mds_world.specs.World.{IsLawful, World}
@@ -21,7 +21,7 @@ use Rattle.mds_http.specs.Bodies.{TakesMemoryAt}
 use Rattle.mds_http.specs.Handling.{Handles, Tells, status_of}
 use Rattle.mds_http.specs.Serving.{IsSame, MeansOver}
 
--- the bytes begin with a head that wants a body of this size on a route
+-- the bytes begin with a head that announces a body of this size on a route
 abbrev pub Wants : List ℕ → RequestHead → List ℕ → Route → ℕ → Type 0
 Wants bytes head rest route size =
     ReadsRequest bytes head rest × (length head.fields ≤ most_fields) × IsHeadOf head route size
@@ -32,7 +32,7 @@ AskFor bytes request =
     (head : RequestHead) × (rest : List ℕ) × (route : Route) × (size : ℕ) × Wants bytes head rest route size
     × (size ≤ length rest) × AsksAt route head.target (take size rest) request
 
--- the answer tells this one
+-- the answer says this one
 abbrev pub IsTold : Told → Answer → Type 0
 IsTold told answer =
     (answer.status ≡ status_of told) × Tells told answer.kind answer.body × (answer.is_head ≡ false)
@@ -43,8 +43,8 @@ AskForNone bytes =
     (head : RequestHead) (rest : List ℕ) (route : Route) (size : ℕ) → Wants bytes head rest route size → size ≤ length rest
     → (reason : TargetFault) × (reason ≢ fault.Memory) × IsFaultAt route head.target (take size rest) reason
 
--- The requests that were done, and their answers: by each connection the one that its bytes ask for, whose answer it was told.
--- It was none where the bytes ask for none, or where what they ask for takes memory, and the connection was told 503.
+-- The requests that were done, with their answers. Each connection adds the request that its bytes ask for, and was sent the
+-- answer. It adds none if the bytes ask for none. It adds none either if what they ask for takes memory, and it was sent 503.
 abbrev pub AreDone : List (List ℕ × Answer) → List Request → List Told → Type 0
 AreDone [] requests answers = (requests ≡ []) × (answers ≡ [])
 AreDone (connection ∷ connections) requests answers =
@@ -55,7 +55,7 @@ AreDone (connection ∷ connections) requests answers =
     × AreDone connections later more)
 
 module _ {K : Type 0} (kept : K → Kept) where
-  -- the bytes of connections, one after the other, and what they were answered
+  -- the bytes of connections, one after the other, and their answers
   abbrev pub AreServed : StoreHandler K → List (List ℕ × Answer) → StoreHandler K → Type 0
   AreServed old [] new = new ≡ old
   AreServed old (connection ∷ connections) new =
@@ -63,8 +63,8 @@ module _ {K : Type 0} (kept : K → Kept) where
       × AreServed next connections new
 
   -- Connections are a run of the machine. It does the requests that they ask for, each once and in their order, with the answers
-  -- that they were told. A store that is sound keeps the World of the run. A crash leaves it, or it with one more whole request
-  -- whose answer was Unavailable.
+  -- that they were sent. A sound store keeps the World of the run. A crash leaves it, or it with one more whole request whose
+  -- answer was Unavailable.
   abbrev pub ConnectionsRun : Type 0
   ConnectionsRun = (connections : List (List ℕ × Answer)) (first last : StoreHandler K)
       → AreServed first connections last → (kept last.keeper).honest → (kept first.keeper).sound
@@ -74,11 +74,11 @@ module _ {K : Type 0} (kept : K → Kept) where
       × ((kept last.keeper).sound → (kept last.keeper).world ≡ w)
       × ((left : World) → (kept last.keeper).may_leave left → MayLeave w requests answers left)
 
-  -- bytes that hold no head change nothing
+  -- bytes without a head change nothing
   abbrev pub NoHeadNoChange : Type 0
   NoHeadNoChange = Headless (Handles kept) IsSame TakesMemoryAt
 
-  -- nor do those of a head that is refused
+  -- nor do those with a refused head
   abbrev pub RefusedNoChange : Type 0
   RefusedNoChange = (bytes rest : List ℕ) (head : RequestHead) (status : Status) (old new : StoreHandler K)
       (answer : Answer) → ReadsRequest bytes head rest → length head.fields ≤ most_fields

@@ -1,4 +1,4 @@
--- What bytes mean to a store, and what a call that serves one request of them does, in the words of `mds_wire`.
+-- What bytes mean to a store, and what a call does that serves one request, in the words of `mds_wire`.
 use Rattle.std.specs.Prelude.{◌≡◌, ◌≤◌, ℕ, Bool, false, List, length, Option, Result, Ok, Err}
 use Rattle.mds_keeper.specs.Kept.{Kept}
 use Rattle.mds_wire.specs.Calls.{HasRead}
@@ -27,11 +27,11 @@ module _ {K : Type 0} (kept : K → Kept) where
       Serves (Handles kept) IsSame TakesMemoryAt gives reader_old reader_new old_left new_left held holds old new
       result
 
--- each call reads up to so many bytes of a rest
+-- each call reads up to a count of bytes of a rest
 abbrev pub WantsRest : List ℕ → ℕ → Type 0
 WantsRest bytes count = count ≡ 16384
 
--- A rest was read: to its end, until a call failed, or by 1,024 calls, which is 16 MB at most.
+-- A rest was read: to its end, until a call failed, or by 1,024 calls, which is at most 16 MB.
 pub record HasReadRest {E : Type 0} (gives : E → List ℕ → E → Type 0) (old new : E)
     (old_left new_left : Option (List ℕ)) : Type 0 where
   pub bytes : List ℕ
@@ -40,7 +40,7 @@ pub record HasReadRest {E : Type 0} (gives : E → List ℕ → E → Type 0) (o
   pub read : HasRead WantsRest gives old new old_left new_left bytes is_ended
   pub most : is_ended ≡ false → length read.calls ≡ 1024
 
--- The rest is read behind a refusal that was answered, and else nothing of it.
+-- The rest is read after a refusal that was answered. Otherwise nothing of it is read.
 abbrev pub ReadsRest : {E : Type 0} → (E → List ℕ → E → Type 0) → (old new : E)
     → (old_left new_left : Option (List ℕ)) → Result Status WireFault → Type 0
 ReadsRest gives old new old_left new_left (Ok Success) = new ≡ old

@@ -1,4 +1,4 @@
-//! What is made of the body of a request while it comes.
+//! The body of a request while it comes.
 
 ghost use Rattle.std.specs.Prelude.{◌++◌, ◌≤◌, ℕ, List, [], IfOk, OnErr, length};
 ghost use Rattle.mds_wire.specs.Judging.{longest_body};
@@ -10,17 +10,17 @@ use mds_requests::imports_interval_data;
 use mds_wire::{Route, Unavailable};
 use std::alloc::{AllocError, Global};
 
-/// What is made of the body of a request while it comes.
+/// The body of a request while it comes.
 #[derive(Drop)]
 pub enum Body {
-    /// Interval data, read line by line. What it states is held, and no more of it than a line.
+    /// Interval data, read line by line. What it states is held, and otherwise at most a line.
     IntervalData(Reader),
-    /// Anything else, and a body without a byte, held until it is whole.
+    /// Anything else, or an empty body. It is held until it is whole.
     Whole(Vec<u8>),
 }
 
 impl Body {
-    /// Before the first byte of a body of so many. For none no memory is taken.
+    /// Begins a body of `size` bytes. An empty one takes no memory.
     pub(crate) fn begin(
         alloc: Global,
         route: Route,
@@ -39,8 +39,8 @@ impl Body {
         Ok(Body::Whole(Vec::with_capacity(alloc, size)?))
     }
 
-    /// Takes more of the body. A fault of a file is told once the body is whole. There is room for what is held, so that memory may
-    /// be wanting for interval data alone.
+    /// Takes more of the body. A fault of a file is answered once the body is whole. There is room for what is held, so only
+    /// interval data can run out of memory.
     pub(crate) fn feed(&mut self, piece: &[u8]) -> Result<(), Unavailable>
         ensures fed { (route : ARoute) (target : List ℕ) (size : ℕ) (bytes : List ℕ) → HoldsBody self.old route target size bytes
             → length (bytes ++ piece.now) ≤ size → size ≤ longest_body

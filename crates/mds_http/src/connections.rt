@@ -1,4 +1,4 @@
-//! Connections, served one after the other.
+//! Serves connections, one after the other.
 
 ghost use Rattle.mds_http.specs.Connections.{HasServed};
 
@@ -17,19 +17,19 @@ use std::time::Duration;
 /// Why no more connections are served.
 #[derive(Clone, Copy, Debug, PartialEq, Eq)]
 pub enum Ended {
-    /// As many were as were asked for.
+    /// As many were served as were asked for.
     Counted,
-    /// The port can't be had, or no connection can be accepted any more.
+    /// The port isn't available, or no more connections can be accepted.
     CannotAccept,
-    /// There was no memory for connections that wait. None was accepted.
+    /// There was no memory for waiting connections. None was accepted.
     Unavailable,
 }
 
-/// Serves so many connections to a port of 127.0.0.1, one after the other. Up to 64 that were accepted wait side by side, and who says something first is
-/// served first. One that says nothing in its time is let go, and counts. A fault ends its connection alone. A connection that
-/// can't be accepted counts for nothing. Where none could be for ten seconds, the service ends.
+/// Serves `count` connections to a port of 127.0.0.1, one after the other. Up to 64 accepted ones wait side by side, and the first to say something
+/// is served first. One that says nothing in its time is dropped, and counts. A fault ends only its own connection. A connection that can't be
+/// accepted doesn't count. If none could be accepted for ten seconds, the service ends.
 ///
-/// Nothing changes the store but what the bytes of these connections mean. So all of it is one run of the machine (`laws_of`).
+/// Only the meaning of these connections' bytes changes the store. So all of it is one run of the machine (`laws_of`).
 pub fn serve_connections<F: RouteFinder, K: Keeper>(
     rt: &HostRuntime,
     routes: &F,
@@ -57,8 +57,8 @@ pub fn serve_connections<F: RouteFinder, K: Keeper>(
     Ended::Counted
 }
 
-/// Serves the next connection, or lets it go where nothing came from it, and says what became of it. It is closed then. `None` where no
-/// connection can be accepted any more.
+/// Serves the next connection, or drops it if nothing came from it. Returns what became of it, after closing it. `None` if no more connections can be
+/// accepted.
 fn serve_next<F: RouteFinder, K: Keeper>(
     rt: &HostRuntime,
     routes: &F,
@@ -74,7 +74,7 @@ fn serve_next<F: RouteFinder, K: Keeper>(
     }
 }
 
-/// Serves a connection from which something came, and says what became of it.
+/// Serves a connection from which something came, and returns what became of it.
 fn serve_accepted<'x, F: RouteFinder, K: Keeper>(
     rt: &'x HostRuntime,
     routes: &F,
@@ -101,7 +101,7 @@ fn serve_accepted<'x, F: RouteFinder, K: Keeper>(
     }
 }
 
-/// What became of a connection from which nothing came, and to which nothing was written.
+/// What became of a connection that was silent, and to which nothing was written.
 fn nothing_of(rt: &HostRuntime, accepted: &Accepted) -> Served {
     Served {
         peer: accepted.peer,

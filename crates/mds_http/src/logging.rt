@@ -72,7 +72,7 @@ fn status_text(alloc: Global, status: Option<Status>) -> Result<String, AllocErr
     }
 }
 
-/// What time it is, as `29/Nov/2026:17:50:13 +0000`, or `-` where the clock doesn't say.
+/// The current time, such as `29/Nov/2026:17:50:13 +0000`, or `-` if the clock fails.
 fn moment_of(rt: &HostRuntime) -> Result<String, AllocError> {
     let Ok(now) = SystemTime::now(rt) else {
         return String::from_str(rt.alloc(), "-");

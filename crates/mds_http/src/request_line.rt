@@ -1,4 +1,4 @@
-//! The first line of a request, as it is logged.
+//! The first line of a request, for the log.
 
 use std::fmt;
 use std::fmt::{Display, Formatter, Write};
@@ -6,7 +6,7 @@ use std::fmt::{Display, Formatter, Write};
 /// How many bytes of the line are kept.
 const LONGEST: usize = 512;
 
-/// The first line of a request, as far as it came. It is kept up to so many bytes, and its end isn't kept.
+/// The first line of a request, as far as it came. It is kept up to a limit, without its end.
 #[derive(Clone, Copy)]
 pub(crate) struct RequestLine {
     bytes: [u8; LONGEST],
@@ -15,7 +15,7 @@ pub(crate) struct RequestLine {
 }
 
 impl RequestLine {
-    /// Nothing of a line.
+    /// An empty line.
     pub(crate) fn new() -> RequestLine {
         RequestLine {
             bytes: [0; LONGEST],
@@ -24,7 +24,7 @@ impl RequestLine {
         }
     }
 
-    /// Takes what came of a request. Ends of lines before its first line count for nothing.
+    /// Takes what came of a request. Line ends before its first line are ignored.
     pub(crate) fn take(&mut self, bytes: &[u8]) {
         for byte in bytes {
             if self.is_whole {
@@ -56,7 +56,7 @@ impl RequestLine {
     }
 }
 
-/// Shows printable ASCII as it is, and a quote, a backslash and any other byte as `\x22`. Where nothing came it shows `-`.
+/// Shows printable ASCII as it is, and a quote, a backslash and any other byte as `\x22`. If nothing came it shows `-`.
 impl Display for RequestLine {
     fn fmt<W: Write>(&self, f: &mut Formatter<W>) -> fmt::Result {
         if self.length == 0 {

@@ -1,4 +1,4 @@
-//! One request to a store over HTTP, and the rest of one that is refused.
+//! One request to a store over HTTP, and the rest of a refused one.
 
 ghost use Rattle.std.specs.Prelude.{◌≡◌, ◌≢◌, ◌+◌, ◌-◌, ◌^◌, ◌<◌, Err};
 ghost use Rattle.mds_http.specs.Serving.{HasReadRest, ReadsRest, ServesOver};
@@ -9,8 +9,8 @@ use mds_lines::{Sink, Source};
 use mds_wire::{RouteFinder, Status, WireFault};
 use std::alloc::Global;
 
-/// Reads one request, does it by one step of the machine, and writes its answer, whose status it says. See
-/// `mds_wire::serve_one` for what is read and written, and when.
+/// Reads one request, does it by one step of the machine, and writes its answer. Returns the answer's status. See `mds_wire::serve_one`
+/// for what is read and written, and when.
 ///
 /// # Errors
 ///
@@ -34,8 +34,8 @@ pub fn serve_one<F: RouteFinder, K: Keeper, R: Source, W: Sink>(
     mds_wire::serve_one(alloc, routes, handler, reader, writer)
 }
 
-/// Serves the one request of a connection as `serve_one` does. Behind a refusal it reads what the peer still sends, up to 16 MB of it. If
-/// the connection were closed before, the peer might never see the answer.
+/// Serves the one request of a connection as `serve_one` does. After a refusal it reads what the peer still sends, up to 16 MB. If the
+/// connection were closed before, the peer might never see the answer.
 ///
 /// # Errors
 ///
@@ -67,12 +67,12 @@ pub fn serve_connection<F: RouteFinder, K: Keeper, R: Source, W: Sink, E: Source
     served
 }
 
-/// The most bytes of a rest that are read at a time, and how often some are read.
+/// The most bytes of a rest that are read at a time, and the most reads.
 const BLOCK: usize = 16_384;
 
 const MOST_READS: usize = 1_024;
 
-/// Reads to the end, or until a call fails, or for so many calls.
+/// Reads to the end, until a call fails, or up to a count of calls.
 fn read_rest<E: Source>(rest: &mut E)
     requires { E.failures rest.old < 2 ^ 64 - 1 }
     ensures { HasReadRest E.gives rest.old rest.new (E.remaining rest.old) (E.remaining rest.new) }

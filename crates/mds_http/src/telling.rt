@@ -1,4 +1,4 @@
-//! What is told of an answer, or of a target that asks for nothing.
+//! How an answer is sent, or what is sent if a target asks for nothing.
 
 ghost use Rattle.std.specs.Prelude.{◌≡◌, ◌≤◌, [], true, false, vec_capacity};
 ghost use Rattle.mds_messages.specs.Answers.{has_list, has_text};
@@ -13,8 +13,8 @@ use mds_messages::Answer;
 use mds_wire::{Kind, Status};
 use std::alloc::Global;
 
-/// Writes the text of an answer, and says its status and its type. Where the text of a list has no memory, `Unavailable` is told
-/// in its place (U1).
+/// Writes the text of an answer, and returns its status and its type. If there is no memory for the text of a list,
+/// `Unavailable` is sent instead (U1).
 pub(crate) fn tell(alloc: Global, answer: Answer, out: &mut Vec<u8>) -> (Status, Kind)
     requires empty { out.old.items ≡ [] }
     requires room { short_answer ≤ vec_capacity out.old }
@@ -28,7 +28,7 @@ pub(crate) fn tell(alloc: Global, answer: Answer, out: &mut Vec<u8>) -> (Status,
     }
 }
 
-/// Tells the text that an answer has, without a copy of it.
+/// Passes on the text of an answer, without a copy of it.
 fn tell_text(text: Vec<u8>, out: &mut Vec<u8>) -> (Status, Kind)
     ensures { (result ≡ (Status.Success, Kind.Csv)) × (out.new.items ≡ text.items) }
 {
@@ -36,7 +36,7 @@ fn tell_text(text: Vec<u8>, out: &mut Vec<u8>) -> (Status, Kind)
     (Status::Success, Kind::Csv)
 }
 
-/// Writes the JSON text of an answer. The text of a list takes memory.
+/// Writes the JSON text of an answer. Only the text of a list takes memory.
 fn tell_json(alloc: Global, answer: &Answer, out: &mut Vec<u8>) -> (Status, Kind)
     requires text { has_text answer.now ≡ false }
     requires empty { out.old.items ≡ [] }
@@ -51,7 +51,7 @@ fn tell_json(alloc: Global, answer: &Answer, out: &mut Vec<u8>) -> (Status, Kind
     }
 }
 
-/// Writes the text of an answer with a list, for which it takes memory.
+/// Writes the text of an answer with a list, which takes memory.
 fn tell_list(alloc: Global, answer: &Answer, out: &mut Vec<u8>) -> (Status, Kind)
     requires list { has_list answer.now ≡ true }
     requires empty { out.old.items ≡ [] }
@@ -81,7 +81,7 @@ fn tell_short(answer: &Answer, out: &mut Vec<u8>) -> (Status, Kind)
     (status_of(answer), Kind::Json)
 }
 
-/// The status of an answer: 422 for a fault of a file, 503 for U1, and 200 where nothing is refused.
+/// The status of an answer: 422 for a fault of a file, 503 for U1, and 200 if nothing is refused.
 fn status_of(answer: &Answer) -> Status
     ensures { result ≡ status_of_answer answer.now }
 {
@@ -113,7 +113,7 @@ fn status_of_rule(code: RefusalCode) -> Status
     }
 }
 
-/// Tells that a target and its body ask for nothing.
+/// Writes the refusal of a target and body that ask for nothing.
 pub(crate) fn refuse_target(out: &mut Vec<u8>) -> (Status, Kind)
     requires empty { out.old.items ≡ [] }
     requires room { short_answer ≤ vec_capacity out.old }
@@ -125,7 +125,7 @@ pub(crate) fn refuse_target(out: &mut Vec<u8>) -> (Status, Kind)
     (Status::BadRequest, Kind::Json)
 }
 
-/// Tells the first row of a list of holidays that isn't as it has to be (H1).
+/// Writes the refusal of a list of holidays, with its first bad row (H1).
 pub(crate) fn refuse_holidays(row: u64, out: &mut Vec<u8>) -> (Status, Kind)
     requires empty { out.old.items ≡ [] }
     requires room { short_answer ≤ vec_capacity out.old }

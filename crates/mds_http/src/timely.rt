@@ -1,4 +1,4 @@
-//! The ends of a connection. They give a peer so much time and no more.
+//! The two ends of a connection, which give a peer a limited time.
 
 use crate::request_line::RequestLine;
 use std::io;
@@ -12,9 +12,9 @@ const ANSWER_SECONDS: u64 = 60;
 /// For how many seconds the service reads what a peer still sends after a refusal.
 const REST_SECONDS: u64 = 1;
 
-/// A connection whose reads, or whose writes, have a time in which they have to be done. It begins with the first of them, if it
-/// hasn't begun before. Once it is up each further one fails. So a peer that sends or takes nothing, or a byte now and then,
-/// doesn't hold the service up.
+/// A connection with a time limit for its reads, or for its writes. The time begins with the first of them, unless it began
+/// before. Once it is over, each further one fails. So a peer that sends or takes nothing, or a byte now and then, doesn't hold
+/// up the service.
 #[derive(Drop)]
 struct Timely<'a> {
     rt: &'a HostRuntime,
@@ -23,7 +23,7 @@ struct Timely<'a> {
     begun: Option<Instant>,
 }
 
-/// The reads of a request, whose time grows with what has come of it. A peer that only connects is let go soon, and one that
+/// The reads of a request. Their time grows with what has come of it. A peer that only connects is dropped soon, and one that
 /// sends a large body has the whole time.
 #[derive(Drop)]
 pub(crate) struct RequestReads<'a> {
@@ -39,7 +39,7 @@ pub(crate) struct AnswerWrites<'a> {
     written: u64,
 }
 
-/// The reads of what a peer still sends behind a refusal. Before the first of them the service ends its own side.
+/// The reads of what a peer still sends after a refusal. Before the first of them the service ends its own side.
 #[derive(Drop)]
 pub(crate) struct RestReads<'a> {
     reads: Timely<'a>,
@@ -49,18 +49,18 @@ pub(crate) struct RestReads<'a> {
 /// How much of a request has come.
 #[derive(Clone, Copy)]
 enum Stage {
-    /// Nothing but ends of lines, which may stand before it.
+    /// Nothing but line ends, which may precede it.
     Nothing,
-    /// The head, up to somewhere in a line.
+    /// A part of the head, ending within a line.
     InLine,
-    /// The head, up to the end of a line.
+    /// A part of the head, ending with a line.
     LineEnd,
     /// The head with the empty line that ends it.
     WholeHead,
 }
 
 impl Stage {
-    /// How many seconds the next byte may take, from when the connection was accepted.
+    /// How many seconds the next byte may take, counted from when the connection was accepted.
     const fn seconds(self) -> u64 {
         match self {
             Stage::Nothing => 1,
@@ -93,7 +93,7 @@ impl Stage {
     }
 }
 
-/// How long a peer may say nothing, from when its connection was accepted.
+/// How long a peer may be silent, counted from when its connection was accepted.
 pub(crate) fn silence() -> Duration {
     Duration::from_secs(Stage::Nothing.seconds())
 }
@@ -114,7 +114,7 @@ impl Timely<'_> {
 }
 
 impl<'a> RequestReads<'a> {
-    /// The reads of a request of which nothing has come. Their time began when the connection was accepted.
+    /// The reads of a request, none of which has come. Their time began when the connection was accepted.
     pub(crate) fn new(
         rt: &'a HostRuntime,
         stream: &'a TcpStream,
@@ -132,14 +132,14 @@ impl<'a> RequestReads<'a> {
         }
     }
 
-    /// As much as has come of the first line.
+    /// What has come of the first line.
     pub(crate) fn line(&self) -> &RequestLine {
         &self.line
     }
 }
 
 impl<'a> AnswerWrites<'a> {
-    /// The writes of an answer of which nothing was written.
+    /// The writes of an answer. Nothing was written yet.
     pub(crate) fn new(rt: &'a HostRuntime, stream: &'a TcpStream) -> AnswerWrites<'a> {
         AnswerWrites {
             writes: Timely {
@@ -159,7 +159,7 @@ impl<'a> AnswerWrites<'a> {
 }
 
 impl<'a> RestReads<'a> {
-    /// The reads of a rest of which nothing was read.
+    /// The reads of a rest. Nothing was read yet.
     pub(crate) fn new(rt: &'a HostRuntime, stream: &'a TcpStream) -> RestReads<'a> {
         RestReads {
             reads: Timely {

@@ -15,7 +15,7 @@ const MOST_WAITING: usize = 64;
 /// How many times in a row `accept` may fail before the service ends.
 const MOST_FAILURES: u32 = 100;
 
-/// How many milliseconds it waits after each such failure.
+/// How many milliseconds the service waits after each such failure.
 const FAILURE_PAUSE: u64 = 100;
 
 /// A connection that was accepted.
@@ -25,24 +25,24 @@ pub(crate) struct Accepted {
     pub(crate) peer: IpAddr,
     /// When it was accepted. The time in which others are served is added to it.
     pub(crate) since: Instant,
-    /// Under what its events are reported.
+    /// The token of its events.
     token: Token,
     /// Whether something came: a byte, the end of what the peer sends, or a failure.
     has_come: bool,
 }
 
-/// What comes next.
+/// The next turn.
 #[derive(Drop)]
 pub(crate) enum Turn {
     /// Something came from this connection.
     Serve(Accepted),
-    /// Nothing came from this one in its time.
+    /// Nothing came from this connection in its time.
     LetGo(Accepted),
-    /// No connection can be accepted any more.
+    /// No more connections can be accepted.
     CannotAccept,
 }
 
-/// The connections that wait, in the order in which they were accepted.
+/// The waiting connections, in the order in which they were accepted.
 #[derive(Drop)]
 pub(crate) struct WaitingRoom<'a> {
     rt: &'a HostRuntime,
@@ -52,7 +52,7 @@ pub(crate) struct WaitingRoom<'a> {
     waiting: Vec<Accepted>,
     /// How many connections may still be accepted.
     left: u32,
-    /// Whether a connection may be there to accept.
+    /// Whether there may be a connection to accept.
     may_accept: bool,
     /// How many times in a row `accept` failed, and when it did so last.
     failures: u32,
@@ -62,7 +62,7 @@ pub(crate) struct WaitingRoom<'a> {
 }
 
 impl<'a> WaitingRoom<'a> {
-    /// Listens to a port of 127.0.0.1. Nobody waits yet, and so many connections may be accepted. All memory is taken before.
+    /// Listens to a port of 127.0.0.1. Nobody waits yet, and `left` connections may be accepted. All memory is taken before.
     pub(crate) fn new(rt: &'a HostRuntime, port: u16, left: u32) -> io::Result<WaitingRoom<'a>> {
         let events = Events::with_capacity(rt.alloc(), MOST_WAITING + 1)?;
         let waiting = Vec::with_capacity(rt.alloc(), MOST_WAITING)?;
@@ -84,7 +84,7 @@ impl<'a> WaitingRoom<'a> {
         })
     }
 
-    /// The next connection that is to be served or let go. Who said something comes first, in the order of acceptance.
+    /// The next connection, to be served or dropped. Those that said something come first, in the order of acceptance.
     pub(crate) fn next(&mut self) -> Turn {
         self.end_serving();
         for _ in 0..u64::MAX {
@@ -104,7 +104,7 @@ impl<'a> WaitingRoom<'a> {
         Turn::CannotAccept
     }
 
-    /// The time in which a connection was served doesn't count for those that waited.
+    /// Excludes the time in which a connection was served for those that waited.
     fn end_serving(&mut self) {
         if let Some(begun) = self.serving {
             let took = self.time_since(begun);
@@ -138,7 +138,7 @@ impl<'a> WaitingRoom<'a> {
         Some(self.waiting.remove(0))
     }
 
-    /// Accepts the connections that are there, as far as they have room.
+    /// Accepts the connections that are there, as long as there is room.
     fn accept_all(&mut self) {
         if let Some(failed) = self.failed {
             if self.time_since(failed) < Duration::from_millis(FAILURE_PAUSE) {
@@ -154,7 +154,7 @@ impl<'a> WaitingRoom<'a> {
         }
     }
 
-    /// Accepts a connection, if one is there.
+    /// Accepts a connection, if there is one.
     fn accept_next(&mut self) {
         match self.accept() {
             Ok(accepted) => {
@@ -221,7 +221,7 @@ impl<'a> WaitingRoom<'a> {
         silence().saturating_sub(self.time_since(it.since))
     }
 
-    /// Keeps what was reported.
+    /// Records what was reported.
     fn mark(&mut self) {
         let listener = token_of(self.listener.as_raw_fd());
         for event in &self.events {
@@ -243,7 +243,7 @@ fn watch(poll: &Poll, number: RawFd) -> io::Result<()> {
     poll.registry().register(&mut SourceFd(&number), token_of(number), Interest::READABLE)
 }
 
-/// Under what the events of a descriptor are reported.
+/// The token of a descriptor's events.
 fn token_of(number: RawFd) -> Token {
     Token(number.cast_unsigned() as usize)
 }

@@ -26,7 +26,7 @@ pub record Part (A : Type 0) : Type 0 where
   pub fact : A → Fact
   pub read : Row → Fact
 
--- A day that comes new, by a head of it: its row says its unit. The fact is what the row says as one of schemas 1 to 3.
+-- A new day, by one of its heads: its row says its unit. The fact is what the row would say in schemas 1 to 3.
 abbrev pub head_part : Part Head
 head_part = record {
   place = 1;
@@ -36,7 +36,7 @@ head_part = record {
   read = head_fact;
 }
 
--- its table stands behind those that every schema has
+-- its table follows those that every schema has
 abbrev pub detail_part : Part Detail
 detail_part = record { place = 9; tree = 18; cells = detail_cells; fact = DetailIs; read = detail_fact }
 
@@ -64,11 +64,11 @@ job_part = record {
   read = job_fact;
 }
 
--- the row of each, under any rowid, says its fact
+-- the row of each says its fact, under any rowid
 abbrev pub Says : {A : Type 0} → Part A → List A → Type 0
 Says part = AllByRecursion (λ item. (id : Value) → part.read (id ∷ part.cells item) ≡ part.fact item)
 
--- statements that put the rows of these things into their table, each those of one list
+-- statements that put the rows of these things into their table, one statement for each list
 abbrev pub statements_of : {A : Type 0} → Part A → List (List A) → List (ℕ × List Row)
 statements_of part = map (λ items. (part.place, map part.cells items))
 
@@ -76,11 +76,11 @@ statements_of part = map (λ items. (part.place, map part.cells items))
 abbrev pub singly : {A : Type 0} → Part A → List A → List (ℕ × List Row)
 singly part items = statements_of part (map (λ item. item ∷ []) items)
 
--- eight at a time, where so many are left, and the others one by one
+-- eight at a time while there are eight, and the rest one by one
 abbrev pub by_eights : {A : Type 0} → Part A → List A → List (ℕ × List Row)
 by_eights part items = statements_of part (first_chunks 8 (length items / 8) items) ++ singly part (drop (length items / 8 * 8) items)
 
--- What is put behind heads, versions and details, in this order. The rows of accumulations and of jobs are given.
+-- What is put after heads, versions and details, in this order. The rows of accumulations and of jobs are passed in.
 abbrev pub rest_in : Additions → List PeriodRow → List JobRow → List (ℕ × List Row)
 rest_in additions periods jobs =
     singly event_part additions.events.items

@@ -1,4 +1,4 @@
--- What the parts of a transaction, and all of it, do to the tables.
+-- What the parts of a transaction do to the tables, and what all of it does.
 use Rattle.std.specs.Prelude.{◌≡◌, ◌≢◌, ℕ, List, [], ◌∷◌, ◌++◌, map, IfErr, IsTrue, OnOk, Result}
 use Rattle.std.specs.FinSet as set
 use Rattle.std.specs.List.{AllByRecursion}
@@ -36,7 +36,7 @@ abbrev pub Keeps : Trees → Trees → List Table → Type 0
 Keeps old new = AllByRecursion (λ (table : Table). new table.tree ≡ old table.tree)
 
 module _ (under : Schema) {A : Type 0} (part : Part A) (old new : State) (items : List A) where
-  -- Under a schema these things have their rows in their table, beside those that were there, as the transaction sees it.
+  -- Under a schema these things have their rows in their table, together with those that were there, as the transaction sees it.
   -- Every other table is as it was, and nothing is committed.
   pub record Puts : Type 0 where
     pub schema : new.now.schema ≡ under
@@ -45,7 +45,7 @@ module _ (under : Schema) {A : Type 0} (part : Part A) (old new : State) (items 
     pub committed : new.committed ≡ old.committed
     pub sound : IsSound under new.now.trees
 
-  -- The same, where the connection is open and the schema is this. The row of each, under any rowid, says its fact.
+  -- The same, if the connection is open and has this schema. The row of each says its fact, under any rowid.
   pub record PutsThere : Type 0 where
     pub was_open : HasCleanDisk new → IsTrue new.is_open → IsTrue old.is_open
     pub is_open : HasCleanDisk new → IsTrue old.is_open → IsTrue new.is_open
@@ -53,12 +53,12 @@ module _ (under : Schema) {A : Type 0} (part : Part A) (old new : State) (items 
     pub puts : HasCleanDisk new → IsTrue old.is_open → old.now.schema ≡ under → IsSound under old.now.trees → Puts
     pub said : Says part items
 
--- the trees of what is put behind heads, versions and details
+-- the trees of what is put after heads, versions and details
 abbrev pub rest_trees : List ℕ
 rest_trees = event_part.tree ∷ period_part.tree ∷ holiday_part.tree ∷ job_part.tree ∷ []
 
 module _ (under : Schema) (old new : State) (additions : Additions) (periods : List PeriodRow) (jobs : List JobRow) where
-  -- the same of all that is put behind heads, versions and details, where the rows of accumulations and of jobs are given
+  -- the same of all that is put after heads, versions and details; the rows of accumulations and of jobs are passed in
   pub record PutsRest : Type 0 where
     pub schema : new.now.schema ≡ under
     pub events : Gains event_part.tree (map event_part.cells additions.events.items) old.now.trees new.now.trees
@@ -78,16 +78,17 @@ module _ (under : Schema) (old new : State) (additions : Additions) (periods : L
     pub said_holidays : Says holiday_part additions.holidays.items
     pub said_jobs : Says job_part jobs
 
--- these facts are more than those, by these
+-- the last facts are the first ones with these added
 abbrev pub IsMore : List Fact → List Fact → List Fact → Type 0
 IsMore more some facts = set.from_list {R = fact_cmp} more ≡ union (set.from_list some) (set.from_list facts)
 
--- the tables that every schema has, but that of heads
+-- the tables that every schema has, except that of heads
 abbrev pub other_tables : List Table
 other_tables = schema_table ∷ version_table ∷ detail_table ∷ event_table ∷ period_table ∷ holiday_table ∷ job_table ∷ []
 
 module _ (layout : Layout) (HasOwn : Gained) (old new : State) (additions : Additions) where
-  -- the same of heads, versions and details, in any layout: they are in its tables, and these say them beside those that they said
+  -- The same of heads, versions and details, in any layout. They are in its tables, which say them together with what they said
+  -- before.
   pub record PutsOwn : Type 0 where
     pub schema : new.now.schema ≡ schema_with layout.more
     pub rows : HasOwn old.now.trees new.now.trees additions
@@ -104,8 +105,8 @@ module _ (layout : Layout) (HasOwn : Gained) (old new : State) (additions : Addi
     pub puts : HasCleanDisk new → IsTrue old.is_open → old.now.schema ≡ schema_with layout.more
         → IsSound (schema_with layout.more) old.now.trees → PutsOwn
 
--- What is told of the rows of heads, versions and details reads mds_head, mds_version and the tables behind those that every schema
--- has, and no others.
+-- What is said of the rows of heads, versions and details reads only mds_head, mds_version and the tables that follow those that
+-- every schema has.
 abbrev pub IsSteady : More → Gained → Type 0
 IsSteady more HasOwn =
     (a b c d : Trees) (additions : Additions) → b head_tree ≡ a head_tree → b version_tree ≡ a version_tree → Keeps a b more.tables
@@ -117,8 +118,8 @@ pub record IsFit (under : Schema) (state : State) : Type 0 where
   pub is_open : IsTrue state.is_open
   pub sound : IsSound under state.now.trees
 
--- What a call in a transaction does that puts rows by these statements, each with the place of its table: it commits nothing, and
--- this is done where it is Ok. Else the store failed, or the tables refuse one of the statements. That is told under a schema.
+-- What a call in a transaction does that puts rows with these statements, each with the place of its table. It commits nothing, and
+-- if it is Ok this is done. Else the store failed, or the tables refuse one of the statements. It is said under a schema.
 pub record Changes {X : Type 0} (under : Schema) (Done : Type 0) (puts : List (ℕ × List Row)) (old new : State) (result : Result X Error) : Type 0 where
   pub ok : OnOk result Done
   pub took : HasCleanDisk new → old.now.schema ≡ under → IsFit under old → OnOk result (TakesAll old.step_limit puts old.now new.now)
@@ -131,13 +132,13 @@ abbrev pub PutsEach : {A X : Type 0} → Schema → Part A → List (ℕ × List
 PutsEach under part puts old new result items = Changes under (PutsThere under part old new items) puts old new result
 
 module _ (layout : Layout) (HasOwn : Gained) where
-  -- All of the additions are in the tables, beside what was there.
+  -- All of the additions are in the tables, together with what was there.
   pub record HasAddedOf (additions : Additions) (old new : Trees) : Type 0 where
     pub rows : AddsOf HasOwn old new additions
     pub world : world_with layout new ≡ union (world_with layout old) (content.content additions)
     pub sound : IsSound (schema_with layout.more) new
 
-  -- the parts, one after another, as the transaction sees them, where the connection is open and the tables are these
+  -- the parts, one after another, as the transaction sees them, if the connection is open and the tables are these
   pub record PutsAllOf (old new : State) (additions : Additions) : Type 0 where
     pub was_open : HasCleanDisk new → IsTrue new.is_open → IsTrue old.is_open
     pub is_open : HasCleanDisk new → IsTrue old.is_open → IsTrue new.is_open
@@ -147,7 +148,7 @@ module _ (layout : Layout) (HasOwn : Gained) where
     pub added : HasCleanDisk new → IsTrue old.is_open → old.now.schema ≡ schema_with layout.more
         → IsSound (schema_with layout.more) old.now.trees → HasAddedOf additions old.now.trees new.now.trees
 
-  -- The additions are committed beside what the transaction saw at its beginning.
+  -- The additions are committed together with what the transaction saw at its beginning.
   pub record WritesOf (old new : State) (additions : Additions) : Type 0 where
     pub is_open : IsTrue old.is_open → IsTrue new.is_open
     pub schema : IsTrue old.is_open → old.now.schema ≡ schema_with layout.more → IsSound (schema_with layout.more) old.now.trees

@@ -19,8 +19,8 @@ pub struct JobRow {
     pub(crate) count: i64,
 }
 
-/// The row of each job, in their order. It is Unavailable where there is no memory for their texts (U1). So it is for a
-/// job that no row holds: its flag is no capital letter, or its count is 2^63 or more.
+/// The row of each job, in their order. Unavailable (U1) if there is no memory for their texts. Also for a job that no
+/// row holds: its flag is no capital letter, or its count is 2^63 or more.
 pub fn job_rows(alloc: Global, jobs: &[(Job, u64)]) -> Result<Vec<JobRow>, Unavailable>
     ensures rows { IfOk result (λ rows. AreRowsOf IsRowOfJob jobs.now rows.items) }
     ensures none { OnErr result (0 < length jobs.now) }
@@ -48,7 +48,7 @@ fn job_row(alloc: Global, job: &(Job, u64)) -> Result<JobRow, Unavailable>
     })
 }
 
-/// The count of a job, where a row can hold the job: its flag is a capital letter, and the count is below 2^63.
+/// The count of a job, if a row can hold the job: its flag is a capital letter, and the count is below 2^63.
 fn count_cell(job: &(Job, u64)) -> Option<i64>
     ensures some { IfSome result (λ count. (count ≡ pos job.now.1) × IsTrue (is_ascii_uppercase job.now.0.flag)) }
     ensures none { IfNone result (IsTrue (is_ascii_uppercase job.now.0.flag) → 2 ^ 63 ≤ job.now.1) }
@@ -60,7 +60,7 @@ fn count_cell(job: &(Job, u64)) -> Option<i64>
     i64::try_from(job.1).ok()
 }
 
-/// The body of a job, which reads back.
+/// The body of a job, which reads back as that job.
 fn body_of(alloc: Global, job: &Job) -> Result<String, Unavailable>
     requires { IsTrue (is_ascii_uppercase job.now.flag) }
     ensures is { IfOk result (λ body. IsJobBody (content_of job.now) (string_bytes body)) }

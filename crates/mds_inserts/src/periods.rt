@@ -16,7 +16,7 @@ pub struct PeriodRow {
     pub(crate) body: String,
 }
 
-/// The row of each accumulation, in their order. It is Unavailable where there is no memory for their texts (U1).
+/// The row of each accumulation, in their order. Unavailable (U1) if there is no memory for their texts.
 pub fn period_rows(alloc: Global, periods: &[Period]) -> Result<Vec<PeriodRow>, Unavailable>
     ensures rows { IfOk result (λ rows. AreRowsOf IsRowOfPeriod periods.now rows.items) }
     ensures none { OnErr result (0 < length periods.now) }

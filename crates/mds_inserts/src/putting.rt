@@ -1,4 +1,4 @@
-//! Rows that are put into the tables that every schema has, in a transaction.
+//! Puts rows into the tables that every schema has, in a transaction.
 
 ghost use Rattle.std.specs.Prelude.{◌≡◌, [], ◌∷◌, length};
 ghost use Rattle.std.specs.List.{flat_map};
@@ -19,13 +19,13 @@ use mds_world::Head;
 use sqlite::types::ValueRef;
 use sqlite::{Alter, Error, Transaction};
 
-/// How many rows one statement puts, where so many are left. A statement of one row spends half of its time on other things than
+/// How many rows one statement puts, if enough are left. A statement of one row spends half of its time on other things than
 /// the row.
 pub const TOGETHER: usize = 8;
 
-/// What becomes one row of a table, whatever tables stand behind those that every schema has.
+/// What becomes one row of a table, whatever tables follow those that every schema has.
 trait Put {
-    /// Its table, its cells, and what its row says.
+    /// The table, the cells, and what the row says.
     ghost part: { Part Self };
 
     /// Puts its row.
@@ -45,7 +45,7 @@ fn put_each<T: Put, S: Alter>(tx: &mut Transaction<'_, S>, items: &[T]) -> Resul
     Ok(())
 }
 
-/// Puts the rows of mds_head for days that come new, whatever tables stand behind those that every schema has.
+/// Puts the rows of mds_head for new days, whatever tables follow those that every schema has.
 pub fn put_heads<S: Alter>(tx: &mut Transaction<'_, S>, heads: &[Head]) -> Result<(), Error>
     ensures same_reference { tx.new.conn.ghost_name ≡ tx.old.conn.ghost_name }
     ensures puts { (more : More) → PutsEach (schema_with more) head_part (by_eights head_part heads.now) (state S.Store tx.old.conn.now) (state S.Store tx.new.conn.now) result heads.now }
@@ -57,7 +57,7 @@ pub fn put_heads<S: Alter>(tx: &mut Transaction<'_, S>, heads: &[Head]) -> Resul
     put_each(tx, rest)
 }
 
-/// Puts the rows of eight days by one statement.
+/// Puts the rows of eight days with one statement.
 fn put_eight<S: Alter>(tx: &mut Transaction<'_, S>, heads: &[Head; TOGETHER]) -> Result<(), Error>
     ensures same_reference { tx.new.conn.ghost_name ≡ tx.old.conn.ghost_name }
     ensures puts { (more : More) → PutsEach (schema_with more) head_part (statements_of head_part (heads.now ∷ [])) (state S.Store tx.old.conn.now) (state S.Store tx.new.conn.now) result heads.now }
@@ -96,7 +96,7 @@ fn eight_cells<'a>(heads: &'a [Head]) -> [[ValueRef<'a>; 5]; 8]
     ]
 }
 
-/// Puts the rows behind those of heads, versions and details, whatever tables stand behind those that every schema has.
+/// Puts the rows that follow heads, versions and details, whatever tables follow those that every schema has.
 pub fn put_rest<S: Alter>(
     tx: &mut Transaction<'_, S>,
     additions: &Additions,

@@ -1,4 +1,5 @@
--- Which requests of a run were answered (profile). A request that the store can't answer now is told Unavailable.
+-- Which requests of a run were answered (profile). A request that the store can't answer now is answered
+-- Unavailable.
 use Rattle.std.specs.Prelude.{◌≡◌, ◌≢◌, Bool, true, false, if◌then◌else◌, List, [], ◌∷◌, filter}
 use Rattle.std.specs.List.{All}
 use Rattle.mds_world.specs.World.{World}
@@ -7,7 +8,7 @@ use Rattle.mds_messages.specs.declared.answer.Answer.{Answer}
 use Rattle.mds_messages.specs.declared.answer.Answer.TheVariants as told
 use Rattle.mds_service.specs.Machine.{Run}
 
--- it was given, and isn't Unavailable
+-- the answer was given, and isn't Unavailable
 abbrev pub IsGiven : Answer → Type 0
 IsGiven answer = answer ≢ told.Unavailable
 
@@ -25,13 +26,13 @@ answered (request ∷ requests) (answer ∷ answers) =
     if is_given answer then request ∷ answered requests answers else answered requests answers
 answered requests answers = []
 
--- What had no answer stands aside: a run is that of the requests that were answered.
+-- What had no answer doesn't count: a run is that of the requests that were answered.
 abbrev pub UnansweredStandAside : Type 0
 UnansweredStandAside =
     (old new : World) (requests : List Request) (answers : List Answer)
     → Run old requests answers new → Run old (answered requests answers) (given answers) new
 
--- Where each request was answered, those that were answered are all of them.
+-- If each request was answered, those that were answered are all of them.
 abbrev pub AnsweredAreAll : Type 0
 AnsweredAreAll =
     (old new : World) (requests : List Request) (answers : List Answer) → Run old requests answers new

@@ -22,12 +22,12 @@ use Rattle.mds_service.specs.Machine.{Run, Step, fault_in, stated_in}
 use Rattle.mds_laws.specs.Answered.{IsGiven, answered, given}
 use Rattle.mds_laws.specs.Kept.{came_in}
 
--- to take in a well formed file
+-- the request imports a well formed file
 abbrev pub IsWellFormed : Request → Type 0
 IsWellFormed (asked.Import kind bytes) = fault_in kind bytes.items ≡ None
 IsWellFormed request = ⊥
 
--- the facts that a file states; no line numbers stand in them
+-- the facts that a file states, which have no line numbers
 abbrev pub facts_in : Request → World
 facts_in (asked.Import kind bytes) = stated (stated_in kind bytes.items)
 facts_in request = set.empty
@@ -42,12 +42,12 @@ abbrev pub AllAgree : World → List Request → Type 0
 AllAgree w files =
     (a b : World) → Member a (w ∷ map facts_in files) → Member b (w ∷ map facts_in files) → Agrees (union a b)
 
--- the answer of a file that was taken in
+-- the answer of a file that was imported
 abbrev pub IsImported : Answer → Type 0
 IsImported (told.Imported added known) = Unit {0}
 IsImported answer = ⊥
 
--- Take files of which those that were answered are well formed and all agree. Each of these is taken in, in any order. The World
+-- Take files of which those that were answered are well formed and all agree. Each of these is imported, in any order. The World
 -- in the end is the old one with what they state. What had no answer may be any request.
 abbrev pub EachIsTakenIn : Type 0
 EachIsTakenIn =
@@ -55,9 +55,8 @@ EachIsTakenIn =
     → All IsWellFormed (answered files answers) → AllAgree old (answered files answers)
     → All IsImported (given answers) × (new ≡ union old (together (map facts_in (answered files answers))))
 
--- Take two lists of files. What was answered of the one all agrees, and states together what was answered of the other. Both end
--- in one World, and each file that was answered is taken in. As many versions and accumulations are added by the one as by the
--- other.
+-- Take two lists of files. What was answered of the first all agrees, and together states what was answered of the second. Both
+-- end in one World, and each file that was answered is imported. Both add the same number of versions and accumulations.
 abbrev pub SameFactsEndAlike : Type 0
 SameFactsEndAlike =
     (old new other_new : World) (files others : List Request) (answers other_answers : List Answer)
@@ -77,11 +76,11 @@ unplaced (DayOf day) = DayOf (record day { line = 0 })
 unplaced (EventOf event) = EventOf event
 unplaced (PeriodOf period) = PeriodOf (record period { line = 0 })
 
--- on whatever line, it is among the statements
+-- it is among the statements, on whatever line
 abbrev pub IsAmong : List Statement → Statement → Type 0
 IsAmong statements it = Member (unplaced it) (map unplaced statements)
 
--- The parts of a file. What they state the file states, with days whole and under the same header and details. Each of its
+-- The parts of a file. The file states what they state, with whole days and under the same header and details. Each of its
 -- statements that states a fact is in one of them: all but the header and the 200s.
 pub record AreParts (whole : List Statement) (parts : List (List Statement)) : Type 0 where
   pub just : (part : List Statement) (it : Statement) → Member part parts → Member it part → IsAmong whole it
@@ -100,8 +99,8 @@ statements_in (asked.Import kind bytes) = stated_in kind bytes.items
 statements_in request = []
 
 -- Take a file that agrees with the World and was answered, and files of which those that were answered are its parts. The whole
--- is taken in, and so is each part. The parts end in any order in what the whole does. They add as many versions and
--- accumulations.
+-- is imported, and so is each part. In any order the parts end in what the whole ends in. They add the same number of versions
+-- and accumulations.
 abbrev pub PartsEndAsTheWhole : Type 0
 PartsEndAsTheWhole =
     (old new other_new : World) (whole : Request) (parts : List Request) (answer : Answer) (answers : List Answer)
@@ -112,8 +111,8 @@ PartsEndAsTheWhole =
     → IsImported answer × All IsImported (given answers) × (new ≡ other_new)
     × (came_in answer ≡ sum_by came_in answers)
 
--- What agreeing meant when a day had one length: one length and one unit for each stream and day, under whatever updates. The
--- rules on readings and accumulations are those of today.
+-- What agreeing meant when a day had one length: one length and one unit for each stream and day, whatever the update. The rules
+-- on readings and accumulations are those of today.
 pub record AgreeByDay (w : World) : Type 0 where
   pub one_length : (a b : Head) → HeadIs a ∈ w → HeadIs b ∈ w → a.stream ≡ b.stream → a.day ≡ b.day → a.length ≡ b.length
   pub one_unit : (a b : Head) → HeadIs a ∈ w → HeadIs b ∈ w → a.stream ≡ b.stream → a.day ≡ b.day → a.unit ≡ b.unit

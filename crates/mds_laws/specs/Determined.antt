@@ -1,4 +1,4 @@
--- The machine has no choice (profile). What a request asks, and the World before it, decide its answer and what it leaves. But it
+-- The machine has no choice (profile). A request, and the World before it, decide its answer and what it leaves. But any request
 -- may be answered Unavailable.
 use Rattle.std.specs.Prelude.{◌≡◌, ℕ, List, [], ◌∷◌}
 use Rattle.std.specs.declared.alloc.Global.{Global}
@@ -25,7 +25,7 @@ pub data AskTheSame : Request → Request → Type 0 where
   OneExport : (nmi : List ℕ) (a b : Vec (List ℕ) Global) (first last : ℕ) (header : Header) → a.items ≡ b.items
       → AskTheSame (asked.Export nmi a first last header) (asked.Export nmi b first last header)
 
--- Two days, two lists of versions and two lists of accumulations that tell the same. What a vector tells is its items.
+-- Two days, two lists of versions or two lists of accumulations that say the same. What a vector says is its items.
 pub record IsSameDayTold (a b : DayAnswer) : Type 0 where
   pub stream : a.stream ≡ b.stream
   pub day : a.day ≡ b.day
@@ -45,7 +45,7 @@ pub record AreSamePeriods (a b : PeriodAnswer) : Type 0 where
   pub stream : a.stream ≡ b.stream
   pub periods : a.periods.items ≡ b.periods.items
 
--- Two answers that tell the same.
+-- Two answers that say the same.
 abbrev pub AreSame : Answer → Answer → Type 0
 AreSame (told.Imported added known) (told.Imported other_added other_known) =
     (added ≡ other_added) × (known ≡ other_known)
@@ -65,7 +65,7 @@ AreSame (told.Refused refusal) (told.Refused other) = refusal ≡ other
 AreSame told.Unavailable told.Unavailable = Unit {0}
 AreSame a b = ⊥
 
--- Over one lawful World, two answers to what asks the same tell the same, and leave the same World.
+-- Over one lawful World, two answers to the same question say the same, and leave the same World.
 abbrev pub AnswersAreDetermined : Type 0
 AnswersAreDetermined =
     (w v u : World) (request other : Request) (a b : Answer) → IsLawful w → AskTheSame request other
@@ -77,7 +77,7 @@ OneByOne R [] [] = Unit {0}
 OneByOne R (x ∷ xs) (y ∷ ys) = R x y × OneByOne R xs ys
 OneByOne R xs ys = ⊥
 
--- Take two runs from one lawful World, in which the requests that were answered ask the same, one by one. Their answers tell the
+-- Take two runs from one lawful World, in which the requests that were answered ask the same, one by one. Their answers say the
 -- same, one by one, and they end in the same World.
 abbrev pub RunsAreDetermined : Type 0
 RunsAreDetermined =

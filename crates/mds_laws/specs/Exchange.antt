@@ -28,8 +28,8 @@ abbrev pub LeavesAlone : World → World → Job → Type 0
 LeavesAlone w facts job =
     (head : Head) → HeadIs head ∈ facts → head.stream ≡ job.stream → MayLookAt w (content_of job) head.day → ⊥
 
--- Take a job, and a file that leaves these days alone if it is well formed. Whatever they are answered and end in, one after the
--- other, they may be answered and end in the other way round.
+-- Take a job, and a file that leaves these days alone if it is well formed. Whatever answers and end they have in one order,
+-- they may have in the other.
 abbrev pub MayChangePlaces : Type 0
 MayChangePlaces =
     (old new : World) (kind : FileKind) (bytes : Vec ℕ Global) (job : Job) (of_file of_job : Answer)
@@ -37,8 +37,8 @@ MayChangePlaces =
     → (Run old (asked.Import kind bytes ∷ asked.Substitute job ∷ []) (of_file ∷ of_job ∷ []) new)
     ↔ (Run old (asked.Substitute job ∷ asked.Import kind bytes ∷ []) (of_job ∷ of_file ∷ []) new)
 
--- Take such a job and such a file, over a lawful World, in the one order and in the other. Where all four are answered, the file
--- is told the same in both orders, and so is the job. Both orders end in the same World.
+-- Take such a job and such a file, over a lawful World, in the one order and in the other. If all four are answered, the file
+-- has the same answer in both orders, and so has the job. Both orders end in the same World.
 abbrev pub ChangePlaces : Type 0
 ChangePlaces =
     (old new other_new : World) (kind : FileKind) (bytes again : Vec ℕ Global) (job : Job)

@@ -1,4 +1,4 @@
--- Nothing is lost (profile). What a World holds stays as it is. The answers tell what comes in, and each of these came by one
+-- Nothing is lost (profile). What a World holds stays as it is. The answers say what was added, and each addition was made by one
 -- request.
 use Rattle.std.specs.Prelude.{◌≡◌, ℕ, ◌+◌, true, List, ◌∷◌, ◌++◌}
 use Rattle.std.specs.List.{sum_by}
@@ -36,8 +36,8 @@ LawStays =
     (old new : World) (requests : List Request) (answers : List Answer)
     → Run old requests answers new → IsLawful old → IsLawful new
 
--- Where both hold a version or an accumulation of one key, these are the same. So are heads of one day under one update, and jobs
--- of one id. Heads of one day have one unit under whatever updates.
+-- If both hold a version or an accumulation of one key, these are the same. So are heads of one day under one update, and jobs of
+-- one id. Heads of one day have one unit, whatever the update.
 pub record AreUnaltered (old new : World) : Type 0 where
   pub versions : (key : Key) (a b : ReadingValue) → VersionIs key a ∈ old → VersionIs key b ∈ new → a ≡ b
   pub heads : (a b : Head) → HeadIs a ∈ old → HeadIs b ∈ new → a.stream ≡ b.stream → a.day ≡ b.day → a.update ≡ b.update
@@ -46,19 +46,19 @@ pub record AreUnaltered (old new : World) : Type 0 where
   pub periods : (key : PeriodKey) (a b : PeriodContent) → PeriodIs key a ∈ old → PeriodIs key b ∈ new → a ≡ b
   pub jobs : (id : List ℕ) (a b : JobContent) (m n : ℕ) → JobIs id a m ∈ old → JobIs id b n ∈ new → (a ≡ b) × (m ≡ n)
 
--- What a lawful World holds, a later one of the run doesn't hold otherwise.
+-- What a lawful World holds, a later one of the run doesn't hold in another form.
 abbrev pub NothingIsAltered : Type 0
 NothingIsAltered =
     (old new : World) (requests : List Request) (answers : List Answer)
     → Run old requests answers new → IsLawful old → AreUnaltered old new
 
--- how many versions and accumulations came in, as an answer tells
+-- how many versions and accumulations were added, as an answer says
 abbrev pub came_in : Answer → ℕ
 came_in (told.Imported added known) = added
 came_in (told.Substituted count) = count
 came_in answer = 0
 
--- The versions and accumulations are as many more as the answers of the run tell.
+-- The World has as many more versions and accumulations as the answers of the run say.
 abbrev pub AnswersTellHowMany : Type 0
 AnswersTellHowMany =
     (old new : World) (requests : List Request) (answers : List Answer)
@@ -84,13 +84,13 @@ IsOfJob w job (VersionIs key reading) =
     × IsTarget (content_of job) key.interval × IsSubstitute w (content_of job) key.interval reading
 IsOfJob w job fact = ⊥
 
--- what a file that was taken in states, or what a job that was done fills in by the World before it
+-- what an imported file states, or what a job that was done fills in by the World before it
 abbrev pub ComesBy : World → Request → Answer → Fact → Type 0
 ComesBy before (asked.Import kind bytes) (told.Imported added known) fact = fact ∈ stated (stated_in kind bytes.items)
 ComesBy before (asked.Substitute job) (told.Substituted count) fact = IsOfJob before job fact
 ComesBy before request answer fact = ⊥
 
--- The request of a run that a fact came in by: it isn't there before, and is after.
+-- The request of a run that added a fact: the fact isn't there before, and is there after.
 pub record CameBy (old new : World) (requests : List Request) (answers : List Answer) (fact : Fact) : Type 0 where
   pub before : World
   pub after : World
@@ -101,13 +101,13 @@ pub record CameBy (old new : World) (requests : List Request) (answers : List An
   pub present : fact ∈ after
   pub by : ComesBy before request answer fact
 
--- Each version and accumulation that a run brought came by such a request.
+-- Each version and accumulation that a run added came by such a request.
 abbrev pub EachCameByOne : Type 0
 EachCameByOne =
     (old new : World) (requests : List Request) (answers : List Answer) (fact : Fact) → is_counted fact ≡ true
     → Run old requests answers new → fact ∈ new → (fact ∈ old → ⊥) → CameBy old new requests answers fact
 
--- The NEM13 file of a run that an accumulation came in by: it was taken in, and states the accumulation, which wasn't there before.
+-- The NEM13 file of a run that added an accumulation: it was imported, and states the accumulation, which wasn't there before.
 pub record CameByFile (old new : World) (requests : List Request) (answers : List Answer)
     (key : PeriodKey) (content : PeriodContent) : Type 0 where
   pub before : World
@@ -119,7 +119,7 @@ pub record CameByFile (old new : World) (requests : List Request) (answers : Lis
   pub absent : PeriodIs key content ∈ before → ⊥
   pub among : PeriodIs key content ∈ stated (stated_in Nem13 bytes.items)
 
--- Each accumulation that a run brought came by such a file.
+-- Each accumulation that a run added came by such a file.
 abbrev pub EachPeriodCameByFile : Type 0
 EachPeriodCameByFile =
     (old new : World) (requests : List Request) (answers : List Answer) (key : PeriodKey) (content : PeriodContent)

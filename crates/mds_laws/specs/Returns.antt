@@ -1,5 +1,5 @@
--- An export comes back (profile). A store without anything takes it in, and so does the one that it came from. What was exported
--- is as it was.
+-- An export comes back (profile). An empty store imports it, and so does the one that it came from. What was exported is as it
+-- was.
 use Rattle.std.specs.Prelude.{◌≡◌, ◌↔◌, ℕ, ◌+◌, ◌≤◌, List, length}
 use Rattle.std.specs.FinSet as set
 use Rattle.std.specs.List.{sum_by}
@@ -26,7 +26,7 @@ abbrev pub IsAskedFor : World → List ℕ → List (List ℕ) → ℕ → ℕ �
 IsAskedFor w nmi suffixes first last stream day =
     (stream.nmi ≡ nmi) × Member stream.suffix suffixes × (first ≤ day) × (day ≤ last) × IsKnownDay w stream day
 
--- A day has the same form in both, and each of its intervals the same current reading.
+-- A day has the same current length and unit in both, and each of its intervals the same current reading.
 pub record IsSameDay (a b : World) (stream : Stream) (day : ℕ) : Type 0 where
   pub form : (length : ℕ) (unit : MeasureUnit) → IsFormOf a stream day length unit ↔ IsFormOf b stream day length unit
   pub readings : (interval : ℕ) (reading : ReadingValue)
@@ -36,8 +36,8 @@ pub record IsSameDay (a b : World) (stream : Stream) (day : ℕ) : Type 0 where
 abbrev pub intervals_in : List Statement → ℕ
 intervals_in statements = sum_by (λ day. length day.readings) (days_of statements)
 
--- A store without anything takes in an export of a lawful World, where it has an answer. It knows then just the days that were
--- asked for, each with the same current length and unit, the same current details and the same current readings.
+-- An empty store that answers imports an export of a lawful World. It then knows just the days that were asked for. Each has the
+-- same current length and unit, the same current details and the same current readings.
 abbrev pub ReturnsToAnEmptyStore : Type 0
 ReturnsToAnEmptyStore =
     (w same filled : World) (nmi : List ℕ) (suffixes : Vec (List ℕ) Global) (first last : ℕ) (header : Header)
@@ -50,8 +50,8 @@ ReturnsToAnEmptyStore =
     × ((stream : Stream) (day : ℕ) → IsAskedFor w nmi suffixes.items first last stream day
     → IsSameDay w filled stream day × HasSameDetails w filled stream day)
 
--- The store that it came from takes it in, where it has an answer. Each day has then the current length and unit, the current
--- details and the current readings that it had. What is added and what is known are together as many as its intervals.
+-- The store that it came from imports it, if it answers. Then each day has the current length and unit, the current details and
+-- the current readings that it had. The added and the known readings together are as many as the export has intervals.
 abbrev pub ReturnsToItsStore : Type 0
 ReturnsToItsStore =
     (w same returned : World) (nmi : List ℕ) (suffixes : Vec (List ℕ) Global) (first last : ℕ) (header : Header)

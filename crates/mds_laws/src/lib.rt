@@ -1,6 +1,10 @@
-//! Laws of the machine, over every World and every run. They say what any list of requests keeps, that its answers are
-//! determined, and where their order doesn't matter. The statements stand in `specs`, over the `Step` and `Run` that
-//! `mds_service::run` keeps to. The functions of laws do nothing, but for the one of pieces, which reads and takes them in.
+//! Laws of the machine, over every World and every run of requests.
+//!
+//! They say what any list of requests keeps, that its answers are determined, and where the order of requests doesn't matter. The
+//! statements are in `specs`, over `Step` and `Run`, by which `mds_service::run` answers. The functions do nothing, except
+//! `a_file_comes_in_pieces`, which reads and imports its pieces.
+//! Callers: `mds_trials` calls that one. The other laws are there to be read.
+//! Must not change: the names of the laws, which the table of promises in README names.
 #![tactic(auto)]
 
 mod laws;

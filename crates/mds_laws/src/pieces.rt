@@ -11,8 +11,8 @@ use mds_nem12::{Nem12Fault, read_pieces};
 use mds_service::{Answer, apply_delivery};
 use std::alloc::Global;
 
-/// Reads a NEM12 file that lies in pieces, one behind the other, and takes in what it states. However it is cut, that is the step of
-/// an import of the whole.
+/// Reads a NEM12 file that is cut into consecutive pieces, and imports what it states. However it is cut, that is the step of an
+/// import of the whole.
 pub fn a_file_comes_in_pieces<K: Keeper>(alloc: Global, keeper: &mut K, pieces: &[&[u8]]) -> Answer
     ensures { GoesBy (K.kept keeper.old) (K.kept keeper.new)
         (λ w. ImportStep w Nem12 (concat (map (λ piece. piece.now) pieces.now))) result }

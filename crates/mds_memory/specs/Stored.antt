@@ -39,17 +39,17 @@ notes_world notes = set.from_list (map note_fact notes.keys)
 abbrev pub days_world : BTreeMap StreamDay BookValue → World
 days_world days = set.from_list (flat_map (λ entry. book_facts entry.1) days.entries)
 
--- whether a day with this unit and these rows says a head
+-- whether a day with this unit and these rows has a head
 abbrev pub says_head : Option MeasureUnit → List (ℕ × Version) → Bool
 says_head None rows = false
 says_head (Some unit) [] = false
 says_head (Some unit) (row ∷ rows) = true
 
--- whether a book says one
+-- whether a book has one
 abbrev pub is_headed : BookValue → Bool
 is_headed book = says_head book.unit book.rows
 
--- a place without a job stands for nothing
+-- a place without a job holds no fact
 abbrev pub kept_facts : Option (Job × ℕ) → List Fact
 kept_facts None = []
 kept_facts (Some job) = job_fact job ∷ []
@@ -57,7 +57,7 @@ kept_facts (Some job) = job_fact job ∷ []
 abbrev pub jobs_world : BTreeMap (List ℕ) (Option (Job × ℕ)) → World
 jobs_world jobs = set.from_list (flat_map (λ entry. kept_facts entry.1) jobs.entries)
 
--- a place without content stands for nothing
+-- a place without content holds no fact
 abbrev pub place_facts : PeriodKey → Option PeriodContent → List Fact
 place_facts key None = []
 place_facts key (Some content) = PeriodIs key content ∷ []
@@ -74,11 +74,11 @@ stored_world days details notes jobs periods =
 abbrev pub place_cmp : StreamDay → StreamDay → Ordering
 place_cmp a b = ordering_then (stream_cmp a.stream b.stream) (nat_cmp a.day b.day)
 
--- the number of the last day that there is, 31 December 9999
+-- the number of the last possible day, 31 December 9999
 abbrev pub last_number : ℕ
 last_number = 2_932_896
 
--- each book is of the day that it stands under, no day is behind the last one, and no two days are one
+-- each book is under its own day, no day is after the last one, and no day comes twice
 pub record AreOfTheirDays (days : BTreeMap StreamDay BookValue) : Type 0 where
   pub theirs : (place : StreamDay) (book : BookValue) → Member (place, book) days.entries
       → (book.stream ≡ place.stream) × (book.day ≡ place.day)
@@ -89,16 +89,16 @@ pub record AreOfTheirDays (days : BTreeMap StreamDay BookValue) : Type 0 where
 abbrev pub id_cmp : List ℕ → List ℕ → Ordering
 id_cmp = (id_ord.ghosts).cmp
 
--- each job stands under its id, and no two ids are one
+-- each job is under its own id, and no id comes twice
 pub record AreOfTheirIds (jobs : BTreeMap (List ℕ) (Option (Job × ℕ))) : Type 0 where
   pub theirs : (id : List ℕ) (job : Job × ℕ) → Member (id, Some job) jobs.entries → job.0.id ≡ id
   pub ordered : IsOrdered id_cmp jobs
 
--- by stream, and then as the accumulations of a stream
+-- by stream, and then as the accumulations of a stream are ordered
 abbrev pub key_cmp : PeriodKey → PeriodKey → Ordering
 key_cmp a b = ordering_then (stream_cmp a.stream b.stream) (period_cmp a b)
 
--- what is stored is lawful, each day stands in its place, each job under its id, and no two accumulations are of one key
+-- what is stored is lawful, each day is in its place, each job is under its id, and no two accumulations have one key
 pub record IsStored (days : BTreeMap StreamDay BookValue) (details : BTreeMap MeterDetails (BTreeSet ℕ)) (notes : BTreeSet Note)
     (jobs : BTreeMap (List ℕ) (Option (Job × ℕ))) (periods : BTreeMap PeriodKey (Option PeriodContent)) : Type 0 where
   pub lawful : IsLawful (stored_world days details notes jobs periods)
@@ -106,7 +106,7 @@ pub record IsStored (days : BTreeMap StreamDay BookValue) (details : BTreeMap Me
   pub ids : AreOfTheirIds jobs
   pub keys : IsOrdered key_cmp periods
 
--- a day of which something is added is changed, and a changed day has what was kept of it and what is added
+-- a day that gets something is changed, and a changed day has what was kept of it and what is added
 pub record IsChange (w more : World) (changed : BTreeMap StreamDay BookValue) : Type 0 where
   pub each : (place : StreamDay) (book : BookValue) → Member (place, book) changed.entries
       → (f : Fact) → IsOn place.stream place.day f → (f ∈ book_world book) ↔ (f ∈ union w more)

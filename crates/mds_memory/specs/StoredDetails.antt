@@ -25,11 +25,11 @@ meter_cmp a b =
     ordering_then (stream_cmp a.stream b.stream)
     (ordering_then (nat_cmp a.moment b.moment) (details_cmp a.details b.details))
 
--- these details, of a day
+-- these details, on a day
 abbrev pub meter_on : MeterDetails → ℕ → Detail
 meter_on meter day = detail_at meter.stream day meter.moment meter.details
 
--- those of an entry, of each of its days
+-- the details of an entry, on each of its days
 abbrev pub entry_details : MeterDetails × BTreeSet ℕ → List Detail
 entry_details entry = map (meter_on entry.0) entry.1.keys
 
@@ -41,29 +41,29 @@ details_world kept = set.from_list (map DetailIs (flat_map entry_details kept.en
 abbrev pub meter_details : MeterDays → List Detail
 meter_details group = map (meter_on group.meter) group.days.items
 
--- those of each of a list, one after the other
+-- the details of all in a list, one after the other
 abbrev pub all_details : List MeterDays → List Detail
 all_details groups = flat_map meter_details groups
 
--- the details of a stream that stand before all its others
+-- details that sort before all others of a stream
 abbrev pub first_meter_of : Stream → MeterDetails
 first_meter_of stream = record { stream = stream; moment = 0; details = no_details }
 
--- just these details come to those that were kept
+-- just these details are added to those that were kept
 abbrev pub Gains : BTreeMap MeterDetails (BTreeSet ℕ) → List Detail → BTreeMap MeterDetails (BTreeSet ℕ) → Type 0
 Gains old more new =
     (detail : Detail) → (DetailIs detail ∈ details_world new) ↔ ((DetailIs detail ∈ details_world old) ⊎ Member detail more)
 
--- just these details go from those that were kept
+-- just these details are removed from those that were kept
 abbrev pub Loses : BTreeMap MeterDetails (BTreeSet ℕ) → List Detail → BTreeMap MeterDetails (BTreeSet ℕ) → Type 0
 Loses old some new =
     (detail : Detail) → (DetailIs detail ∈ details_world new) ↔ ((DetailIs detail ∈ details_world old) × (Member detail some → ⊥))
 
--- no day from a first to a last one is among days
+-- none of the days is in the range from first to last
 abbrev pub NoneFrom : List ℕ → ℕ → ℕ → Type 0
 NoneFrom days first last = (day : ℕ) → Member day days → first ≤ day → day ≤ last → ⊥
 
--- the last of days from a first to a last one
+-- the last of the days in the range from first to last
 pub record IsLastFrom (days : List ℕ) (first last of : ℕ) : Type 0 where
   pub one : Member of days
   pub from : first ≤ of

@@ -14,7 +14,7 @@ IsEventNoteOf stream day note = (event : EventValue) × (note ≡ Event event) �
 abbrev pub IsHolidayNote : Note → Type 0
 IsHolidayNote note = (day : ℕ) × (note ≡ Holiday day)
 
--- the event of a day that stands before all others of that day
+-- an event that sorts before all others of its day
 abbrev pub first_of_day : Stream → ℕ → EventValue
 first_of_day stream day = record {
   nmi = stream.nmi;
@@ -30,7 +30,7 @@ first_of_day stream day = record {
 abbrev pub IsAtEnd : Stream → List Stream → Type 0
 IsAtEnd stream streams = slice_get streams (length streams - 1) ≡ Some stream
 
--- the stream comes to the end of a list, unless it stands there
+-- the stream is appended to a list, unless it is the last one already
 abbrev pub PutsLast : Stream → List Stream → List Stream → Type 0
 PutsLast stream old new =
     (IsAtEnd stream old × (new ≡ old)) ⊎ ((IsAtEnd stream old → ⊥) × (new ≡ old ++ stream ∷ []))

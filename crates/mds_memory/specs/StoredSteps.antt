@@ -34,14 +34,15 @@ pub record Holds (w : World) (more : List Fact) (place : StreamDay) (rows : Rows
       → Member (VersionIs key reading) (map (row_fact place.stream place.day) (rows_of rows.rows))
   pub only : (f : Fact) → Member f (map (row_fact place.stream place.day) (rows_of rows.rows)) → (f ∈ w) ⊎ Member f more
 
--- The head at a place among heads joins what a day will hold, or it isn't of that day. The last is the place of the next head.
+-- The head at a place among heads joins what a day will hold, or it isn't of that day. The last argument is the place of the
+-- next head.
 abbrev pub GetsHead : List Head → ℕ → StreamDay → Rows → Rows → ℕ → Type 0
 GetsHead heads at place old new next =
     ((new ≡ old) × (next ≡ at))
     ⊎ ((head : Head) × (slice_get heads at ≡ Some head) × (place ≡ record { stream = head.stream; day = head.day })
     × (new.unit ≡ Some head.unit) × (new.rows ≡ old.rows) × (next ≡ at + 1))
 
--- another day than that in hand
+-- a day other than the one in hand
 abbrev pub IsOther : Option InHand → StreamDay → Type 0
 IsOther None place = Unit {0}
 IsOther (Some hand) place = hand.place ≡ place → ⊥
@@ -51,8 +52,8 @@ abbrev pub IsTheOne : Option InHand → StreamDay → Type 0
 IsTheOne None place = ⊥
 IsTheOne (Some hand) place = hand.place ≡ place
 
--- Each day that the added facts are on, and maybe others, holds what it will. One of them may be in hand, and then it
--- isn't looked at in the map.
+-- Each day that the added facts are on, and maybe others, holds what it will. One of them may be in hand, and then the map
+-- isn't asked for it.
 pub record AreChanged (w : World) (more : List Fact) (closed : BTreeMap StreamDay Rows) (in_hand : Option InHand) : Type 0 where
   pub each : (place : StreamDay) (rows : Rows) → get place_cmp closed place ≡ Some rows → IsOther in_hand place
       → Holds w more place rows

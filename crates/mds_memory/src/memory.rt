@@ -1,4 +1,4 @@
-//! A keeper in memory.
+//! The keeper in memory: what it holds, its queries and its commit.
 
 ghost use Rattle.std.specs.Prelude.{◌≡◌, ◌↔◌, ◌⊎◌, IfOk, OnErr, OnOk, map};
 ghost use Rattle.std.specs.FinSet as set;
@@ -41,15 +41,15 @@ use std::marker::Model;
 #[derive(Drop)]
 pub struct MemoryKeeper {
     alloc: Global,
-    /// The days by stream and date. One without a version stands for nothing.
+    /// The days by stream and date. A book without a version holds no fact.
     days: BTreeMap<StreamDay, DayBook>,
-    /// The details of meters, each with the days that have them. Details without a day stand for nothing.
+    /// The details of meters, each with the days that have them. Details without a day hold no fact.
     details: BTreeMap<MeterDetails, BTreeSet<Day>>,
     /// All events and holidays.
     notes: BTreeSet<Note>,
-    /// The substitution jobs by their ids. A place without a job stands for nothing.
+    /// The substitution jobs by their ids. A place without a job holds no fact.
     jobs: BTreeMap<JobId, Option<(Job, u64)>>,
-    /// The accumulations by their keys. A place without content stands for nothing.
+    /// The accumulations by their keys. A place without content holds no fact.
     periods: BTreeMap<PeriodKey, Option<PeriodContent>>,
 }
 
@@ -86,7 +86,8 @@ impl MemoryKeeper {
 }
 
 impl Keeper for MemoryKeeper {
-    // Nothing outside of the program has a hand in it, and no fault shuts it. It leaves its World as it is.
+    // Nothing outside the program affects it, and no fault shuts it. What it may leave is its World,
+    // unchanged.
     ghost kept = { λ w. record { world = w; honest = Unit {0}; sound = Unit {0}; may_leave = λ left. left ≡ w } };
 
     ghost sound_honest = { λ _ _. tt };
@@ -153,7 +154,7 @@ impl Keeper for MemoryKeeper {
         Ok(job_of(&self.jobs, &id)?)
     }
 
-    // All that needs memory comes before the first change that shows, or is taken back.
+    // Everything that needs memory is done before the first change that shows, or is undone.
     fn commit(&mut self, additions: Additions) -> Result<(), Unavailable> {
         let Additions {
             new_days,
@@ -186,7 +187,7 @@ impl Keeper for MemoryKeeper {
     }
 }
 
-/// Adds details and notes that aren't there yet: all, or none where there is no memory.
+/// Adds details and notes that aren't there yet: all of them, or none if there is no memory.
 fn insert_both(
     alloc: Global,
     details: &mut BTreeMap<MeterDetails, BTreeSet<Day>>,
@@ -222,7 +223,7 @@ fn head_streams(
 {
     let mut streams = Vec::new(alloc);
     for (place, book) in days {
-        // The days of a stream stand together.
+        // The days of a stream are adjacent.
         if has_head(book) {
             push_new(&mut streams, &place.stream)?;
         }
@@ -230,7 +231,7 @@ fn head_streams(
     Ok(streams)
 }
 
-/// The streams of two ascending lists, ascending, each once.
+/// Merges two ascending lists of streams. The result ascends, and has each stream once.
 fn merged(alloc: Global, a: &[Stream], b: &[Stream]) -> Result<Vec<Stream>, AllocError>
     requires { AllPairs (λ x y. stream_cmp x y ≡ Less) a.now × AllPairs (λ x y. stream_cmp x y ≡ Less) b.now }
     ensures each { IfOk result (λ streams. (stream : AStream)

@@ -20,10 +20,10 @@ use mds_world::{Head, StreamDay};
 use std::alloc::{AllocError, Global};
 use std::collections::BTreeMap;
 
-/// The number of the last day that there is, 31 December 9999.
+/// The number of the last possible day, 31 December 9999.
 const LAST: i64 = 2_932_896;
 
-/// The book of a day. Where none is kept, nothing is known of the day.
+/// The book of a day. If none is kept, nothing is known of the day.
 pub(crate) fn day_of(
     alloc: Global,
     days: &BTreeMap<StreamDay, DayBook>,
@@ -76,7 +76,7 @@ pub(crate) fn last_day(days: &BTreeMap<StreamDay, DayBook>, stream: Stream) -> O
     let first = place_at(&stream, 0);
     let last = place_at(&stream, LAST);
     for (place, book) in days.range(first..=last).rev() {
-        // A place without a head stands for nothing.
+        // A place without a head is no known day.
         if has_head(book) {
             return Some(place.day);
         }
@@ -116,7 +116,7 @@ struct InHand {
     rows: Rows,
 }
 
-/// The heads of days that come new, and behind them those of further updates.
+/// The heads of new days, followed by those of further updates.
 pub(crate) fn heads_in(new_days: Vec<Head>, further: Vec<Head>) -> Result<Vec<Head>, AllocError>
     ensures { IfOk result (λ heads. heads.items ≡ new_days.items ++ further.items) }
 {
@@ -139,10 +139,10 @@ pub(crate) fn changed_days(
     ensures { IfOk result (λ changed. AreOfTheirDays changed × IsChange (days_world days.now)
         (set.from_list (map HeadIs heads.items ++ map version_fact (versions_of versions.items))) changed) }
 {
-    // What is added to a day mostly stands together, so the day in hand is kept out of the map.
+    // What is added to a day is mostly adjacent, so the day in hand is kept out of the map.
     let mut closed: BTreeMap<StreamDay, Rows> = BTreeMap::new(alloc);
     let mut in_hand: Option<InHand> = None;
-    // How many heads are put. They mostly stand in the order of the versions, unless some days are
+    // How many heads were put. They mostly come in the order of the versions, unless some days are
     // new and others are known.
     let mut put: usize = 0;
     for added in versions {
@@ -190,8 +190,8 @@ fn of_head(head: &Head, rows: Rows) -> Rows
     }
 }
 
-/// What a day will hold with the head at this place, where that is its own, and the place of the
-/// next head.
+/// What a day will hold with the head at this place, if the head is the day's own. Also the place
+/// of the next head.
 fn with_head(heads: &Vec<Head>, at: usize, place: &StreamDay, rows: Rows) -> (Rows, usize)
     ensures { GetsHead heads.now.items at place.now rows result.0 result.1 }
 {
@@ -204,7 +204,8 @@ fn with_head(heads: &Vec<Head>, at: usize, place: &StreamDay, rows: Rows) -> (Ro
     (of_head(head, rows), at + 1)
 }
 
-/// What a day will hold with more versions. Where it had none, these stay as they lie.
+/// What a day will hold with more versions. If it had none, these are kept in the form they came
+/// in.
 fn with_more(alloc: Global, old: Rows, more: VersionRows) -> Result<Rows, AllocError>
     ensures { IfOk result (λ new. (new.unit ≡ old.unit) × (rows_of new.rows ≡ rows_of old.rows ++ rows_of more)) }
 {
@@ -221,9 +222,8 @@ fn with_more(alloc: Global, old: Rows, more: VersionRows) -> Result<Rows, AllocE
     })
 }
 
-/// Goes on to the day of this place. It takes the day out of those that were changed before, or
-/// copies what is kept of it. Where another day was in hand, that one joins those that were
-/// changed.
+/// Goes on to the day of this place: takes it out of the changed days, or copies what is kept of
+/// it. If another day was in hand, that one joins the changed days.
 #[inline(always)]
 fn opened(
     alloc: Global,
@@ -247,7 +247,7 @@ fn opened(
     taken(alloc, days, closed, place)
 }
 
-/// Puts the day in hand to those that were changed.
+/// Adds the day in hand to the changed days.
 #[inline(never)]
 fn close(closed: &mut BTreeMap<StreamDay, Rows>, hand: InHand) -> Result<(), AllocError>
     ensures { OnOk result ((w : World) (more : List Fact)
@@ -257,7 +257,7 @@ fn close(closed: &mut BTreeMap<StreamDay, Rows>, hand: InHand) -> Result<(), All
     Ok(())
 }
 
-/// Takes a day in hand: out of those that were changed, or as a copy of what is kept.
+/// Takes a day in hand: out of the changed days, or as a copy of what is kept.
 #[inline(never)]
 fn taken(
     alloc: Global,
@@ -302,7 +302,7 @@ fn kept_rows(
     })
 }
 
-/// The books of days that were changed.
+/// The books of the changed days.
 fn books_of(
     alloc: Global,
     closed: BTreeMap<StreamDay, Rows>,
@@ -318,14 +318,14 @@ fn books_of(
         else {
             unreachable!();
         };
-        // Whoever asks for the day gets a copy, and all copies share its versions.
+        // A caller that asks for the day gets a copy, and all copies share its versions.
         let shared = book.into_shared(alloc)?;
         books.insert(place, shared)?;
     }
     Ok(books)
 }
 
-/// Makes a place for each day that changes. What is kept stays as it is.
+/// Reserves a place for each day that changes. What is kept stays as it is.
 pub(crate) fn make_room(
     alloc: Global,
     days: &mut BTreeMap<StreamDay, DayBook>,
@@ -344,7 +344,7 @@ pub(crate) fn make_room(
     Ok(())
 }
 
-/// Puts this book in the place of a day that has none.
+/// Inserts this book for a day that has none.
 fn add_place(
     days: &mut BTreeMap<StreamDay, DayBook>,
     place: &StreamDay,
@@ -363,7 +363,7 @@ fn add_place(
     Ok(())
 }
 
-/// Puts changed days in the place of those that were kept. There is room for them.
+/// Replaces the kept days by the changed ones. There is room for them.
 pub(crate) fn put_days(
     days: &mut BTreeMap<StreamDay, DayBook>,
     changed: BTreeMap<StreamDay, DayBook>,
@@ -375,7 +375,7 @@ pub(crate) fn put_days(
         → days_world days.new ≡ union (days_world days.old) w }
 {
     for (place, book) in changed {
-        // An insert under a key that is there needs no memory.
+        // Inserting under a key that exists needs no memory.
         let Ok(_) = days.insert(place, book) else {
             unreachable!();
         };

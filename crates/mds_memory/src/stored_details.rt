@@ -20,8 +20,8 @@ use mds_world::empty_details;
 use std::alloc::{AllocError, Global};
 use std::collections::{BTreeMap, BTreeSet};
 
-/// The details of a stream's meter, and the moment of the header that they came under. Their order goes by the stream, then the
-/// moment, and then the details.
+/// The details of a stream's meter, and the moment of the header that they came under. Ordered by stream, then by moment, and
+/// then by details.
 #[derive(PartialEq, Eq, PartialOrd, Ord, Drop)]
 pub(crate) struct MeterDetails {
     stream: Stream,
@@ -30,7 +30,7 @@ pub(crate) struct MeterDetails {
 }
 
 impl MeterDetails {
-    /// A copy of them.
+    /// A copy.
     fn try_clone(&self) -> Result<MeterDetails, AllocError>
         ensures { IfOk result (λ copy. copy ≡ self.now) }
     {
@@ -42,14 +42,14 @@ impl MeterDetails {
     }
 }
 
-/// Details with days that get them.
+/// Details with the days that get them.
 #[derive(Drop)]
 pub(crate) struct MeterDays {
     meter: MeterDetails,
     days: Vec<Day>,
 }
 
-/// The details of additions, as they are kept. No text is copied.
+/// The details among additions, in the form in which they are kept. No text is copied.
 pub(crate) fn meters_of(
     alloc: Global,
     details: Vec<DetailDays>,
@@ -63,7 +63,7 @@ pub(crate) fn meters_of(
     Ok(meters)
 }
 
-/// The details of some days, as they are kept.
+/// The details of some days, in the form in which they are kept.
 fn with_meter(group: DetailDays) -> MeterDays
     ensures { meter_details result ≡ details_on group }
 {
@@ -81,7 +81,7 @@ fn with_meter(group: DetailDays) -> MeterDays
     MeterDays { meter, days }
 }
 
-/// Adds details that aren't there yet: all, or none where there is no memory.
+/// Adds details that aren't there yet: all of them, or none if there is no memory.
 pub(crate) fn insert_details(
     alloc: Global,
     kept: &mut BTreeMap<MeterDetails, BTreeSet<Day>>,
@@ -102,7 +102,7 @@ pub(crate) fn insert_details(
     Ok(())
 }
 
-/// Adds the details of some days that don't have them yet: all, or none where there is no memory.
+/// Adds the details of some days that don't have them yet: all of them, or none if there is no memory.
 fn insert_days(
     alloc: Global,
     kept: &mut BTreeMap<MeterDetails, BTreeSet<Day>>,
@@ -121,7 +121,7 @@ fn insert_days(
     Ok(())
 }
 
-/// Adds days that aren't there yet: all, or none where there is no memory.
+/// Adds days that aren't there yet: all of them, or none if there is no memory.
 fn add_days(days: &mut BTreeSet<Day>, more: &[Day]) -> Result<(), AllocError>
     requires { (day : ℕ) → Member day more.now → Member day days.old.keys → ⊥ }
     ensures ok { OnOk result ((day : ℕ) → Member day days.new.keys ↔ (Member day days.old.keys ⊎ Member day more.now)) }
@@ -136,7 +136,7 @@ fn add_days(days: &mut BTreeSet<Day>, more: &[Day]) -> Result<(), AllocError>
     Ok(())
 }
 
-/// Takes days out, which needs no memory.
+/// Removes days, which needs no memory.
 fn remove_days(days: &mut BTreeSet<Day>, some: &[Day])
     ensures { (day : ℕ) → Member day days.new.keys ↔ (Member day days.old.keys × (Member day some.now → ⊥)) }
 {
@@ -152,7 +152,7 @@ fn in_order(alloc: Global, days: &[Day]) -> Result<BTreeSet<Day>, AllocError>
     days.iter().copied().collect(alloc)
 }
 
-/// Takes details out, which needs no memory. Those that are left without a day say nothing.
+/// Removes details, which needs no memory. An entry that is left without a day says nothing.
 fn take_out(kept: &mut BTreeMap<MeterDetails, BTreeSet<Day>>, some: &[MeterDays])
     ensures { Loses kept.old (all_details some.now) kept.new }
 {
@@ -161,7 +161,7 @@ fn take_out(kept: &mut BTreeMap<MeterDetails, BTreeSet<Day>>, some: &[MeterDays]
     }
 }
 
-/// Takes the details of some days out.
+/// Removes the details of some days.
 fn take_days(kept: &mut BTreeMap<MeterDetails, BTreeSet<Day>>, some: &MeterDays)
     ensures { Loses kept.old (meter_details some.now) kept.new }
 {
@@ -185,7 +185,7 @@ pub(crate) fn current_details(
     }
 }
 
-/// The current details of each day of a range, ascending. Where the last day is before the first there are none.
+/// The current details of each day of a range, ascending. If the last day is before the first, the list is empty.
 pub(crate) fn details_between(
     alloc: Global,
     kept: &BTreeMap<MeterDetails, BTreeSet<Day>>,
@@ -206,7 +206,7 @@ pub(crate) fn details_between(
     Ok(rows)
 }
 
-/// The day of a number, where there is one.
+/// The day of a number, if there is one.
 fn day_of(number: u32) -> Option<Day>
     ensures { SomeIff result (number ≤ last_number) number }
 {
@@ -221,7 +221,7 @@ fn number_of(day: Day) -> u32
     day.number() as u32
 }
 
-/// The greatest details of the nearest day up to this one that has some.
+/// The greatest details of the nearest day that has some, up to and including this one.
 fn nearest<'a>(
     alloc: Global,
     kept: &'a BTreeMap<MeterDetails, BTreeSet<Day>>,
@@ -238,7 +238,7 @@ fn nearest<'a>(
         if meter.stream != *stream {
             break;
         }
-        // A nearer day wins, and on one day whatever comes later is greater.
+        // A nearer day wins. On the same day, whatever comes later is greater.
         let Some(of) = last_from(days, from, day) else {
             continue;
         };
@@ -248,7 +248,7 @@ fn nearest<'a>(
     last
 }
 
-/// The details of a stream that stand before all its others. They take no memory.
+/// Details that sort before all others of a stream. They take no memory.
 fn first_meter(alloc: Global, stream: &Stream) -> MeterDetails
     ensures { result ≡ first_meter_of stream.now }
 {
@@ -259,7 +259,7 @@ fn first_meter(alloc: Global, stream: &Stream) -> MeterDetails
     }
 }
 
-/// The last of the days from a first to a last one.
+/// The last of the days that are in a range.
 fn last_from(days: &BTreeSet<Day>, first: Day, last: Day) -> Option<Day>
     requires { first ≤ last }
     ensures some { IfSome result (IsLastFrom days.now.keys first last) }
@@ -272,7 +272,7 @@ fn last_from(days: &BTreeSet<Day>, first: Day, last: Day) -> Option<Day>
     }
 }
 
-/// Those of the days that don't have these details yet, ascending.
+/// The days among these that don't have these details yet, ascending.
 pub(crate) fn days_without(
     alloc: Global,
     kept: &BTreeMap<MeterDetails, BTreeSet<Day>>,

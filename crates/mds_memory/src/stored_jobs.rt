@@ -11,7 +11,7 @@ use mds_jobs::{Job, JobId};
 use std::alloc::AllocError;
 use std::collections::BTreeMap;
 
-/// The job of an id, with the count of the readings that it made. `None` where there is none.
+/// The job with this id, and the count of the readings that it made. `None` if no such job is kept.
 pub(crate) fn job_of(
     jobs: &BTreeMap<JobId, Option<(Job, u64)>>,
     id: &JobId,
@@ -25,7 +25,7 @@ pub(crate) fn job_of(
     }
 }
 
-/// A copy of what stands in a place.
+/// A copy of what a place holds.
 fn copied(kept: &Option<(Job, u64)>) -> Result<Option<(Job, u64)>, AllocError>
     ensures { IfOk result (λ copy. copy ≡ kept.now) }
 {
@@ -35,7 +35,7 @@ fn copied(kept: &Option<(Job, u64)>) -> Result<Option<(Job, u64)>, AllocError>
     }
 }
 
-/// Makes a place for each job. What is kept stays as it is.
+/// Reserves a place for each job. What is kept stays as it is.
 pub(crate) fn make_places(
     jobs: &mut BTreeMap<JobId, Option<(Job, u64)>>,
     more: &[(Job, u64)],
@@ -52,7 +52,7 @@ pub(crate) fn make_places(
     Ok(())
 }
 
-/// Puts jobs to those that are kept. There are places for them.
+/// Adds jobs to those that are kept. There are places for them.
 pub(crate) fn put_jobs(jobs: &mut BTreeMap<JobId, Option<(Job, u64)>>, more: Vec<(Job, u64)>)
     requires room { HasPlaces jobs.old more.items }
     requires theirs { AreOfTheirIds jobs.old }
@@ -62,7 +62,7 @@ pub(crate) fn put_jobs(jobs: &mut BTreeMap<JobId, Option<(Job, u64)>>, more: Vec
 {
     for (job, count) in more {
         let id = job.id;
-        // An insert under a key that is there needs no memory.
+        // Inserting under a key that exists needs no memory.
         let Ok(_) = jobs.insert(id, Some((job, count))) else {
             unreachable!();
         };

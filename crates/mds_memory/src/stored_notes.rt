@@ -16,7 +16,7 @@ use mds_terms::{Day, Event, EventRef, PrintableText, Stream};
 use std::alloc::{AllocError, Global};
 use std::collections::BTreeSet;
 
-/// What is kept beside days, jobs and accumulations.
+/// What is kept besides days, jobs and accumulations.
 #[derive(PartialEq, Eq, PartialOrd, Ord, Drop)]
 pub(crate) enum Note {
     Event(Event),
@@ -34,7 +34,7 @@ impl Note {
         }
     }
 
-    /// Its event, where it is one of this day.
+    /// Its event, if it is one of this day.
     fn event_of(&self, stream: &Stream, day: Day) -> Option<&Event>
         ensures some { IfSome result (λ event. (self.now ≡ EventNote event.now) × IsEventOf stream.now day event.now) }
         ensures none { IfNone result (IsEventNoteOf stream.now day self.now → ⊥) }
@@ -68,7 +68,7 @@ pub(crate) fn notes_of(
     Ok(notes)
 }
 
-/// Adds notes that aren't there yet: all, or none where there is no memory.
+/// Adds notes that aren't there yet: all of them, or none if there is no memory.
 pub(crate) fn insert_notes(notes: &mut BTreeSet<Note>, more: &[Note]) -> Result<(), AllocError>
     requires apart { Apart (map note_fact more.now) }
     requires absent { (note : ANote) → Member note more.now → note_fact note ∈ notes_world notes.old → ⊥ }
@@ -95,7 +95,7 @@ fn insert_copy(notes: &mut BTreeSet<Note>, note: &Note) -> Result<(), AllocError
     Ok(())
 }
 
-/// Takes notes out, which needs no memory.
+/// Removes notes, which needs no memory.
 pub(crate) fn take_out(notes: &mut BTreeSet<Note>, some: &[Note])
     ensures { (q : ANote) → Member q notes.new.keys ↔ (Member q notes.old.keys × (Member q some.now → ⊥)) }
 {
@@ -123,7 +123,7 @@ pub(crate) fn events_of(
     Ok(events)
 }
 
-/// The note of a day's event that stands before all others. It takes no memory.
+/// A note that sorts before all events of a day. It takes no memory.
 fn first_event(alloc: Global, stream: &Stream, day: Day) -> Note
     ensures { result ≡ EventNote (first_of_day stream.now day) }
 {
@@ -168,14 +168,14 @@ pub(crate) fn holidays_of(alloc: Global, notes: &BTreeSet<Note>) -> Result<Vec<D
     Ok(days)
 }
 
-/// The note of a holiday that stands before all others.
+/// The note of a holiday that sorts before all others.
 fn first_holiday() -> Note
     ensures { result ≡ HolidayNote 0 }
 {
     Note::Holiday(Day::from_number(0).unwrap())
 }
 
-/// Appends a stream, unless it is the last.
+/// Appends a stream, unless it is the last one already.
 pub(crate) fn push_new(streams: &mut Vec<Stream>, stream: &Stream) -> Result<(), AllocError>
     ensures { OnOk result (PutsLast stream.now streams.old.items streams.new.items) }
 {
@@ -186,7 +186,7 @@ pub(crate) fn push_new(streams: &mut Vec<Stream>, stream: &Stream) -> Result<(),
     Ok(())
 }
 
-/// Whether the stream is the last of them.
+/// Whether the stream is the last one.
 fn is_last(streams: &[Stream], stream: &Stream) -> bool
     ensures { IsTrue result ↔ IsAtEnd stream.now streams.now }
 {

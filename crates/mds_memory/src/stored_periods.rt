@@ -15,7 +15,7 @@ use mds_terms::{Moment, PrintableString, Stream};
 use std::alloc::{AllocError, Global};
 use std::collections::BTreeMap;
 
-/// What is kept of the accumulation of a key. `None` where there is none.
+/// What is kept of the accumulation with this key. `None` if no such accumulation is kept.
 pub(crate) fn content_of(
     periods: &BTreeMap<PeriodKey, Option<PeriodContent>>,
     key: &PeriodKey,
@@ -29,7 +29,7 @@ pub(crate) fn content_of(
     }
 }
 
-/// A copy of what stands in a place.
+/// A copy of what a place holds.
 fn copied(kept: &Option<PeriodContent>) -> Result<Option<PeriodContent>, AllocError>
     ensures { IfOk result (λ copy. copy ≡ kept.now) }
 {
@@ -63,7 +63,7 @@ pub(crate) fn periods_of(
     Ok(found)
 }
 
-/// The key of a stream that stands before all others. It takes no memory.
+/// A key that sorts before all others of a stream. It takes no memory.
 fn first_key(alloc: Global, stream: &Stream) -> PeriodKey
     ensures { result ≡ first_key_of stream.now }
 {
@@ -93,7 +93,7 @@ pub(crate) fn period_streams(
     Ok(streams)
 }
 
-/// Makes a place for each accumulation. What is kept stays as it is.
+/// Reserves a place for each accumulation. What is kept stays as it is.
 pub(crate) fn make_keys(
     periods: &mut BTreeMap<PeriodKey, Option<PeriodContent>>,
     more: &[Period],
@@ -110,7 +110,7 @@ pub(crate) fn make_keys(
     Ok(())
 }
 
-/// Puts accumulations to those that are kept. There are places for them.
+/// Adds accumulations to those that are kept. There are places for them.
 pub(crate) fn put_periods(
     periods: &mut BTreeMap<PeriodKey, Option<PeriodContent>>,
     more: Vec<Period>,
@@ -123,7 +123,7 @@ pub(crate) fn put_periods(
         ≡ union (periods_world periods.old) (set.from_list (map period_fact more.items)) }
 {
     for period in more {
-        // An insert under a key that is there needs no memory.
+        // Inserting under a key that exists needs no memory.
         let Ok(_) = periods.insert(period.key, Some(period.content)) else {
             unreachable!();
         };

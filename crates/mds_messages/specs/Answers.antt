@@ -1,4 +1,4 @@
--- Answers that are told in another way than the rest.
+-- Answers that are printed in another way than the rest.
 use Rattle.std.specs.Prelude.{Bool, true, false}
 use Rattle.mds_messages.specs.declared.answer.Answer.{Answer}
 use Rattle.mds_messages.specs.declared.answer.Answer.TheVariants as told

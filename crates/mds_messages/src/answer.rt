@@ -1,4 +1,4 @@
-//! What the machine answers.
+//! The answers of the machine.
 
 use mds_keeper::{Refusal, Version};
 use mds_quantity::Unit;
@@ -6,16 +6,17 @@ use mds_records::FileFault;
 use mds_statements::Period;
 use mds_terms::{Day, Details, Event, Length, Moment, Reading, Stream};
 
-/// What the machine answers.
+/// An answer of the machine.
 #[derive(Drop)]
 pub enum Answer {
-    /// The file is taken in. So many of its versions and accumulations are new, and so many were there.
+    /// The file is imported. `added` of its versions and accumulations are new, and `known` were there before.
     Imported { added: u64, known: u64 },
-    /// The job is done, and fills in so many intervals.
+    /// The job is done, and fills in `count` intervals.
     Substituted { count: u64 },
-    /// The job was done before, and filled in so many intervals then. Nothing is changed.
+    /// The job was done before, and filled in `count` intervals then. Nothing has changed.
     Known { count: u64 },
-    /// All the days are listed now. So many of them are new, and so many were listed. A day that comes twice counts once.
+    /// All the days are listed now. `added` of them are new, and `known` were listed before. A day that comes twice
+    /// counts once.
     HolidaysAdded { added: u64, known: u64 },
     Day(DayAnswer),
     Versions(VersionsAnswer),
@@ -28,11 +29,11 @@ pub enum Answer {
     Finals(Vec<u8>),
     /// The NEM12 file.
     Exported(Vec<u8>),
-    /// The file isn't well formed (L1 to L12). Nothing is changed.
+    /// The file isn't well formed (L1 to L12). Nothing has changed.
     File(FileFault),
-    /// A rule is broken (M1 to M12). Nothing is changed.
+    /// A rule is broken (M1 to M12). Nothing has changed.
     Refused(Refusal),
-    /// There is no answer now, for want of memory or of the store (U1). Nothing is changed.
+    /// There is no answer now, as memory or the store failed (U1). Nothing has changed.
     Unavailable,
 }
 
@@ -45,7 +46,7 @@ pub struct DayAnswer {
     pub unit: Unit,
     /// The greatest update among the readings.
     pub update: Moment,
-    /// The current reading of each interval, in order. It is bare N where there is none.
+    /// The current reading of each interval, in order: bare N if it has none.
     pub readings: Vec<Reading>,
     /// The events of the day, each once, in the order of their texts.
     pub events: Vec<Event>,
@@ -57,15 +58,15 @@ pub struct VersionsAnswer {
     pub stream: Stream,
     pub day: Day,
     pub interval: u16,
-    /// By ascending update.
+    /// In ascending order of their updates.
     pub versions: Vec<Version>,
 }
 
-/// All accumulations of a stream, which may have none.
+/// All accumulations of a stream. There may be none.
 #[derive(Drop)]
 pub struct PeriodAnswer {
     pub stream: Stream,
-    /// By register, previous read, current read and update.
+    /// Ordered by register, previous read, current read and update.
     pub periods: Vec<Period>,
 }
 
@@ -73,6 +74,6 @@ pub struct PeriodAnswer {
 #[derive(Drop)]
 pub struct StreamAnswer {
     pub stream: Stream,
-    /// Those of its last known day, and five empty ones where it has none.
+    /// The details of its last known day, or five empty ones if it has no known day.
     pub details: Details,
 }

@@ -1,4 +1,11 @@
-//! The messages of the machine: what it is asked, and what it answers.
+//! The messages of the machine, as types: requests and answers.
+//!
+//! It decides what can be asked of a store and what an answer holds. It has no functions. What an answer means is defined in `mds_service`
+//! (`specs/Machine.antt`), which re-exports these types.
+//! Callers: `mds_service` answers requests. `mds_arguments` and `mds_requests` make requests, and `mds_answers`, `mds_desk` and `mds_http`
+//! print answers.
+//! Must not change: the variants and fields, which are public in `mds::service` (README shows three requests). The order of the lists in an
+//! answer is the order in which they are printed.
 #![tactic(auto)]
 
 mod answer;

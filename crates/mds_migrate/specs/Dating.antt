@@ -22,7 +22,7 @@ use Rattle.mds_day_details.specs.Shown.{AreLatestFirst, IsDetailRow, shown_detai
 use Rattle.mds_migrate.specs.OldDetails.{IsGreatestOf}
 use Rattle.mds_migrate.specs.declared.dating.Latest.{Latest}
 
--- the columns of mds_detail that are shown: the moment, and the five details
+-- the columns of mds_detail that a query shows: the moment, and the five details
 abbrev pub shown_columns : List ℕ
 shown_columns = 3 ∷ 4 ∷ 5 ∷ 6 ∷ 7 ∷ 8 ∷ []
 
@@ -32,7 +32,7 @@ pub record IsOfHead (trees : Trees) (shown : Row) (detail : Detail) : Type 0 whe
   pub day : detail.day ≡ natural_at (Null ∷ shown) 3
   pub greatest : IsGreatestOf trees detail.stream (record { stream = detail.stream; moment = detail.moment; details = detail.details })
 
--- these are those of the days that rows of heads show
+-- these are the details of the days that rows of heads show
 abbrev pub AreOfHeads : Trees → List Row → List Detail → Type 0
 AreOfHeads trees heads details =
     (detail : Detail) → Member detail details ↔ ((head : Row) × Member head heads × IsOfHead trees head detail)
@@ -48,11 +48,11 @@ abbrev pub all_on : Option DetailDays → ℕ → List Detail
 all_on None day = []
 all_on (Some d) day = detail_on d day ∷ []
 
--- what is known of a stream is so
+-- what is known of a stream is right
 abbrev pub IsLatest : Trees → Latest → Type 0
 IsLatest trees latest = AreGreatestOf trees latest.stream latest.details
 
--- what may be known already is so
+-- what may be known already is right
 abbrev pub IsKnown : Trees → Option Latest → Type 0
 IsKnown trees None = Unit {0}
 IsKnown trees (Some latest) = IsLatest trees latest
@@ -89,16 +89,17 @@ pub record DatesDays (old new : State) (before after : Option Latest) (heads : L
   pub puts : PutsThere schema_3 detail_part old new details
   pub are : IsThereDaily old new → IsKnown old.now.trees before → AreOfHeads old.now.trees heads details × IsKnown old.now.trees after
 
--- All details of a stream, each its moment and then the details: in their order, where the store can have written them.
+-- All details of a stream, each as its moment and then the details. They are in order if the store can have written
+-- them.
 abbrev pub ShowsDetailsOf : Stream → Trees → List Row → Type 0
 ShowsDetailsOf s trees rows =
     Selects detail_tree (stream_cells s) shown_columns trees rows × (All (λ row. IsDetailRow row) rows → AreLatestFirst rows)
 
--- a row says them, on no day yet
+-- a row says them, without a day
 abbrev pub SaysDetails : Row → Stream → DetailDays → Type 0
 SaysDetails shown stream d = (d.stream ≡ stream) × (natural_at shown 0 ≡ d.moment) × (shown_details shown ≡ d.details) × (d.days.items ≡ [])
 
--- the first row says them, where there is one
+-- the first row says them, if there is one
 abbrev pub SaysFirst : List Row → Stream → Option DetailDays → Type 0
 SaysFirst [] stream details = details ≡ None
 SaysFirst (shown ∷ more) stream details = (d : DetailDays) × (details ≡ Some d) × SaysDetails shown stream d

@@ -26,7 +26,7 @@ use Rattle.mds_migrate.specs.OldHeads.{updateless}
 abbrev pub form_of : Head → Row → Head
 form_of head pack = head_at head.stream head.day (natural_at pack 0) head.length head.unit
 
--- the row, shown of the head's day, says a version of the head's length
+-- a row of mds_pack, of the head's day, says a version of the head's length
 abbrev pub SaysForm : Head → Row → Type 0
 SaysForm head pack =
     (interval : ℕ) × (reading : ReadingValue)
@@ -46,7 +46,7 @@ IsPackedUnder trees head = (interval : ℕ) × (reading : ReadingValue) × Membe
 abbrev pub IsFormOfDay : Trees → Row → Head → Type 0
 IsFormOfDay trees shown head = (head_fact (Null ∷ shown) ≡ HeadIs (updateless head)) × IsPackedUnder trees head
 
--- these are those of the days that rows of heads show
+-- these are the heads of the days that rows of heads show
 abbrev pub AreFormsOf : Trees → List Row → List Head → Type 0
 AreFormsOf trees days heads = (head : Head) → Member head heads ↔ ((day : Row) × Member day days × IsFormOfDay trees day head)
 

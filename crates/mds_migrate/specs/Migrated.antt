@@ -43,8 +43,7 @@ use Rattle.mds_migrate.specs.declared.outcome.MigrateFault.TheVariants.{OtherSch
 abbrev pub steady_tables : List Table
 steady_tables = event_table ∷ period_table ∷ holiday_table ∷ job_table ∷ []
 
--- The tables of schema 2 name the World that comes of the one that those of schema 1 named. mds_schema says 2, and no version has a row
--- of its own.
+-- The tables of schema 2 name the World that comes of that of schema 1. There mds_schema says 2, and no version has a row of its own.
 pub record HasPacked (old new : Trees) : Type 0 where
   pub lengthened : (fact : Fact) → (fact ∈ world_2 new) ↔ CameOf (world_with rows_layout old) fact
   -- no version is lost: its day has a head, whose length it takes
@@ -58,8 +57,8 @@ pub record HasPacked (old new : Trees) : Type 0 where
   pub unversioned : new version_tree ≡ []
   pub sound : IsSound schema_2 new
 
--- The tables of schema 3 name the World that those of schema 2 become. mds_schema says 3, and neither versions nor details of streams
--- have rows of their own.
+-- The tables of schema 3 name the World that those of schema 2 become. There mds_schema says 3, and neither versions nor details of
+-- streams have rows of their own.
 pub record HasDated (old new : Trees) : Type 0 where
   pub becomes : Becomes old (world_3 new)
   -- mds_head, mds_pack and the steady tables have the same rows as before
@@ -69,8 +68,8 @@ pub record HasDated (old new : Trees) : Type 0 where
   pub undated : new detail_tree ≡ []
   pub sound : IsSound schema_3 new
 
--- The tables of schema 4 name the World that comes of the one that those of schema 3 named. mds_schema says 4, and neither versions nor
--- details of streams have rows of their own.
+-- The tables of schema 4 name the World that comes of that of schema 3. There mds_schema says 4, and neither versions nor details of
+-- streams have rows of their own.
 pub record HasFormed (old new : Trees) : Type 0 where
   pub becomes : (fact : Fact) → (fact ∈ world_4 new) ↔ IsFormedOf (world_3 old) fact
   -- no form is lost: a version of the length of its day's head has a head of its own update
@@ -78,14 +77,14 @@ pub record HasFormed (old new : Trees) : Type 0 where
       → HeadIs (day_head key unit) ∈ world_3 old → HeadIs (head_over key unit) ∈ world_4 new
   -- mds_pack, mds_daydetail and the steady tables have the same rows as before
   pub others : Keeps old new (pack_table ∷ daydetail_table ∷ steady_tables)
-  -- mds_head has its rows with length 0, and else as they were
+  -- mds_head has its rows with length 0, and otherwise as they were
   pub heads : IsPermutation (map without_length (old head_tree)) (map (drop 1) (new head_tree))
   pub version : versions_said new ≡ pos 4 ∷ []
   pub unversioned : new version_tree ≡ []
   pub undated : new detail_tree ≡ []
   pub sound : IsSound schema_4 new
 
--- A step: from databases that are such stores, and have this schema, to another schema, and what becomes of their trees.
+-- A step: from databases that are such stores and have this schema, to another schema, and what becomes of their trees.
 pub record Step : Type 1 where
   pub From : Database → Type 0
   pub under : Schema
@@ -120,7 +119,7 @@ module _ (step : Step) where
     pub schema : HasCleanDisk new → IsTrue old.is_open → IsFor old.now → new.now.schema ≡ step.to
     pub taken : HasCleanDisk new → IsTrue old.is_open → IsFor old.now → step.Has old.now.trees new.now.trees
 
-  -- the same, committed
+  -- the same, with a commit
   pub record Writes (old new : State) : Type 0 where
     pub is_open : IsTrue old.is_open → IsTrue new.is_open
     pub schema : IsTrue old.is_open → IsFor old.now → new.committed.schema ≡ step.to
@@ -138,13 +137,13 @@ module _ (step : Step) where
     pub schema : new.committed.schema ≡ step.to
     pub taken : step.Has old.committed.trees new.committed.trees
 
-  -- What a crash may leave of a step that wasn't told: the store of the next schema, whole.
+  -- What a crash may leave of a step that wasn't answered: the store of the next schema, whole.
   pub record LeavesTaken (old : State) (left : Trees) : Type 0 where
     pub was_open : IsTrue old.is_open
     pub was : step.From old.committed
     pub taken : step.Has old.committed.trees left
 
--- one of the three steps was done, as the store asked for it
+-- one of the three steps was done, the one that the store needs
 abbrev pub IsMigrated : State → State → Type 0
 IsMigrated old new = IsTaken packing old new ⊎ (IsTaken dating old new ⊎ IsTaken forming old new)
 
@@ -162,8 +161,8 @@ abbrev pub TakesTwo : Database → Trees → Type 0
 TakesTwo old new =
     (IsPackedStore old × Both HasDated HasFormed old.trees new) ⊎ (IsStore old × Both HasPacked HasDated old.trees new)
 
--- What all steps make of a store: the days of one of schema 3 were given heads of updates. Those of one of schema 2 were given details
--- before, and those of one of schema 1 were packed before that.
+-- What all steps make of a store. The days of one of schema 3 get heads of updates. Those of one of schema 2 get details first, and
+-- those of one of schema 1 are packed before that.
 abbrev pub TakesSteps : Database → Trees → Type 0
 TakesSteps old new =
     (IsDailyStore old × HasFormed old.trees new)
@@ -183,7 +182,7 @@ abbrev pub Answered : State → State → Migrated → Type 0
 Answered old new Done = IsMigrated old new
 Answered old new AlreadyCurrent = IsFormedStore old.committed × AreOpen old new × KeepsCommit old new
 
--- Nothing was changed. U3 only where the database is a store of none of the schemas.
+-- Nothing was changed. U3 only if the database is a store of none of the schemas.
 abbrev pub IsRefused : State → State → MigrateFault → Type 0
 IsRefused old new OtherSchema =
     KeepsCommit old new × (IsStore old.now → ⊥) × (IsPackedStore old.now → ⊥) × (IsDailyStore old.now → ⊥) × (IsFormedStore old.now → ⊥)

@@ -1,4 +1,4 @@
--- What the steps of a migration do in a transaction, and all of it (profile).
+-- What the steps of a migration do in a transaction, part by part (profile).
 use Rattle.std.specs.Prelude.{◌≡◌, ◌≢◌, ◌↔◌, ℕ, ℤ, pos, [], ◌∷◌, drop, map, IsTrue}
 use Rattle.std.specs.List.Sorted.{IsPermutation}
 use Rattle.sqlite.specs.State.{State}
@@ -46,7 +46,7 @@ pub record Clears (tree : ℕ) (old new : State) : Type 0 where
 abbrev pub without_length : Row → Row
 without_length row = column row 1 ∷ column row 2 ∷ column row 3 ∷ Int (pos 0) ∷ column row 5 ∷ []
 
--- Each row of mds_head has length 0, and is else as it was. Every other table is as it was.
+-- Each row of mds_head has length 0, and is otherwise as it was. Every other table is as it was.
 pub record ClearsLengths (old new : State) : Type 0 where
   pub is_open : IsTrue new.is_open
   pub schema : new.now.schema ≡ old.now.schema
@@ -64,7 +64,7 @@ pub record Raises (number : ℤ) (old new : State) : Type 0 where
   pub committed : new.committed ≡ old.committed
   pub sound : IsSound new.now.schema new.now.trees
 
--- mds_schema says a number, where it has just the row whose rowid is shown
+-- mds_schema says a number, if it has just the row whose rowid is shown
 abbrev pub RaisesRow : ℤ → State → State → Row → Type 0
 RaisesRow number old new shown =
     (row : Row) → old.now.trees schema_tree ≡ row ∷ [] → column shown 0 ≡ column row 0 → Raises number old new

@@ -1,5 +1,5 @@
 -- What rows of mds_detail say in schemas 1 and 2 (profile): details of a stream, whatever the day, under the moment of a header. Each
--- known day is given the greatest of its stream.
+-- known day gets the greatest of its stream.
 use Rattle.std.specs.Prelude.{◌≡◌, ◌↔◌, ℕ, true}
 use Rattle.std.specs.Ordering.{is_le, nat_cmp, ordering_then}
 use Rattle.std.specs.declared.cmp.Ordering.{Ordering}
@@ -26,7 +26,7 @@ pub record StreamDetail : Type 0 where
 abbrev pub stream_detail : Row → StreamDetail
 stream_detail row = record { stream = stream_in row; moment = natural_at row 3; details = details_from row 4 }
 
--- by the moment, and then the details field by field
+-- by the moment, and then by the details field by field
 abbrev pub pair_cmp : StreamDetail → StreamDetail → Ordering
 pair_cmp a b = ordering_then (nat_cmp a.moment b.moment) (details_cmp a.details b.details)
 
@@ -37,7 +37,7 @@ pub record IsGreatestOf (trees : Trees) (stream : Stream) (detail : StreamDetail
   pub greatest : (row : Row) → Member row (trees detail_tree) → stream_in row ≡ stream
       → is_le (pair_cmp (stream_detail row) detail) ≡ true
 
--- What comes into schema 3: the greatest details of its stream for each known day, and all else as it was.
+-- What goes into schema 3: the greatest details of its stream for each known day, and all else as it was.
 abbrev pub Comes : Trees → Fact → Type 0
 Comes trees (DetailIs x) =
     IsKnownDay (world_2 trees) x.stream x.day

@@ -1,5 +1,4 @@
--- What rows of mds_version say in schema 1 (profile): versions without a length. Into schema 2 each comes with the length of its day's
--- head.
+-- What rows of mds_version say in schema 1 (profile): versions without a length. In schema 2 each has the length of its day's head.
 use Rattle.mds_quantity.specs.declared.unit.Unit.{Unit as MeasureUnit}
 use Rattle.mds_world.specs.Facts.{Fact}
 use Rattle.mds_world.specs.Facts.Fact.{HeadIs, VersionIs}

@@ -1,4 +1,4 @@
-//! The step from schema 2 to schema 3: each known day is given the details that its stream has.
+//! The step from schema 2 to schema 3: each known day gets the details that its stream has.
 
 ghost use Rattle.std.specs.Prelude.{◌≡◌, [], ◌∷◌, IfOk, IsTrue, OnOk};
 ghost use Rattle.sqlite.specs.Held.{state};
@@ -39,7 +39,7 @@ impl Stage for Dating {
     }
 }
 
-/// Puts the details of all days. It is unavailable where there is a row that the store didn't write.
+/// Puts the details of all days. Unavailable if there is a row that the store didn't write.
 fn date_days<S: Alter>(alloc: Global, tx: &mut Transaction<'_, S>) -> Result<(), Unavailable>
     ensures same_reference { tx.new.conn.ghost_name ≡ tx.old.conn.ghost_name }
     ensures goes_on { OnOk result (GoesOn (state S.Store tx.old.conn.now) (state S.Store tx.new.conn.now)) }
@@ -57,14 +57,15 @@ fn date_days<S: Alter>(alloc: Global, tx: &mut Transaction<'_, S>) -> Result<(),
     Ok(())
 }
 
-/// The greatest details of a stream, whatever the day, on no day yet. `None` where it has none.
+/// The greatest details of a stream, whatever the day, without a day of their own yet. `None` if it has no details.
 #[derive(Drop)]
 struct Latest {
     stream: Stream,
     details: Option<DetailDays>,
 }
 
-/// Puts the details of the day of which a head is shown. What is known of the stream of the head before serves again, where it is one.
+/// Puts the details of the day whose head is shown. What is known of the previous head's stream is used again, if it is the same
+/// stream.
 fn date_day<S: Alter>(
     alloc: Global,
     tx: &mut Transaction<'_, S>,
@@ -92,7 +93,7 @@ fn is_of(known: &Option<Latest>, stream: &Stream) -> bool
     }
 }
 
-/// Lets the greatest details of a stream be known. They are asked for where it isn't the stream before.
+/// Makes the greatest details of a stream known. They are asked for unless the previous stream is the same.
 fn know<S: Alter>(
     alloc: Global,
     tx: &mut Transaction<'_, S>,
@@ -157,7 +158,7 @@ fn greatest_of<S: Alter>(
     Ok(Latest { stream, details })
 }
 
-/// The details that the first of the rows shows, of a stream and on no day yet.
+/// The details that the first row shows, of a stream and without a day.
 fn first_of(alloc: Global, rows: &[Row], stream: Stream) -> Result<Option<DetailDays>, Unavailable>
     ensures { IfOk result (λ details. SaysFirst rows.now stream details) }
 {
@@ -167,7 +168,7 @@ fn first_of(alloc: Global, rows: &[Row], stream: Stream) -> Result<Option<Detail
     }
 }
 
-/// All details of a stream, the moment before them: those of the latest header first, and of one header the greatest first.
+/// All details of a stream, each after its moment. Those of the latest header come first, and for one header the greatest.
 fn details_rows<S: Alter>(
     tx: &mut Transaction<'_, S>,
     stream: &Stream,
@@ -187,7 +188,7 @@ fn details_rows<S: Alter>(
     ))
 }
 
-/// The details that a row shows, of a stream and on no day yet.
+/// The details that a row shows, of a stream and without a day.
 fn details_in(alloc: Global, shown: &Row, stream: Stream) -> Result<DetailDays, Unavailable>
     ensures { IfOk result (SaysDetails shown.now stream) }
 {

@@ -34,8 +34,8 @@ impl Stage for Forming {
     }
 }
 
-/// Puts the heads of all days. It is unavailable where there is a row that the store didn't write. Such are two heads of a day, and a
-/// body that isn't one of its day's length with a reading.
+/// Puts the heads of all days. Unavailable if there is a row that the store didn't write. Two heads of one day are such rows, and so is
+/// a body that isn't one of its day's length with a reading.
 fn form_days<S: Alter>(alloc: Global, tx: &mut Transaction<'_, S>) -> Result<(), Unavailable>
     ensures same_reference { tx.new.conn.ghost_name ≡ tx.old.conn.ghost_name }
     ensures goes_on { OnOk result (GoesOn (state S.Store tx.old.conn.now) (state S.Store tx.new.conn.now)) }
@@ -56,7 +56,7 @@ fn form_days<S: Alter>(alloc: Global, tx: &mut Transaction<'_, S>) -> Result<(),
     Ok(())
 }
 
-/// Whether a row of a head shows an earlier day than another one, by stream and then by day.
+/// Whether the row of a head shows an earlier day than another, by stream and then by day.
 fn is_before(a: &Row, b: &Row) -> bool
     ensures { IsTrue result → IsBefore a.now b.now }
 {
@@ -90,7 +90,7 @@ fn are_in_order(rows: &[Row]) -> bool
     true
 }
 
-/// Puts the heads of the day of which a head is shown.
+/// Puts the heads of the day whose head is shown.
 fn form_day<S: Alter>(
     alloc: Global,
     tx: &mut Transaction<'_, S>,
@@ -109,7 +109,7 @@ fn form_day<S: Alter>(
     form_each(alloc, tx, &head, packs.as_slice())
 }
 
-/// Puts a head of a day for each row of mds_pack, which are shown of it.
+/// Puts a head of a day for each of its rows of mds_pack.
 fn form_each<S: Alter>(
     alloc: Global,
     tx: &mut Transaction<'_, S>,
@@ -128,8 +128,8 @@ fn form_each<S: Alter>(
     Ok(())
 }
 
-/// The head of a day under the update that a row of mds_pack shows. It is unavailable where the body isn't one of a day of that length,
-/// or has no reading.
+/// The head of a day under the update that a row of mds_pack shows. Unavailable if the body isn't one of a day of that length, or has
+/// no reading.
 fn form_in(alloc: Global, head: &Head, pack: &Row) -> Result<Head, Unavailable>
     ensures is { IfOk result (λ form. form ≡ form_of head.now pack.now) }
     ensures says { OnOk result (SaysForm head.now pack.now) }

@@ -23,8 +23,8 @@ use mds_tables::has_schema_1;
 use sqlite::{Alter, Connection};
 use std::alloc::Global;
 
-/// Takes a store to schema 4, one step after another. A step that is refused ends it, and those before it stand. Behind a step that was
-/// done the answer is U1. A crash leaves the store as it was, or that which some of the steps make, whole.
+/// Takes a store to schema 4, one step after another. A refused step ends it, and the earlier steps stay done. If a step was done before a
+/// failure, the answer is U1. A crash leaves the store as it was, or what some of the steps make of it, whole.
 pub fn migrate_all<S: Alter>(
     alloc: Global,
     conn: &mut Connection<S>,
@@ -43,7 +43,7 @@ pub fn migrate_all<S: Alter>(
 {
     match migrate(alloc, conn) {
         Ok(Migrated::Done) => match migrate(alloc, conn) {
-            // There are three steps at most.
+            // There are at most three steps.
             Ok(Migrated::Done) => match migrate(alloc, conn) {
                 Ok(_) => Ok(Migrated::Done),
                 Err(fault) => Err(fault),
@@ -56,11 +56,12 @@ pub fn migrate_all<S: Alter>(
     }
 }
 
-/// Takes a store one step further. From schema 1 it goes to packed days (schema 2), with all versions. From there it goes to details of
-/// days (schema 3): each known day has the details that its stream had. From there it goes to heads of updates (schema 4): each update
-/// that has versions has a head, with its day's length and unit. The step is whole, or nothing is changed. A crash leaves the store as it
-/// was, or that of the next schema. It holds all heads of days in memory, and of the versions those of one day at a time. A connection that
-/// is in a transaction stays as it is (U1).
+/// Takes a store one step further. From schema 1 it goes to packed days (schema 2), with all versions. From schema 2 it goes to details of
+/// days (schema 3): each known day has the details that its stream had. From schema 3 it goes to heads of updates (schema 4): each update
+/// that has versions has a head, with its day's length and unit.
+///
+/// The step is whole, or nothing is changed. A crash leaves the store as it was, or that of the next schema. All heads of days are held in
+/// memory, and the versions of one day at a time. A connection in a transaction stays as it is (U1).
 pub fn migrate<S: Alter>(alloc: Global, conn: &mut Connection<S>) -> Result<Migrated, MigrateFault>
     ensures done { IfOk result (λ it. HasCleanDisk (state S.Store conn.new) → Answered (state S.Store conn.old) (state S.Store conn.new) it) }
     ensures err { IfErr result (λ e. HasCleanDisk (state S.Store conn.new) → IsRefused (state S.Store conn.old) (state S.Store conn.new) e) }
@@ -87,7 +88,7 @@ pub fn migrate<S: Alter>(alloc: Global, conn: &mut Connection<S>) -> Result<Migr
     if_first(alloc, conn)
 }
 
-/// What is answered where the tables are those of schema 4: it is current, or it is no store (U3).
+/// The answer if the tables are those of schema 4: the store is current, or it is no store (U3).
 fn if_current<S: Alter>(conn: &mut Connection<S>) -> Result<Migrated, MigrateFault>
     requires mode { conn.old.in_transaction ≡ false }
     requires settled { IsTrue (state S.Store conn.old).is_open → (state S.Store conn.old).now ≡ (state S.Store conn.old).committed }
@@ -104,7 +105,7 @@ fn if_current<S: Alter>(conn: &mut Connection<S>) -> Result<Migrated, MigrateFau
     Ok(Migrated::AlreadyCurrent)
 }
 
-/// What is answered where the tables are those of schema 3: its updates are given heads, or it is no store (U3).
+/// The answer if the tables are those of schema 3: its updates get heads, or it is no store (U3).
 fn if_daily<S: Alter>(alloc: Global, conn: &mut Connection<S>) -> Result<Migrated, MigrateFault>
     requires mode { conn.old.in_transaction ≡ false }
     requires settled { IsTrue (state S.Store conn.old).is_open → (state S.Store conn.old).now ≡ (state S.Store conn.old).committed }
@@ -121,7 +122,7 @@ fn if_daily<S: Alter>(alloc: Global, conn: &mut Connection<S>) -> Result<Migrate
     take_step::<Forming, S>(alloc, conn)
 }
 
-/// What is answered where the tables are those of schema 2: its days are given details, or it is no store (U3).
+/// The answer if the tables are those of schema 2: its days get details, or it is no store (U3).
 fn if_packed<S: Alter>(alloc: Global, conn: &mut Connection<S>) -> Result<Migrated, MigrateFault>
     requires mode { conn.old.in_transaction ≡ false }
     requires settled { IsTrue (state S.Store conn.old).is_open → (state S.Store conn.old).now ≡ (state S.Store conn.old).committed }
@@ -138,7 +139,7 @@ fn if_packed<S: Alter>(alloc: Global, conn: &mut Connection<S>) -> Result<Migrat
     take_step::<Dating, S>(alloc, conn)
 }
 
-/// What is answered where the tables are those of schema 1: its days are packed, or mds_schema says something else (U3).
+/// The answer if the tables are those of schema 1: its days are packed, or mds_schema says something else (U3).
 fn if_first<S: Alter>(alloc: Global, conn: &mut Connection<S>) -> Result<Migrated, MigrateFault>
     requires mode { conn.old.in_transaction ≡ false }
     requires settled { IsTrue (state S.Store conn.old).is_open → (state S.Store conn.old).now ≡ (state S.Store conn.old).committed }

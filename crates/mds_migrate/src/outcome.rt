@@ -1,4 +1,4 @@
-//! What a migration comes to.
+//! The result of a migration.
 
 ghost use Rattle.std.specs.Prelude.{◌≡◌};
 ghost use Rattle.mds_migrate.specs.declared.outcome.MigrateFault.TheVariants.{Unavailable as CannotAnswer};
@@ -9,16 +9,16 @@ use sqlite::Error;
 /// What a migration did.
 #[derive(Clone, Copy, Debug)]
 pub enum Migrated {
-    /// The store is one of the next schema.
+    /// The store is now one of the next schema.
     Done,
-    /// It was one of schema 4.
+    /// The store was one of schema 4 already.
     AlreadyCurrent,
 }
 
 /// Why a database isn't migrated.
 #[derive(Clone, Copy, Debug)]
 pub enum MigrateFault {
-    /// The connection is in a transaction, or the store failed (U1). A row that the store didn't write makes it fail too.
+    /// The connection is in a transaction, or the store failed (U1). A row that the store didn't write is a failure too.
     Unavailable,
     /// The database is a store of none of the schemas (U3).
     OtherSchema,

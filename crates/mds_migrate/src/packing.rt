@@ -36,8 +36,8 @@ impl Stage for Packing {
     }
 }
 
-/// Packs the versions of all days, where no day is packed yet. Each takes the length of its day's head. It is unavailable where a day
-/// has a version of an interval that its length doesn't have, or a row that the store didn't write.
+/// Packs the versions of all days, if no day is packed yet. Each version takes the length of its day's head. Unavailable if a day has
+/// a version of an interval that its length doesn't have, or a row that the store didn't write.
 pub(crate) fn pack_days<S: Alter>(
     alloc: Global,
     tx: &mut Transaction<'_, S>,
@@ -74,7 +74,7 @@ pub(crate) fn all_heads<S: Alter>(tx: &mut Transaction<'_, S>) -> Result<Vec<Row
     ))
 }
 
-/// The versions of a day, as rows of mds_version. Those of one update lie together, so that they are packed at once.
+/// The versions of a day, as rows of mds_version. Those of one update are adjacent, so that they are packed at once.
 fn version_rows<S: Alter>(
     tx: &mut Transaction<'_, S>,
     stream: &Stream,
@@ -95,7 +95,7 @@ fn version_rows<S: Alter>(
     ))
 }
 
-/// Packs the versions of the day of which a head is shown. They have its length.
+/// Packs the versions of the day whose head is shown. They have its length.
 fn pack_day_of<S: Alter>(
     alloc: Global,
     tx: &mut Transaction<'_, S>,

@@ -1,4 +1,4 @@
-//! The statements that leave a schema behind.
+//! The statements that end a schema.
 
 ghost use Rattle.std.specs.Prelude.{◌≡◌, ◌≢◌, ℤ, [], ◌∷◌, OnErr, OnOk};
 ghost use Rattle.sqlite.specs.Held.{state};
@@ -16,7 +16,7 @@ use mds_tables::{or_unavailable, told};
 use sqlite::types::ValueRef;
 use sqlite::{Alter, Row, Transaction};
 
-/// Takes all rows away from mds_version. Unavailable where one is left.
+/// Removes all rows of mds_version. Unavailable if one is left.
 pub(crate) fn clear_versions<S: Alter>(tx: &mut Transaction<'_, S>) -> Result<(), Unavailable>
     ensures same_reference { tx.new.conn.ghost_name ≡ tx.old.conn.ghost_name }
     ensures goes_on { OnOk result (GoesOn (state S.Store tx.old.conn.now) (state S.Store tx.new.conn.now)) }
@@ -31,7 +31,7 @@ pub(crate) fn clear_versions<S: Alter>(tx: &mut Transaction<'_, S>) -> Result<()
     none_left(&left)
 }
 
-/// Takes all rows away from mds_detail. Unavailable where one is left.
+/// Removes all rows of mds_detail. Unavailable if one is left.
 pub(crate) fn clear_details<S: Alter>(tx: &mut Transaction<'_, S>) -> Result<(), Unavailable>
     ensures same_reference { tx.new.conn.ghost_name ≡ tx.old.conn.ghost_name }
     ensures goes_on { OnOk result (GoesOn (state S.Store tx.old.conn.now) (state S.Store tx.new.conn.now)) }
@@ -46,7 +46,7 @@ pub(crate) fn clear_details<S: Alter>(tx: &mut Transaction<'_, S>) -> Result<(),
     none_left(&left)
 }
 
-/// Unavailable where a row is left.
+/// Unavailable if a row is left.
 fn none_left(rows: &[Row]) -> Result<(), Unavailable>
     ensures ok { OnOk result (rows.now ≡ []) }
     ensures err { OnErr result (rows.now ≢ []) }
@@ -58,7 +58,7 @@ fn none_left(rows: &[Row]) -> Result<(), Unavailable>
     }
 }
 
-/// Lets each row of mds_head have the length 0.
+/// Sets the length in each row of mds_head to 0.
 pub(crate) fn clear_lengths<S: Alter>(tx: &mut Transaction<'_, S>) -> Result<(), Unavailable>
     ensures same_reference { tx.new.conn.ghost_name ≡ tx.old.conn.ghost_name }
     ensures goes_on { OnOk result (GoesOn (state S.Store tx.old.conn.now) (state S.Store tx.new.conn.now)) }
@@ -71,7 +71,7 @@ pub(crate) fn clear_lengths<S: Alter>(tx: &mut Transaction<'_, S>) -> Result<(),
     Ok(())
 }
 
-/// Lets mds_schema say this number where it says one. Unavailable where it has not just one row.
+/// Makes mds_schema say this number, if it says one. Unavailable unless it has just one row.
 pub(crate) fn raise_version<S: Alter>(
     tx: &mut Transaction<'_, S>,
     number: i64,
@@ -99,7 +99,7 @@ fn id_cells<'a>(id: i64, number: i64) -> [ValueRef<'a>; 2]
     [ValueRef::Int(id), ValueRef::Int(number)]
 }
 
-/// Lets the row of mds_schema say this number whose rowid is shown. Unavailable where there isn't just one.
+/// Sets the number in the row of mds_schema whose rowid is shown. Unavailable unless there is just one.
 fn replace_version<S: Alter>(
     tx: &mut Transaction<'_, S>,
     shown: &Row,

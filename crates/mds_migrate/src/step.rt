@@ -16,7 +16,7 @@ pub(crate) trait Stage {
     /// From which stores it leads to which, and what becomes of their tables.
     ghost step: { Step };
 
-    /// Takes all parts of it in a transaction.
+    /// Does all parts of it in a transaction.
     fn take_on<S: Alter>(alloc: Global, tx: &mut Transaction<'_, S>) -> Result<(), Unavailable>
         ensures same_reference { tx.new.conn.ghost_name ≡ tx.old.conn.ghost_name }
         ensures ok { OnOk result (TakesOn step (state S.Store tx.old.conn.now) (state S.Store tx.new.conn.now)) }
@@ -25,7 +25,7 @@ pub(crate) trait Stage {
         ensures survives { Survives (state S.Store tx.old.conn.now) (state S.Store tx.new.conn.now) (λ _. ⊥) };
 }
 
-/// Takes it in a transaction of its own.
+/// Does it in a transaction of its own.
 fn write<T: Stage, S: Alter>(alloc: Global, conn: &mut Connection<S>) -> Result<(), Unavailable>
     requires mode { conn.old.in_transaction ≡ false }
     ensures ok { HasCleanDisk (state S.Store conn.new) → OnOk result (Writes T.step (state S.Store conn.old) (state S.Store conn.new)) }
@@ -40,7 +40,7 @@ fn write<T: Stage, S: Alter>(alloc: Global, conn: &mut Connection<S>) -> Result<
     Ok(())
 }
 
-/// Takes it with a store that it is for. It is whole, or nothing is changed.
+/// Does it to a store that it is for. It is done whole, or nothing is changed.
 pub(crate) fn take_step<T: Stage, S: Alter>(
     alloc: Global,
     conn: &mut Connection<S>,

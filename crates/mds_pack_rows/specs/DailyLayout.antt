@@ -31,14 +31,14 @@ day_details trees = map detail_fact (trees daydetail_tree)
 abbrev pub daily_own : Trees → List Fact
 daily_own trees = pack_versions trees ++ day_details trees
 
--- ---- mds_daydetail says details alone
+-- ---- mds_daydetail says only details
 
 pub only_details : (rows : List Row) (fact : Fact) → Member fact (map detail_fact rows) → IsOwn fact
 only_details [] fact m = absurd m
 only_details (row ∷ rows) fact (inl is) = subst IsOwn (sym is) tt
 only_details (row ∷ rows) fact (inr m) = only_details rows fact m
 
--- versions and details alone
+-- only versions and details
 pub only_daily : (trees : Trees) (fact : Fact) → Member fact (daily_own trees) → IsOwn fact
 only_daily trees fact =
     only_both (pack_versions trees) (day_details trees) fact
@@ -50,7 +50,7 @@ no_version [] key reading m = m
 no_version (row ∷ rows) key reading (inl is) = cc
 no_version (row ∷ rows) key reading (inr m) = no_version rows key reading m
 
--- those that are said are those of mds_pack
+-- the versions that are said are those of mds_pack
 pub versions_packed : (trees : Trees) (key : Key) (reading : ReadingValue)
     → Member (VersionIs key reading) (daily_own trees) ↔ Member (VersionIs key reading) (pack_versions trees)
 versions_packed trees key reading = (
@@ -66,7 +66,7 @@ versions_packed trees key reading = (
 pub idle_daily : (tree : ℕ) (olds news : List Row) → works schema_3 Enforced 0 tree olds news ≡ []
 idle_daily tree olds news = rw (either (length news == 0) NoAction)
 
--- mds_daydetail stands behind mds_pack
+-- mds_daydetail follows mds_pack
 abbrev pub daydetails_behind : Behind
 daydetails_behind = record { more = daydetails; idle = idle_daily; behind = (omega arith, tt); indexes_behind = (omega arith, tt) }
 

@@ -16,7 +16,7 @@ pub record IsThereDaily (old new : State) : Type 0 where
   pub schema : old.now.schema ≡ schema_3
   pub sound : IsSound schema_3 old.now.trees
 
--- mds_daydetail stands behind the tables of schema 2, which are as they were, and has no row. Nothing is committed.
+-- mds_daydetail follows the tables of schema 2, which are as they were, and has no row. Nothing is committed.
 pub record MakesDaydetail (old new : State) : Type 0 where
   pub is_open : IsTrue new.is_open
   pub schema : new.now.schema ≡ schema_3
@@ -25,6 +25,6 @@ pub record MakesDaydetail (old new : State) : Type 0 where
   pub committed : new.committed ≡ old.committed
   pub sound : IsSound schema_3 new.now.trees
 
--- these details have their rows in mds_daydetail, whatever tables stand behind it
+-- these details have their rows in mds_daydetail, whatever tables follow it
 abbrev pub PutsDetails : State → State → List Detail → Type 0
 PutsDetails old new details = (rest : More) → PutsThere (schema_with (daily_then rest)) detail_part old new details

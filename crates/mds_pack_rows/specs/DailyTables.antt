@@ -1,5 +1,5 @@
--- The tables of schema 3 (profile): those of schema 2, and behind them mds_daydetail. It keeps the details of days, a row for the
--- details of a day under each moment of a header. It stands last, so that the trees of schema 2 keep their numbers.
+-- The tables of schema 3 (profile): those of schema 2, followed by mds_daydetail. It keeps the details of days: one row for the
+-- details of a day under each moment of a header. It comes last, so that the trees of schema 2 keep their numbers.
 use Rattle.std.specs.Prelude.{ℕ, List, [], ◌∷◌, codes}
 use Rattle.sqlite.specs.Schema.{Schema}
 use Rattle.sqlite.specs.Table.{Table}
@@ -22,15 +22,15 @@ daydetails_then rest = record {
   indexes = key_index (codes "sqlite_autoindex_mds_daydetail_1") daydetail_tree daydetail_key ∷ rest.indexes;
 }
 
--- what stands behind mds_pack
+-- what follows mds_pack
 abbrev pub daydetails : More
 daydetails = daydetails_then no_more
 
--- what stands behind the tables that every schema has, with more behind mds_daydetail
+-- what follows the tables that every schema has, with more after mds_daydetail
 abbrev pub daily_then : More → More
 daily_then rest = packs_then (daydetails_then rest)
 
--- with nothing there
+-- with nothing after it
 abbrev pub daily : More
 daily = daily_then no_more
 
@@ -40,6 +40,6 @@ tables_3 = tables_with daily
 abbrev pub schema_3 : Schema
 schema_3 = schema_with daily
 
--- the statement that makes mds_daydetail behind the tables of schema 2
+-- the statement that makes mds_daydetail after the tables of schema 2
 abbrev pub create_daydetail : List ℕ
 create_daydetail = codes "CREATE TABLE mds_daydetail (nmi TEXT NOT NULL, suffix TEXT NOT NULL, day INTEGER NOT NULL, moment INTEGER NOT NULL, configuration TEXT NOT NULL, register TEXT NOT NULL, datastream TEXT NOT NULL, meter TEXT NOT NULL, next INTEGER NOT NULL, PRIMARY KEY (nmi, suffix, day, moment, configuration, register, datastream, meter, next), FOREIGN KEY (nmi, suffix, day) REFERENCES mds_head (nmi, suffix, day)) STRICT"

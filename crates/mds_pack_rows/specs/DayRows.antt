@@ -1,4 +1,4 @@
--- What rows of a day say, where each is the update and the body of a row of mds_pack (profile).
+-- What rows of a day say. Each is the update and the body of a row of mds_pack (profile).
 use Rattle.std.specs.Prelude.{◌≡◌, ℕ, List, map}
 use Rattle.std.specs.List.{flat_map}
 use Rattle.sqlite_value.specs.Order.{Row}

@@ -1,4 +1,4 @@
--- Rows of mds_pack that are still to be put, and the versions that they say (profile).
+-- Rows of mds_pack that have yet to be put, and the versions that they say (profile).
 use Rattle.std.specs.Prelude.{◌≡◌, ◌≢◌, List, [], map}
 use Rattle.std.specs.FinSet as set
 use Rattle.std.specs.List.{AllByRecursion, flat_map}
@@ -19,7 +19,7 @@ columns_of row = pack_cells row.stream row.day row.update row.body.items
 abbrev pub said_by : PackRow → List Fact
 said_by row = body_facts row.stream row.day row.update row.body.items
 
--- each says a version
+-- each says at least one version
 abbrev pub SaySome : List PackRow → Type 0
 SaySome rows = AllByRecursion (λ row. said_by row ≢ []) rows
 

@@ -1,4 +1,4 @@
--- Which errors tell that a store failed, and that no rule of the tables is against a statement (profile).
+-- Which errors mean that a store failed, and that no rule of the tables is against a statement (profile).
 use Rattle.std.specs.Prelude.{Bool, true, false}
 use Rattle.sqlite.specs.declared.error.Error.{Error}
 use Rattle.sqlite.specs.declared.error.Error.TheVariants.{SqliteFailure}

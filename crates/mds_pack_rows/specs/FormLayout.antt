@@ -1,5 +1,5 @@
--- The layout of schema 4 (profile): mds_form says the heads, each with the unit that mds_head says of its day. mds_pack says all
--- versions, and mds_daydetail all details of days.
+-- The layout of schema 4 (profile). The heads are those of mds_form, each with the unit that mds_head says of its day. The
+-- versions are all in mds_pack, and the details of days all in mds_daydetail.
 use Rattle.std.specs.Prelude.{◌≡◌, ◌==◌, if◌then◌else◌, ℕ, List, [], ◌∷◌, ◌++◌, length, map}
 use Rattle.std.proofs.Common.{inl, inr, refl, sym, subst, arith}
 use Rattle.std.specs.List.{flat_map}
@@ -30,13 +30,13 @@ use Rattle.mds_pack_rows.specs.PacksLayout.{HasPacks}
 abbrev pub day_in : Row → StreamDay
 day_in row = record { stream = stream_in row; day = natural_at row 3 }
 
--- The unit that rows of mds_head say of the day that a row begins with: that of the first of its day.
+-- The unit that rows of mds_head say of the day that a row begins with: the unit of the first row of that day.
 abbrev pub unit_in : List Row → Row → MeasureUnit
 unit_in [] row = unit_named []
 unit_in (head ∷ heads) row =
     if is_eq (stream_day_cmp (day_in head) (day_in row)) then unit_named (text_at head 5) else unit_in heads row
 
--- the head that a row of mds_form says, beside rows of mds_head
+-- the head that a row of mds_form says, given rows of mds_head
 abbrev pub form_fact : List Row → Row → Fact
 form_fact heads row =
     HeadIs (head_at (stream_in row) (natural_at row 3) (natural_at row 4) (natural_at row 5) (unit_in heads row))
@@ -45,7 +45,7 @@ form_fact heads row =
 abbrev pub form_heads : Trees → List Fact
 form_heads trees = map (form_fact (trees head_tree)) (trees form_tree)
 
--- ---- mds_form says heads alone
+-- ---- mds_form says only heads
 
 pub only_forms : (heads rows : List Row) (fact : Fact) → Member fact (map (form_fact heads) rows) → IsHead fact
 only_forms heads [] fact m = absurd m
@@ -57,7 +57,7 @@ only_forms heads (row ∷ rows) fact (inr m) = only_forms heads rows fact m
 pub idle_forms : (tree : ℕ) (olds news : List Row) → works schema_4 Enforced 0 tree olds news ≡ []
 idle_forms tree olds news = rw (either (length news == 0) NoAction)
 
--- mds_daydetail stands behind mds_pack, and mds_form behind that
+-- mds_daydetail follows mds_pack, and mds_form follows that
 abbrev pub forms_behind : Behind
 forms_behind = record {
   more = daydetails_then forms;

@@ -1,5 +1,5 @@
--- The tables of schema 4 (profile): those of schema 3, and behind them mds_form. It keeps the heads of days: a row for each update,
--- with its length. It stands last, so that the trees of schema 3 keep their numbers.
+-- The tables of schema 4 (profile): those of schema 3, followed by mds_form. It keeps the heads of days: a row for each update,
+-- with its length. It comes last, so that the trees of schema 3 keep their numbers.
 use Rattle.std.specs.Prelude.{ℕ, false, List, [], ◌∷◌, codes}
 use Rattle.sqlite.specs.Schema.{Schema}
 use Rattle.sqlite.specs.Table.{Table}
@@ -11,7 +11,7 @@ use Rattle.mds_pack_rows.specs.DailyTables.{daily_then}
 abbrev pub form_key : List ℕ
 form_key = 1 ∷ 2 ∷ 3 ∷ 4 ∷ []
 
--- the versions of a head lie in mds_pack
+-- the versions of a head are in mds_pack
 abbrev pub to_pack : Reference
 to_pack = record {
   columns = form_key;
@@ -28,14 +28,14 @@ form_table = record (table_of (codes "mds_form") form_tree
     ∷ [])
     form_key) { references = to_pack ∷ [] }
 
--- what stands behind mds_daydetail
+-- what follows mds_daydetail
 abbrev pub forms : More
 forms = record {
   tables = form_table ∷ [];
   indexes = key_index (codes "sqlite_autoindex_mds_form_1") form_tree form_key ∷ [];
 }
 
--- what stands behind the tables that every schema has
+-- what follows the tables that every schema has
 abbrev pub formed : More
 formed = daily_then forms
 
@@ -45,6 +45,6 @@ tables_4 = tables_with formed
 abbrev pub schema_4 : Schema
 schema_4 = schema_with formed
 
--- the statement that makes mds_form behind the tables of schema 3
+-- the statement that makes mds_form after the tables of schema 3
 abbrev pub create_form : List ℕ
 create_form = codes "CREATE TABLE mds_form (nmi TEXT NOT NULL, suffix TEXT NOT NULL, day INTEGER NOT NULL, moment INTEGER NOT NULL, length INTEGER NOT NULL, PRIMARY KEY (nmi, suffix, day, moment), FOREIGN KEY (nmi, suffix, day, moment) REFERENCES mds_pack (nmi, suffix, day, moment)) STRICT"

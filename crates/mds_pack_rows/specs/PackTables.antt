@@ -1,6 +1,6 @@
--- The table of packed days (profile), and the tables of schema 2: those of schema 1, and behind them mds_pack. It keeps the
--- versions of a day that have one update in one row, as a body. It stands behind all others, so that the trees of schema 1 keep
--- their numbers. Other tables may stand behind it.
+-- The table of packed days (profile), and the tables of schema 2: those of schema 1, followed by mds_pack. It keeps the
+-- versions of a day that have one update in one row, as a body. It comes after all others, so that the trees of schema 1 keep
+-- their numbers. Other tables may follow it.
 use Rattle.std.specs.Prelude.{◌≡◌, ◌≤◌, ℕ, List, [], ◌∷◌, codes}
 use Rattle.std.specs.List.{AllByRecursion}
 use Rattle.sqlite.specs.Kind.TheVariants.{Blob}
@@ -22,7 +22,7 @@ pack_key = 1 ∷ 2 ∷ 3 ∷ 4 ∷ []
 abbrev pub body_columns : List ℕ
 body_columns = 0 ∷ 5 ∷ []
 
--- those that a day's versions are read from: the update, and the body
+-- those from which a day's versions are read: the update, and the body
 abbrev pub update_columns : List ℕ
 update_columns = 4 ∷ 5 ∷ []
 
@@ -43,17 +43,17 @@ packs_then rest = record {
   indexes = key_index (codes "sqlite_autoindex_mds_pack_1") pack_tree pack_key ∷ rest.indexes;
 }
 
--- What stands behind mds_pack.
+-- What follows mds_pack.
 pub record Behind : Type 0 where
   -- the tables, and the indexes
   pub more : More
   -- no foreign key changes a row
   pub idle : (tree : ℕ) (olds news : List Row) → works (schema_with (packs_then more)) Enforced 0 tree olds news ≡ []
-  -- the trees of those tables, and the tables of those indexes, come behind that of mds_pack
+  -- the trees of those tables, and the tables of those indexes, come after that of mds_pack
   pub behind : AllByRecursion (λ (table : Table). trees_packed ≤ table.tree) more.tables
   pub indexes_behind : AllByRecursion (λ (index : Index). trees_packed ≤ index.table) more.indexes
 
--- what stands behind the tables that every schema has: mds_pack, and nothing behind it
+-- what follows the tables that every schema has: mds_pack, and nothing after it
 abbrev pub packs : More
 packs = packs_then no_more
 
@@ -63,6 +63,6 @@ tables_2 = tables_with packs
 abbrev pub schema_2 : Schema
 schema_2 = schema_with packs
 
--- the statement that makes mds_pack behind the tables of schema 1
+-- the statement that makes mds_pack after the tables of schema 1
 abbrev pub create_pack : List ℕ
 create_pack = codes "CREATE TABLE mds_pack (nmi TEXT NOT NULL, suffix TEXT NOT NULL, day INTEGER NOT NULL, moment INTEGER NOT NULL, body BLOB NOT NULL, PRIMARY KEY (nmi, suffix, day, moment), FOREIGN KEY (nmi, suffix, day) REFERENCES mds_head (nmi, suffix, day)) STRICT"

@@ -1,5 +1,5 @@
--- Layouts with mds_pack (profile): it stands behind the tables that every schema has, and says all versions. That of schema 2 has
--- nothing behind it.
+-- Layouts with mds_pack (profile): it follows the tables that every schema has, and says all versions. In schema 2 nothing follows
+-- it.
 use Rattle.std.specs.Prelude.{◌≡◌, ◌↔◌, ◌==◌, ◌≤◌, ℕ, ◌+◌, List, [], ◌∷◌, ◌++◌, length, map, Option, Some, None, unwrap_or}
 use Rattle.std.proofs.Common.{inl, inr, sym, ap, subst, arith}
 use Rattle.std.specs.List.{AllByRecursion, flat_map}
@@ -23,7 +23,7 @@ use Rattle.mds_tables.specs.Tables.{head_tree, no_more, trees_taken}
 use Rattle.mds_pack_rows.specs.PackFacts.{facts_from, minutes_of, pack_facts, pack_versions, readings_in}
 use Rattle.mds_pack_rows.specs.PackTables.{Behind, pack_tree, packs_then, schema_2, trees_packed}
 
--- ---- mds_pack says versions alone
+-- ---- mds_pack says only versions
 
 pub only_from : (s : Stream) (day minutes update interval : ℕ) (readings : List (Option ReadingValue)) (fact : Fact)
     → Member fact (facts_from s day minutes update interval readings) → IsOwn fact
@@ -48,7 +48,7 @@ only_packs (row ∷ rows) fact m =
 
 -- ---- layouts with mds_pack
 
--- A layout has mds_pack behind the tables that every schema has, and other tables behind that. The versions that it says are those of
+-- A layout has mds_pack after the tables that every schema has, and other tables after that. The versions that it says are those of
 -- mds_pack.
 pub record HasPacks (layout : Layout) : Type 0 where
   pub rest : Behind
@@ -56,7 +56,7 @@ pub record HasPacks (layout : Layout) : Type 0 where
   pub versions : (trees : Trees) (key : Key) (reading : ReadingValue)
       → Member (VersionIs key reading) (layout.own trees) ↔ Member (VersionIs key reading) (pack_versions trees)
 
--- trees behind mds_pack come behind those of the tables that every schema has
+-- trees after mds_pack come after those of the tables that every schema has
 pub tables_behind : (tables : List Table) → AllByRecursion (λ (table : Table). trees_packed ≤ table.tree) tables
     → AllByRecursion (λ (table : Table). trees_taken ≤ table.tree) tables
 tables_behind [] behind = tt
@@ -67,7 +67,7 @@ pub indexes_behind : (indexes : List Index) → AllByRecursion (λ (index : Inde
 indexes_behind [] behind = tt
 indexes_behind (index ∷ indexes) behind = (omega (arith, behind.0), indexes_behind indexes behind.1)
 
--- The layout with these tables behind mds_pack, of which mds_schema says this number. Its heads are rows of mds_head, and it says no
+-- The layout with these tables after mds_pack, in which mds_schema says this number. Its heads are rows of mds_head, and it says no
 -- details of days.
 abbrev pub packs_over : ℕ → Behind → Layout
 packs_over number rest = record {
@@ -91,7 +91,7 @@ packs_over number rest = record {
 pub idle_packs : (tree : ℕ) (olds news : List Row) → works schema_2 Enforced 0 tree olds news ≡ []
 idle_packs tree olds news = rw (either (length news == 0) NoAction)
 
--- it has nothing behind mds_pack
+-- nothing follows mds_pack
 abbrev pub nothing_behind : Behind
 nothing_behind = record { more = no_more; idle = idle_packs; behind = tt; indexes_behind = tt }
 

@@ -24,17 +24,17 @@ use Rattle.mds_pack_rows.specs.PackFacts.{pack_facts, pack_versions, readings_fa
 use Rattle.mds_pack_rows.specs.PackTables.{Behind, body_columns, pack_tree, packs_then, schema_2}
 use Rattle.mds_pack_rows.specs.Swaps.{Swaps}
 
--- Whatever the tables are, the connection is open where it was, and the transaction goes on.
+-- Whatever the tables are, an open connection stays open, and the transaction goes on.
 pub record GoesOn (old new : State) : Type 0 where
   pub was_open : HasCleanDisk new → IsTrue new.is_open → IsTrue old.is_open
   pub is_open : HasCleanDisk new → IsTrue old.is_open → IsTrue new.is_open
   pub inside : HasCleanDisk new → IsTrue old.in_transaction → IsTrue new.in_transaction
 
--- The connection was open over the tables up to mds_pack and others behind it, and the disk is honest up to the end.
+-- The connection was open over the tables up to mds_pack and others after it, and the disk is honest up to the end.
 pub record IsThere (old new : State) : Type 0 where
   pub clean : HasCleanDisk new
   pub is_open : IsTrue old.is_open
-  -- what stands behind mds_pack
+  -- what follows mds_pack
   pub rest : Behind
   pub schema : old.now.schema ≡ schema_with (packs_then rest.more)
   pub sound : IsSound (schema_with (packs_then rest.more)) old.now.trees
@@ -47,12 +47,12 @@ pub record ChangesPacks (old new : State) : Type 0 where
   pub committed : new.committed ≡ old.committed
   pub sound : IsSound new.now.schema new.now.trees
 
--- A query was answered, whatever tables stand behind mds_pack, and the database is as it was.
+-- A query was answered, whatever tables follow mds_pack, and the database is as it was.
 pub record FindsThere (old new : State) (Shows : Trees → Type 0) : Type 0 where
   pub same : (rest : More) → old.now.schema ≡ schema_with (packs_then rest) → IsUnchanged old new
   pub shows : (rest : More) → old.now.schema ≡ schema_with (packs_then rest) → IsDatabase old.now → Shows old.now.trees
 
--- mds_pack stands behind the tables of schema 1, which are as they were, and has no row. Nothing is committed.
+-- mds_pack follows the tables of schema 1, which are as they were, and has no row. Nothing is committed.
 pub record MakesPack (old new : State) : Type 0 where
   pub is_open : IsTrue new.is_open
   pub schema : new.now.schema ≡ schema_2
@@ -61,11 +61,12 @@ pub record MakesPack (old new : State) : Type 0 where
   pub committed : new.committed ≡ old.committed
   pub sound : IsSound schema_2 new.now.trees
 
--- one of these rows is this, whatever their rowids
+-- one of these rows is this one, whatever their rowids
 abbrev pub IsAmong : Row → List Row → Type 0
 IsAmong row rows = Member (drop 1 row) (map (drop 1) rows)
 
--- mds_pack names these facts beside those that it named. A row that came says one of them, and one whose body doesn't read stays.
+-- mds_pack names these facts in addition to its earlier ones. A new row says one of them, and a row whose body doesn't read
+-- stays.
 pub record NamesMore (old new : Trees) (facts : List Fact) : Type 0 where
   pub names : IsMore (pack_versions new) (pack_versions old) facts
   pub came : (row : Row) → Member row (new pack_tree)
@@ -77,14 +78,14 @@ abbrev pub PutsFacts : State → State → List Fact → Type 0
 PutsFacts old new facts =
     GoesOn old new × (IsThere old new → ChangesPacks old new × NamesMore old.now.trees new.now.trees facts)
 
--- a row with this rowid and any key has this body in place of its own
+-- a row with this rowid and any key has this body instead of its own
 abbrev pub PutsBody : State → State → ℤ → List ℕ → Type 0
 PutsBody old new id body = GoesOn old new × (IsThere old new → ChangesPacks old new
     × ((s : Stream) (day update : ℕ) (row : Row) → Member row (old.now.trees pack_tree) → column row 0 ≡ Int id
     → Begins (key_cells s day update) row
     → Swaps pack_tree (drop 1 row) (pack_cells s day update body) old.now.trees new.now.trees))
 
--- a row that is shown by its rowid and its body says these readings beside its own
+-- a row, shown by its rowid and its body, says these readings in addition to its own
 abbrev pub PutsBeside : State → State → Row → List (Option ReadingValue) → Type 0
 PutsBeside old new shown readings = GoesOn old new × (IsThere old new → ChangesPacks old new
     × ((s : Stream) (day update : ℕ) (row : Row) → Member row (old.now.trees pack_tree) → shown ≡ map (column row) body_columns
@@ -96,7 +97,7 @@ abbrev pub SayRows : ℕ → List (Option ReadingValue) → List (ℕ × Version
 SayRows update readings rows = (s : Stream) (day : ℕ)
     → set.from_list {R = fact_cmp} (readings_facts s day update readings) ≡ set.from_list (map (row_fact s day) rows)
 
--- they say this version beside what others say
+-- they say this version in addition to what others say
 abbrev pub SayMore : ℕ → List (Option ReadingValue) → List (Option ReadingValue) → ℕ × Version → Type 0
 SayMore update old new row = (s : Stream) (day : ℕ)
     → set.from_list {R = fact_cmp} (readings_facts s day update new)

@@ -1,4 +1,4 @@
-//! The body in a row, and the readings that it says.
+//! The body in a row, and the readings that it holds.
 
 ghost use Rattle.std.specs.Prelude.{◌≡◌, ◌≢◌, ◌<◌, ◌^◌, ℕ, List, Option, IfNone, IfOk, IfSome, IsTrue, Some, drop, is_some, length as list_length, map, option_map};
 ghost use Rattle.std.specs.List.{list_any};
@@ -18,7 +18,7 @@ use sqlite::Row;
 use sqlite::types::ValueRef;
 use std::alloc::{AllocError, Global};
 
-/// The body in a column. `None` where it has another kind of value.
+/// The body in a column. `None` if the column has another kind of value.
 pub fn blob_at<'a>(row: &'a Row, at: usize) -> Option<&'a [u8]>
     ensures some { IfSome result (λ body. column row.now at ≡ Blob body.now) }
     ensures none { IfNone result ((body : List ℕ) → column row.now at ≢ Blob body) }
@@ -29,7 +29,7 @@ pub fn blob_at<'a>(row: &'a Row, at: usize) -> Option<&'a [u8]>
     }
 }
 
-/// The readings in a row's body, for as many intervals as it says. `None` where the column has another kind of value, or these bytes
+/// The readings in a row's body, for as many intervals as it says. `None` if the column has another kind of value, or these bytes
 /// are no body of a day.
 pub(crate) fn readings_at(
     alloc: Global,
@@ -47,8 +47,8 @@ pub(crate) fn readings_at(
     unpack(alloc, body)
 }
 
-/// The readings in a row's body, of a day with intervals of this length. `None` where the column has another kind of value, these
-/// bytes are no body of such a day, or no interval has a reading, and nowhere else.
+/// The readings in a row's body, of a day with intervals of this length. `None` only if the column has another kind of value, these
+/// bytes are no body of such a day, or no interval has a reading.
 pub fn readings_for(
     alloc: Global,
     length: Length,
@@ -84,7 +84,7 @@ pub fn has_some(readings: &[Option<Reading>]) -> bool
     }
 }
 
-/// Unpacks a body for as many intervals as it says. `None` where these bytes are no body of a day.
+/// Unpacks a body for as many intervals as it says. `None` if these bytes are no body of a day.
 fn unpack(alloc: Global, body: &[u8]) -> Result<Option<Vec<Option<Reading>>>, AllocError>
     ensures says { IfOk result (λ o. IfSome o (λ readings. readings_in body.now ≡ Some readings.items)) }
     ensures few { IfOk result (λ o. IfSome o (λ readings. list_length readings.items < 2 ^ 16)) }
@@ -100,8 +100,8 @@ fn unpack(alloc: Global, body: &[u8]) -> Result<Option<Vec<Option<Reading>>>, Al
     unpack_for(alloc, length, body)
 }
 
-/// Unpacks a body for a day with intervals of this length. `None` where these bytes are no body of such a day: a body
-/// that says another count of intervals isn't read.
+/// Unpacks a body for a day with intervals of this length. `None` if these bytes are no body of such a day: a body that says another
+/// count of intervals isn't read.
 pub fn unpack_for(
     alloc: Global,
     length: Length,
@@ -117,8 +117,8 @@ pub fn unpack_for(
     unpack_day(alloc, length, body)
 }
 
-/// Unpacks a body for a whole day with intervals of this length, as its readings lie. `None` where these bytes are no body of
-/// such a day, or an interval has no reading, and nowhere else.
+/// Unpacks a body for a whole day with intervals of this length, without spreading its readings. `None` only if these bytes are no
+/// body of such a day, or an interval has no reading.
 pub fn unpack_whole(
     alloc: Global,
     length: Length,
@@ -144,7 +144,7 @@ fn count_in(body: &[u8]) -> Option<u16>
     }
 }
 
-/// The length of so many intervals of a day.
+/// The length of the intervals of a day with this count of them.
 fn length_of(count: u16) -> Option<Length>
     ensures some { IfSome result (λ minutes. count_of minutes ≡ count) }
     ensures none { IfNone result ((minutes : ℕ) → IsTrue (is_length minutes) → count_of minutes ≢ count) }

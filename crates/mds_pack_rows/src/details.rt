@@ -1,4 +1,4 @@
-//! Details of days, each a row of mds_daydetail, whatever tables stand behind it.
+//! Details of days, each a row of mds_daydetail, whatever tables follow it.
 
 ghost use Rattle.std.specs.Prelude.{◌≡◌, [], ◌∷◌, OnOk, length, map};
 ghost use Rattle.std.specs.List.{flat_map};
@@ -16,7 +16,7 @@ use mds_terms::Day;
 use sqlite::types::ValueRef;
 use sqlite::{Alter, Transaction};
 
-/// Puts the details of days, each of which has its head. It is unavailable where they are kept already.
+/// Puts the details of days, each of which has its head. Unavailable if they are kept already.
 pub fn put_details<S: Alter>(
     tx: &mut Transaction<'_, S>,
     details: &[DetailDays],
@@ -32,7 +32,7 @@ pub fn put_details<S: Alter>(
     Ok(())
 }
 
-/// Puts details on each of their days. Eight days in turn go in by one statement.
+/// Puts details on each of their days. Eight adjacent days go in with one statement.
 fn put_each<S: Alter>(tx: &mut Transaction<'_, S>, details: &DetailDays) -> Result<(), Unavailable>
     ensures same_reference { tx.new.conn.ghost_name ≡ tx.old.conn.ghost_name }
     ensures ok { OnOk result (PutsDetails (state S.Store tx.old.conn.now) (state S.Store tx.new.conn.now) (details_on details.now)) }
@@ -63,7 +63,7 @@ fn put_on_each<S: Alter>(
     Ok(())
 }
 
-/// Puts details on eight days by one statement.
+/// Puts details on eight days with one statement.
 fn put_on_eight<S: Alter>(
     tx: &mut Transaction<'_, S>,
     details: &DetailDays,
@@ -107,7 +107,7 @@ fn eight_cells<'a>(details: &'a DetailDays, days: &[Day]) -> [[ValueRef<'a>; 9];
     ]
 }
 
-/// Puts details on one day, which has its head, whatever days they are of. It is unavailable where the day has them already.
+/// Puts details on one day, which has its head, whatever days they are of. Unavailable if the day has them already.
 pub fn put_on<S: Alter>(
     tx: &mut Transaction<'_, S>,
     details: &DetailDays,

@@ -1,4 +1,4 @@
-//! Versions of days, where eight new rows are put at once.
+//! Versions of days, with eight new rows put at once.
 
 ghost use Rattle.std.specs.Prelude.{◌≡◌, ◌≢◌, [], IfOk, IfSome, IsTrue, OnOk, false, length as list_length, map};
 ghost use Rattle.sqlite.specs.Held.{state};
@@ -23,12 +23,12 @@ use sqlite::{Alter, Transaction};
 use std::alloc::{AllocError, Global};
 use std::cmp::Ordering;
 
-/// Puts versions of days, each of which has its row in mds_head. Those of a day and an update that lie together go into one row at
-/// once. It is unavailable where a version is kept already, or where one has an interval that its length doesn't have. So it is where
-/// those of one day and update have two lengths.
+/// Puts versions of days, each of which has its row in mds_head. Adjacent versions of one day and update go into one row at once.
+/// Unavailable if a version is kept already, or if one has an interval that its length doesn't have. Also if those of one day and
+/// update have two lengths.
 ///
-/// An update of a day is new where its head is given. It stands among the first heads of new days or those of further updates, both by
-/// stream and day. Eight days in turn that are new so go in by one statement.
+/// An update of a day is new if its head is among `new_days` or `further`. Both lists are ordered by stream and day. Eight adjacent
+/// days that are new in this way go in with one statement.
 pub fn put_days<S: Alter>(
     alloc: Global,
     tx: &mut Transaction<'_, S>,
@@ -48,7 +48,7 @@ pub fn put_days<S: Alter>(
     put_each_day(alloc, tx, rest)
 }
 
-/// Puts versions of eight days: by one statement where that can be, or else day by day.
+/// Puts versions of eight days: with one statement if possible, or else day by day.
 fn put_eight<S: Alter>(
     alloc: Global,
     tx: &mut Transaction<'_, S>,
@@ -67,8 +67,8 @@ fn put_eight<S: Alter>(
     put_each_day(alloc, tx, days)
 }
 
-/// Puts versions of eight days by one statement, and tells whether it did. It puts nothing where those of one aren't a new row, or
-/// where the tables refuse a row.
+/// Puts versions of eight days with one statement, and returns whether it did. It puts nothing if those of one day aren't a new row,
+/// or if the tables refuse a row.
 fn put_new_days<S: Alter>(
     alloc: Global,
     tx: &mut Transaction<'_, S>,
@@ -88,7 +88,7 @@ fn put_new_days<S: Alter>(
     insert_eight(tx, rows.as_slice())
 }
 
-/// The row of each day. `None` where the versions of one aren't a new row.
+/// The row of each day. `None` if the versions of one aren't a new row.
 fn pack_new_days(
     alloc: Global,
     new_days: &[Head],
@@ -109,8 +109,8 @@ fn pack_new_days(
     Ok(Some(rows))
 }
 
-/// The row of a day. `None` where its update isn't new, or where its versions aren't those of one length and one update, each at an
-/// interval of its own.
+/// The row of a day. `None` if its update isn't new, or if its versions aren't those of one length and one update, each at an interval
+/// of its own.
 fn pack_new_day(
     alloc: Global,
     new_days: &[Head],
@@ -138,8 +138,8 @@ fn pack_new_day(
     }
 }
 
-/// The row of listed versions of a day. `None` where the update of the first isn't new. So it is where another one has another length
-/// or update, or an interval that one before it has.
+/// The row of listed versions of a day. `None` if the update of the first isn't new. Also if another one has another length or update,
+/// or an interval that an earlier one has.
 fn pack_listed(
     alloc: Global,
     new_days: &[Head],
@@ -173,8 +173,8 @@ fn pack_listed(
     }))
 }
 
-/// The row of a day's readings, of all its intervals of a length and under one update. They are packed as they lie. `None` where they
-/// are more or fewer than the day has intervals.
+/// The row of a day's readings, of all its intervals of a length and under one update. They are packed without being spread. `None` if
+/// they are more or fewer than the day has intervals.
 fn pack_whole(
     alloc: Global,
     length: Length,
@@ -205,8 +205,8 @@ fn is_new(new_days: &[Head], further: &[Head], stream: &Stream, day: Day, update
     has_head(new_days, stream, day, update) || has_head(further, stream, day, update)
 }
 
-/// Whether these heads have one of a day and an update. They ascend by stream and day: in another order it may be missed. Those of
-/// one day may stand in any order.
+/// Whether these heads have one of a day and an update. They must ascend by stream and day: in another order it may be missed. Those
+/// of one day may come in any order.
 fn has_head(heads: &[Head], stream: &Stream, day: Day, update: Moment) -> bool {
     let at = heads.partition_point(|head| is_before(head, stream, day));
     let (_, behind) = heads.split_at(at);

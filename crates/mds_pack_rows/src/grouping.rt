@@ -1,4 +1,4 @@
-//! The versions of days, put update by update.
+//! Puts the versions of days update by update.
 
 ghost use Rattle.std.specs.Prelude.{◌≡◌, ◌<◌, ◌≤◌, ◌^◌, IfOk, IfSome, IsTrue, None, OnOk, Some, length as list_length, map, replicate};
 ghost use Rattle.sqlite.specs.Held.{state};
@@ -33,10 +33,10 @@ pub(crate) fn put_each_day<S: Alter>(
     Ok(())
 }
 
-/// Puts versions of a day. Those of one update that lie together go into its row at once.
+/// Puts versions of a day. Adjacent versions of one update go into its row at once.
 ///
-/// When it is unavailable is no promise. As it stands, it refuses a version that is kept already, and one with an interval that its
-/// length doesn't have. It also refuses two lengths of one update.
+/// No clause says when it is unavailable. In fact it refuses a version that is kept already, and one with an interval that its
+/// length doesn't have. It also refuses two lengths under one update.
 pub fn put_day<S: Alter>(
     alloc: Global,
     tx: &mut Transaction<'_, S>,
@@ -63,7 +63,7 @@ pub fn put_day<S: Alter>(
     }
 }
 
-/// Puts versions of a day, those of one update that lie together at once.
+/// Puts versions of a day, adjacent ones of one update at once.
 fn put_listed<S: Alter>(
     alloc: Global,
     tx: &mut Transaction<'_, S>,
@@ -88,7 +88,7 @@ fn put_listed<S: Alter>(
     Ok(())
 }
 
-/// Puts the readings of all intervals of a day, of this length and under an update.
+/// Puts the readings of all intervals of a day, with this length and under an update.
 fn put_whole<S: Alter>(
     alloc: Global,
     tx: &mut Transaction<'_, S>,
@@ -137,7 +137,7 @@ fn end_of_run(rows: &[(u16, Version)]) -> usize
     rows.len()
 }
 
-/// Puts versions of one update. It is unavailable where one isn't of this length.
+/// Puts versions of one update. Unavailable if one doesn't have this length.
 fn put_run<S: Alter>(
     alloc: Global,
     tx: &mut Transaction<'_, S>,
@@ -158,8 +158,8 @@ fn put_run<S: Alter>(
     put_readings(alloc, tx, stream, day, update, readings.as_slice())
 }
 
-/// The readings of versions of one length and update, each at its interval. `None` where a version has another length or update,
-/// an interval that the day doesn't have, or that of one before it.
+/// The readings of versions of one length and update, each at its interval. `None` if a version has another length or update, an
+/// interval that the day doesn't have, or the interval of an earlier one.
 pub(crate) fn spread(
     alloc: Global,
     length: Length,
@@ -192,7 +192,7 @@ fn no_readings(alloc: Global, length: Length) -> Result<Vec<Option<Reading>>, Al
     Ok(readings)
 }
 
-/// Sets the reading of a version's interval. It tells whether there was none, and the version has this length and update.
+/// Sets the reading of a version's interval. Returns whether there was none, and the version has this length and update.
 fn set_reading(
     readings: &mut Vec<Option<Reading>>,
     length: Length,

@@ -1,4 +1,4 @@
-//! Knows the tables of schemas 2 and 3 again.
+//! Recognizes the tables of schemas 2 and 3.
 
 ghost use Rattle.std.specs.Prelude.{◌≡◌, ◌≢◌, ◌↔◌, [], ◌∷◌, IsTrue, codes, map};
 ghost use Rattle.std.specs.Bool.{MatchBool};
@@ -43,7 +43,7 @@ fn is_pack_index(index: &Index) -> bool
     is_key_index(index, "sqlite_autoindex_mds_pack_1", 16, &[1, 2, 3, 4])
 }
 
-/// Whether these are the tables of schema 1, and behind them that of packed days.
+/// Whether these are the tables of schema 1, followed by that of packed days.
 fn are_all_tables(tables: &[Table]) -> bool
     ensures { IsTrue result ↔ (tables.now ≡ tables_2) }
 {
@@ -107,7 +107,7 @@ fn is_daydetail_index(index: &Index) -> bool
     )
 }
 
-/// Whether these are the tables of schema 3: those of schema 2, and behind them that of the details of days.
+/// Whether these are the tables of schema 3: those of schema 2, followed by that of the details of days.
 pub fn are_daily_tables(tables: &[Table]) -> bool
     ensures { IsTrue result ↔ (tables.now ≡ tables_3) }
 {

@@ -1,4 +1,4 @@
-//! The readings of a day, laid beside others of it.
+//! Combines the readings of a day with others of it.
 
 ghost use Rattle.std.specs.Prelude.{◌≡◌, IfOk, option_map};
 ghost use Rattle.mds_pack_rows.specs.Laying.{held_of, laid};
@@ -6,7 +6,7 @@ ghost use Rattle.mds_pack_rows.specs.Laying.{held_of, laid};
 use mds_marks::Reading;
 use std::alloc::{AllocError, Global};
 
-/// All readings of both. `None` where an interval has two, or the days have different counts of intervals.
+/// All readings of both. `None` if an interval has two, or the days have different counts of intervals.
 pub(crate) fn lay(
     alloc: Global,
     ones: &[Option<Reading>],
@@ -35,7 +35,7 @@ pub(crate) fn lay(
     }
 }
 
-/// What an interval has of both, where at most one has a reading there.
+/// What an interval has of both, if at most one has a reading there.
 fn one_of(
     one: &Option<Reading>,
     other: &Option<Reading>,

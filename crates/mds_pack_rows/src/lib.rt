@@ -1,6 +1,12 @@
-//! Packed days as rows of a store: the versions of a day that have one update are one row, with a body for its readings. Details
-//! of a day are one, too. They are put in a transaction, whatever tables stand behind theirs. Those of schemas 2 and 3 are made and
-//! known here too.
+//! Packed days and details of days as rows of a store. A row of mds_pack has the versions of a day under one update, with their readings as
+//! a body. A row of mds_daydetail has details of a day.
+//!
+//! It decides which versions share a row (`grouping.rt`), when a row's body is replaced (`putting.rt`), and which rows go in eight at a
+//! time (`eights.rt`). It defines the layouts of schemas 2 to 4, and makes and recognizes the tables of schemas 2 and 3. Any tables may
+//! follow those that it writes.
+//! Callers: `mds_form_rows` for commits and the books of days, `mds_migrate` for its steps, `mds_pack_store` to recognize old stores.
+//! Must not change: the tables, which existing stores have. A commit and a migration put rows by the same functions, so a migrated row is
+//! the one that an import would have put.
 #![tactic(auto)]
 
 mod bodies;

@@ -1,4 +1,4 @@
-//! Makes the tables that a migration makes.
+//! Makes the tables that a migration needs.
 
 ghost use Rattle.std.specs.Prelude.{◌≡◌, IfErr, IsTrue, OnOk};
 ghost use Rattle.sqlite.specs.Held.{state};
@@ -13,7 +13,7 @@ ghost use Rattle.mds_pack_rows.specs.Putting.{MakesPack};
 
 use sqlite::{Alter, Error, Transaction};
 
-/// Makes mds_pack, without a row, behind the tables of schema 1.
+/// Makes mds_pack, without a row, after the tables of schema 1.
 pub fn make_pack<S: Alter>(tx: &mut Transaction<'_, S>) -> Result<(), Error>
     ensures same_reference { tx.new.conn.ghost_name ≡ tx.old.conn.ghost_name }
     ensures ok { OnOk result (MakesThere schema_1 schema_2 (state S.Store tx.old.conn.now) (state S.Store tx.new.conn.now)) }
@@ -32,7 +32,7 @@ pub fn make_pack<S: Alter>(tx: &mut Transaction<'_, S>) -> Result<(), Error>
     Ok(())
 }
 
-/// Makes mds_daydetail, without a row, behind the tables of schema 2.
+/// Makes mds_daydetail, without a row, after the tables of schema 2.
 pub fn make_daydetail<S: Alter>(tx: &mut Transaction<'_, S>) -> Result<(), Error>
     ensures same_reference { tx.new.conn.ghost_name ≡ tx.old.conn.ghost_name }
     ensures ok { OnOk result (MakesThere schema_2 schema_3 (state S.Store tx.old.conn.now) (state S.Store tx.new.conn.now)) }

@@ -1,4 +1,4 @@
-//! Readings of one update, put into the row of their day.
+//! Puts readings of one update into the row of their day.
 
 ghost use Rattle.std.specs.Prelude.{◌≡◌, ◌<◌, ◌^◌, IsTrue, OnOk, is_some, length};
 ghost use Rattle.std.specs.List.{list_any};
@@ -19,9 +19,9 @@ use mds_terms::{Day, Moment, Stream};
 use sqlite::{Alter, Row, Transaction};
 use std::alloc::Global;
 
-/// Puts a day's readings of one update, one place for each interval. Where none is held, nothing is put. Where the day has a row of
-/// this update, they go beside the readings of that. It is unavailable where an interval has a reading there already, or the row has
-/// another count of intervals, or no body of a day. So it is where the day has two rows of this update.
+/// Puts a day's readings of one update, with one place for each interval. If there is no reading, nothing is put. If the day has a
+/// row of this update, they join the readings of that row. Unavailable if an interval has a reading there already, the row has
+/// another count of intervals, or its bytes are no body of a day. Also if the day has two rows of this update.
 pub(crate) fn put_readings<S: Alter>(
     alloc: Global,
     tx: &mut Transaction<'_, S>,
@@ -67,7 +67,7 @@ fn add_row<S: Alter>(
     insert_body(tx, stream, day, update, body.as_slice())
 }
 
-/// Puts readings beside those of a row, of which the rowid and the body are shown.
+/// Adds readings to those of a row. Its rowid and its body are shown.
 fn lay_over<S: Alter>(
     alloc: Global,
     tx: &mut Transaction<'_, S>,

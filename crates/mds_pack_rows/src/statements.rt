@@ -1,4 +1,4 @@
-//! The statements of SQL.
+//! The SQL statements.
 
 ghost use Rattle.std.specs.Prelude.{◌≡◌, ◌≢◌, [], ◌∷◌, Err, IfErr, IfOk, IsOk, IsTrue, MatchResult, OnOk, false, length};
 ghost use Rattle.std.specs.List.{flat_map};
@@ -47,7 +47,7 @@ fn pack_cells<'a>(stream: &'a Stream, day: Day, update: Moment, body: &'a [u8]) 
     ]
 }
 
-/// A row that is still to be put.
+/// A row that has yet to be put.
 #[derive(Drop)]
 pub(crate) struct PackRow {
     pub(crate) stream: Stream,
@@ -57,7 +57,7 @@ pub(crate) struct PackRow {
     pub(crate) body: Vec<u8>,
 }
 
-/// The columns of a row that is still to be put.
+/// The columns of a row that has yet to be put.
 fn cells_of<'a>(row: &'a PackRow) -> [ValueRef<'a>; 5]
     ensures { bound result ≡ columns_of row.now }
 {
@@ -96,7 +96,7 @@ fn body_cells<'a>(id: i64, body: &'a [u8]) -> [ValueRef<'a>; 2]
     [ValueRef::Int(id), ValueRef::Blob(body)]
 }
 
-/// The updates and the bodies of a day, whatever tables stand behind mds_pack.
+/// The updates and the bodies of a day, whatever tables follow mds_pack.
 pub fn packs_of_day<S: Alter>(
     tx: &mut Transaction<'_, S>,
     stream: &Stream,
@@ -137,7 +137,7 @@ pub(crate) fn body_rows<S: Alter>(
     ))
 }
 
-/// Puts a row. Its body says a version.
+/// Puts a row. Its body has at least one version.
 pub(crate) fn insert_body<S: Alter>(
     tx: &mut Transaction<'_, S>,
     stream: &Stream,
@@ -158,7 +158,7 @@ pub(crate) fn insert_body<S: Alter>(
     Ok(())
 }
 
-/// Whether an error says that the store failed, and not the statement.
+/// Whether an error means that the store failed, and not the statement.
 fn is_failure(e: &Error) -> bool
     ensures { result ≡ is_store_error e.now }
 {
@@ -176,7 +176,7 @@ fn is_failure(e: &Error) -> bool
     }
 }
 
-/// Whether the tables took the rows of a statement. Where the store failed, its error is passed on.
+/// Whether the tables took the rows of a statement. If the store failed, its error is passed on.
 fn are_taken(answer: Result<usize, Error>) -> Result<bool, Error>
     ensures put { IfOk result (λ put. IsTrue put → IsOk answer) }
     ensures none { IfOk result (λ put. put ≡ false → MatchResult answer (λ _. ⊥) (λ e. is_store_error e ≡ false)) }
@@ -193,7 +193,7 @@ fn are_taken(answer: Result<usize, Error>) -> Result<bool, Error>
     }
 }
 
-/// Puts eight rows by one statement, each of which says a version. It tells whether the tables took them: where they refuse one, all
+/// Puts eight rows with one statement. Each has at least one version. Returns whether the tables took them: if they refuse one, all
 /// stays as it was.
 pub(crate) fn insert_eight<S: Alter>(
     tx: &mut Transaction<'_, S>,
@@ -214,7 +214,7 @@ pub(crate) fn insert_eight<S: Alter>(
     )))
 }
 
-/// Replaces the body of the row that has this rowid. Unavailable where there isn't just one.
+/// Replaces the body of the row with this rowid. Unavailable unless there is just one.
 pub(crate) fn replace_body<S: Alter>(
     tx: &mut Transaction<'_, S>,
     id: i64,

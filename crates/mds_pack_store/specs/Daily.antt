@@ -10,12 +10,12 @@ use Rattle.mds_pack_rows.specs.DailyLayout.{daily_layout}
 abbrev pub AreBare : Trees → Type 0
 AreBare trees = (trees version_tree ≡ []) × (trees detail_tree ≡ [])
 
--- mds_schema says 3, and that is so
+-- mds_schema says 3, and neither has one
 pub record AreDaily (trees : Trees) : Type 0 where
   pub version : versions_said trees ≡ pos 3 ∷ []
   pub bare : AreBare trees
 
--- such a store
+-- a store of schema 3
 pub record IsDailyStore (db : Database) : Type 0 where
   pub store : IsStoreOf daily_layout db
   pub bare : AreBare db.trees

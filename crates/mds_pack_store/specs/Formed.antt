@@ -16,13 +16,13 @@ pub record AreFormed (trees : Trees) : Type 0 where
   pub version : versions_said trees ≡ pos 4 ∷ []
   pub bare : AreBare trees
 
--- such a store
+-- a store of schema 4
 pub record IsFormedStore (db : Database) : Type 0 where
   pub store : IsStoreOf forms_layout db
   pub bare : AreBare db.trees
 
--- While the disk is honest, what is committed is such a store where the connection is open. What a crash may leave says 4, has no
--- such row, and obeys schema 4, open or not. So an open finds such a store there.
+-- While the disk is honest and the connection open, what is committed is a store of schema 4. What a crash may leave says 4, has
+-- no row of those two kinds, and obeys schema 4, open or not. So the next open finds a store there.
 pub record HoldsFormed (s : State) : Type 0 where
   pub committed : HasCleanDisk s → IsTrue s.is_open → IsFormedStore s.committed
   pub left : HasCleanDisk s → (trees : Trees) → s.may_leave trees → AreFormed trees
@@ -32,7 +32,7 @@ pub record HoldsFormed (s : State) : Type 0 where
 abbrev pub IsEarlierStore : Database → Type 0
 IsEarlierStore db = IsStore db ⊎ (IsPackedStore db ⊎ IsDailyStore db)
 
--- The database was one, and keeps what it kept.
+-- The database was a store of schema 4, and keeps what it kept.
 pub record IsFormedAdopted (old new : State) : Type 0 where
   pub adopted : IsAdopted forms_layout old new
   pub bare : AreBare old.committed.trees

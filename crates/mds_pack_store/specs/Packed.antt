@@ -11,7 +11,7 @@ pub record ArePacked (trees : Trees) : Type 0 where
   pub version : versions_said trees ≡ pos 2 ∷ []
   pub unversioned : trees version_tree ≡ []
 
--- such a store
+-- a store of schema 2
 pub record IsPackedStore (db : Database) : Type 0 where
   pub store : IsStoreOf packs_layout db
   pub unversioned : db.trees version_tree ≡ []

@@ -1,4 +1,4 @@
--- What a keeper's connection keeps true has at most one proof.
+-- There is at most one proof of what a keeper's connection keeps true.
 use Rattle.std.specs.Prelude.{List}
 use Rattle.std.specs.Coded.{Coded, Coded-set, coded_list, coded_ℤ, ×_prop, Π_prop}
 use Rattle.std.proofs.Math.Logic.{∥∥₁_prop}

@@ -1,4 +1,4 @@
--- What queries show of tables that are to have no row (profile).
+-- What queries show of tables that must have no row (profile).
 use Rattle.std.specs.Prelude.{ℕ}
 
 -- the column of a row of mds_version that has its interval

@@ -1,4 +1,4 @@
-//! What a keeper over tables of packed days is, in the words of the library. The function does nothing.
+//! A law that says what a keeper over tables of packed days is, in the library's words. The function does nothing.
 
 ghost use Rattle.std.specs.Prelude.{◌≡◌, ◌↔◌, IsTrue};
 ghost use Rattle.sqlite.specs.Held.{state};
@@ -15,10 +15,10 @@ use crate::pack_keeper::PackKeeper;
 use mds_keeper::Keeper;
 use sqlite::Alter;
 
-/// It keeps the World that the rows of its tables name. It is honest while its disk is, and sound while its connection is open
-/// too. A crash may leave any World that is named by tables which the library's store may leave. While it is sound, what is committed
-/// is a store that `adopt` takes. While it is honest, any tables that a crash may leave are one too, also where a fault shut the
-/// connection. They obey schema 4, say 4, and have no row that would stand unseen.
+/// It keeps the World that the rows of its tables name. It is honest while its disk is, and sound while its connection is open too. A
+/// crash may leave any World named by tables that the library's store may leave. While it is sound, what is committed is a store that
+/// `adopt` takes. While it is honest, any tables that a crash may leave are one too, even if a fault shut the connection. They obey
+/// schema 4, say 4, and have no row that goes unseen.
 pub fn a_keeper_is_its_tables<S: Alter>(_keeper: &PackKeeper<S>)
     ensures world { (⟦<PackKeeper<S> as Keeper>⟧.kept _keeper.now).world ≡ world_kept forms_layout (state S.Store _keeper.now.conn) }
     ensures honest { (⟦<PackKeeper<S> as Keeper>⟧.kept _keeper.now).honest ↔ HasCleanDisk (state S.Store _keeper.now.conn) }

@@ -1,4 +1,4 @@
-//! A keeper over tables, whose days are packed.
+//! The keeper over tables, with packed days.
 
 ghost use Rattle.std.specs.Prelude.{◌≡◌, IsTrue, false};
 ghost use Rattle.sqlite.specs.Held.{state};
@@ -21,15 +21,15 @@ use mds_terms::{Day, Details, Event, Stream};
 use sqlite::{Alter, Connection};
 use std::alloc::Global;
 
-/// Keeps a World in the tables of schema 4. The versions of a day that have one update are one row, any other fact is one. Only the unit
-/// of the heads of a day stands apart.
+/// Keeps a World in the tables of schema 4. The versions of a day that have one update are one row, and any other fact is one row. Only
+/// the unit of a day's heads has a row of its own.
 #[derive(Drop)]
 pub struct PackKeeper<S: Alter> {
     alloc: Global,
     conn: Connection<S>,
     // It is in no transaction.
     pub ghost autocommit: { conn.in_transaction ≡ false },
-    // While the disk is honest, what is committed is a store that `adopt` takes, and so is what a crash may leave.
+    // While the disk is honest, what is committed is a store that `adopt` takes. So is what a crash may leave.
     pub ghost holds: { HoldsFormed (state S.Store conn) } by { HoldsFormed-prop (state S.Store conn) },
 }
 
@@ -45,7 +45,7 @@ impl<S: Alter> PackKeeper<S> {
         PackKeeper { alloc, conn }
     }
 
-    /// Gives the connection back, in no transaction and with the same tables. They are those of a store that `adopt` takes.
+    /// Returns the connection, in no transaction and with the same tables. They are those of a store that `adopt` takes.
     pub fn into_connection(self) -> Connection<S>
         ensures same { result ≡ self.conn }
         ensures autocommit { result.in_transaction ≡ false }

@@ -1,4 +1,4 @@
-//! How a store of packed days is made in a database, and known in one.
+//! Makes a store of packed days in a database, or recognizes one.
 
 ghost use Rattle.std.specs.Prelude.{◌≡◌, ◌≢◌, [], false, true, IfErr, IfOk, IsTrue, MatchResult};
 ghost use Rattle.std.specs.Bool.{MatchBool};
@@ -30,10 +30,9 @@ use mds_tables::{has_schema_1, ready};
 use sqlite::{Alter, Connection, Error, Row};
 use std::alloc::Global;
 
-/// Makes a store, which keeps nothing, in a database that is empty. On a refusal the connection comes back, and nothing was
-/// changed. One that was in a transaction comes back as it was, and any other is in none. It is unavailable only where the store
-/// failed or the limit of steps was reached, and tells that error (U1). The limit stays. A crash leaves what was there, or the
-/// store that keeps nothing.
+/// Makes a store, which keeps nothing, in an empty database. On a refusal the connection is returned, and nothing was changed. One
+/// that was in a transaction comes back as it was, and any other is in none. Unavailable only if the store failed or the limit of
+/// steps was reached, with that error (U1). The limit stays. A crash leaves what was there, or the store that keeps nothing.
 pub fn create<S: Alter>(
     alloc: Global,
     conn: Connection<S>,
@@ -63,11 +62,11 @@ pub fn create<S: Alter>(
     }
 }
 
-/// Takes a database that is a store of schema 4. It keeps the World that its rows name, whoever wrote them. One that has rows in
-/// mds_version or mds_detail isn't taken, since they would stand there unseen (U3). A store of an earlier schema is to be migrated
-/// first (U2). On a refusal the connection comes back, and nothing was changed. One that was in a transaction comes back as it was,
-/// and any other is in none. It is unavailable only where the store failed or the limit of steps was reached, and tells that error
-/// (U1). The limit stays. A crash leaves what was there.
+/// Adopts a database that is a store of schema 4. It keeps the World that its rows name, no matter who wrote them. A database with
+/// rows in mds_version or mds_detail is refused, since they would go unseen (U3). A store of an earlier schema has to be migrated
+/// first (U2). On a refusal the connection is returned, and nothing was changed. One that was in a transaction comes back as it was,
+/// and any other is in none. Unavailable only if the store failed or the limit of steps was reached, with that error (U1). The limit
+/// stays. A crash leaves what was there.
 pub fn adopt<S: Alter>(
     alloc: Global,
     conn: Connection<S>,
@@ -155,7 +154,7 @@ pub fn are_packed<S: Alter>(conn: &mut Connection<S>) -> Result<bool, Error>
     is_unversioned(conn)
 }
 
-/// Whether neither mds_version nor mds_detail has a row, whatever tables stand behind those that every schema has.
+/// Whether neither mds_version nor mds_detail has a row, whatever tables follow those that every schema has.
 fn are_bare<S: Alter>(conn: &mut Connection<S>) -> Result<bool, Error>
     requires { conn.old.in_transaction ≡ false }
     ensures answers { (layout : Layout) → Answers (HoldsTablesOf layout) (state S.Store conn.old) (state S.Store conn.new) result
@@ -170,7 +169,7 @@ fn are_bare<S: Alter>(conn: &mut Connection<S>) -> Result<bool, Error>
     is_undated(conn)
 }
 
-/// Whether mds_version has no row, whatever tables stand behind those that every schema has.
+/// Whether mds_version has no row, whatever tables follow those that every schema has.
 fn is_unversioned<S: Alter>(conn: &mut Connection<S>) -> Result<bool, Error>
     requires { conn.old.in_transaction ≡ false }
     ensures answers { (layout : Layout) → Answers (HoldsTablesOf layout) (state S.Store conn.old) (state S.Store conn.new) result
@@ -183,7 +182,7 @@ fn is_unversioned<S: Alter>(conn: &mut Connection<S>) -> Result<bool, Error>
     Ok(are_none(&rows))
 }
 
-/// Whether mds_detail has no row, whatever tables stand behind those that every schema has.
+/// Whether mds_detail has no row, whatever tables follow those that every schema has.
 fn is_undated<S: Alter>(conn: &mut Connection<S>) -> Result<bool, Error>
     requires { conn.old.in_transaction ≡ false }
     ensures answers { (layout : Layout) → Answers (HoldsTablesOf layout) (state S.Store conn.old) (state S.Store conn.new) result
@@ -203,7 +202,7 @@ fn are_none(rows: &[Row]) -> bool
     rows.is_empty()
 }
 
-/// Why a database with the tables of schema 1 isn't taken. It is a store of schema 1 (U2), or its mds_schema says something else
+/// Why a database with the tables of schema 1 is refused. It is a store of schema 1 (U2), or its mds_schema says something else
 /// (U3).
 fn refusal_of_first<S: Alter>(conn: Connection<S>) -> (StoreFault, Connection<S>)
     requires mode { conn.in_transaction ≡ false }
@@ -223,7 +222,7 @@ fn refusal_of_first<S: Alter>(conn: Connection<S>) -> (StoreFault, Connection<S>
     }
 }
 
-/// The same of one with the tables of schema 2.
+/// The same for a database with the tables of schema 2.
 fn refusal_of_second<S: Alter>(conn: Connection<S>) -> (StoreFault, Connection<S>)
     requires mode { conn.in_transaction ≡ false }
     requires settled { IsTrue (state S.Store conn).is_open → (state S.Store conn).now ≡ (state S.Store conn).committed }
@@ -242,7 +241,7 @@ fn refusal_of_second<S: Alter>(conn: Connection<S>) -> (StoreFault, Connection<S
     }
 }
 
-/// The same of one with the tables of schema 3.
+/// The same for a database with the tables of schema 3.
 fn refusal_of_third<S: Alter>(conn: Connection<S>) -> (StoreFault, Connection<S>)
     requires mode { conn.in_transaction ≡ false }
     requires settled { IsTrue (state S.Store conn).is_open → (state S.Store conn).now ≡ (state S.Store conn).committed }

@@ -17,8 +17,8 @@ Asks command.Substitute text (asked.Substitute job) = IsJobText text job
 Asks command.Holidays text (asked.Holidays days) = IsListOf (rows_of text) days.items
 Asks what text request = ⊥
 
--- Why it says none: it is no job, or no list of holidays from a row on. Memory is wanted only for a file that isn't empty, and
--- for a job only where it is UTF-8. An import takes none.
+-- Why it says none: it is no job, or no list of holidays from a row on. Memory is needed only for a file that isn't empty, and
+-- for a job only if it is UTF-8. An import needs none.
 abbrev pub AsksNothing : FileCommand → List ℕ → RequestFault → Type 0
 AsksNothing command.Substitute text fault.BadJob = (job : Job) → ¬ IsJobText text job
 AsksNothing command.Substitute text fault.Memory = IsUtf8 text × (0 < length text)

@@ -6,7 +6,7 @@ use Rattle.csv.specs.declared.reader.Reader.{Reader}
 use Rattle.csv.specs.declared.reader.Trim.TheVariants as trim
 use Rattle.csv.specs.declared.parser.State.TheVariants as st
 
--- it stands behind these rows of the text, and takes rows of any length
+-- the reader is after these rows of the text, and takes rows of any length
 pub record HasRead (text : List ℕ) (reader : Reader (Bor (List ℕ))) (rows : List (List (List ℕ))) : Type 0 where
   pub plain : reader_trim reader ≡ trim.None
   pub ready : Ready reader

@@ -16,13 +16,13 @@ keys_of value = option_map member_keys (as_object value)
 abbrev pub text_at : List ℕ → Data → Option (List ℕ)
 text_at key value = option_and_then as_str (get key value)
 
--- the whole number at a key, up to a greatest
+-- the whole number at a key, up to a greatest one
 abbrev pub number_at : List ℕ → ℕ → Data → Option ℕ
 number_at key most value =
     option_and_then (λ n. if nat_le n most then Some n else None)
     (option_and_then as_u64 (option_and_then as_number (get key value)))
 
--- the quality flag that a text of one character is
+-- the quality flag that a text of one character names
 abbrev pub flag_of : List ℕ → Option ℕ
 flag_of [] = None
 flag_of (flag ∷ []) = if list_any (λ known. flag == known) (codes "AEFNSV") then Some flag else None

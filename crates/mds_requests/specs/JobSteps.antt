@@ -1,4 +1,4 @@
--- The parts of a job that lie in no memory of their own, in two halves.
+-- The parts of a job that take no memory of their own, in two halves.
 use Rattle.std.specs.Prelude.{◌≡◌, Some}
 use Rattle.serde_json.specs.Data.{Data}
 use Rattle.mds_jobs.specs.declared.job.JobManner.{JobManner}

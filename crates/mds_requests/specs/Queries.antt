@@ -4,7 +4,7 @@ use Rattle.std.specs.List.{list_all, list_any}
 use Rattle.std.specs.Str.Lossy.{utf8_lossy}
 use Rattle.form_urlencoded.specs.Form.{decode, raw_pairs}
 
--- what the bytes of a name or a value stand for; what isn't UTF-8 is replaced
+-- the decoded bytes of a name or a value; what isn't UTF-8 is replaced
 abbrev pub decoded : List ℕ → List ℕ
 decoded bytes = utf8_lossy (decode bytes)
 
@@ -18,12 +18,12 @@ values_named name [] = []
 values_named name (pair ∷ pairs) =
     if bytes_eq pair.0 name then pair.1 ∷ values_named name pairs else values_named name pairs
 
--- the value, where there is one and no other
+-- the value, if there is just one
 abbrev pub only : List (List ℕ) → Option (List ℕ)
 only [] = None
 only (value ∷ []) = Some value
 only (value ∷ other ∷ values) = None
 
--- no pair has a name beside these
+-- every pair has one of these names
 abbrev pub has_only : List (List ℕ) → List (List ℕ × List ℕ) → Bool
 has_only names pairs = list_all (λ pair. list_any (λ name. bytes_eq pair.0 name) names) pairs

@@ -1,4 +1,4 @@
--- Why a file or a path asks for nothing. No public contract cites it.
+-- Why a file or a path has no request. No public contract cites it.
 use Rattle.std.specs.Prelude.{◌≡◌, ℕ, List}
 use Rattle.mds_messages.specs.declared.request.Request.{Request}
 use Rattle.mds_requests.specs.Asking.{AsksNothing}

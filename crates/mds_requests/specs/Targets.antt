@@ -1,6 +1,5 @@
--- What a target and a body ask for, by their route (profile). The parts of a path aren't decoded. Each name that a query
--- has stands in it once, save that a kind may be left out, and that an export has any number of suffixes; no other name
--- stands in it.
+-- What a target and a body ask for, by their route (profile). The parts of a path aren't decoded. A query has each of its
+-- names once, and no others. But a kind may be left out, and an export has any number of suffixes.
 use Rattle.std.specs.Prelude.{◌≡◌, ◌≢◌, ◌<◌, ◌⊎◌, ℕ, true, if◌then◌else◌, List, [], ◌∷◌, codes, bytes_eq, IsUtf8, length, Option, Some, None}
 use Rattle.mds_requests.specs.Holidays.{DiffersFirst, rows_of}
 use Rattle.mds_records.specs.declared.file.FileKind.{FileKind}
@@ -19,7 +18,7 @@ use Rattle.mds_requests.specs.Queries.{has_only, only, pairs_of, values_named}
 use Rattle.mds_requests.specs.declared.targets.TargetFault.{TargetFault}
 use Rattle.mds_requests.specs.declared.targets.TargetFault.TheVariants as fault
 
--- the kind of file that names mean: interval data where there is none
+-- the kind of file that names mean: interval data if there is no name
 abbrev pub kind_named : List (List ℕ) → Option FileKind
 kind_named [] = Some Nem12
 kind_named (name ∷ []) =
@@ -48,7 +47,7 @@ SaysRange pairs nmi suffix from to =
     (has_only range_names pairs ≡ true) × Says pairs (codes "nmi") nmi × Says pairs (codes "suffix") suffix
     × Says pairs (codes "from") from × Says pairs (codes "to") to
 
--- and those of an export, but for its suffixes
+-- and those of an export, without its suffixes
 abbrev pub SaysExport : List (List ℕ × List ℕ) → (nmi from to moment sender receiver : List ℕ) → Type 0
 SaysExport pairs nmi from to moment sender receiver =
     (has_only export_names pairs ≡ true) × Says pairs (codes "nmi") nmi × Says pairs (codes "from") from
@@ -94,26 +93,26 @@ AsksBy Gaps path pairs body request = AskForGapsBy pairs request
 AsksBy Finals path pairs body request = AskForFinalsBy pairs request
 AsksBy Exports path pairs body request = AskForExportBy pairs request
 
--- what takes memory: a query that has a pair, a job in UTF-8, and a list of holidays; an empty body takes none
+-- what takes memory: a query with a pair, a job in UTF-8, and a list of holidays; an empty body takes none
 abbrev pub TakesMemory : Route → List (List ℕ × List ℕ) → (body : List ℕ) → Type 0
 TakesMemory Substitutions pairs body = (pairs ≢ []) ⊎ (IsUtf8 body × (0 < length body))
 TakesMemory Holidays pairs body = (pairs ≢ []) ⊎ (0 < length body)
 TakesMemory route pairs body = pairs ≢ []
 
--- Why there is no request that is asked for. Memory is wanting only where some is taken.
+-- Why nothing is asked for. Memory can run out only if some is taken.
 abbrev pub AsksNothing : (takes : Type 0) → (Request → Type 0) → TargetFault → Type 0
 AsksNothing takes AsksFor fault.Memory = takes
 AsksNothing takes AsksFor fault.Bad = (request : Request) → ¬ AsksFor request
 AsksNothing takes AsksFor (fault.BadHolidays row) = ⊥
 
--- A list of holidays differs from a row on, where there is no query.
+-- A list of holidays differs from some row on, and there is no query.
 abbrev pub ListsNothing : List (List ℕ × List ℕ) → (body : List ℕ) → TargetFault → Type 0
 ListsNothing pairs body fault.Memory = TakesMemory Holidays pairs body
 ListsNothing pairs body fault.Bad = pairs ≢ []
 ListsNothing pairs body (fault.BadHolidays row) = (pairs ≡ []) × DiffersFirst (rows_of body) row
 
--- Of an export that a query says one text isn't what it is to be. That is said of texts and not of requests, since a sender
--- or a receiver that isn't printable is ruled out by their types alone.
+-- One text of an export in a query is bad. This is said of texts and not of requests, since the types alone rule out a
+-- sender or a receiver that isn't printable.
 abbrev pub ExportsNothing : List (List ℕ × List ℕ) → TargetFault → Type 0
 ExportsNothing pairs fault.Memory = pairs ≢ []
 ExportsNothing pairs fault.Bad =

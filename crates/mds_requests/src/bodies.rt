@@ -32,7 +32,7 @@ pub(crate) fn import_asked(
 }
 
 /// Whether a target asks for an import of interval data, whatever the body is. Such a body may be read as it comes. It fails only
-/// where memory is refused, and never without a query.
+/// if memory is refused, and never without a query.
 pub fn imports_interval_data(alloc: Global, route: Route, target: &[u8]) -> Result<bool, AllocError>
     ensures ok { IfOk result (λ is. IsTrue is ↔ ImportsIntervalData route target.now) }
     ensures err { OnErr result (pairs_of (query_of target.now) ≢ []) }
@@ -45,7 +45,7 @@ pub fn imports_interval_data(alloc: Global, route: Route, target: &[u8]) -> Resu
     Ok(matches!(kind, Some(FileKind::Nem12)))
 }
 
-/// The kind of file whose import a query asks for. `None` where it asks for none.
+/// The kind of file whose import a query asks for. `None` if it asks for no import.
 fn kind_asked(alloc: Global, query: &Query<'_>) -> Result<Option<FileKind>, AllocError>
     ensures ok { IfOk result (λ kind. kind ≡ kind_asked (texts_of query.now)) }
     ensures err { OnErr result (texts_of query.now ≢ []) }
@@ -57,7 +57,7 @@ fn kind_asked(alloc: Global, query: &Query<'_>) -> Result<Option<FileKind>, Allo
     Ok(kind_named(&kinds))
 }
 
-/// The kind of file that names mean: interval data where there is none.
+/// The kind of file that names mean: interval data if there is no name.
 fn kind_named(names: &[&[u8]]) -> Option<FileKind>
     ensures { result ≡ kind_named (map (λ name. name.now) names.now) }
 {
@@ -68,7 +68,7 @@ fn kind_named(names: &[&[u8]]) -> Option<FileKind>
     }
 }
 
-/// The kind of file of a name.
+/// The kind of file with this name.
 fn kind_of(name: &[u8]) -> Option<FileKind>
     ensures { result ≡ kind_named (name.now ∷ []) }
 {

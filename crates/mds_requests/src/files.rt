@@ -9,10 +9,10 @@ use mds_messages::Request;
 use mds_records::FileKind;
 use std::alloc::{AllocError, Global};
 
-/// A command that takes a file to a store.
+/// A command that passes a file to a store.
 #[derive(Clone, Copy)]
 pub enum FileCommand {
-    /// The file is one of a kind, which is to be imported.
+    /// The file is one of this kind, and is to be imported.
     Import(FileKind),
     /// The file is a substitution job in JSON.
     Substitute,
@@ -20,12 +20,12 @@ pub enum FileCommand {
     Holidays,
 }
 
-/// Why a file asks for nothing.
+/// Why a file has no request.
 #[derive(Clone, Copy)]
 pub enum RequestFault {
-    /// It says no substitution job.
+    /// It is no substitution job.
     BadJob,
-    /// It is no list of holidays: the row of this number, from 1, is the first that differs (H1).
+    /// It is no list of holidays: the row with this number, from 1, is the first that differs (H1).
     BadHolidays(u64),
     /// There was no memory.
     Memory,
@@ -54,8 +54,8 @@ impl From<HolidaysFault> for RequestFault {
     }
 }
 
-/// The request that a file says which comes with a command. The bytes of an import may be any. It wants memory only for a job or
-/// a list of holidays that isn't empty, and for a job only where it is UTF-8.
+/// The request in a file that comes with a command. The bytes of an import may be any. Memory is needed only for a job in UTF-8,
+/// or for a list of holidays, and never for an empty file.
 pub fn request_in(
     alloc: Global,
     command: FileCommand,

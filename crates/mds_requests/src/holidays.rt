@@ -12,7 +12,7 @@ use std::alloc::{AllocFailed, Global};
 /// Why a list of public holidays isn't read.
 #[derive(Clone, Copy)]
 pub enum HolidaysFault {
-    /// The row of this number, from 1, is the first that differs from a list of holidays (H1).
+    /// The row with this number, from 1, is the first that differs from a list of holidays (H1).
     BadHolidays(u64),
     /// There was no memory.
     Memory,
@@ -28,8 +28,8 @@ impl<T: Drop> From<AllocFailed<T>> for HolidaysFault {
     }
 }
 
-/// The days of a list of public holidays, in its order (profile). The list is a CSV text. Its head row has the one field
-/// `date`, and each other row the one field CCYYMMDD, a day. A day may stand twice. Row 1 differs where there is no row (H1).
+/// The days of a list of public holidays, in its order (profile). The list is a CSV text. Its head row has the single field
+/// `date`, and each other row the single field CCYYMMDD, a day. A day may come twice. If there is no row, row 1 differs (H1).
 /// An empty text takes no memory.
 pub fn read_holidays(alloc: Global, text: &[u8]) -> Result<Vec<Day>, HolidaysFault>
     ensures days { IfOk result (λ days. IsListOf (rows_of text.now) days.items) }
@@ -81,7 +81,7 @@ fn reader_of(alloc: Global, text: &[u8]) -> Reader<&[u8]>
         .from_reader(alloc, text)
 }
 
-/// The next row of a text, and whether there was one. It fails where memory was refused.
+/// Reads the next row of a text. Returns whether there was one. It fails if memory was refused.
 fn next_row(reader: &mut Reader<&[u8]>, row: &mut ByteRecord) -> Result<bool, HolidaysFault>
     ensures reads { (text : List ℕ) (rows : List (List (List ℕ))) → HasRead text reader.old rows →
         IfOk result (λ found. MatchBool found
@@ -102,14 +102,14 @@ fn is_head(row: &ByteRecord) -> bool
     only_field(row) == Some(b"date".as_slice())
 }
 
-/// The day that a row says with its one field.
+/// The day in the only field of a row.
 fn day_in(row: &ByteRecord) -> Option<Day>
     ensures { result ≡ day_in (fields_of row.now) }
 {
     only_field(row).and_then(Day::read)
 }
 
-/// The one field of a row.
+/// The only field of a row.
 fn only_field(row: &ByteRecord) -> Option<&[u8]>
     ensures { option_map (λ field. field.now) result ≡ only_field (fields_of row.now) }
 {

@@ -18,7 +18,7 @@ use std::alloc::{AllocError, Global};
 use std::str;
 
 /// Reads a substitution job from a JSON text (profile): an object with exactly the keys of a job.
-/// `None` where the text is no such object. It fails only where memory is refused: never where the text is empty or isn't UTF-8.
+/// `None` if the text is no such object. It fails only if memory is refused: never if the text is empty or isn't UTF-8.
 pub fn job_from_json(alloc: Global, text: &[u8]) -> Result<Option<Job>, AllocError>
     ensures found { IfOk result (λ found. MatchOption found
         ((job : Job) → ¬ IsJobText text.now job)
@@ -40,7 +40,7 @@ pub fn job_from_json(alloc: Global, text: &[u8]) -> Result<Option<Job>, AllocErr
     }
 }
 
-/// The job that a value is.
+/// The job in a value.
 fn job_in(alloc: Global, value: &Value) -> Result<Option<Job>, AllocError>
     ensures { IfOk result (λ found. MatchOption found
         ((job : Job) → ¬ IsJobObject (view value.now) job)
@@ -64,7 +64,7 @@ fn job_in(alloc: Global, value: &Value) -> Result<Option<Job>, AllocError>
     Ok(Some(Job::new(id, place, manner, reason)))
 }
 
-/// Which intervals the job of a value fills.
+/// Which intervals the job fills.
 fn place_in(value: &Value) -> Option<JobPlace>
     ensures some { IfSome result (λ place. IsPlace (view value.now) place) }
     ensures none { IfNone result ((job : Job) → ¬ IsJobObject (view value.now) job) }
@@ -80,7 +80,7 @@ fn place_in(value: &Value) -> Option<JobPlace>
     })
 }
 
-/// How it fills them.
+/// How the job fills them.
 fn manner_in(value: &Value) -> Option<JobManner>
     ensures some { IfSome result (λ manner. IsManner (view value.now) manner) }
     ensures none { IfNone result ((job : Job) → ¬ IsJobObject (view value.now) job) }

@@ -15,7 +15,7 @@ pub(crate) fn text_at<'a>(value: &'a Value, key: &str) -> Option<&'a str>
     value.get(key).and_then(Value::as_str)
 }
 
-/// The whole number at a key, up to a greatest.
+/// The whole number at a key, up to a greatest one.
 pub(crate) fn number_at(value: &Value, key: &str, most: u64) -> Option<u64>
     ensures value { result ≡ number_at key.now most (view value.now) }
     ensures small { IfSome result (λ number. number ≤ most) }
@@ -24,7 +24,7 @@ pub(crate) fn number_at(value: &Value, key: &str, most: u64) -> Option<u64>
     if number <= most { Some(number) } else { None }
 }
 
-/// The quality flag that a text of one character is.
+/// The quality flag that a text of one character names.
 pub(crate) fn flag_of(text: &str) -> Option<u8>
     ensures { result ≡ flag_of text.now }
 {

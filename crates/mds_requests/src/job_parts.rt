@@ -94,7 +94,7 @@ pub(crate) fn flag_in(value: &Value) -> Option<u8>
 /// Its reason.
 pub(crate) fn reason_in(alloc: Global, value: &Value) -> Result<Option<Reason>, AllocError>
     ensures value { IfOk result (λ reason. reason ≡ reason_in (view value.now)) }
-    // Memory is wanted only where both texts are there.
+    // Memory is needed only if both texts are there.
     ensures only { OnErr result (IsSome (text_at (codes "code") (view value.now)) × IsSome (text_at (codes "text") (view value.now))) }
 {
     let Some(code) = text_at(value, "code") else {

@@ -1,4 +1,10 @@
-//! What is asked of the machine: by a file that comes with a command, and over HTTP by a target and its body.
+//! Reads requests to the machine: from a file that comes with a command, or from the target and the body of an HTTP request.
+//!
+//! It decides which query, path or body asks for which request (`targets.rt`). It decides which JSON text is a job (`job.rt`), and which
+//! CSV text is a list of holidays (`holidays.rt`, H1).
+//! Callers: `mdstore` for files, and `mds_http` for targets. `mds` re-exports `read_holidays` and `mds_full` `job_from_json`.
+//! Must not change: the names in queries, the keys of a job and the form of a list of holidays, which `docs/FORMATS.md` and
+//! `docs/openapi.yaml` describe. Contracts say what takes memory, and the service relies on it for its 503.
 #![tactic(auto)]
 
 mod bodies;

@@ -33,7 +33,7 @@ impl<'a> Query<'a> {
         self.pairs.is_empty()
     }
 
-    /// Whether no pair has a name beside these.
+    /// Whether every pair has one of these names.
     pub(crate) fn has_only(&self, names: &[&str]) -> bool
         ensures { result ≡ has_only (map (λ name. name.now) names.now) (texts_of self.now) }
     {
@@ -45,7 +45,7 @@ impl<'a> Query<'a> {
         true
     }
 
-    /// The value of a name that it has once.
+    /// The value of a name that occurs once.
     pub(crate) fn value(&self, name: &str) -> Option<&[u8]>
         ensures { option_map (λ value. value.now) result ≡ only (values_named name.now (texts_of self.now)) }
     {

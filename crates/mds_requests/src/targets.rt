@@ -15,12 +15,12 @@ use mds_messages::Request;
 use mds_wire::{Route, path_of, query_of};
 use std::alloc::{AllocError, Global};
 
-/// Why a target and a body ask for nothing.
+/// Why a target and a body have no request.
 #[derive(Clone, Copy)]
 pub enum TargetFault {
-    /// A part of the path, the query or the JSON body isn't what it is to be.
+    /// A part of the path, the query or the JSON body is bad.
     Bad,
-    /// The body is no list of holidays: the row of this number, from 1, is the first that differs (H1).
+    /// The body is no list of holidays: the row with this number, from 1, is the first that differs (H1).
     BadHolidays(u64),
     /// There was no memory.
     Memory,
@@ -60,8 +60,8 @@ impl From<RequestFault> for TargetFault {
     }
 }
 
-/// The request that a target and a body ask for, by the route of the target's path. It wants memory only for a query that has a
-/// pair, a job in UTF-8 and a list of holidays. An empty body takes none.
+/// The request that a target and a body ask for, by the route of the target's path. Memory is needed only for a query with a
+/// pair, a job in UTF-8 and a list of holidays. An empty body needs none.
 pub fn request_at(
     alloc: Global,
     route: Route,

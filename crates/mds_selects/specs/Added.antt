@@ -7,7 +7,7 @@ use Rattle.mds_world.specs.Facts.Fact.{EventIs}
 use Rattle.mds_world.specs.Lists.{Member}
 use Rattle.mds_tables.specs.RowFacts.{event_fact}
 
--- the row is the event
+-- the row says the event
 abbrev pub SaysEvent : Row → EventValue → Type 0
 SaysEvent row event = event_fact (Null ∷ row) ≡ EventIs event
 

@@ -1,4 +1,4 @@
--- Rows that the store writes: the cells of terms, each of which is lawful.
+-- Rows that the store writes: the cells of lawful terms.
 use Rattle.std.specs.Prelude.{◌≡◌, ◌≤◌, ◌<◌, ◌+◌, ◌*◌, ◌^◌, ℕ, IfSome, IsTrue}
 use Rattle.sqlite_value.specs.Order.{Row, column}
 use Rattle.sqlite.specs.declared.types.Value.TheVariants.{Text}
@@ -12,15 +12,15 @@ use Rattle.mds_world.specs.declared.facts.Head.{Head}
 use Rattle.mds_world.specs.declared.facts.Key.{Key}
 use Rattle.mds_tables.specs.Cells.{event_cells, head_cells, version_cells}
 
--- the number of a day that there is
+-- the number of a possible day
 abbrev pub IsDay : ℕ → Type 0
 IsDay day = day ≤ last_day
 
--- the seconds of a moment that there is
+-- the seconds of a possible moment
 abbrev pub IsMoment : ℕ → Type 0
 IsMoment moment = moment < (last_day + 1) * day_seconds
 
--- the two names are names
+-- the two names are well formed
 pub record IsStream (s : Stream) : Type 0 where
   pub nmi : IsTrue (is_name nmi_length s.nmi)
   pub suffix : IsTrue (is_name suffix_length s.suffix)

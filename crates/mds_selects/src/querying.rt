@@ -1,5 +1,4 @@
-//! What is asked of a store, found by queries. A store that can't answer is unavailable (U1). So is one that holds a row that it
-//! didn't write.
+//! Queries of a store. A store that can't answer is unavailable (U1), and so is one with a row that it didn't write.
 
 ghost use Rattle.std.specs.Prelude.{◌≡◌, ◌≢◌, ◌⊎◌, ◌<◌, ◌^◌, ◌↔◌, ℕ, [], ◌∷◌, false, length as list_length, All, IfErr, IfOk, IsTrue, OnErr, OnOk, Option, Some};
 ghost use Rattle.std.specs.Bool.{MatchBool};
@@ -33,8 +32,8 @@ use sqlite::{Alter, Connection, Error, Row};
 use std::alloc::Global;
 use std::collections::BTreeSet;
 
-/// Whether mds_schema says this number and nothing else, whatever tables stand behind those that every schema has. An error is
-/// the library's: the store failed with a cause, or the limit of steps was reached.
+/// Whether mds_schema says this number and nothing else, whatever tables follow those that every schema has. An error is the
+/// library's: the store failed with a cause, or the limit of steps was reached.
 pub fn is_version<S: Alter>(conn: &mut Connection<S>, number: i64) -> Result<bool, Error>
     requires { conn.old.in_transaction ≡ false }
     ensures answers { (layout : Layout) → Answers (HoldsTablesOf layout) (state S.Store conn.old) (state S.Store conn.new) result
@@ -47,7 +46,7 @@ pub fn is_version<S: Alter>(conn: &mut Connection<S>, number: i64) -> Result<boo
     Ok(is_only(&rows, number))
 }
 
-/// Whether there is one row, and it says this number.
+/// Whether there is just one row, and it says this number.
 fn is_only(rows: &[Row], number: i64) -> bool
     ensures { MatchBool result (rows.now ≡ (Int number ∷ []) ∷ []) (rows.now ≢ (Int number ∷ []) ∷ []) }
 {
@@ -57,14 +56,14 @@ fn is_only(rows: &[Row], number: i64) -> bool
     }
 }
 
-/// Whether a row is this number alone.
+/// Whether a row is just this number.
 fn is_number(row: &Row, number: i64) -> bool
     ensures { MatchBool result (row.now ≡ Int number ∷ []) (row.now ≢ Int number ∷ []) }
 {
     row.column_count() == 1 && int_at(row, 0) == Some(number)
 }
 
-/// The versions of rows of schema 1, each with its interval. The rows say no length: this one is that of their intervals.
+/// The versions of rows of schema 1, each with its interval. The rows say no length: the caller passes that of their intervals.
 pub fn all_versions(
     alloc: Global,
     length: Length,
@@ -80,7 +79,7 @@ pub fn all_versions(
     Ok(versions)
 }
 
-/// The version of a row and of a length, with its interval.
+/// The version that a row says, given its length, with its interval.
 fn version_at(alloc: Global, length: Length, row: &Row) -> Result<(u16, Version), Unavailable>
     ensures ok { IfOk result (SaysVersion length row.now) }
     ensures err { OnErr result ((key : KeyValue) (reading : ReadingValue) → IsRowOfVersion row.now key reading
@@ -142,7 +141,7 @@ fn add_event(alloc: Global, found: &mut BTreeSet<Event>, row: &Row) -> Result<()
     put(found, event)
 }
 
-/// Puts one more into a set.
+/// Puts one more item into a set.
 pub fn put<T: Ord + Drop>(found: &mut BTreeSet<T>, item: T) -> Result<(), Unavailable>
     ensures { IsAntisymmetric T.cmp → OnOk result ((q : T) → Member q found.new.keys ↔ (Member q found.old.keys ⊎ (q ≡ item))) }
 {
@@ -205,7 +204,7 @@ fn is_small_moment(moment: Option<Moment>)
     ensures { (n : ℕ) → moment ≡ Some n → n < 2 ^ 63 }
 {
     if let Some(moment) = moment {
-        // For the proof: the seconds of a moment are below those of all days there are.
+        // For the proof: the seconds of a moment are below those of all possible days.
         let _ = moment.seconds();
     }
 }

@@ -1,4 +1,4 @@
-//! The queries, and the rows that they answer, whatever tables stand behind those that every schema has.
+//! The queries, and the rows that they return, whatever tables follow those that every schema has.
 
 ghost use Rattle.std.specs.Prelude.{◌≡◌, [], ◌∷◌, IfErr};
 ghost use Rattle.sqlite.specs.Held.{state};

@@ -1,4 +1,4 @@
-//! Rows that queries answer, as terms. `None` where a row isn't one that the store writes.
+//! Rows that queries return, as terms. `None` if the store doesn't write such a row.
 
 ghost use Rattle.std.specs.Prelude.{◌≡◌, ◌≢◌, ◌<◌, ◌≤◌, ◌+◌, ◌^◌, ◌∷◌, ℕ, ℤ, List, Option, length as list_length, pos, unsigned_abs, Some, IfNone, IfOk, IfSome, IsTrue, OnErr};
 ghost use Rattle.std.specs.Str.{is_utf8};
@@ -120,7 +120,7 @@ pub fn unit_at(row: &Row, at: usize) -> Option<Unit>
     Unit::read(text_at(row, at)?)
 }
 
-/// The head that a row of mds_head is in schemas 1 to 3. These say no update: it stands as that of 0 seconds.
+/// The head that a row of mds_head says in schemas 1 to 3. These say no update, so it is 0 seconds.
 pub fn head_in(row: &Row) -> Option<Head>
     ensures some { IfSome result (λ head. head_fact (Null ∷ row.now) ≡ HeadIs head) }
     ensures none { IfNone result ((head : HeadValue) → ¬ IsRowOfHead row.now head) }
@@ -145,7 +145,7 @@ fn quality_at(row: &Row, at: usize) -> Option<Quality>
     Quality::read(text_at(row, at)?)
 }
 
-/// The code in a column, which is -1 where there is none. `None` where the number is neither.
+/// The code in a column, which is -1 if absent. `None` if the number is neither.
 fn code_at(row: &Row, at: usize) -> Option<Option<u16>>
     ensures some { IfSome result (λ code. optional_at row.now at ≡ code) }
     ensures none { IfNone result ((code : Option ℕ) → IfSome code (λ n. n < 2 ^ 16) → column row.now at ≢ optional_cell code) }
@@ -156,7 +156,7 @@ fn code_at(row: &Row, at: usize) -> Option<Option<u16>>
     }
 }
 
-/// The text in a column, where it is UTF-8.
+/// The text in a column, if it is UTF-8.
 pub fn str_at<'a>(row: &'a Row, at: usize) -> Option<&'a str>
     ensures some { IfSome result (λ text. column row.now at ≡ Text text.now) }
     ensures none { IfNone result ((text : List ℕ) → IsTrue (is_utf8 text) → column row.now at ≢ Text text) }
@@ -167,7 +167,7 @@ pub fn str_at<'a>(row: &'a Row, at: usize) -> Option<&'a str>
     }
 }
 
-/// The value of a reading. It has none where its quality is N, whatever the amount.
+/// The value of a reading: none if its quality is N, whatever the amount.
 fn value_in(quality: Quality, amount: i64) -> Option<Option<Quantity>>
     ensures some { IfSome result (λ value. value ≡ amount_in quality amount) }
     ensures none { IfNone result ((quality.flag ≢ null) × (limit ≤ unsigned_abs amount)) }
@@ -187,7 +187,7 @@ struct ReadingRef<'a> {
     value: Option<Quantity>,
 }
 
-/// What the columns of a version from its quality on say.
+/// What the columns of a version say, from its quality on.
 fn reading_ref_in<'a>(row: &'a Row) -> Option<ReadingRef<'a>>
     ensures some { IfSome result (λ it. shown_reading row.now
         ≡ record { mark = record { quality = it.quality; reason = record { code = it.code; text = it.note.now } }; value = it.value }) }
@@ -202,7 +202,7 @@ fn reading_ref_in<'a>(row: &'a Row) -> Option<ReadingRef<'a>>
     })
 }
 
-/// The reading that the columns of a version from its quality on are, where they read. It takes memory only for a note.
+/// The reading that the columns of a version say, from its quality on, if they read. It takes memory only for a note.
 fn reading_read(alloc: Global, row: &Row) -> Result<Option<Reading>, AllocError>
     ensures some { IfOk result (λ read. IfSome read (λ reading. shown_reading row.now ≡ reading)) }
     ensures none { IfOk result (λ read. IfNone read ((key : KeyValue) (reading : ReadingValue) → ¬ IsRowOfVersion row.now key reading)) }
@@ -223,7 +223,7 @@ fn reading_read(alloc: Global, row: &Row) -> Result<Option<Reading>, AllocError>
     Ok(Reading::new(mark, it.value))
 }
 
-/// The version that a row is, of a length that it doesn't say. It takes memory only for a note.
+/// The version that a row says, given its length, which the row doesn't say. It takes memory only for a note.
 pub(crate) fn version_in(
     alloc: Global,
     length: Length,
@@ -246,7 +246,7 @@ fn interval_at(row: &Row, at: usize) -> Option<u16>
     u16::try_from(int_at(row, at)?).ok()
 }
 
-/// Where a version of a length stands.
+/// The key of a version, given its length.
 fn key_in(length: Length, row: &Row) -> Option<Key>
     ensures some { IfSome result (λ key. key ≡ shown_key length row.now) }
     ensures none { IfNone result ((key : KeyValue) (reading : ReadingValue) → ¬ IsRowOfVersion row.now key reading) }
@@ -268,7 +268,7 @@ fn printable_at<'a>(row: &'a Row, at: usize) -> Option<PrintableText<'a>>
     PrintableText::read(text_at(row, at)?)
 }
 
-/// The transaction code in a column, whose text is empty where there is none. `None` where it is neither.
+/// The transaction code in a column, whose text is empty if the code is absent. `None` if it is neither.
 fn trans_at(row: &Row, at: usize) -> Option<Option<TransCode>>
     ensures some { IfSome result (λ code. letter_in (bytes_in row.now at) ≡ code) }
     ensures none { IfNone result ((code : Option ℕ) → IsTrue (is_trans code) → column row.now at ≢ Text (letter_text code)) }
@@ -280,7 +280,7 @@ fn trans_at(row: &Row, at: usize) -> Option<Option<TransCode>>
     Some(Some(TransCode::read(text)?))
 }
 
-/// The moment in a column, which is -1 where there is none. `None` where the number is neither.
+/// The moment in a column, which is -1 if absent. `None` if the number is neither.
 fn read_at(row: &Row, at: usize) -> Option<Option<Moment>>
     ensures some { IfSome result (λ moment. optional_at row.now at ≡ moment) }
     ensures none { IfNone result ((moment : Option ℕ) → IfSome moment IsMoment → column row.now at ≢ optional_cell moment) }
@@ -291,7 +291,7 @@ fn read_at(row: &Row, at: usize) -> Option<Option<Moment>>
     }
 }
 
-/// The event that a row is, borrowed from it.
+/// The event that a row says, borrowed from it.
 fn event_ref_in<'a>(row: &'a Row) -> Option<EventRef<'a>>
     ensures some { IfSome result (λ event. event_fact (Null ∷ row.now) ≡ EventIs (event_in event)) }
     ensures none { IfNone result ((event : EventValue) → ¬ IsRowOfEvent row.now event) }
@@ -307,7 +307,7 @@ fn event_ref_in<'a>(row: &'a Row) -> Option<EventRef<'a>>
     })
 }
 
-/// The event that a row is. It takes memory only for its texts.
+/// The event that a row says. It takes memory only for its texts.
 pub(crate) fn event_at(alloc: Global, row: &Row) -> Result<Event, Unavailable>
     ensures ok { IfOk result (λ event. event_fact (Null ∷ row.now) ≡ EventIs event) }
     ensures err { OnErr result ((event : EventValue) → IsRowOfEvent row.now event
@@ -316,7 +316,7 @@ pub(crate) fn event_at(alloc: Global, row: &Row) -> Result<Event, Unavailable>
     told(event_read(alloc, row)?)
 }
 
-/// The event that a row is, where it reads.
+/// The event that a row says, if it reads.
 fn event_read(alloc: Global, row: &Row) -> Result<Option<Event>, AllocError>
     ensures some { IfOk result (λ read. IfSome read (λ event. event_fact (Null ∷ row.now) ≡ EventIs event)) }
     ensures none { IfOk result (λ read. IfNone read ((event : EventValue) → ¬ IsRowOfEvent row.now event)) }

@@ -1,4 +1,4 @@
--- What a request is answered that ends before its answer is made (profile).
+-- The answer to a request that ends before its answer is made (profile).
 use Rattle.std.specs.Prelude.{Result, Ok, Err}
 use Rattle.mds_keeper.specs.declared.day_merge.Stop.{Stop}
 use Rattle.mds_keeper.specs.declared.day_merge.Stop.TheVariants as stops
@@ -19,7 +19,7 @@ abbrev pub of_fault : TakeFault → Halt
 of_fault (faults.File fault) = halts.File fault
 of_fault faults.Memory = halts.Unavailable
 
--- what a halt is answered
+-- how a halt is answered
 abbrev pub answer_of_halt : Halt → Answer
 answer_of_halt (halts.File fault) = told.File fault
 answer_of_halt (halts.Refused refusal) = told.Refused refusal

@@ -12,6 +12,6 @@ pub record IsOfDates (dates : List ℕ) (stretch : Stretch) : Type 0 where
   pub each : (day : ℕ) → stretch.first ≤ day → day ≤ stretch.last → Member day dates
   pub few : stretch.last < stretch.first + 64
 
--- the World has neither a head nor a version of the days from a first one on that are before an end
+-- the World has neither a head nor a version of the days from a first one to just before an end
 abbrev pub AreUnknown : World → Stream → ℕ → ℕ → Type 0
 AreUnknown w stream first end = (day : ℕ) → first ≤ day → day < end → (f : Fact) → IsOn stream day f → f ∈ w → ⊥

@@ -8,11 +8,11 @@ use Rattle.mds_world.specs.declared.facts.Detail.{Detail}
 use Rattle.mds_world.specs.Lists.{Member}
 use Rattle.mds_service.specs.declared.details.SharedDetails.{SharedDetails}
 
--- what other days may share of the details of a day
+-- what the details of a day may share with other days
 abbrev pub shared_of : Detail → SharedDetails
 shared_of detail = record { stream = detail.stream; moment = detail.moment; details = detail.details }
 
--- it is one of the days, where there are some
+-- it is one of the days, if there are some
 abbrev pub IsAmong : ℕ → Option (Vec ℕ Global) → Type 0
 IsAmong day None = ⊥
 IsAmong day (Some days) = Member day days.items

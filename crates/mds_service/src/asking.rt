@@ -1,4 +1,4 @@
-//! A keeper as the gathering of a file's days sees it.
+//! `DayKeeper`: the part of a keeper that gathering a file's days needs.
 
 ghost use Rattle.std.specs.Prelude.{◌≡◌, ℕ, IfOk};
 ghost use Rattle.mds_names.specs.declared.stream.Stream.{Stream as StreamValue};
@@ -9,14 +9,17 @@ ghost use Rattle.mds_keeper.specs.Queries.{AreDaysOf};
 use mds_keeper::{DayBook, Keeper, Unavailable};
 use mds_terms::{Day, Stream};
 
-/// A keeper that is asked for days, and for nothing else. The relation `asks` says for which days it was asked. No World can say
-/// so, as the queries of a keeper change nothing that is kept.
+/// A keeper with just the two calls that gathering a file's days needs, and a ghost relation that records each query.
+///
+/// What gathers days is written over this trait, and proved for every relation `asks`. So it is proved, too, for a relation that
+/// lists the queries. Without the trait a contract couldn't say which days were asked for: a query changes nothing that is kept,
+/// so no World shows it.
 pub(crate) trait DayKeeper {
-    /// What is kept, as of any keeper.
+    /// What is kept, as for any keeper.
     ghost kept: { Self → Kept };
 
-    /// A query of the days of a stream, from a first to a last one, may lead from the one state to the other. Several are
-    /// `AsksOnly`.
+    /// `asks old stream first last new`: a query for the days of a stream in a range may lead from the state `old` to `new`.
+    /// `AsksOnly` says so of several queries.
     ghost asks: { Self → StreamValue → ℕ → ℕ → Self → Type 0 };
 
     /// All that is kept of a day.
@@ -31,7 +34,8 @@ pub(crate) trait DayKeeper {
         ensures asked { asks self.old stream first last self.new };
 }
 
-/// Any keeper is one. What is gathered of it holds whatever tells its queries.
+/// Any `Keeper` is a `DayKeeper`, by a relation that records nothing. What is proved over a `DayKeeper` holds for it as for any
+/// other relation.
 impl<K: Keeper> DayKeeper for K {
     ghost kept = { K.kept };
 

@@ -22,7 +22,7 @@ struct SharedDetails {
     details: Details,
 }
 
-/// Those of the details that aren't kept yet, each once. Days of one stream that have equal details are asked for at once.
+/// The details among these that aren't kept yet, each once. Days of one stream with equal details are asked for at once.
 pub(crate) fn new_details<K: Keeper>(
     alloc: Global,
     keeper: &mut K,
@@ -34,12 +34,12 @@ pub(crate) fn new_details<K: Keeper>(
         (λ w. IfOk result (λ new. (detail : Detail) → Member detail (details_of new.items)
         ↔ (Member detail (details_of details.items) × (DetailIs detail ∈ w → ⊥)))) }
 {
-    // A file may state details before each day, and its streams in turn.
+    // A file may state details before each day, and go back and forth between its streams.
     let together = put_together(alloc, details)?;
     ask_all(alloc, keeper, together)
 }
 
-/// The days that share details, in the order of these.
+/// The days that share details, ordered by these details.
 fn put_together(
     alloc: Global,
     details: Vec<DetailDays>,
@@ -54,7 +54,7 @@ fn put_together(
     Ok(together)
 }
 
-/// Puts days beside those before them that have the same details.
+/// Adds days to the earlier ones that have the same details.
 fn put_group(
     together: &mut BTreeMap<SharedDetails, Vec<Day>>,
     group: DetailDays,
@@ -81,7 +81,7 @@ fn put_group(
     Ok(())
 }
 
-/// Asks which of the days that share details don't have them yet. Each of these is given once.
+/// Asks which of the days that share details don't have them yet. Each of these is returned once.
 fn ask_all<K: Keeper>(
     alloc: Global,
     keeper: &mut K,

@@ -1,4 +1,4 @@
-//! Why a request ends before its answer is made. A refusal is only passed on: each `From` makes it of the error of a call.
+//! Why a request ends before its answer is made. A refusal is only passed on: each `From` converts the error of a call.
 
 ghost use Rattle.std.specs.Prelude.{◌≡◌};
 ghost use Rattle.mds_service.specs.Halts.{answer_of};

@@ -1,4 +1,4 @@
-//! The request to take in a file.
+//! The request to import a file.
 
 ghost use Rattle.std.specs.Prelude.{ℕ, List};
 ghost use Rattle.mds_nem12.specs.Reader.{HasRead};
@@ -21,15 +21,15 @@ use mds_records::FileKind;
 use mds_statements::Delivery;
 use std::alloc::Global;
 
-/// Takes in what a file of a kind states: all of it by one commit, or nothing.
+/// Imports what a file of a kind states: all of it by one commit, or nothing.
 pub(crate) fn import<K: Keeper>(
     alloc: Global,
     keeper: &mut K,
     kind: FileKind,
     text: &[u8],
 ) -> Result<Answer, Halt>
-    // It is a step of the machine. A crash leaves what it left before, or the World after it. Where the answer is
-    // Unavailable, it may leave the World that another answer would have made.
+    // It is a step of the machine. A crash leaves what it left before, or the World after it. If the answer is Unavailable, it may
+    // leave the World that another answer would have made.
     ensures { GoesBy (K.kept keeper.old) (K.kept keeper.new) (λ w. ImportStep w kind text.now) (answer_of result) }
 {
     match kind {
@@ -38,7 +38,7 @@ pub(crate) fn import<K: Keeper>(
     }
 }
 
-/// Takes in the days, details and events that a NEM12 file states: all of them by one commit, or none.
+/// Imports the days, details and events that a NEM12 file states: all of them by one commit, or none.
 fn import_nem12<K: Keeper>(alloc: Global, keeper: &mut K, text: &[u8]) -> Result<Answer, Halt>
     ensures { GoesBy (K.kept keeper.old) (K.kept keeper.new) (λ w. ImportStep w kinds.Nem12 text.now) (answer_of result) }
 {
@@ -46,7 +46,7 @@ fn import_nem12<K: Keeper>(alloc: Global, keeper: &mut K, text: &[u8]) -> Result
     taken_in(alloc, keeper, delivery)
 }
 
-/// Ends a NEM12 file that a reader was fed, and takes in what it states: all of it by one commit, or nothing. It is the step of an
+/// Ends a NEM12 file that a reader was fed, and imports what it states: all of it by one commit, or nothing. It is the step of an
 /// import of the text, in whatever pieces it came.
 pub fn import_fed<K: Keeper>(alloc: Global, keeper: &mut K, reader: Reader) -> Answer
     ensures { (text : List ℕ) → HasRead text reader
@@ -55,7 +55,7 @@ pub fn import_fed<K: Keeper>(alloc: Global, keeper: &mut K, reader: Reader) -> A
     answer_of(finished(alloc, keeper, reader))
 }
 
-/// Ends a NEM12 file that a reader was fed, and takes in what it states.
+/// Ends a NEM12 file that a reader was fed, and imports what it states.
 fn finished<K: Keeper>(alloc: Global, keeper: &mut K, reader: Reader) -> Result<Answer, Halt>
     ensures { (text : List ℕ) → HasRead text reader
         → GoesBy (K.kept keeper.old) (K.kept keeper.new) (λ w. ImportStep w kinds.Nem12 text) (answer_of result) }
@@ -64,16 +64,16 @@ fn finished<K: Keeper>(alloc: Global, keeper: &mut K, reader: Reader) -> Result<
     taken_in(alloc, keeper, delivery)
 }
 
-/// Takes in a delivery: all that it states by one commit, or nothing. Whoever reads a NEM12 file in pieces has one in the
-/// end. The answer is that of an import of any file with these statements. The delivery stays, so its readings are copied.
-/// Whoever needs it no more hands it to `import_delivery`.
+/// Imports a delivery: all that it states by one commit, or nothing. A reader of a NEM12 file in pieces returns a delivery at its
+/// end. The answer is that of an import of any file with these statements. The delivery is only borrowed, so its readings are
+/// copied. A caller that is done with it uses `import_delivery`.
 pub fn apply_delivery<K: Keeper>(alloc: Global, keeper: &mut K, delivery: &Delivery) -> Answer
     ensures { GoesBy (K.kept keeper.old) (K.kept keeper.new) (λ w. TakesIn w (delivery_statements delivery.now)) result }
 {
     answer_of(copied_in(alloc, keeper, delivery))
 }
 
-/// Takes in a copy of a delivery.
+/// Imports a copy of a delivery.
 fn copied_in<K: Keeper>(alloc: Global, keeper: &mut K, delivery: &Delivery) -> Result<Answer, Halt>
     ensures { GoesBy (K.kept keeper.old) (K.kept keeper.new) (λ w. TakesIn w (delivery_statements delivery.now)) (answer_of result) }
 {
@@ -81,14 +81,14 @@ fn copied_in<K: Keeper>(alloc: Global, keeper: &mut K, delivery: &Delivery) -> R
     taken_in(alloc, keeper, copy)
 }
 
-/// Takes in a delivery as `apply_delivery` does, and moves its readings.
+/// Imports a delivery as `apply_delivery` does, and moves its readings.
 pub fn import_delivery<K: Keeper>(alloc: Global, keeper: &mut K, delivery: Delivery) -> Answer
     ensures { GoesBy (K.kept keeper.old) (K.kept keeper.new) (λ w. TakesIn w (delivery_statements delivery)) result }
 {
     answer_of(taken_in(alloc, keeper, delivery))
 }
 
-/// Takes in what a delivery states: all of it by one commit, or nothing.
+/// Imports what a delivery states: all of it by one commit, or nothing.
 fn taken_in<K: Keeper>(alloc: Global, keeper: &mut K, delivery: Delivery) -> Result<Answer, Halt>
     ensures { GoesBy (K.kept keeper.old) (K.kept keeper.new) (λ w. TakesIn w (delivery_statements delivery)) (answer_of result) }
 {

@@ -1,8 +1,8 @@
 //! The merges of days, opened before a line claims anything of them.
 //!
-//! A keeper answers for many days at once nearly as fast as for one. So days that follow one another in a block are asked
-//! for at once, and their merges opened. A claim then finds the merge of its day, and asks nobody. A merge says nothing
-//! until a line claims something of its day, so to open one changes no fact.
+//! A keeper answers for many days at once nearly as fast as for one. So consecutive days of a block are asked for at
+//! once, and their merges opened. A claim then finds the merge of its day, and asks nobody. A merge says nothing until a
+//! line claims something of its day, so opening one changes no fact.
 
 ghost use Rattle.std.specs.Prelude.{◌≡◌, ◌<◌, ◌≤◌, ◌++◌, ◌∷◌, List, [], ℕ, false, map, IfErr, IfOk, IsTrue, MatchOption, OnOk};
 ghost use Rattle.std.specs.List.{All};
@@ -24,17 +24,17 @@ use mds_terms::{Day, Stream};
 use std::alloc::{AllocError, Global};
 use std::collections::BTreeMap;
 
-/// A keeper is asked for at most so many days at once, as its rows of all of them are in memory while it answers.
+/// A keeper is asked for at most this many days at once, since its rows of all of them are in memory while it answers.
 const MOST_AHEAD: u32 = 64;
 
-/// Days that follow one another, first to last, both included.
+/// Consecutive days, from a first to a last one, both included.
 #[derive(Clone, Copy)]
 pub(crate) struct Stretch {
     first: Day,
     last: Day,
 }
 
-/// The stretches of a block's days, in their order: a plan of what to ask at once. Each has only dates that the block
+/// The stretches of a block's days, in their order: a plan of what to ask for at once. Each has only dates that the block
 /// has, so that no day is read that the file doesn't state.
 pub(crate) fn stretches(alloc: Global, days: &[DeliveredDay]) -> Result<Vec<Stretch>, AllocError>
     ensures { IfOk result (λ found. All (IsOfDates (map (λ day. day.date) days.now)) found.items) }
@@ -51,7 +51,7 @@ pub(crate) fn stretches(alloc: Global, days: &[DeliveredDay]) -> Result<Vec<Stre
     Ok(found)
 }
 
-/// Takes a date into the last of these stretches, where it is its last day or the one after. Says whether it did.
+/// Adds a date to the last of these stretches, if it is its last day or the one after. Returns whether it did.
 fn goes_on(found: &mut Vec<Stretch>, date: Day) -> bool
     ensures stays { result ≡ false → found.new.items ≡ found.old.items }
     ensures taken { IsTrue result → (dates : List ℕ) → All (IsOfDates dates) found.old.items
@@ -73,7 +73,7 @@ fn goes_on(found: &mut Vec<Stretch>, date: Day) -> bool
     true
 }
 
-/// Opens the merges of the next stretch, where it begins at this date.
+/// Opens the merges of the next stretch, if it begins at this date.
 pub(crate) fn open_ahead<K: DayKeeper>(
     alloc: Global,
     keeper: &mut K,
@@ -89,7 +89,7 @@ pub(crate) fn open_ahead<K: DayKeeper>(
         → AreMerges ⟦<StreamDay as Ord>⟧.cmp w facts merges.new)) }
     ensures memory { IfErr result (λ stop. stop ≡ Memory) }
 
-    // It asks for no other days than those of the stretches.
+    // It asks for no days except those of the stretches.
     ensures asked { (dates : List ℕ) → All (IsOfDates dates) ahead.now
         → AsksOnly K.asks (AreOfDates stream.now dates) keeper.old keeper.new }
 {
@@ -103,8 +103,7 @@ pub(crate) fn open_ahead<K: DayKeeper>(
     open_stretch(alloc, keeper, merges, stream, stretch.first, stretch.last)
 }
 
-/// Opens the merges of the days of a stream from a first to a last one that have none yet. A day by itself is left to
-/// its claim.
+/// Opens the merges of a stream's days in a range that have none yet. A single day is left to its claim.
 fn open_stretch<K: DayKeeper>(
     alloc: Global,
     keeper: &mut K,
@@ -154,8 +153,7 @@ fn open_days(
     Ok(())
 }
 
-/// Opens the merges of the days from a first one on that are before an end, where there is none yet. Nothing is known
-/// of these days.
+/// Opens the merges of days that have none yet, from a first one to just before an end. Nothing is known of these days.
 fn open_unknown(
     alloc: Global,
     merges: &mut BTreeMap<StreamDay, DayMerge>,
@@ -176,7 +174,7 @@ fn open_unknown(
     Ok(())
 }
 
-/// Opens the merge of a book's day, where there is none yet.
+/// Opens the merge of a book's day, unless there is one.
 fn open_day(
     alloc: Global,
     merges: &mut BTreeMap<StreamDay, DayMerge>,
@@ -199,7 +197,7 @@ fn open_day(
     Ok(())
 }
 
-/// The book of the day of a number, of which nothing is known. `None` where there is no such day.
+/// The book of a day, by its number, of which nothing is known. `None` if there is no such day.
 fn unknown_day(alloc: Global, stream: &Stream, number: u32) -> Option<DayBook>
     ensures { MatchOption result (last_day < number) (λ book. (book.stream ≡ stream.now) × (book.day ≡ number)
         × (book_world book ≡ set.empty)) }

@@ -6,8 +6,8 @@ use Rattle.mds_keeper.specs.Kept.{Kept}
 use Rattle.mds_tables.specs.Layouts.{Layout, world_with}
 use Rattle.mds_tables.specs.Stores.{world_kept}
 
--- What the rows of the tables name, as they were last committed. It is honest where the disk gave back what was written to it, and
--- sound where the connection is open too. It may leave any World that the tables name which the next open may find.
+-- What the rows of the tables name, as they were last committed. It is honest if the disk gave back what was written to it, and
+-- sound if the connection is open too. It may leave any World named by tables that the next open may find.
 abbrev pub kept_in : Layout → State → Kept
 kept_in layout s = record {
   world = world_kept layout s;

@@ -1,4 +1,4 @@
--- What rows that queries show say of accumulations. A row that is shown has all columns of its table, and no rowid before them.
+-- What rows say of accumulations that queries show. A shown row has all columns of its table, and no rowid before them.
 use Rattle.std.specs.Prelude.{◌≡◌, ◌+◌, ℕ, List, [], ◌∷◌, length, Option, Some, None, IsTrue}
 use Rattle.std.specs.Str.{is_utf8}
 use Rattle.sqlite.specs.declared.types.Value.TheVariants.{Null, Text}
@@ -14,7 +14,7 @@ use Rattle.mds_tables.specs.Cells.{period_cells}
 use Rattle.mds_tables.specs.RowFacts.{natural_at, period_fact, stream_in, text_at}
 use Rattle.mds_selects.specs.Written.{IsMoment, IsStream}
 
--- a column is the body of an accumulation, as the store writes it, and its content is one that a text says
+-- a column is the body of an accumulation, as the store writes it, and some text says its content
 pub record IsBodyAt (row : Row) (at : ℕ) (period : Period) : Type 0 where
   pub body : List ℕ
   pub cell : column row at ≡ Text body
@@ -22,7 +22,7 @@ pub record IsBodyAt (row : Row) (at : ℕ) (period : Period) : Type 0 where
   pub holds : IsPeriodBody period body
   pub says : content_of (text_of period.content) ≡ period.content
 
--- a row is that of an accumulation, as the store writes it
+-- a row is one that the store writes for the accumulation
 pub record IsRowOfPeriod (row : Row) (period : Period) : Type 0 where
   pub written : IsBodyAt row 6 period
   pub cells : row ≡ period_cells period.key written.body
@@ -46,7 +46,7 @@ shown_key row = record {
   update = natural_at row 5;
 }
 
--- the row is the accumulation
+-- the row says the accumulation
 abbrev pub SaysPeriod : Row → Period → Type 0
 SaysPeriod row period = period_fact (Null ∷ row) ≡ PeriodIs period.key period.content
 
@@ -61,7 +61,7 @@ ArePeriodsIn (row ∷ rows) [] = ⊥
 abbrev pub SaysContent : Row → ℕ → PeriodContent → Type 0
 SaysContent row at content = content_of_body (text_at row at) ≡ content
 
--- the content that the body in the one row says
+-- the content that the body in the only row says
 abbrev pub IsOnlyContent : List Row → Option PeriodContent → Type 0
 IsOnlyContent rows None = rows ≡ []
 IsOnlyContent rows (Some content) = (row : Row) × (rows ≡ row ∷ []) × SaysContent row 0 content

@@ -1,4 +1,5 @@
--- That a database is a store has at most one proof, and while a keeper's connection is open a crash leaves what is committed.
+-- There is at most one proof that a database is a store. While a keeper's connection is open, a crash leaves what is
+-- committed.
 use Rattle.std.specs.Prelude.{◌≡◌}
 use Rattle.std.proofs.Common.{sym, ap, ◌∙◌}
 use Rattle.std.specs.Coded.{Coded-set, coded_list, coded_ℤ}

@@ -1,4 +1,4 @@
--- What making a store, and knowing one, answer (profile).
+-- What a making or an adoption of a store answers (profile).
 use Rattle.std.specs.Prelude.{◌≡◌, IsTrue, true}
 use Rattle.sqlite.specs.State.{KeepsCommit, State}
 use Rattle.mds_tables.specs.Causes.{HasFailed}
@@ -23,8 +23,8 @@ pub record IsAdopted (layout : Layout) (old new : State) : Type 0 where
   pub store : IsStoreOf layout old.committed
   pub same : new.committed ≡ old.committed
 
--- Nothing was changed. U3 only where the database isn't the one that is wanted, nor an earlier one, and U2 only where it is an
--- earlier one. U1 only in a transaction or where the store failed with this error.
+-- Nothing was changed. U3 only if the database is neither the wanted one nor an earlier one, and U2 only if it is an earlier
+-- one. U1 only in a transaction or if the store failed with this error.
 abbrev pub IsRefused : (Wanted IsEarlier : Type 0) → State → State → StoreFault → Type 0
 IsRefused Wanted IsEarlier old new OtherSchema = KeepsCommit old new × (Wanted → ⊥) × (IsEarlier → ⊥)
 IsRefused Wanted IsEarlier old new EarlierSchema = KeepsCommit old new × IsEarlier

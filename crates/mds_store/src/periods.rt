@@ -1,5 +1,5 @@
-//! The accumulations of a store. A store that can't answer is unavailable (U1). So is one with a row whose columns aren't those of an
-//! accumulation. How many fields a body has isn't looked at.
+//! The accumulations of a store. A store that can't answer is unavailable (U1), and so is one with a row whose columns aren't those
+//! of an accumulation. The count of fields in a body isn't checked.
 
 ghost use Rattle.std.specs.Prelude.{◌≡◌, ◌<◌, ◌^◌, ◌↔◌, ℕ, List, false, length, IfOk, IsTrue, OnErr};
 ghost use Rattle.std.specs.List.{AllPairs};
@@ -47,7 +47,7 @@ fn all_periods(alloc: Global, rows: &[Row]) -> Result<Vec<Period>, Unavailable>
     ensures ascending { IfOk result (λ periods. AllPairs (λ a b. period_cmp a.key b.key ≡ Less) periods.items) }
 {
     let periods = read_periods(alloc, rows)?;
-    // The query gives them in this order, and there is one row of a key.
+    // The query returns them in this order, and each key has one row.
     if do_ascend(&periods) {
         Ok(periods)
     } else {
@@ -67,7 +67,7 @@ fn read_periods(alloc: Global, rows: &[Row]) -> Result<Vec<Period>, Unavailable>
     Ok(periods)
 }
 
-/// Whether each accumulation stands before the next.
+/// Whether each accumulation is before the next.
 fn do_ascend(periods: &[Period]) -> bool
     ensures { IsTrue result ↔ AllPairs (λ a b. period_cmp a.key b.key ≡ Less) periods.now }
 {
@@ -124,17 +124,17 @@ fn register_at(alloc: Global, row: &Row, at: usize) -> Result<PrintableString, U
     told(PrintableString::read(alloc, text)?)
 }
 
-/// The content that the body in a column says. An empty one takes no memory.
+/// The content of the body in a column. An empty one takes no memory.
 fn content_at(alloc: Global, row: &Row, at: usize) -> Result<PeriodContent, Unavailable>
     ensures ok { IfOk result (SaysContent row.now at) }
     ensures err { OnErr result ((period : PeriodValue) → IsBodyAt row.now at period → 0 < length (text_of period.content)) }
 {
     let body = told(str_at(row, at))?;
-    // The store never writes a body of one field alone, which has no content.
+    // The store never writes a body with a single field, which has no content.
     told(PeriodContent::from_body(alloc, body)?)
 }
 
-/// What is kept of the accumulation of a key. `None` where there is none.
+/// What is kept of the accumulation with this key. `None` if no such accumulation is kept.
 pub fn content_of_period<S: Alter>(
     alloc: Global,
     conn: &mut Connection<S>,
@@ -151,7 +151,7 @@ pub fn content_of_period<S: Alter>(
     only_content(alloc, &rows)
 }
 
-/// The content of the one row among rows.
+/// The content in the only row.
 fn only_content(alloc: Global, rows: &[Row]) -> Result<Option<PeriodContent>, Unavailable>
     ensures { IfOk result (IsOnlyContent rows.now) }
 {
@@ -168,7 +168,7 @@ fn has_small_moments(key: &PeriodKey)
     ensures finish { key.now.finish < 2 ^ 63 }
     ensures update { key.now.update < 2 ^ 63 }
 {
-    // For the proof: the seconds of a moment are below those of all days there are.
+    // For the proof: the seconds of a moment are below those of all possible days.
     let _ = (
         key.start.seconds(),
         key.finish.seconds(),

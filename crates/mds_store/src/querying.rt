@@ -1,4 +1,4 @@
-//! The holidays and the jobs of a store. A store that can't answer is unavailable (U1). So is one that holds a row that
+//! The holidays and the jobs of a store. A store that can't answer is unavailable (U1), and so is one with a row that
 //! it didn't write.
 
 ghost use Rattle.std.specs.Prelude.{◌≡◌, ◌<◌, false, pos, IfOk, IfSome, OnOk};
@@ -65,7 +65,7 @@ fn add_holiday(found: &mut BTreeSet<Day>, row: &Row) -> Result<(), Unavailable>
     put(found, day)
 }
 
-/// The job of an id, with the count of the readings that it made, where there is one.
+/// The job with this id, and the count of the readings that it made, if there is one.
 pub fn job_of<S: Alter>(
     alloc: Global,
     conn: &mut Connection<S>,
@@ -80,7 +80,7 @@ pub fn job_of<S: Alter>(
     only_job(alloc, id, &rows)
 }
 
-/// The job of the one row among rows.
+/// The job in the only row.
 fn only_job(alloc: Global, id: JobId, rows: &[Row]) -> Result<Option<(Job, u64)>, Unavailable>
     ensures { IfOk result (IsOnlyJob id rows.now) }
 {
@@ -91,7 +91,7 @@ fn only_job(alloc: Global, id: JobId, rows: &[Row]) -> Result<Option<(Job, u64)>
     Ok(Some(job))
 }
 
-/// The job of an id that a row says, with its count.
+/// The job with this id that a row says, and its count.
 fn job_in(alloc: Global, id: JobId, row: &Row) -> Result<(Job, u64), Unavailable>
     ensures { IfOk result (SaysJob id row.now) }
 {

@@ -1,4 +1,4 @@
-//! The queries, and the rows that they answer, whatever tables stand behind those that every schema has.
+//! The queries, and the rows that they return, whatever tables follow those that every schema has.
 
 ghost use Rattle.std.specs.Prelude.{◌≡◌, ◌<◌, [], ◌∷◌, IfOk, MatchOption, OnErr, length};
 ghost use Rattle.sqlite.specs.Held.{state};
@@ -59,7 +59,7 @@ pub(crate) fn content_rows<S: Alter>(
     )
 }
 
-/// The one row among rows. `None` where there is none. No key has two rows.
+/// The only row. `None` if there is no row. No key has two rows.
 pub(crate) fn only_row<'a>(rows: &'a [Row]) -> Result<Option<&'a Row>, Unavailable>
     ensures ok { IfOk result (λ only. MatchOption only (rows.now ≡ []) (λ row. rows.now ≡ row.now ∷ [])) }
     ensures err { OnErr result (1 < length rows.now) }

@@ -1,4 +1,4 @@
-//! Why a database is no store that can be used, and whether one is empty.
+//! Why a database is no usable store, and whether a database is empty.
 
 ghost use Rattle.std.specs.Prelude.{◌≡◌, ◌≢◌};
 ghost use Rattle.std.specs.Bool.{MatchBool};
@@ -8,17 +8,17 @@ ghost use Rattle.mds_store.specs.declared.starting.StoreFault.TheVariants.{Unava
 use sqlite::Error;
 use sqlite_schema::schema::Schema;
 
-/// Why a database isn't a store that can be used.
+/// Why a database isn't a usable store.
 #[derive(Clone, Copy, Debug)]
 pub enum StoreFault {
     /// The connection is in a transaction, which is the caller's (U1).
     InTransaction,
-    /// The store failed with this error of the library (U1). Memory was wanting, the disk had a fault, or the limit of steps was
+    /// The store failed with this error of the library (U1): memory ran out, the disk had a fault, or the limit of steps was
     /// reached.
     Unavailable(Error),
     /// The database is a store of an earlier schema (U2).
     EarlierSchema,
-    /// The database isn't a store (U3). Where a store was to be made, it isn't empty (U3).
+    /// The database isn't a store (U3). If a store was to be made, the database isn't empty (U3).
     OtherSchema,
 }
 
@@ -30,7 +30,7 @@ impl From<Error> for StoreFault {
     }
 }
 
-/// Whether a database has nothing in it. In any other no store is made (U3).
+/// Whether a database has nothing in it. No store is made in any other (U3).
 pub fn is_empty(schema: &Schema) -> bool
     ensures { MatchBool result (schema.now ≡ no_schema) (schema.now ≢ no_schema) }
 {

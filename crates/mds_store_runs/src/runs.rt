@@ -16,16 +16,16 @@ use mds_service::{Answer, Request, run};
 use sqlite::Alter;
 use std::alloc::{AllocError, Global};
 
-/// Answers requests in their order over a store of packed days: one answer for each.
+/// Answers requests in their order over a store of packed days, with one answer for each.
 pub fn run_packs<S: Alter>(
     alloc: Global,
     keeper: &mut PackKeeper<S>,
     requests: &[Request],
 ) -> Result<Vec<Answer>, AllocError>
     // While the disk gives back what was written, all answers are those of a run of the machine. The run goes from the
-    // World that the tables named to a lawful one. The tables name the latter where the connection is still open. An
-    // open after a crash may find tables that name it, or it with one more whole request whose answer was Unavailable.
-    // Behind that one nothing was changed.
+    // World that the tables named to a lawful one. The tables name the latter if the connection is still open. An open
+    // after a crash may find tables that name it, or it with one more whole request whose answer was Unavailable. After
+    // that request nothing was changed.
     ensures run { IfOk result (λ answers. HasCleanDisk (state S.Store keeper.new.conn)
         → IsTrue (state S.Store keeper.old.conn).is_open → IsLawful (world_kept forms_layout (state S.Store keeper.old.conn))
         → (w : World) × IsLawful w
@@ -34,10 +34,11 @@ pub fn run_packs<S: Alter>(
         × ((trees : Trees) → (state S.Store keeper.new.conn).may_leave trees
         → MayLeave w requests.now answers.items (world_4 trees))) }
 
-    // The tables are those of a store that opens again.
+    // The tables are those of a store, which can be opened again.
     ensures store { HoldsFormed (state S.Store keeper.new.conn) }
 
-    // Each request has its answer. Nothing is changed where the list of answers has no room, and an empty list needs none.
+    // Each request has its answer. Nothing is changed if there is no room for the list of answers, and an empty list needs
+    // none.
     ensures count { IfOk result (λ answers. length answers.items ≡ length requests.now) }
     ensures err { OnErr result (keeper.new ≡ keeper.old) }
     ensures memory { OnErr result (0 < length requests.now) }

@@ -35,12 +35,12 @@ abbrev pub head_cells : Head → Row
 head_cells h =
     Text h.stream.nmi ∷ Text h.stream.suffix ∷ number_cell h.day ∷ number_cell h.length ∷ Text (unit_text h.unit) ∷ []
 
--- a row of mds_head in schema 4, which says a day and its unit: its length column is 0
+-- a row of mds_head in schema 4, which says a day and its unit; its length column is 0
 abbrev pub unit_cells : Head → Row
 unit_cells h =
     Text h.stream.nmi ∷ Text h.stream.suffix ∷ number_cell h.day ∷ number_cell 0 ∷ Text (unit_text h.unit) ∷ []
 
--- a row of mds_form, which says a head but for its unit
+-- a row of mds_form, which says a head without its unit
 abbrev pub form_cells : Head → Row
 form_cells h =
     Text h.stream.nmi ∷ Text h.stream.suffix ∷ number_cell h.day ∷ number_cell h.update ∷ number_cell h.length ∷ []

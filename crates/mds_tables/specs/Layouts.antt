@@ -1,5 +1,6 @@
--- How a store is laid out (profile): the tables that every schema has, then more, and how all of them say heads, versions and
--- details of days. What a layout leaves open stands here alone, so that what is said and proved of any layout holds of each.
+-- How a store is laid out (profile): the tables that every schema has, and then more. A layout says how all of them say
+-- heads, versions and details of days. Only this record holds what a layout leaves open. So what is said and proved of any
+-- layout holds of each.
 use Rattle.std.specs.Prelude.{◌≡◌, ◌==◌, ◌≤◌, ℕ, List, [], ◌∷◌, Bool, true, false, cond, length, map}
 use Rattle.std.proofs.Common.{inl, inr, refl, sym, ap, subst}
 use Rattle.std.specs.FinSet as set
@@ -32,25 +33,25 @@ IsOwn _ = ⊥
 pub record Layout : Type 0 where
   -- what mds_schema says
   pub number : ℕ
-  -- the tables behind those that every schema has
+  -- the tables that follow those that every schema has
   pub more : More
-  -- the heads that the tables say, and nothing else
+  -- just the heads that the tables say
   pub heads : Trees → List Fact
   pub only_heads : (trees : Trees) (fact : Fact) → Member fact (heads trees) → IsHead fact
-  -- none where mds_head and those tables have no row, and the same where they have the same rows
+  -- none if mds_head and those tables have no row, and the same if they have the same rows
   pub no_heads : (trees : Trees) → trees head_tree ≡ [] → AllByRecursion (λ (table : Table). trees table.tree ≡ []) more.tables → heads trees ≡ []
   pub steady_heads : (old new : Trees) → new head_tree ≡ old head_tree
       → AllByRecursion (λ (table : Table). new table.tree ≡ old table.tree) more.tables → heads new ≡ heads old
-  -- the versions and the details of days that the tables say, and nothing else
+  -- just the versions and the details of days that the tables say
   pub own : Trees → List Fact
   pub only : (trees : Trees) (fact : Fact) → Member fact (own trees) → IsOwn fact
-  -- none where mds_version and those tables have no row, and the same where they have the same rows
+  -- none if mds_version and those tables have no row, and the same if they have the same rows
   pub silent : (trees : Trees) → trees version_tree ≡ [] → AllByRecursion (λ (table : Table). trees table.tree ≡ []) more.tables → own trees ≡ []
   pub steady : (old new : Trees) → new version_tree ≡ old version_tree → AllByRecursion (λ (table : Table). new table.tree ≡ old table.tree) more.tables
       → own new ≡ own old
   -- no foreign key changes a row
   pub idle : (tree : ℕ) (olds news : List Row) → works (schema_with more) Enforced 0 tree olds news ≡ []
-  -- the trees of those tables, and the tables of those indexes, come behind all others
+  -- the trees of those tables, and the tables of those indexes, come after all others
   pub behind : AllByRecursion (λ (table : Table). trees_taken ≤ table.tree) more.tables
   pub indexes_behind : AllByRecursion (λ (index : Index). trees_taken ≤ index.table) more.indexes
 

@@ -24,7 +24,7 @@ pub record IsMadeOf (layout : Layout) (old new : State) : Type 0 where
   pub is_open : IsTrue new.is_open
   pub made : old.committed.schema ≡ no_schema → KeepsNothingOf layout new.committed
 
--- What a crash may leave of a making that wasn't told: such a store.
+-- What a crash may leave of a making that wasn't answered: such a store.
 pub record LeavesMadeOf (layout : Layout) (old : State) (left : Trees) : Type 0 where
   pub was_open : IsTrue old.is_open
   pub made : old.committed.schema ≡ no_schema → KeepsNothingOf layout (record { schema = schema_with layout.more; trees = left })
@@ -38,7 +38,7 @@ schema_of n = record { tables = take n tables_1; indexes = take n indexes_1; vie
 abbrev pub AreEmpty : List Table → Database → Type 0
 AreEmpty tables db = AllByRecursion (λ (t : Table). db.trees t.tree ≡ []) tables
 
--- a step of the making, in a transaction, from a schema whose tables have no row to another such
+-- a step of the making, in a transaction; before and after it the tables of the schema have no row
 pub record MakesThere (before after : Schema) (old new : State) : Type 0 where
   pub was_open : HasCleanDisk new → IsTrue new.is_open → IsTrue old.is_open
   pub is_open : HasCleanDisk new → IsTrue old.is_open → IsTrue new.is_open
@@ -46,7 +46,7 @@ pub record MakesThere (before after : Schema) (old new : State) : Type 0 where
   pub inside : HasCleanDisk new → IsTrue old.in_transaction → IsTrue new.in_transaction
   pub empty : HasCleanDisk new → IsTrue old.is_open → old.now.schema ≡ before → AreEmpty before.tables old.now → AreEmpty after.tables new.now
 
--- mds_schema, which had no row, has one that says the number, and no other table has one
+-- mds_schema, which had no row, has one with the number, and no other table has one
 pub record SaysVersionOf (layout : Layout) (old new : State) : Type 0 where
   pub was_open : HasCleanDisk new → IsTrue new.is_open → IsTrue old.is_open
   pub is_open : HasCleanDisk new → IsTrue old.is_open → IsTrue new.is_open

@@ -1,5 +1,5 @@
--- What the rows of tables say, as facts (profile). A row of a tree is its rowid, and then its columns, numbered from 1.
--- Each row of these tables names one fact, whoever wrote it.
+-- What the rows of tables say, as facts (profile). A row of a tree is its rowid, followed by its columns, numbered from 1.
+-- Each row of these tables names one fact, no matter who wrote it.
 use Rattle.std.specs.Prelude.{ℕ, ◌+◌, ◌^◌, ℤ, pos, negsuc, List, [], ◌∷◌, ◌++◌, map, Option, Some, None, unwrap_or, ◌==◌, if◌then◌else◌}
 use Rattle.std.proofs.Common.{suc, zero}
 use Rattle.sqlite_rules.specs.Edit.{id_in}
@@ -23,12 +23,12 @@ text_at row at = bytes (column row at)
 abbrev pub int_at : Row → ℕ → ℤ
 int_at row at = id_in (column row at)
 
--- A whole number as a count. One below 0, which the store never writes, is taken as one above all that it writes.
+-- A whole number as a count. One below 0, which the store never writes, counts as one above all that it writes.
 abbrev pub natural : ℤ → ℕ
 natural (pos n) = n
 natural (negsuc n) = 2 ^ 63 + n
 
--- -1 stands for an absent one
+-- -1 means absent
 abbrev pub optional : ℤ → Option ℕ
 optional (pos n) = Some n
 optional (negsuc zero) = None
@@ -44,16 +44,16 @@ optional_at row at = optional (int_at row at)
 abbrev pub stream_in : Row → Stream
 stream_in row = record { nmi = text_at row 1; suffix = text_at row 2 }
 
--- Schemas 1 to 3 say no update of a head: it stands here as 0.
+-- Schemas 1 to 3 say no update of a head: here it is 0.
 abbrev pub head_fact : Row → Fact
 head_fact row =
     HeadIs (head_at (stream_in row) (natural_at row 3) 0 (natural_at row 4) (unit_named (text_at row 5)))
 
--- The quality of a text. A text that is none, which the store never writes, is taken as bare N.
+-- The quality of a text. A text that isn't one, which the store never writes, counts as bare N.
 abbrev pub quality_named : List ℕ → QualityValue
 quality_named text = unwrap_or (quality_of text) (record { flag = null; method = 0 })
 
--- where a version stands, with 0 in the place of its length
+-- the key of a version, with 0 as its length
 abbrev pub lengthless : Key → Key
 lengthless key = key_at key.stream key.day 0 key.interval key.update
 
@@ -64,7 +64,7 @@ reading_in quality code text amount = record {
   value = if quality.flag == null then None else Some amount;
 }
 
--- Schema 1 says no length of a version, which is that of its day's head: it stands here as 0.
+-- Schema 1 says no length of a version, which is that of its day's head: here it is 0.
 abbrev pub version_fact : Row → Fact
 version_fact row =
     VersionIs (key_at (stream_in row) (natural_at row 3) 0 (natural_at row 4) (natural_at row 5))
@@ -84,8 +84,8 @@ details_from row at = record {
 abbrev pub detail_fact : Row → Fact
 detail_fact row = DetailIs (detail_at (stream_in row) (natural_at row 3) (natural_at row 4) (details_from row 5))
 
--- A transaction code, which is absent where its text is empty. A longer text, which the store never writes, is taken as
--- a letter that there isn't.
+-- A transaction code, which is absent if its text is empty. A longer text, which the store never writes, counts as a letter
+-- that doesn't exist.
 abbrev pub letter_in : List ℕ → Option ℕ
 letter_in [] = None
 letter_in (letter ∷ []) = Some letter
@@ -102,7 +102,7 @@ event_fact row = EventIs (record {
   reading = text_at row 7;
 })
 
--- an accumulation's body says its content, and the update that it has is that of the columns
+-- an accumulation's body says its content, and its update is that of the columns
 abbrev pub period_fact : Row → Fact
 period_fact row =
     PeriodIs (record {
@@ -122,17 +122,17 @@ holiday_fact row = HolidayIs (natural_at row 1)
 abbrev pub job_fact : Row → Fact
 job_fact row = JobIs (text_at row 1) (job_in (parts_of (text_at row 2))) (natural_at row 3)
 
--- The facts of the rows of each table, one table after the other. How heads are said, and versions and details of days, is the
--- schema's own.
+-- The facts of the rows of each table, one table after the other. Each schema has its own way to say heads, versions and
+-- details of days.
 abbrev pub facts_with : (Trees → List Fact) → (Trees → List Fact) → Trees → List Fact
 facts_with heads own trees =
     heads trees ++ own trees ++ map event_fact (trees event_tree) ++ map period_fact (trees period_tree)
     ++ map holiday_fact (trees holiday_tree) ++ map job_fact (trees job_tree)
 
--- those of rows that say a head each
+-- the heads, if each row says one
 abbrev pub heads_in : Trees → List Fact
 heads_in trees = map head_fact (trees head_tree)
 
--- those of rows that say a version each
+-- the versions, if each row says one
 abbrev pub versions_in : Trees → List Fact
 versions_in trees = map version_fact (trees version_tree)

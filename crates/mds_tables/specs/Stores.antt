@@ -24,7 +24,7 @@ use Rattle.mds_tables.specs.Tables.{detail_tree, event_tree, holiday_tree, job_t
 abbrev pub versions_said : Trees → List ℤ
 versions_said trees = map (λ row. int_at row schema_version) (trees schema_tree)
 
--- A database is a store of a layout where it has just its tables, and mds_schema says its number.
+-- A database is a store of a layout if it has just the layout's tables, and mds_schema says the layout's number.
 pub record IsStoreOf (layout : Layout) (db : Database) : Type 0 where
   pub schema : db.schema ≡ schema_with layout.more
   pub version : versions_said db.trees ≡ pos layout.number ∷ []
@@ -47,24 +47,24 @@ pub record IsReady (old new : State) : Type 0 where
   pub settled : old.now ≡ old.committed
   pub sound : IsDatabase old.now
 
--- nothing is changed, or the transaction is undone
+-- nothing has changed, or the transaction is undone
 abbrev pub ChangesNothing : State → State → Type 0
 ChangesNothing old new = IsUnchanged old new ⊎ IsRolledBack old new
 
--- the connection was open, and is
+-- the connection was open, and still is
 pub record AreOpen (old new : State) : Type 0 where
   pub was_open : IsTrue old.is_open
   pub is_open : IsTrue new.is_open
 
--- The rows of a tree, each without its rowid, are these beside those that were there.
+-- The rows of a tree, each without its rowid, are these together with those that were there.
 abbrev pub Gains : ℕ → List Row → Trees → Trees → Type 0
 Gains tree rows old new = IsPermutation (map (drop 1) (old tree) ++ rows) (map (drop 1) (new tree))
 
--- the row is that of the accumulation, whose body says its fields, behind them its update, and its notes
+-- the row is that of the accumulation; its body has the fields, then the update, and then the notes
 abbrev pub IsPeriodRow : Period → Row → Type 0
 IsPeriodRow period row = (body : List ℕ) × IsPeriodBody period body × (row ≡ period_cells period.key body)
 
--- the row is that of the job, whose body is one that its content has
+-- the row is that of the job, and its body is one of those that its content has
 abbrev pub IsJobRow : Job × ℕ → Row → Type 0
 IsJobRow job row =
     (body : List ℕ) × IsJobBody (content_of job.0) body × (row ≡ job_cells job.0.id body (pos job.1))
@@ -76,11 +76,11 @@ AreRowsOf IsRow (thing ∷ things) (row ∷ rows) = IsRow thing row × AreRowsOf
 AreRowsOf IsRow [] (row ∷ rows) = ⊥
 AreRowsOf IsRow (thing ∷ things) [] = ⊥
 
--- What became of the rows of heads, versions and details of days once these additions are added, which each layout says by itself.
+-- What became of the rows of heads, versions and details of days when these additions were added. Each layout says it for itself.
 abbrev pub Gained : Type 1
 Gained = Trees → Trees → Additions → Type 0
 
--- Each table has the rows of its facts among the additions, column by column, beside those that were there, and no other.
+-- Each table has the rows of its facts among the additions, column by column, together with those that were there, and no other.
 pub record AddsOf (HasOwn : Gained) (old new : Trees) (additions : Additions) : Type 0 where
   pub schema : new schema_tree ≡ old schema_tree
   pub own : HasOwn old new additions
@@ -99,7 +99,7 @@ pub record CommitsOf (layout : Layout) (HasOwn : Gained) (old new : State) (addi
   pub rows : AddsOf HasOwn old.committed.trees new.committed.trees additions
   pub world : world_kept layout new ≡ union (world_kept layout old) (content additions)
 
--- What a crash may leave of a commit that wasn't told: a store that keeps all of the additions beside what was kept.
+-- What a crash may leave of a commit that wasn't answered: a store that keeps all of the additions together with what was kept.
 pub record LeavesAddedOf (layout : Layout) (HasOwn : Gained) (old : State) (additions : Additions) (left : Trees) : Type 0 where
   pub was_open : IsTrue old.is_open
   pub store : IsStoreOf layout (record { schema = schema_with layout.more; trees = left })
@@ -107,7 +107,7 @@ pub record LeavesAddedOf (layout : Layout) (HasOwn : Gained) (old : State) (addi
   pub rows : AddsOf HasOwn old.committed.trees left additions
   pub world : world_with layout left ≡ union (world_kept layout old) (content additions)
 
--- the first columns of a row of a tree, behind its rowid, are these
+-- after its rowid, a row of a tree begins with these columns
 abbrev pub Begins : Row → Row → Type 0
 Begins key row = take (length key) (drop 1 row) ≡ key
 

@@ -1,5 +1,5 @@
 -- The tables of a store (profile), as the library lists them: those that every schema has, and then more. A table and the index of
--- its key have trees of their own, numbered in the order in which they are made. The order stands here alone.
+-- its key have trees of their own, numbered in the order in which they are made. No other file says that order.
 use Rattle.std.specs.Prelude.{ℕ, ◌+◌, true, false, List, [], ◌∷◌, None, codes}
 use Rattle.sqlite.specs.Collation.TheVariants.{Binary}
 use Rattle.sqlite.specs.Kind.TheVariants.{Integer, Text}
@@ -37,15 +37,15 @@ holiday_tree = 12
 abbrev pub job_tree : ℕ
 job_tree = 14
 
--- how many trees the tables that every schema has, and the indexes of their keys, take
+-- how many trees the tables of every schema and the indexes of their keys take
 abbrev pub trees_taken : ℕ
 trees_taken = 16
 
--- That of mds_daydetail, which schema 3 has behind them and behind mds_pack.
+-- The tree of mds_daydetail, which in schema 3 follows them and mds_pack.
 abbrev pub daydetail_tree : ℕ
 daydetail_tree = 18
 
--- That of mds_form, which schema 4 has behind that.
+-- The tree of mds_form, which in schema 4 follows that one.
 abbrev pub form_tree : ℕ
 form_tree = 20
 
@@ -60,7 +60,7 @@ text name = needed name Text
 abbrev pub number : List ℕ → Column
 number name = needed name Integer
 
--- a table with one key, which is its PRIMARY KEY or not
+-- a table with one key, which may be its PRIMARY KEY
 abbrev pub keyed_table : List ℕ → ℕ → List Column → List ℕ → List ℕ → Table
 keyed_table name tree columns primary key = record {
   name = name;
@@ -77,11 +77,11 @@ keyed_table name tree columns primary key = record {
   is_counted = false;
 }
 
--- one whose PRIMARY KEY are these of its columns, numbered from 1
+-- one whose PRIMARY KEY is these of its columns, numbered from 1
 abbrev pub table_of : List ℕ → ℕ → List Column → List ℕ → Table
 table_of name tree columns key = keyed_table name tree columns key key
 
--- one of a single column, which is UNIQUE
+-- one with a single column, which is UNIQUE
 abbrev pub single_table : List ℕ → ℕ → Column → Table
 single_table name tree column = keyed_table name tree (column ∷ []) [] (1 ∷ [])
 
@@ -111,7 +111,7 @@ event_key = 1 ∷ 2 ∷ 3 ∷ 4 ∷ 5 ∷ 6 ∷ 7 ∷ []
 abbrev pub period_key : List ℕ
 period_key = 1 ∷ 2 ∷ 3 ∷ 4 ∷ 5 ∷ 6 ∷ []
 
--- a column of a table, by its number
+-- the number of a column in its table
 abbrev pub schema_version : ℕ
 schema_version = 1
 
@@ -130,7 +130,7 @@ job_body = 2
 abbrev pub job_total : ℕ
 job_total = 3
 
--- the columns that name a stream, where a row begins with them
+-- the columns that name a stream, if a row begins with them
 abbrev pub stream_columns : List ℕ
 stream_columns = 1 ∷ 2 ∷ []
 
@@ -205,7 +205,7 @@ job_table =
     (text (codes "id") ∷ text (codes "body") ∷ number (codes "total") ∷ [])
     (1 ∷ [])
 
--- what stands behind the tables that every schema has
+-- what follows the tables that every schema has
 pub record More : Type 0 where
   pub tables : List Table
   pub indexes : List Index
@@ -233,7 +233,7 @@ schema_with more = record { tables = tables_with more; indexes = indexes_with mo
 abbrev pub no_schema : Schema
 no_schema = record { tables = []; indexes = []; views = [] }
 
--- schema 1 has nothing behind them
+-- in schema 1, nothing follows them
 abbrev pub no_more : More
 no_more = record { tables = []; indexes = [] }
 

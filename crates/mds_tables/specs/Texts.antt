@@ -25,7 +25,7 @@ create_holiday = codes "CREATE TABLE mds_holiday (day INTEGER NOT NULL, UNIQUE (
 abbrev pub create_job : List ℕ
 create_job = codes "CREATE TABLE mds_job (id TEXT NOT NULL, body TEXT NOT NULL, total INTEGER NOT NULL, PRIMARY KEY (id)) STRICT"
 
--- the n-th of them: a table comes after those that it refers to
+-- the n-th of them; a table comes after those that it refers to
 abbrev pub create : ℕ → List ℕ
 create n =
     slice_index_or

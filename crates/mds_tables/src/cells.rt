@@ -1,4 +1,4 @@
-//! The columns of rows, lent from the terms that they say.
+//! The columns of rows, borrowed from the terms that they hold.
 
 ghost use Rattle.std.specs.Prelude.{◌≡◌, ◌≤◌, [], ◌∷◌, take};
 ghost use Rattle.sqlite.specs.Values.{bound};
@@ -46,7 +46,7 @@ pub fn range_cells<'a>(stream: &'a Stream, first: Day, last: Day) -> [ValueRef<'
     ]
 }
 
-/// The columns of a day in mds_head: it and its unit.
+/// The columns of a day in mds_head: the day and its unit.
 pub fn unit_cells<'a>(head: &'a Head) -> [ValueRef<'a>; 5]
     ensures { bound result ≡ row.unit_cells head.now }
 {
@@ -89,7 +89,7 @@ pub fn detail_cells<'a>(details: &'a DetailDays, day: Day) -> [ValueRef<'a>; 9]
     ]
 }
 
-/// The number of a day, and -1 where there is none.
+/// The number of a day, or -1 if it is absent.
 fn next_cell(day: Option<Day>) -> i64
     ensures { Int result ≡ row.optional_cell day }
 {
@@ -99,7 +99,7 @@ fn next_cell(day: Option<Day>) -> i64
     }
 }
 
-/// The columns of an event, of which the text of its transaction code is given.
+/// The columns of an event. The caller passes the text of its transaction code.
 pub fn event_cells<'a>(
     event: &'a Event,
     nmi: &'a [u8],
@@ -122,7 +122,7 @@ pub fn event_cells<'a>(
     ]
 }
 
-/// The seconds of a moment, and -1 where there is none.
+/// The seconds of a moment, or -1 if it is absent.
 fn moment_cell(moment: Option<Moment>) -> i64
     ensures { Int result ≡ row.optional_cell moment }
 {
@@ -132,7 +132,7 @@ fn moment_cell(moment: Option<Moment>) -> i64
     }
 }
 
-/// The letter of an event's transaction code, and how many letters it is.
+/// The letter of an event's transaction code, and how many letters the code has.
 pub fn letter_of(event: &Event) -> ([u8; 1], usize)
     ensures text { take result.1 result.0 ≡ row.letter_text event.now.trans }
     ensures count { result.1 ≤ 1 }
@@ -157,7 +157,7 @@ pub fn period_key_cells<'a>(key: &'a PeriodKey) -> [ValueRef<'a>; 6]
     ]
 }
 
-/// The columns of an accumulation, of which the body is given.
+/// The columns of an accumulation. The caller passes the body.
 pub fn period_cells<'a>(key: &'a PeriodKey, body: &'a [u8]) -> [ValueRef<'a>; 7]
     ensures { bound result ≡ row.period_cells key.now body.now }
 {
@@ -186,7 +186,7 @@ pub fn id_cells<'a>(id: &'a JobId) -> [ValueRef<'a>; 1]
     [ValueRef::Text(id.text().as_bytes())]
 }
 
-/// The columns of a job, of which the body is given.
+/// The columns of a job. The caller passes the body.
 pub fn job_cells<'a>(id: &'a JobId, body: &'a [u8], count: i64) -> [ValueRef<'a>; 3]
     ensures { bound result ≡ row.job_cells id.now body.now count }
 {

@@ -1,4 +1,4 @@
-//! Knows the tables again.
+//! Recognizes the tables of a store.
 
 ghost use Rattle.std.specs.Prelude.{◌≡◌, ◌≢◌, ◌↔◌, IsTrue, [], ◌∷◌, codes, map};
 ghost use Rattle.std.specs.Bool.{MatchBool};
@@ -44,14 +44,14 @@ fn are_needed(columns: &[Column], wanted: &[(&str, Kind)]) -> bool
     is_needed(column, one.0, one.1) && are_needed(others, later)
 }
 
-/// Whether a list is of these places.
+/// Whether a list has just these places.
 fn is_list(list: &Items<usize>, places: &[usize]) -> bool
     ensures { IsTrue result ↔ (list.now ≡ places.now) }
 {
     list.as_slice() == places
 }
 
-/// Whether there is this one list of places.
+/// Whether the only list has these places.
 fn is_only(lists: &[Items<usize>], places: &[usize]) -> bool
     ensures { IsTrue result ↔ (lists.now ≡ places.now ∷ []) }
 {
@@ -80,7 +80,7 @@ fn has_key(table: &Table, primary: &[usize], key: &[usize]) -> bool
         && is_rising(table.orders.as_slice())
 }
 
-/// Whether there is no term.
+/// Whether the terms are empty.
 fn are_none(terms: &Terms) -> bool
     ensures { IsTrue result ↔ (terms.now ≡ []) }
 {
@@ -94,7 +94,7 @@ fn is_timeless(stamps: &Stamps) -> bool
     stamps.places.is_empty() && are_none(&stamps.terms) && stamps.formats.is_empty()
 }
 
-/// Whether a table has nothing but columns and keys.
+/// Whether a table has only columns and keys.
 fn is_bare(table: &Table) -> bool
     ensures { IsTrue result ↔ IsBare table.now }
 {
@@ -105,7 +105,7 @@ fn is_bare(table: &Table) -> bool
         && !table.is_counted
 }
 
-/// Whether a table has this name, tree, columns and keys, and nothing else but references.
+/// Whether a table has this name, tree, columns and keys, and otherwise only references.
 pub fn is_keyed(
     table: &Table,
     name: &str,
@@ -124,7 +124,7 @@ pub fn is_keyed(
         && is_bare(table)
 }
 
-/// Whether a table is this one, which refers to no other.
+/// Whether a table is this one, and refers to no other.
 fn is_plain(
     table: &Table,
     name: &str,
@@ -139,14 +139,14 @@ fn is_plain(
     is_keyed(table, name, tree, columns, primary, key) && table.references.is_empty()
 }
 
-/// Whether a name is this one.
+/// Whether a name is the wanted one.
 fn is_name(name: &Bytes, wanted: &str) -> bool
     ensures { IsTrue result ↔ (name.now ≡ wanted.now) }
 {
     name.as_slice() == wanted.as_bytes()
 }
 
-/// Whether these are the names.
+/// Whether the names are the wanted ones.
 fn are_names(names: &[Bytes], wanted: &[&str]) -> bool
     ensures { IsTrue result ↔ (names.now ≡ map (λ one. one.now) wanted.now) }
 {
@@ -159,7 +159,7 @@ fn are_names(names: &[Bytes], wanted: &[&str]) -> bool
     is_name(name, one) && are_names(others, later)
 }
 
-/// Whether a reference is that to the head of a day.
+/// Whether a reference is the one to the head of a day.
 fn is_to_head(reference: &Reference) -> bool
     ensures { IsTrue result ↔ (reference.now ≡ to_head) }
 {
@@ -174,7 +174,7 @@ fn is_to_head(reference: &Reference) -> bool
         && !reference.is_deferred
 }
 
-/// Whether there is this one reference.
+/// Whether the only reference is the one to the head of a day.
 pub fn are_to_head(references: &[Reference]) -> bool
     ensures { IsTrue result ↔ (references.now ≡ to_head ∷ []) }
 {
@@ -184,7 +184,7 @@ pub fn are_to_head(references: &[Reference]) -> bool
     }
 }
 
-/// Whether an index is that of the key of a table, with the tree behind the table's.
+/// Whether an index is the one of a table's key, with the tree after the table's.
 pub fn is_key_index(index: &Index, name: &str, table: u32, key: &[usize]) -> bool
     ensures { IsTrue result ↔ (index.now ≡ key_index name.now table key.now) }
 {

@@ -34,7 +34,7 @@ fn statement(n: usize) -> &'static str
     }
 }
 
-/// Makes one table, without a row, where those before it are made.
+/// Makes one table, without a row, once those before it are made.
 fn make_table<S: Alter>(tx: &mut Transaction<'_, S>, n: usize) -> Result<(), Error>
     requires { n < 8 }
     ensures same_reference { tx.new.conn.ghost_name ≡ tx.old.conn.ghost_name }
@@ -65,7 +65,7 @@ pub fn make_empty<S: Alter>(tx: &mut Transaction<'_, S>) -> Result<(), Error>
     Ok(())
 }
 
-/// Puts the row that says the number of the schema, whatever tables stand behind those that every schema has.
+/// Puts the row that says the number of the schema, whatever tables follow those that every schema has.
 pub fn say_version<S: Alter>(tx: &mut Transaction<'_, S>, number: i64) -> Result<(), Error>
     ensures same_reference { tx.new.conn.ghost_name ≡ tx.old.conn.ghost_name }
     ensures ok { OnOk result ((layout : Layout) → number ≡ pos layout.number

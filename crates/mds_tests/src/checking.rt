@@ -1,4 +1,4 @@
-//! A file that is checked, where each call of a reader or of a writer fails in turn.
+//! The check of a file, with each call of a reader or of a writer failing in turn.
 
 use crate::failing::Failing;
 use mds_check::{CheckFault, check};
@@ -22,7 +22,7 @@ const TWO_DAYS: &[u8] = b"100,NEM12,202401030000,MDP1,RETAILER\n\
 /// What is printed of it.
 const TWO_LINES: &[u8] = b"NEM1201009 E1 20240101 48 72 kWh\nNEM1201009 E1 20240102 48 -48 kWh\n";
 
-/// What `check` answers, and how many calls of its reader and of its writer failed.
+/// The result of `check`, and how many calls of its reader and of its writer failed.
 fn checked<R: Read + Drop, W: Write + Drop>(
     alloc: Global,
     reader: R,
@@ -34,7 +34,7 @@ fn checked<R: Read + Drop, W: Write + Drop>(
     (answer, reader.failures(), writer.failures())
 }
 
-/// Each call of the reader fails in turn. No call is made that isn't needed.
+/// Each call of the reader fails in turn. Each call that is made was needed.
 #[test]
 fn readers_fail(rt: HostRuntime) -> Result<(), Fail> {
     for calls in 0..TWO_DAYS.len() + 2 {
@@ -56,7 +56,7 @@ fn readers_fail(rt: HostRuntime) -> Result<(), Fail> {
     Ok(())
 }
 
-/// Each call of the writer fails in turn. No call is made that isn't needed.
+/// Each call of the writer fails in turn. Each call that is made was needed.
 #[test]
 fn writers_fail(rt: HostRuntime) -> Result<(), Fail> {
     for calls in 0..TWO_LINES.len() + 1 {

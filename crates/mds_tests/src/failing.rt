@@ -3,7 +3,7 @@
 use std::io;
 use std::io::{ErrorKind, Read, Write};
 
-/// A reader or a writer that takes up to so many bytes in each call, and fails after so many calls.
+/// A reader or a writer that takes at most `step` bytes in each call, and fails after some calls.
 #[derive(Drop)]
 pub(super) struct Failing<T> {
     pub(super) inner: T,

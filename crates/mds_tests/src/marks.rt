@@ -29,7 +29,7 @@ fn tell_reason(alloc: Global, code: &[u8], text: &[u8], out: &mut String) -> Opt
     own.try_clone().ok()?.write_to(out).ok()
 }
 
-/// Appends a reason that is made again of the parts of what a lent one becomes.
+/// Appends a reason that is made again from the parts of a borrowed one's copy.
 fn tell_lent_reason(alloc: Global, code: &[u8], text: &[u8], out: &mut String) -> Option<()> {
     let Some(lent) = ReasonRef::read(code, text) else {
         return None;
@@ -41,7 +41,7 @@ fn tell_lent_reason(alloc: Global, code: &[u8], text: &[u8], out: &mut String) -
         .ok()
 }
 
-/// Appends a copy of the reading of what a lent mark becomes.
+/// Appends a copy of the reading of a borrowed mark's copy.
 fn tell_lent_mark(alloc: Global, parts: [&[u8]; 7], out: &mut String) -> Option<()> {
     let [quality, code, text, value, ..] = parts;
     let Some(lent) = MarkRef::read(quality, code, text) else {

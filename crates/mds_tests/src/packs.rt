@@ -4,7 +4,7 @@ use mds_packs::{pack_day, unpack_day};
 use mds_terms::{Length, Reading};
 use std::alloc::Global;
 
-/// The body of a half-hourly day. Its first interval alone is held: actual data, 1.5.
+/// The body of a half-hourly day. Only its first interval has a reading: actual data, 1.5.
 const BODY: &[u8] =
     b"\x01\x00\x30\x00\x01\x00\x01\x00\x01\x41\x00\xff\xff\x00\x00\x00\x00\x00\x00\x00\x16\xe3\x60";
 

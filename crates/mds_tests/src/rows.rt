@@ -1,4 +1,4 @@
-//! Rows: what a text is read as, a `:`, the text, a `=`, and what is told of it.
+//! Rows: what a text is read as, a `:`, the text, a `=`, and the expected result.
 
 use crate::terms::tell_term;
 use mds_marks::Reading;
@@ -103,12 +103,13 @@ record:550,n=Bad(2)
 record:900=good
 record:900,,x=Count";
 
-/// Rows of runs, and of what a day of 48 intervals that is told each in turn has behind it.
+/// Rows of runs. They are put one by one into a day of 48 intervals, and after each comes the
+/// result.
 const COVERS: &str =
     "cover:10-20 20-48 10-20 1-9 20-20 21-47 47-48 48-48 48-48=taken 10-20;Order 10-20;Order 10-20;Order 10-20;Order 10-20;taken 10-20 21-47;Order 10-20 21-47;taken 10-20 21-47 48-48;Order 10-20 21-47 48-48;
 cover:0-5 9-8 49-49 48-49 10-20 12-49 0-0 15-14 20-65535 21-48=Range;Range;Range;Range;taken 10-20;Range 10-20;Range 10-20;Range 10-20;Range 10-20;taken 10-20 21-48;";
 
-/// A text up to the first of these characters, and what stands behind it.
+/// A text up to the first of these characters, and what follows that.
 pub fn cut(text: &str, at: char) -> (&str, &str) {
     text.split_once(at).unwrap_or((text, ""))
 }

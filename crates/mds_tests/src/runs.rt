@@ -6,7 +6,7 @@ use mds_marks::Mark;
 use mds_runs::{Cover, Run, RunFault, gather, gather_some, overlay, spread};
 use std::alloc::Global;
 
-/// Has a cover take a run of a quality.
+/// Puts a run of a quality into a cover.
 fn take(alloc: Global, cover: &mut Cover, first: u16, last: u16, quality: &[u8]) -> Option<()> {
     let mark = Mark::read(alloc, quality, b"", b"").ok()??;
     cover.push(Run { first, last, mark }).ok()
@@ -22,8 +22,7 @@ fn written(alloc: Global, cover: &Cover) -> Option<Vec<u8>> {
     Some(out)
 }
 
-/// The 400 records that are gathered of the marks of a day. It has two runs, and an actual mark in the intervals
-/// between them.
+/// The 400 records that are gathered from the marks of a day. It has two runs, and an actual mark in the intervals between them.
 fn gathered(alloc: Global) -> Option<Vec<u8>> {
     let mut cover = Cover::new(alloc, 48);
     take(alloc, &mut cover, 1, 20, b"F14")?;
@@ -36,7 +35,7 @@ fn gathered(alloc: Global) -> Option<Vec<u8>> {
     written(alloc, &gather(alloc, &marks).ok()?)
 }
 
-/// The 400 records that are gathered of a day of gaps with one run laid over them.
+/// The 400 records that are gathered from a day of gaps with one run laid over them.
 fn laid(alloc: Global) -> Option<Vec<u8>> {
     let mut cover = Cover::new(alloc, 48);
     take(alloc, &mut cover, 21, 24, b"A")?;
@@ -54,8 +53,8 @@ fn laid(alloc: Global) -> Option<Vec<u8>> {
     written(alloc, &gather_some(alloc, &marks).ok()?)
 }
 
-/// Has a cover of 48 intervals take runs in turn, each its first and its last interval. Appends of each whether it is refused, and which
-/// runs are there then.
+/// Puts runs into a cover of 48 intervals one by one, each by its first and its last interval. Appends for each whether it is refused,
+/// and which runs the cover then has.
 pub fn tell_cover(alloc: Global, runs: &str, out: &mut String) -> Option<()> {
     let mut cover = Cover::new(alloc, 48);
     for run in runs.split(' ') {

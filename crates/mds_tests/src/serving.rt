@@ -1,4 +1,4 @@
-//! A request over HTTP, where each call of a reader or of a writer fails in turn. Another writer takes no byte more.
+//! A request over HTTP, with each call of a reader or of a writer failing in turn. Another writer stops taking bytes.
 
 use crate::failing::Failing;
 use mds_lines::Counted;
@@ -10,7 +10,7 @@ use std::test::Fail;
 /// A request as a connection brings it.
 #[derive(Clone, Copy)]
 struct Talk {
-    /// The bytes that the reader has: the request, and more behind it.
+    /// The bytes that the reader has: the request, followed by more.
     sent: &'static [u8],
     /// How many bytes of them belong to the request.
     size: usize,
@@ -18,7 +18,7 @@ struct Talk {
     status: Status,
     /// The whole answer.
     answer: &'static [u8],
-    /// How the answer ends where the request is made once more.
+    /// How the answer ends if the request is made once more.
     again: &'static [u8],
 }
 
@@ -51,7 +51,7 @@ const NO_ROUTE: Talk = Talk {
     again: b"{\"error\":\"404\"}",
 };
 
-/// Another method than that of its route.
+/// Another method than the one of its route.
 const OTHER_METHOD: Talk = Talk {
     sent: b"GET /v1/imports HTTP/1.1\r\nHost: x\r\n\r\n, and more",
     size: 37,
@@ -76,7 +76,7 @@ const HOLIDAYS: &[u8] = b"date\n20240126\n";
 /// The longer one of the two.
 const NO_DAYS: &[u8] = b"100,NEM12,202401030000,MDP1,RETAILER\n900\n";
 
-/// What the handler answers where it is asked for the first time.
+/// What the handler answers when it is first asked.
 const FIRST: &[u8] = b"{\"added\":1,\"known\":0}";
 
 /// What it answers each time after that.
@@ -91,13 +91,13 @@ const ADDED: &[u8] =
 const LONGER: &[u8] = b"POST /v1/imports HTTP/1.1\r\nHost: x\r\nContent-Length: 43\r\n\r\n\
     100,NEM12,202401030000,MDP1,RETAILER\n900\n\n\n";
 
-/// How many of its bytes come until one isn't taken.
+/// How many of its bytes come until a piece is refused.
 const LONGER_SIZE: usize = 100;
 
-/// The body of an answer that says that memory, or what is kept, was unavailable.
+/// The body of an answer that says that memory or what is kept was unavailable.
 const UNAVAILABLE: &[u8] = b"{\"error\":\"U1\"}";
 
-/// A handler that counts how often it is asked to take one of the two bodies, which are all that it takes.
+/// A handler that accepts just the two bodies, and counts how often it is asked to take one.
 #[derive(Drop)]
 struct Asked {
     times: u64,
@@ -150,7 +150,7 @@ impl Handler for Asked {
     }
 }
 
-/// What serving a request comes to, and how many calls of the reader and of the writer failed.
+/// The result of serving a request, and how many calls of the reader and of the writer failed.
 fn served<R: Read + Drop, W: Write + Drop>(
     alloc: Global,
     routes: &Routes,
@@ -174,8 +174,8 @@ fn talk_of(place: usize) -> Talk {
     }
 }
 
-/// Each call of the reader fails in turn, and the handler isn't asked. Asked after that, it answers as for the first time. No
-/// call is made once the request is whole, though more bytes are there.
+/// Each call of the reader fails in turn, and the handler isn't asked. When it is asked after that, it answers as for the first
+/// time. No call is made once the request is whole, though there are more bytes.
 #[test]
 fn readers_fail(rt: HostRuntime) -> Result<(), Fail> {
     let routes = Routes::new(rt.alloc())?;
@@ -228,7 +228,7 @@ fn writers_fail(rt: HostRuntime) -> Result<(), Fail> {
     Ok(())
 }
 
-/// What serving a talk comes to where the writer takes so many bytes of its answer, and no call of the reader fails.
+/// The result of serving a talk if the writer takes at most this many bytes of its answer, and no call of the reader fails.
 fn written_of(talk: Talk, most: usize) -> (Result<Status, WireFault>, u64, u64) {
     if most < talk.answer.len() {
         (Err(WireFault::Write), 0, 1)
@@ -237,7 +237,7 @@ fn written_of(talk: Talk, most: usize) -> (Result<Status, WireFault>, u64, u64) 
     }
 }
 
-/// A writer that takes no byte more has failed as well.
+/// A writer that takes no more bytes has failed as well.
 #[test]
 fn writers_are_full(rt: HostRuntime) -> Result<(), Fail> {
     let routes = Routes::new(rt.alloc())?;
@@ -253,8 +253,8 @@ fn writers_are_full(rt: HostRuntime) -> Result<(), Fail> {
     Ok(())
 }
 
-/// A piece that the handler doesn't take is answered 503, and the handler isn't asked. No call is made after the one that brought
-/// it.
+/// A piece that the handler refuses is answered 503, and the handler isn't asked. No call is made after the one that brought the
+/// piece.
 #[test]
 fn pieces_are_refused(rt: HostRuntime) -> Result<(), Fail> {
     let routes = Routes::new(rt.alloc())?;

@@ -20,7 +20,7 @@ impl Read for Interrupted {
     }
 }
 
-/// A call that is interrupted is made again, and isn't one that fails.
+/// An interrupted call is made again, and doesn't count as failed.
 #[test]
 fn interrupted_calls_are_made_again(rt: HostRuntime) {
     let mut source = Counted::new(Interrupted(1_000));

@@ -1,4 +1,4 @@
-//! What texts are read as: terms, those that are made of several, and records.
+//! What texts are read as: simple terms, composed ones, and records.
 
 use crate::marks::tell_mark;
 use crate::rows::cut;
@@ -11,7 +11,7 @@ use mds_terms::{
 };
 use std::alloc::Global;
 
-/// Appends what a text is read and written as, by what it is to be read as. `None` where it isn't that.
+/// Appends what a text is read and written as, given what to read it as. `None` if it isn't that.
 pub fn tell_term(alloc: Global, word: &str, text: &str, out: &mut String) -> Option<()> {
     let bytes = text.as_bytes();
     let done = match word {
@@ -48,7 +48,7 @@ fn tell_record(alloc: Global, text: &[u8], out: &mut String) -> Option<()> {
     done.ok()
 }
 
-/// The parts of a text with a `|` between each. Those that are left off are empty.
+/// The parts of a text, separated by `|`. Missing ones are empty.
 fn parts_of(text: &str) -> [&[u8]; 7] {
     let (first, rest) = cut(text, '|');
     let (second, rest) = cut(rest, '|');
@@ -67,7 +67,7 @@ fn parts_of(text: &str) -> [&[u8]; 7] {
     ]
 }
 
-/// Appends a term that is made of texts.
+/// Appends a term that is composed of texts.
 fn tell_parts(alloc: Global, word: &str, text: &str, out: &mut String) -> Option<()> {
     let parts = parts_of(text);
     let [first, second, ..] = parts;
@@ -89,7 +89,7 @@ fn tell_printable(alloc: Global, text: &[u8], out: &mut String) -> Option<()> {
     write_joined(out, &[own.text(), "printable"]).ok()
 }
 
-/// Appends a copy of what a lent text becomes.
+/// Appends the copy of a borrowed text.
 fn tell_lent_printable(alloc: Global, text: &[u8], out: &mut String) -> Option<()> {
     let Some(lent) = PrintableText::read(text) else {
         return None;
@@ -106,7 +106,7 @@ fn tell_details(alloc: Global, parts: [&[u8]; 7], out: &mut String) -> Option<()
         .ok()
 }
 
-/// Appends a copy of what lent details become.
+/// Appends the copy of borrowed details.
 fn tell_lent_details(alloc: Global, parts: [&[u8]; 7], out: &mut String) -> Option<()> {
     let [configuration, register, datastream, meter, next, ..] = parts;
     let Some(lent) = DetailsRef::read(configuration, register, datastream, meter, next) else {
@@ -124,7 +124,7 @@ fn tell_event(alloc: Global, parts: [&[u8]; 7], out: &mut String) -> Option<()> 
         .ok()
 }
 
-/// Appends a copy of what a lent event becomes.
+/// Appends the copy of a borrowed event.
 fn tell_lent_event(alloc: Global, parts: [&[u8]; 7], out: &mut String) -> Option<()> {
     let [nmi, suffix, day, trans, ticket, moment, reading] = parts;
     let Some(lent) = EventRef::read(nmi, suffix, day, trans, ticket, moment, reading) else {

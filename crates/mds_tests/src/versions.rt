@@ -8,7 +8,7 @@ use mds_runs::DayReadings;
 use mds_terms::{Day, Length, Moment, Reading, Stream};
 use std::alloc::Global;
 
-/// Half-hourly readings of quality A: all are 1 but the third.
+/// Half-hourly readings of quality A: all are 1 except the third.
 pub(crate) fn readings_of(alloc: Global, third: &str) -> Option<Vec<Reading>> {
     let mut readings = Vec::new(alloc);
     for i in 0..48 {
@@ -42,8 +42,8 @@ fn claim_of(alloc: Global, line: u64, seconds: i64, third: &str) -> Option<Claim
     })
 }
 
-/// What two claims of a day that isn't known add. Line 3 claims it under an update of 10 seconds. Line 9 claims it under another
-/// update, with another third reading.
+/// What two claims of an unknown day add. Line 3 claims it under an update of 10 seconds. Line 9 claims it under another update,
+/// with another third reading.
 fn plan_of(alloc: Global, seconds: i64) -> Option<Result<Additions, Stop>> {
     let stream = Stream::read(b"NCDE001111", b"E1")?;
     let day = Day::read(b"20240101")?;
@@ -55,7 +55,7 @@ fn plan_of(alloc: Global, seconds: i64) -> Option<Result<Additions, Stop>> {
     Some(book.plan(alloc, &claims))
 }
 
-/// What they add, as a text: how many heads of new days, further heads, days and rows there are, and the row at place 50. Where they
+/// What they add, as a text: how many heads of new days, further heads, days and rows there are, and the row at place 50. If they
 /// are refused, it says why.
 fn told(alloc: Global, seconds: i64) -> Option<String> {
     let added = match plan_of(alloc, seconds)? {

@@ -6,7 +6,8 @@ use mds_quantity::Unit;
 use mds_terms::{Day, Details, Length, Mark, Moment, PrintableText, Stream};
 use std::alloc::Global;
 
-/// The lines of a row of each kind, from and to one participant: a day of half hours of 1, but the third of 2.
+/// The lines of a row of each kind, from and to one participant. It is a day of half hours with the value 1,
+/// except the third with 2.
 fn rows_of(alloc: Global, name: PrintableText<'_>) -> Option<Vec<u8>> {
     let moment = Moment::read(b"20240102000000")?;
     let date = Day::read(b"20240101")?;

@@ -1,11 +1,11 @@
-//! What the machine answers, as it is printed.
+//! How an answer of the machine is printed.
 
 use mds_answers::answer_json;
 use mds_messages::Answer;
 use std::io;
 use std::io::Write;
 
-/// Prints an answer, and ends the line: as JSON, or the text that it is.
+/// Prints an answer, and ends the line. It is printed as JSON, unless it is a text.
 pub fn print_answer(rt: &HostRuntime, answer: &Answer) -> io::Result<()> {
     let mut text = Vec::new(rt.alloc());
     match answer {

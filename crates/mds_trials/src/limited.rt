@@ -9,14 +9,14 @@ use std::io::{ErrorKind, Read, Write};
 pub struct Limit {
     /// The most bytes of a call.
     step: u32,
-    /// How many calls are answered in that way.
+    /// How many calls succeed in that way.
     calls: u32,
     /// Whether each further call fails. Else it takes no byte.
     fails: bool,
 }
 
 impl Limit {
-    /// The limit at the front of a list, and what stands behind it. It has three numbers. The last one is 0 where no call fails.
+    /// The limit at the front of a list, and what follows it. It has three numbers. The last one is 0 if no call fails.
     pub fn read(list: &[u8]) -> Option<(Limit, &[u8])> {
         let (step, behind) = next_number(list)?;
         let (calls, behind) = next_number(behind)?;

@@ -10,7 +10,7 @@ use std::alloc::AllocError;
 use std::io::Write;
 use std::{fs, io};
 
-/// What a reader of lines answers: a line, the end, or a fault.
+/// The results of a reader of lines: a line, the end, or a fault.
 const LINE: u8 = b'l';
 
 const END: u8 = b'e';
@@ -19,8 +19,8 @@ const UNREAD: u8 = b'r';
 
 const TOO_LARGE: u8 = b't';
 
-/// Prints what a reader of lines answers of each file of a list, up to the end or a fault. Then it is asked once more. In the list a limit
-/// stands before each file.
+/// Prints what a reader of lines returns for each file of a list, up to the end or a fault. Then it is asked once more. In the list a
+/// limit comes before each file.
 pub fn print_lines(rt: &HostRuntime, path: &str) -> io::Result<bool> {
     let list = fs::read(rt, path)?;
     let mut left = list.as_slice();
@@ -45,7 +45,7 @@ fn print_file(rt: &HostRuntime, file: Limited<&[u8]>) -> io::Result<()> {
     io::writer(rt).write_all(&out)
 }
 
-/// All that a reader answers up to the end or a fault.
+/// All that a reader returns, up to the end or a fault.
 fn put_lines<R: Source>(reader: &mut LineReader<R>, out: &mut Vec<u8>) -> Result<(), AllocError>
     requires failures { R.failures (reader_source reader.old) ≡ 0 }
     requires faultless { (reader_lines reader.old).fault ≡ None }
@@ -59,7 +59,7 @@ fn put_lines<R: Source>(reader: &mut LineReader<R>, out: &mut Vec<u8>) -> Result
     Ok(())
 }
 
-/// The next answer of a reader. It says whether that is a line.
+/// The next result of a reader. Returns whether it is a line.
 fn put_next<R: Source>(reader: &mut LineReader<R>, out: &mut Vec<u8>) -> Result<bool, AllocError>
     requires { R.failures (reader_source reader.old) < 2 ^ 64 - 1 }
     ensures line { IfOk result (λ is_line. is_line ≡ true
@@ -91,7 +91,7 @@ fn put_fault(fault: LineFault, out: &mut Vec<u8>) -> Result<(), AllocError> {
     }
 }
 
-/// An answer: a letter, a number and the length of a text in eight bytes each, and the text.
+/// A result: a letter, a number and the length of a text in eight bytes each, and the text.
 fn put(letter: u8, number: u64, text: &[u8], out: &mut Vec<u8>) -> Result<(), AllocError> {
     out.push(letter)?;
     out.extend_from_slice(&number.to_be_bytes())?;

@@ -30,7 +30,7 @@ impl<S: Alter> Runs for PackKeeper<S> {
     }
 }
 
-/// Answers lists in turn. It prints how many answers each has, and what they are.
+/// Answers lists one by one. It prints how many answers each has, and the answers.
 pub fn run_lists<F: RouteFinder, K: Runs>(
     rt: &HostRuntime,
     routes: &F,
@@ -65,7 +65,7 @@ fn run_list<F: RouteFinder, K: Runs>(
     Ok(())
 }
 
-/// The requests of a list, each a target and a body. `None` where one asks for nothing, or for want of memory.
+/// The requests of a list, each a target and a body. `None` if one asks for nothing, or if memory runs out.
 fn requests_in<F: RouteFinder>(alloc: Global, routes: &F, list: &[u8]) -> Option<Vec<Request>> {
     let mut requests = Vec::new(alloc);
     let mut left = list;

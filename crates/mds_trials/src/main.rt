@@ -1,23 +1,25 @@
-//! Tries the libraries without a store in a file: over a keeper in memory, and over a store whose files lie in memory.
+//! Tries the libraries without a store in a file: over a keeper in memory, and over a store whose files are in memory. Scripts in `tests/` and
+//! `bench/run` call it. It decides nothing, and no crate uses it.
+//! Must not change: the words, the lines that it prints, and the call between the two marks in `call_of_the_readme`, which README shows.
 //!
-//! Without words it makes the call that README shows, and prints the answers. `mds_trials serve PORT COUNT` serves so many
-//! connections to a port of 127.0.0.1 from an empty keeper, one after the other, and ends. The other words measure, over the keeper in
-//! memory. `mds_trials deliver PATH` reads all that a NEM12 file states. `mds_trials imports PATH` takes the file into an empty keeper,
-//! and then again. `mds_trials exports PATH FROM TO` takes it in and exports each of its streams in that range.
+//! Without words it makes that call, and prints the answers. `mds_trials serve PORT COUNT` serves COUNT connections to a port of 127.0.0.1 from an
+//! empty keeper, one after the other, and ends.
 //!
-//! `mds_trials applies PATH` reads a NEM12 file once and applies what it states twice. Then it takes the file itself in, in two pieces and
-//! whole.
+//! Three words measure, over the keeper in memory. `mds_trials deliver PATH` reads all that a NEM12 file states. `mds_trials imports PATH` imports
+//! the file into an empty keeper, and then again. `mds_trials exports PATH FROM TO` imports it and exports each of its streams in that range.
 //!
-//! Two words hold NEM12 files in pieces against the same files in one. A list of files stands in `PATH`, each behind its length in four
-//! bytes. `mds_trials cuts PATH` cuts each in two, at each of its bytes in turn, and then at all of them. `mds_trials pieces PATH SEED` cuts each once, in
+//! `mds_trials applies PATH` reads a NEM12 file once and applies what it states twice. Then it imports the file itself, in two pieces and whole.
+//!
+//! Two words compare NEM12 files in pieces with the same files in one. `PATH` has a list of files, each after its length in four bytes.
+//! `mds_trials cuts PATH` cuts each in two, at each of its bytes in turn, and then at all of them. `mds_trials pieces PATH SEED` cuts each once, in
 //! pieces that seem random.
 //!
-//! `mds_trials stops PATH FILES MANNER` stops the files of a store in memory, at each of their calls in turn. What is done with the store stands in
-//! `PATH` (tests/stops). `log`, `database` or `both` stop. The manner is `each`, `narrow` for a store that keeps little in memory and in its
-//! log, or `sample` for some calls alone. `mds_trials keepers PATH` does what stands in `PATH` with a keeper in memory, and with a store whose
-//! files lie in memory (tests/keepers).
+//! `mds_trials stops PATH FILES MANNER` stops the files of a store in memory, at each of their calls in turn. `PATH` has what is done with the store
+//! (tests/stops). `log`, `database` or `both` stop. The manner is `each`, `narrow` for a store that keeps little in memory and in its log, or
+//! `sample` for only some calls.
 //!
-//! `mds_trials lines PATH` prints the lines of files, of readers that are slow or fail (tests/pieces).
+//! `mds_trials keepers PATH` does what `PATH` says with a keeper in memory, and with a store whose files are in memory (tests/keepers).
+//! `mds_trials lines PATH` prints the lines of files, from readers that are slow or fail (tests/pieces).
 #![tactic(auto)]
 
 mod answers;
@@ -57,7 +59,7 @@ fn main(rt: HostRuntime) -> ExitCode {
     }
 }
 
-/// Does what the words say. Answers whether it understood them, and found nothing that differs.
+/// Does what the words say. Returns whether it understood them, and found no difference.
 fn run_words(rt: &HostRuntime) -> io::Result<bool> {
     let words: Vec<String> = env::args(rt)?.skip(1).collect(rt.alloc())?;
     match words.as_slice() {
@@ -89,7 +91,7 @@ fn usage(rt: &HostRuntime) -> io::Result<bool> {
     Ok(false)
 }
 
-/// Makes the call that README shows. It stands between two marks, by which tests/program holds one against the other.
+/// Makes the call that README shows. It is between two marks, by which tests/program compares the two.
 fn call_of_the_readme(rt: &HostRuntime) -> io::Result<bool> {
     let alloc = rt.alloc();
     let (Some(stream), Some(day)) = (Stream::read(b"NEM1201009", b"E1"), Day::read(b"20240101"))
@@ -132,8 +134,8 @@ fn file_of_a_day(alloc: Global, stream: &Stream) -> Result<Vec<u8>, AllocError> 
     Ok(file)
 }
 
-/// Applies what a NEM12 file states to an empty keeper, and once more. Then it takes the file itself in, in two pieces and whole. Prints
-/// the four answers.
+/// Applies what a NEM12 file states to an empty keeper, and once more. Then it imports the file itself, in two pieces and whole. Prints the four
+/// answers.
 fn apply_twice(rt: &HostRuntime, path: &str) -> io::Result<bool> {
     let bytes = fs::read(rt, path)?;
     let Ok(delivery) = read_nem12(rt.alloc(), &bytes) else {
@@ -156,7 +158,7 @@ fn apply_twice(rt: &HostRuntime, path: &str) -> io::Result<bool> {
     Ok(true)
 }
 
-/// Serves so many connections to a port, one after the other, from an empty keeper in memory.
+/// Serves a count of connections to a port, one after the other, from an empty keeper in memory.
 fn serve(rt: &HostRuntime, port: &str, count: &str) -> io::Result<bool> {
     let (Ok(port), Ok(count)) = (port.parse::<u16>(), count.parse::<u32>()) else {
         return usage(rt);
@@ -182,7 +184,7 @@ fn time_delivery(rt: &HostRuntime, path: &str) -> io::Result<bool> {
     Ok(true)
 }
 
-/// How many days a file states, and 0 where it isn't well formed.
+/// How many days a file states, or 0 if it isn't well formed.
 fn days_in(alloc: Global, text: &[u8]) -> u64 {
     let mut days = 0u64;
     if let Ok(delivery) = read_nem12(alloc, text) {
@@ -193,7 +195,7 @@ fn days_in(alloc: Global, text: &[u8]) -> u64 {
     days
 }
 
-/// Reads a file, takes it into an empty keeper, and takes it in again. Each time it prints the time for one of its days.
+/// Reads a file, imports it into an empty keeper, and imports it again. Each time it prints the time for one of its days.
 fn time_imports(rt: &HostRuntime, path: &str) -> io::Result<bool> {
     let bytes = fs::read(rt, path)?;
     let start = Instant::now(rt)?;
@@ -210,7 +212,7 @@ fn time_imports(rt: &HostRuntime, path: &str) -> io::Result<bool> {
     Ok(true)
 }
 
-/// Takes a file in, and prints the time for one of its days.
+/// Imports a file, and prints the time for one of its days.
 fn time_import(
     rt: &HostRuntime,
     keeper: &mut MemoryKeeper,
@@ -225,7 +227,7 @@ fn time_import(
     print_answer(rt, &answer)
 }
 
-/// Takes a file in, exports each of its streams in a range of days, and prints how fast.
+/// Imports a file, exports each of its streams in a range of days, and prints how fast.
 fn time_exports(rt: &HostRuntime, path: &str, from: &str, to: &str) -> io::Result<bool> {
     let mut keeper = MemoryKeeper::new(rt.alloc());
     let request = Request::Import {
@@ -275,7 +277,7 @@ fn export_of<'a>(
     Ok(export_request(alloc, &arguments).ok())
 }
 
-/// How many bytes an export has, and 0 where it was refused.
+/// How many bytes an export has, or 0 if it was refused.
 fn size_of_export(answer: &Answer) -> u128 {
     match answer {
         Answer::Exported(text) => text.len() as u128,
@@ -283,7 +285,7 @@ fn size_of_export(answer: &Answer) -> u128 {
     }
 }
 
-/// Holds the files of a list, in made pieces, against the same files in one piece.
+/// Compares the files of a list, in made pieces, with the same files in one piece.
 fn hold_made_pieces(rt: &HostRuntime, path: &str, seed: &str) -> io::Result<bool> {
     match seed.parse::<u64>() {
         Ok(seed) => hold_files(rt, path, Cutter::Made(seed)),

@@ -1,9 +1,9 @@
-//! What comes of a NEM12 file: all that it states, as a text, or its fault.
+//! The outcome of reading a NEM12 file: all that it states, as a text, or its fault.
 
 use mds_nem12::{Block, DeliveredDay, Delivery, Header, Nem12Fault};
 use std::alloc::{AllocError, Global};
 
-/// What comes of a file that was read. Two texts are the same where two deliveries state the same.
+/// The outcome of reading a file. Two texts are the same if two deliveries state the same.
 pub fn outcome_of(alloc: Global, read: Result<Delivery, Nem12Fault>) -> Result<String, Nem12Fault> {
     match read {
         Ok(delivery) => Ok(delivery_text(alloc, &delivery)?),

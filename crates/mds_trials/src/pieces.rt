@@ -1,4 +1,4 @@
-//! NEM12 files that are fed in pieces, each held against the same file in one piece.
+//! Feeds NEM12 files in pieces, and compares each with the same file in one piece.
 
 use crate::outcomes::outcome_of;
 use mds_nem12::{Nem12Fault, Reader, read_nem12};
@@ -8,17 +8,17 @@ use std::{fs, io};
 /// How files are cut.
 #[derive(Drop)]
 pub enum Cutter {
-    /// In two pieces, in turn behind each number of bytes, from none to all. Then, once more, at each byte.
+    /// In two pieces, after each number of bytes in turn, from none to all. Then, once more, at each byte.
     AtBytes,
-    /// Once, in pieces of lengths that seem random. At first the state is the seed of their numbers.
+    /// Once, in pieces of lengths that seem random. The first state is the seed of their numbers.
     Made(u64),
 }
 
-/// The most bytes of a made piece. It may have none.
+/// The most bytes of a made piece. It may be empty.
 const LONGEST_PIECE: u64 = 40;
 
 impl Cutter {
-    /// In how many ways a file of so many bytes is cut.
+    /// In how many ways a file of this length is cut.
     fn count(&self, length: usize) -> usize {
         match self {
             Cutter::AtBytes => length.saturating_add(2),
@@ -26,7 +26,7 @@ impl Cutter {
         }
     }
 
-    /// The pieces of a file that is cut in the way of this number, from 0.
+    /// The pieces of a file that is cut in the way with this number, from 0.
     fn pieces<'a>(
         &mut self,
         alloc: Global,
@@ -41,7 +41,7 @@ impl Cutter {
     }
 }
 
-/// A file cut in two, behind so many bytes.
+/// A file cut in two, after `size` bytes.
 fn two_pieces<'a>(alloc: Global, file: &'a [u8], size: usize) -> Result<Vec<&'a [u8]>, AllocError> {
     let (front, behind) = file.split_at(size.min(file.len()));
     let mut pieces = Vec::with_capacity(alloc, 2)?;
@@ -86,7 +86,7 @@ fn made_length(state: &mut u64) -> usize {
     ((*state >> 33) % (LONGEST_PIECE + 1)) as usize
 }
 
-/// What was held so far.
+/// What was compared so far.
 #[derive(Drop)]
 struct Tally {
     files: u64,
@@ -96,8 +96,9 @@ struct Tally {
     faults: u64,
 }
 
-/// Holds the files of a list, cut in pieces, against the same files in one piece. In the list four bytes before each file say its
-/// length, the highest first. Prints how many were held, and answers whether all came to the same. It stops at the first that doesn't.
+/// Compares the files of a list, cut in pieces, with the same files in one piece. In the list four bytes before each file give its
+/// length, the highest first. Prints how many were compared, and returns whether all had the same outcome. It stops at the first that
+/// differs.
 pub fn hold_files(rt: &HostRuntime, path: &str, mut cutter: Cutter) -> io::Result<bool> {
     let list = fs::read(rt, path)?;
     let mut tally = Tally {
@@ -126,13 +127,13 @@ pub fn hold_files(rt: &HostRuntime, path: &str, mut cutter: Cutter) -> io::Resul
     Ok(true)
 }
 
-/// The first file of a list, and the files behind it. `None` where there is no whole one.
+/// The first file of a list, and the files after it. `None` if there is no whole file.
 pub fn next_file(list: &[u8]) -> Option<(&[u8], &[u8])> {
     let (length, behind) = next_number(list)?;
     behind.split_at_checked(length as usize)
 }
 
-/// The number in the first four bytes of a list, and what stands behind it.
+/// The number in the first four bytes of a list, and what follows it.
 pub fn next_number(list: &[u8]) -> Option<(u32, &[u8])> {
     let [a, b, c, d, behind @ ..] = list else {
         return None;
@@ -140,7 +141,7 @@ pub fn next_number(list: &[u8]) -> Option<(u32, &[u8])> {
     Some((u32::from_be_bytes([*a, *b, *c, *d]), behind))
 }
 
-/// Holds a file, cut in each way, against the file in one piece.
+/// Compares a file, cut in each way, with the file in one piece.
 fn hold_file(
     rt: &HostRuntime,
     file: &[u8],
@@ -161,7 +162,7 @@ fn hold_file(
     Ok(true)
 }
 
-/// Prints the number of a file, from 0, and the lengths of the pieces that come to something else.
+/// Prints the number of a file, from 0, and the lengths of the pieces that have another outcome.
 fn print_difference(rt: &HostRuntime, number: u64, pieces: &[&[u8]]) -> io::Result<()> {
     print!(rt; "something else comes of file {number} in pieces of")?;
     for piece in pieces {
@@ -170,7 +171,7 @@ fn print_difference(rt: &HostRuntime, number: u64, pieces: &[&[u8]]) -> io::Resu
     println!(rt; " bytes")
 }
 
-/// Whether the pieces of a file come to what the whole comes to. A fault has to be told with the end of its line, if not before, and
+/// Whether the pieces of a file have the outcome of the whole. A fault must be returned with the end of its line, if not before, and
 /// again with each further piece.
 fn come_to(
     alloc: Global,
@@ -202,7 +203,7 @@ fn line_feeds(piece: &[u8]) -> u64 {
     count
 }
 
-/// Whether a fault has to be told once so many lines have ended.
+/// Whether a fault must be returned once this many lines have ended.
 fn is_due(whole: &Result<String, Nem12Fault>, lines: u64) -> bool {
     match whole {
         Err(Nem12Fault::File(fault)) => fault.line <= lines,
@@ -210,7 +211,8 @@ fn is_due(whole: &Result<String, Nem12Fault>, lines: u64) -> bool {
     }
 }
 
-/// Whether the answer to a piece goes with what the whole file comes to. Its fault has to be told by now, or may not be known yet.
+/// Whether the result for a piece agrees with the outcome of the whole file. Its fault must be returned by now, or may not be known
+/// yet.
 fn goes_with(
     answer: Result<(), Nem12Fault>,
     has_to_tell: bool,

@@ -1,5 +1,5 @@
-//! What is done with a database, or with a keeper in memory, step by step. What comes of it is printed. It is written over any store of
-//! the library, so that it is proved without what that says of files.
+//! What is done with a database, or with a keeper in memory, step by step. The outcomes are printed. It is written over any store of
+//! the library, so that its proof doesn't load what the library says of files.
 
 use crate::lists::{Runs, run_lists};
 use crate::pieces::next_file;
@@ -16,19 +16,19 @@ use sqlite::{Alter, Connection};
 use std::io;
 use std::io::Write;
 
-/// The steps: a store (schema 4) is made or taken, or a text of SQL is run. Any other is a migration.
+/// The steps: a store (schema 4) is made or adopted, or an SQL text is run. Any other step is a migration.
 const CREATE: u8 = b'c';
 
 const ADOPT: u8 = b'a';
 
 const EXECUTE: u8 = b'e';
 
-/// A store is taken for lists of requests, or for a request over a limited reader and writer.
+/// A store is adopted for lists of requests, or for a request over a limited reader and writer.
 const RUN: u8 = b'r';
 
 const TALK: u8 = b't';
 
-/// Does the steps of a list with a keeper in memory, for which making and taking a store are the same.
+/// Does the steps of a list with a keeper in memory, for which making and adopting a store are the same.
 pub fn do_in_memory<F: RouteFinder>(rt: &HostRuntime, routes: &F, steps: &[u8]) {
     let mut keeper = MemoryKeeper::new(rt.alloc());
     let mut left = steps;
@@ -80,7 +80,7 @@ fn do_step<F: RouteFinder, S: Alter>(
     }
 }
 
-/// Uses a store, if it could be had.
+/// Uses a store, if there is one.
 fn in_store<F: RouteFinder, S: Alter>(
     rt: &HostRuntime,
     routes: &F,
@@ -117,7 +117,7 @@ fn executed<S: Alter>(rt: &HostRuntime, conn: Connection<S>, text: &[u8]) -> Con
     conn
 }
 
-/// What a text of SQL came to.
+/// The outcome of an SQL text.
 fn word_of(has_run: bool) -> &'static [u8] {
     if has_run { b"done\n" } else { b"U1\n" }
 }
@@ -129,7 +129,7 @@ fn migrated<S: Alter>(rt: &HostRuntime, conn: Connection<S>) -> Connection<S> {
     conn
 }
 
-/// What a migration came to.
+/// The outcome of a migration.
 fn text_of(outcome: Result<Migrated, MigrateFault>) -> &'static [u8] {
     match outcome {
         Ok(Migrated::Done) => b"done\n",
@@ -193,7 +193,7 @@ fn serve_request<F: RouteFinder, K: Keeper>(
     }
 }
 
-/// Prints a text. Where that fails, whoever reads what is printed sees that something is missing.
+/// Prints a text. If that fails, anyone who reads the output sees that something is missing.
 pub fn tell(rt: &HostRuntime, text: &[u8]) {
     let _ = io::writer(rt).write_all(text);
 }

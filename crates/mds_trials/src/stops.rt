@@ -1,4 +1,4 @@
-//! A store in two files in memory, of which one or both stop at a call, at each in turn. What is left of them is opened again.
+//! A store in two files in memory. One or both stop at a call, at each in turn. What is left of them is opened again.
 
 use crate::pieces::next_file;
 use crate::steps::{do_in_memory, do_steps, tell};
@@ -8,7 +8,7 @@ use sqlite_disk::{Crash, Disk, Fuse, Memory};
 use std::alloc::Global;
 use std::{fs, io};
 
-/// A file that answers so many calls. Each further one fails, and changes nothing.
+/// A file that answers a limited number of calls. Each further call fails, and changes nothing.
 type Stopping = Fuse<Memory>;
 
 /// Any number makes salts for the log.
@@ -19,7 +19,7 @@ const NARROW_PAGES: usize = 4;
 
 const NARROW_FRAMES: usize = 16;
 
-/// A sample has each of the first calls, and then each of so many.
+/// A sample has each of the first calls, and then one of every few.
 const FIRST_CALLS: u64 = 60;
 
 const SAMPLE: u64 = 7;
@@ -29,10 +29,10 @@ const SAMPLE: u64 = 7;
 struct Disks {
     log_stops: bool,
     database_stops: bool,
-    /// Whether the store keeps few pages in memory and in the log. So requests read and write the database file too, and write to the
-    /// log before they are whole.
+    /// Whether the store keeps few pages in memory and in the log. Then requests read and write the database file too, and write to the log
+    /// before they are whole.
     is_narrow: bool,
-    /// Whether files stop at some of their calls alone.
+    /// Whether files stop at only some of their calls.
     is_sample: bool,
 }
 
@@ -47,7 +47,7 @@ impl Disks {
         }
     }
 
-    /// How many calls the files answer that stop, in the run of a number. A sample has all numbers up to the first, and then some.
+    /// How many calls the stopping files answer in the run with a number. A sample has all numbers up to the first calls, and then some.
     fn calls(self, number: u64) -> u64 {
         if self.is_sample && number > FIRST_CALLS {
             number
@@ -75,9 +75,9 @@ fn calls_of(stops: bool, calls: u64) -> u64 {
     if stops { calls } else { u64::MAX }
 }
 
-/// Does what a plan says with files that stop at their first call, then at their second one, and so on. The last run ends before they
-/// stop. A plan has three lists of steps. They are done before files stop, while they do, and with all that they may leave. All
-/// outcomes are printed.
+/// Does what a plan says with files that stop at their first call, then at their second one, and so on. The last run ends before they stop.
+/// A plan has three lists of steps. They are done before files stop, while they stop, and with all that they may leave. All outcomes are
+/// printed.
 pub fn stop_in_turn(
     rt: &HostRuntime,
     path: &str,
@@ -122,7 +122,8 @@ fn follow<F: RouteFinder>(rt: &HostRuntime, routes: &F, plan: &[u8], disks: Disk
     }
 }
 
-/// Does plans in turn. A plan is a list of steps. Each is done with a keeper in memory, and with a new database, whose files lie in memory.
+/// Does plans one by one. A plan is a list of steps. Each is done with a keeper in memory, and with a new database, whose files are in
+/// memory.
 pub fn do_plans(rt: &HostRuntime, path: &str) -> io::Result<bool> {
     let plans = fs::read(rt, path)?;
     let routes = Routes::new(rt.alloc())?;
@@ -156,7 +157,7 @@ fn in_new_files<F: RouteFinder>(
     in_files(rt, routes, options, files, steps)
 }
 
-/// A file that has these bytes for good. Where memory is wanting it has none, and what is printed shows that.
+/// A file that has these bytes for good. If memory runs out it has none, and the output shows that.
 fn stopping(alloc: Global, bytes: &[u8], calls: u64) -> Stopping {
     let mut file = Memory::new(alloc);
     let _ = file.write_at(0, bytes);
@@ -169,7 +170,7 @@ fn has_stopped<D: Disk>(file: &mut D) -> bool {
     !file.may_be_used() || file.len().is_err()
 }
 
-/// Opens the database of two files, does steps with it, closes it, and gives the files back.
+/// Opens the database of two files, does steps with it, closes it, and returns the files.
 fn in_files<F: RouteFinder, D: Disk + Drop>(
     rt: &HostRuntime,
     routes: &F,
@@ -192,7 +193,7 @@ fn in_files<F: RouteFinder, D: Disk + Drop>(
     }
 }
 
-/// Closes a database, and gives its files back.
+/// Closes a database, and returns its files.
 fn close<D: Disk + Drop>(rt: &HostRuntime, conn: Connection<FileStore<D>>) -> Files<D> {
     match conn.close_files() {
         Ok(files) => {
@@ -206,7 +207,7 @@ fn close<D: Disk + Drop>(rt: &HostRuntime, conn: Connection<FileStore<D>>) -> Fi
     }
 }
 
-/// Does steps with all that two files may leave. That is all that was written to each, or what was written before its last sync.
+/// Does steps with all that two files may leave: all that was written to each, or what was written before its last sync.
 fn look_at<F: RouteFinder>(
     rt: &HostRuntime,
     routes: &F,
@@ -236,7 +237,7 @@ struct Left {
     synced: Stopping,
 }
 
-/// Does steps with a database file, and each that the log may be.
+/// Does steps with a database file, and with each state in which the log may be.
 fn look_at_logs<F: RouteFinder>(
     rt: &HostRuntime,
     routes: &F,

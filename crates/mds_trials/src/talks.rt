@@ -32,8 +32,8 @@ impl<'a> Talk<'a> {
     }
 }
 
-/// Serves a request, and prints what that comes to. A line has a word, how many calls of the reader and of the writer failed, and how many
-/// bytes were written. These bytes follow it.
+/// Serves a request, and prints the outcome. A line has a word, how many calls of the reader and of the writer failed, and how many bytes
+/// were written. These bytes follow it.
 pub fn print_talk<F: RouteFinder, K: Keeper>(
     rt: &HostRuntime,
     routes: &F,
@@ -49,7 +49,7 @@ pub fn print_talk<F: RouteFinder, K: Keeper>(
     io::writer(rt).write_all(&out)
 }
 
-/// What serving it comes to, and how many calls failed.
+/// The outcome of serving it, and how many calls failed.
 fn served<F: RouteFinder, K: Keeper>(
     alloc: Global,
     routes: &F,

@@ -1,5 +1,5 @@
--- The bytes of an answer (RFC 9112, sections 4 to 6; which fields it has, and the bodies, are the profile's). The
--- digits and the phrase of a status are those of `http`.
+-- The bytes of an answer (RFC 9112, sections 4 to 6; the fields and the bodies are the profile's). The digits and
+-- the phrase of a status are those of `http`.
 use Rattle.std.specs.Prelude.{ℕ, List, [], ◌++◌, codes, decimal, unwrap_or}
 use Rattle.http.specs.StatusCode.{code_digits, reason_phrase}
 use Rattle.mds_wire.specs.declared.answer.Status.{Status}
@@ -31,7 +31,7 @@ abbrev pub kind_text : Kind → List ℕ
 kind_text Json = codes "application/json"
 kind_text Csv = codes "text/csv"
 
--- for 405 the method that is allowed (RFC 9110, section 15.5.6)
+-- for 405, the method that is allowed (RFC 9110, section 15.5.6)
 abbrev pub allow_line : Status → List ℕ
 allow_line (MethodNotAllowed route) = codes "Allow: " ++ method_of route ++ codes "\r\n"
 allow_line status = []
@@ -52,6 +52,6 @@ abbrev pub error_of : Status → List ℕ
 error_of Unavailable = codes "U1"
 error_of status = code_digits (number_of status)
 
--- the body of an answer that says no more than why nothing was done
+-- the body of an answer that only says why nothing was done
 abbrev pub refusal_body : Status → List ℕ
 refusal_body status = codes "{\"error\":\"" ++ error_of status ++ codes "\"}"

@@ -8,11 +8,11 @@ use Rattle.mds_wire.specs.declared.head.HeadFault.TheVariants.{Read, Closed, Bad
 use Rattle.mds_wire.specs.Calls.{HasRead}
 use Rattle.mds_wire.specs.Heads.{longest_head, IsOpenHead, IsNoHead, IsWhole}
 
--- behind the beginning of a head the rest of the room is wanted
+-- after the beginning of a head, the rest of the room is needed
 abbrev pub WantsHead : List ℕ → ℕ → Type 0
 WantsHead bytes count = IsOpenHead bytes × (length bytes + count ≡ longest_head)
 
--- what the bytes that were read are, by the answer
+-- what the bytes are that were read, by the result
 abbrev pub HeadAnswer : Option (List ℕ) → List ℕ → List HeaderSpan → Result HeadRead HeadFault → Type 0
 HeadAnswer left bytes fields (Ok read) = (read.filled ≡ length bytes) × IsWhole bytes fields read.spans
 HeadAnswer left bytes fields (Err Read) = ⊤
@@ -28,7 +28,7 @@ is_head_cut (Err Closed) = true
 is_head_cut (Err Bad) = false
 is_head_cut (Err TooLarge) = false
 
--- these bytes were read to the front of the buffer, and the answer is theirs
+-- these bytes were read to the front of the buffer, and the result is the one for them
 pub record ReadsHead {S : Type 0} (gives : S → List ℕ → S → Type 0) (old new : S) (old_left new_left : Option (List ℕ))
     (buffer : List ℕ) (fields : List HeaderSpan) (answer : Result HeadRead HeadFault) : Type 0 where
   pub bytes : List ℕ

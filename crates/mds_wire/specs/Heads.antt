@@ -23,13 +23,13 @@ pub record IsOpenHead (bytes : List ℕ) : Type 0 where
   pub none : HasNoRequest bytes
   pub may : MayBecomeRequest bytes
 
--- Whatever bytes follow, these begin no head of at most 64 fields. So they begin no head at all, or hold the line
--- feeds of more fields.
+-- Whatever bytes follow, these don't begin a head of at most 64 fields. So they don't begin a head at all, or they
+-- have the line feeds of more fields.
 pub record IsNoHead (bytes : List ℕ) : Type 0 where
   pub none : RequestOverflows most_fields bytes
   pub why : NeverHasRequest bytes ⊎ (most_fields < line_feeds bytes)
 
--- the spans are those of a head, which the bytes begin with
+-- the spans are those of a head with which the bytes begin
 pub record IsWhole (bytes : List ℕ) (fields : List HeaderSpan) (spans : RequestSpans) : Type 0 where
   pub head : RequestHead
   pub at : IsRequestAt bytes fields spans head

@@ -1,6 +1,6 @@
--- What a head means: the answer of the first check that stands, or the route and the length of the body. RFC 9112,
--- sections 3.2, 6.1 and 6.3, and RFC 9110, sections 8.6 and 15.5. A target is UTF-8 by `httparse`: another begins no
--- head.
+-- What a head means: the answer of the first check that fails, or the route and the length of the body. RFC 9112,
+-- sections 3.2, 6.1 and 6.3, and RFC 9110, sections 8.6 and 15.5. `httparse` takes only targets in UTF-8: any other
+-- begins no head.
 use Rattle.std.specs.Prelude.{ℕ, Bool, true, false, ◌==◌, ◌&&◌, not, nat_lt, List, [], ◌∷◌, length, map, take, drop, ◌+◌, Option, Some, None, if◌then◌else◌, codes, bytes_eq, slice_index_or}
 use Rattle.std.specs.List.{list_all, position_or_len}
 use Rattle.std.specs.Char.{is_ascii_digit}
@@ -20,7 +20,7 @@ use Rattle.mds_wire.specs.Routes.{slash, route_of, method_of}
 abbrev pub longest_body : ℕ
 longest_body = 8388608
 
--- the parts of a head that are looked at: each field is its name and its value, without the white space around it
+-- the parts of a head that are looked at; each field is its name and its value, without the white space around it
 pub record Parts : Type 0 where
   pub method : List ℕ
   pub target : List ℕ
@@ -36,7 +36,7 @@ parts_of head = record {
   fields = map name_and_value head.fields;
 }
 
--- those that spans show
+-- those that the spans show
 abbrev pub parts_at : List ℕ → List HeaderSpan → RequestSpans → Parts
 parts_at bytes fields spans = record {
   method = span_bytes bytes spans.method;
@@ -45,7 +45,7 @@ parts_at bytes fields spans = record {
   fields = map (header_bytes bytes) (take spans.headers fields);
 }
 
--- the values of the fields of a name, whatever the case of its letters
+-- the values of the fields with a name, whatever the case of its letters
 abbrev pub values_in : List ℕ → List (List ℕ × List ℕ) → List (List ℕ)
 values_in name [] = []
 values_in name (f ∷ fields) =
@@ -57,7 +57,7 @@ is_host_fault minor [] = minor == 1
 is_host_fault minor (value ∷ []) = false
 is_host_fault minor (value ∷ other ∷ values) = true
 
--- where the first question mark stands, or the length
+-- the place of the first question mark, or the length
 abbrev pub mark_place : List ℕ → ℕ
 mark_place target = position_or_len (λ byte. byte == 63) target
 
@@ -69,7 +69,7 @@ path_of target = take (mark_place target) target
 abbrev pub query_of : List ℕ → List ℕ
 query_of target = drop (mark_place target + 1) target
 
--- one Content-Length field, of digits alone
+-- one Content-Length field, with only digits
 abbrev pub judge_length : Route → List (List ℕ) → Judged
 judge_length route [] = Refused LengthRequired
 judge_length route (value ∷ other ∷ values) = Refused BadRequest
@@ -78,7 +78,7 @@ judge_length route (value ∷ []) =
     else if nat_lt longest_body (digits_value 10 value) then Refused ContentTooLarge
     else Wanted route (digits_value 10 value)
 
--- of a GET no body is read
+-- the body of a GET isn't read
 abbrev pub judge_body : Route → List (List ℕ) → Judged
 judge_body route lengths =
     if bytes_eq (method_of route) (codes "GET") then Wanted route 0 else judge_length route lengths
@@ -90,7 +90,7 @@ judge_route parts (Some route) =
     if not (bytes_eq parts.method (method_of route)) then Refused (MethodNotAllowed route)
     else judge_body route (values_in (codes "content-length") parts.fields)
 
--- the checks, the first that stands
+-- the checks: the first that fails
 abbrev pub judge : Parts → Judged
 judge parts =
     if is_host_fault parts.minor (values_in (codes "host") parts.fields) then Refused BadRequest

@@ -1,4 +1,4 @@
--- What follows of what bytes mean.
+-- What follows from the meaning of bytes.
 use Rattle.std.specs.Prelude.{◌≡◌, ◌≢◌, ℕ, ◌≤◌, ◌⊎◌, List, length, take, false}
 use Rattle.httparse.specs.Grammar.{RequestHead, ReadsRequest, HasNoRequest}
 use Rattle.mds_wire.specs.Heads.{longest_head, most_fields, IsOpenHead, IsNoHead}
@@ -9,11 +9,11 @@ use Rattle.mds_wire.specs.declared.judge.Judged.TheVariants.{Refused, Wanted}
 use Rattle.mds_wire.specs.declared.route.Route.{Route}
 use Rattle.mds_wire.specs.Meaning.{Answer, StepOf, TakesOf, MayLack, Means, AnswersJudged, refused}
 
--- a head that is in order, of a route and a body of this size
+-- a head that is in order, for a route and a body of this size
 abbrev pub IsHeadOf : RequestHead → Route → ℕ → Type 0
 IsHeadOf head route size = judge (parts_of head) ≡ Wanted route size
 
--- a head that is refused so
+-- a head that is refused with this status
 abbrev pub IsRefusedHead : RequestHead → Status → Type 0
 IsRefusedHead head status = judge (parts_of head) ≡ Refused status
 
@@ -23,7 +23,7 @@ HaveNoOrder bytes =
     (head : RequestHead) (rest : List ℕ) (route : Route) (size : ℕ) → ReadsRequest bytes head rest
     → length head.fields ≤ most_fields → IsHeadOf head route size → ⊥
 
--- the bytes begin with a head that is in order, and memory may be wanting for its target or for what came of its body
+-- the bytes begin with a head that is in order, and memory may run out for its target or for what came of its body
 abbrev pub TakeMemory : (Takes : TakesOf) → List ℕ → Type 0
 TakeMemory Takes bytes =
     (head : RequestHead) × (rest : List ℕ) × (route : Route) × (size : ℕ) × ReadsRequest bytes head rest
@@ -36,7 +36,7 @@ module _ {S : Type 0} (Step : StepOf S) (Same : S → S → Type 0) (Takes : Tak
       → ReadsRequest bytes head rest → length head.fields ≤ most_fields → Means Step Same Takes bytes old answer new
       → AnswersJudged Step Same Takes (judge (parts_of head)) head rest old answer new
 
-  -- Bytes that hold no head are answered 400 or 431, and change nothing. 431 is told only where they may still become one.
+  -- Bytes without a head are answered 400 or 431, and change nothing. 431 is answered only if they may still become one.
   abbrev pub Headless : Type 0
   Headless = (bytes : List ℕ) (old new : S) (answer : Answer) → HasNoRequest bytes
       → Means Step Same Takes bytes old answer new
@@ -44,7 +44,7 @@ module _ {S : Type 0} (Step : StepOf S) (Same : S → S → Type 0) (Takes : Tak
       ⊎ ((answer ≡ refused FieldsTooLarge false) × (length bytes ≡ longest_head) × IsOpenHead bytes)) × (new ≡ old)
 
   -- Whatever bytes mean is one step, of a whole request with its target and its body. Else nothing is changed, and the answer
-  -- isn't 200. The bytes begin with no head that is in order then. Or the answer is 503, and memory is taken.
+  -- isn't 200. Then the bytes begin with no head that is in order, or the answer is 503 and memory is taken.
   abbrev pub OnlySteps : Type 0
   OnlySteps = (bytes : List ℕ) (old new : S) (answer : Answer) → Means Step Same Takes bytes old answer new
       → ((head : RequestHead) × (rest : List ℕ) × (route : Route) × (size : ℕ) × ReadsRequest bytes head rest

@@ -1,4 +1,5 @@
--- What the router of `matchit` is told of the routes, and what it then holds. No public contract cites it.
+-- The templates of the routes in the router of `matchit`, and what it then holds. No public contract cites
+-- it.
 use Rattle.std.specs.Prelude.{ℕ, List, [], ◌∷◌, ◌++◌, map, Result, Ok, Err, codes}
 use Rattle.matchit.specs.Route.{Scan, parse_route}
 use Rattle.matchit.specs.Router.{RouteOf, route_from}
@@ -7,7 +8,7 @@ use Rattle.matchit.specs.declared.error.InsertError.{InsertError}
 use Rattle.mds_wire.specs.declared.route.Route.{Route}
 use Rattle.mds_wire.specs.declared.route.Route.TheVariants.{Imports, Substitutions, Holidays, Streams, Days, Versions, Periods, Gaps, Finals, Exports}
 
--- the text that it is told of each route
+-- the template of each route
 abbrev pub template_of : Route → List ℕ
 template_of Imports = codes "/v1/imports"
 template_of Substitutions = codes "/v1/substitutions"
@@ -30,6 +31,6 @@ abbrev pub rows_of : List Route → RowsOf (RouteOf Route)
 rows_of [] = []
 rows_of (route ∷ routes) = row_of (parse_route (template_of route)) route ++ rows_of routes
 
--- the routes that rows are of
+-- the routes of rows
 abbrev pub routes_in : RowsOf (RouteOf Route) → List Route
 routes_in rows = map (λ row. row.1.value) rows

@@ -10,17 +10,18 @@ slash = 47
 abbrev pub star : ℕ
 star = 42
 
--- how many bytes stand before the next slash
+-- how many bytes come before the next slash
 abbrev pub part_length : List ℕ → ℕ
 part_length path = position_or_len (λ byte. byte == slash) path
 
--- the part of a path of this number: what stands between slashes; that before the first one, nothing, has the number 0
+-- The part of a path with this number: the bytes between two slashes. The part before the first one is empty, and has
+-- the number 0.
 unfoldable pub part : ℕ → List ℕ → List ℕ
 part zero path = take (part_length path) path
 part (suc n) path = part n (drop (part_length path + 1) path)
 
--- Whether a path is of a pattern. A star stands for one or more bytes up to the next slash or the end. Any other byte
--- stands for itself.
+-- Whether a path fits a pattern. A star matches one or more bytes up to the next slash or the end. Any other byte
+-- matches itself.
 abbrev pub fits : List ℕ → List ℕ → Bool
 fits [] path = length path == 0
 fits (p ∷ pattern) path =
@@ -48,7 +49,7 @@ routes = Days ∷ Exports ∷ Finals ∷ Gaps ∷ Holidays ∷ Imports ∷ Perio
 unfoldable pub route_of : List ℕ → Option Route
 route_of path = find (λ route. fits (pattern_of route) path) routes
 
--- the one method of each route
+-- the only method of each route
 abbrev pub method_of : Route → List ℕ
 method_of Imports = codes "POST"
 method_of Substitutions = codes "POST"

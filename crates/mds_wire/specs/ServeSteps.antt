@@ -26,17 +26,17 @@ abbrev pub kind_of : Reply → Kind
 kind_of (Refused status is_head) = Json
 kind_of (Told status kind) = kind
 
--- its body, where the handler wrote this
+-- its body, if the handler wrote this
 abbrev pub body_of : Reply → List ℕ → List ℕ
 body_of (Refused status is_head) told = refusal_body status
 body_of (Told status kind) told = told
 
--- whether it ends with its head
+-- whether it is only a head
 abbrev pub ends_early : Reply → Bool
 ends_early (Refused status is_head) = is_head
 ends_early (Told status kind) = false
 
--- a reply, where the handler wrote this
+-- a reply, if the handler wrote this
 abbrev pub answer_of : Reply → List ℕ → Answer
 answer_of reply told = record {
   status = status_of reply;
@@ -56,7 +56,7 @@ module _ {S : Type 0} (Step : StepOf S) (Same : S → S → Type 0) (Takes : Tak
   UnderstandsAnswer left bytes old new told (Err Read) = new ≡ old
   UnderstandsAnswer left bytes old new told (Err Closed) = (new ≡ old) × IsAtEnd left × IsUnfinished bytes
 
-  -- these bytes were read, and what they mean was done
+  -- these bytes were read, and their meaning was done
   pub record Understands {R : Type 0} (gives : R → List ℕ → R → Type 0) (reader_old reader_new : R)
       (old_left new_left : Option (List ℕ)) (old new : S) (told : List ℕ) (result : Result Reply Unread) : Type 0 where
     pub bytes : List ℕ
@@ -64,7 +64,7 @@ module _ {S : Type 0} (Step : StepOf S) (Same : S → S → Type 0) (Takes : Tak
     pub read : HasRead Awaits gives reader_old reader_new old_left new_left bytes (is_unread result)
     pub is : UnderstandsAnswer new_left bytes old new told result
 
-  -- the same of bytes that came with a whole head, and those that were read after them
+  -- the same of bytes that came with a whole head, and of those read after them
   pub record Performs {R : Type 0} (came : List ℕ) (gives : R → List ℕ → R → Type 0) (reader_old reader_new : R)
       (old_left new_left : Option (List ℕ)) (old new : S) (told : List ℕ) (result : Result Reply Unread) : Type 0 where
     pub more : List ℕ

@@ -11,7 +11,7 @@ use Rattle.mds_wire.specs.Heads.{longest_head}
 use Rattle.mds_wire.specs.Judging.{longest_body}
 use Rattle.mds_wire.specs.Meaning.{Answer, StepOf, TakesOf, Means, Awaits}
 
--- the room that is taken for the body of a short answer
+-- the room reserved for the body of a short answer
 abbrev pub short_answer : ℕ
 short_answer = 768
 
@@ -49,7 +49,7 @@ module _ {S : Type 0} (Step : StepOf S) (Same : S → S → Type 0) (Takes : Tak
       (new ≡ old) × Keeps held holds × IsAtEnd left × IsUnfinished bytes
   ServesAnswer left held holds bytes old new (Err Memory) = (new ≡ old) × Keeps held holds × (bytes ≡ [])
 
-  -- These bytes were read, by calls each of which was awaited, and the answer is theirs.
+  -- These bytes were read, by calls that were all awaited, and the answer is the one for them.
   pub record Serves {R : Type 0} (gives : R → List ℕ → R → Type 0) (reader_old reader_new : R)
       (old_left new_left held holds : Option (List ℕ)) (old new : S) (result : Result Status WireFault) : Type 0 where
     pub bytes : List ℕ

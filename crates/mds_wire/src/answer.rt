@@ -13,7 +13,7 @@ pub enum Status {
     Success,
     BadRequest,
     NotFound,
-    /// The route whose method is allowed comes with it.
+    /// It has the route whose method is allowed.
     MethodNotAllowed(Route),
     Conflict,
     LengthRequired,
@@ -51,7 +51,7 @@ impl Status {
         }
     }
 
-    /// Its number, as 404.
+    /// Its number, such as 404.
     pub fn number(self) -> u16
         ensures { result ≡ number_of self }
     {
@@ -66,7 +66,7 @@ impl Status {
         self.code().canonical_reason().unwrap_or("")
     }
 
-    /// The body of an answer that says only why nothing was done. It is `{"error":"404"}`, or `{"error":"U1"}` for
+    /// The body of an answer that only says why nothing was done: `{"error":"404"}`, or `{"error":"U1"}` for
     /// `Unavailable`.
     pub fn refusal(self) -> &'static [u8]
         ensures { result.now ≡ refusal_body self }
@@ -100,7 +100,7 @@ impl Kind {
     }
 }
 
-/// Appends a piece for which there is room.
+/// Appends a piece. There is room for it.
 fn append(text: &mut Vec<u8>, piece: &[u8])
     requires { vec_len text.old + length piece.now ≤ vec_capacity text.old }
     ensures items { text.new.items ≡ text.old.items ++ piece.now }
@@ -110,7 +110,7 @@ fn append(text: &mut Vec<u8>, piece: &[u8])
     let _ = text.extend_from_slice(piece);
 }
 
-/// Appends the line that names the allowed method, where there is one. There is room for it.
+/// Appends the line that names the allowed method, if there is one. There is room for it.
 fn append_allow(text: &mut Vec<u8>, status: Status)
     requires { vec_len text.old + 13 ≤ vec_capacity text.old }
     ensures items { text.new.items ≡ text.old.items ++ allow_line status }
@@ -124,7 +124,7 @@ fn append_allow(text: &mut Vec<u8>, status: Status)
     }
 }
 
-/// Writes the head of an answer whose body has so many bytes. It takes no memory.
+/// Writes the head of an answer whose body has `size` bytes. It takes no memory.
 pub(crate) fn write_head(text: &mut Vec<u8>, status: Status, kind: Kind, size: usize)
     requires empty { text.old.items ≡ [] }
     requires room { longest_answer_head ≤ vec_capacity text.old }

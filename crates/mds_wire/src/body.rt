@@ -11,9 +11,9 @@ use mds_lines::Source;
 pub(crate) enum BodyFault {
     /// The source failed.
     Read,
-    /// The source ended first.
+    /// The source ended before the body did.
     Closed,
-    /// The handler didn't take a piece. Nothing more was read.
+    /// The handler refused a piece. Nothing more was read.
     Unavailable,
 }
 
@@ -31,7 +31,7 @@ impl From<Unavailable> for BodyFault {
 /// The most bytes that are read at a time.
 const BLOCK: usize = 16_384;
 
-/// Reads once, at most as many bytes as a block has, and feeds what came. It says how many bytes came.
+/// Reads once, at most a block of bytes, and feeds what came. Returns how many bytes came.
 fn feed_next<H: Handler, R: Source>(
     body: &mut H::Body,
     block: &mut [u8],
@@ -54,7 +54,7 @@ fn feed_next<H: Handler, R: Source>(
     }
 }
 
-/// Feeds a body of so many bytes. The first of them came with the head. The others are read, and each piece is fed as it
+/// Feeds a body of `size` bytes. The first ones came with the head. The others are read, and each piece is fed as it
 /// comes.
 pub(crate) fn feed_body<H: Handler, R: Source>(
     body: &mut H::Body,

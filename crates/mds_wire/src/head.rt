@@ -8,8 +8,7 @@ use httparse::Status;
 use httparse::spans::{HeaderSpan, RequestSpans, parse_request};
 use mds_lines::{Source, read_more};
 
-/// A head that was read: how many bytes were read, and where its parts are. Some of the bytes may stand behind the
-/// head.
+/// A head that was read: how many bytes were read, and where its parts are. Some of the bytes may follow the head.
 #[derive(Clone, Copy)]
 pub(crate) struct HeadRead {
     pub(crate) filled: usize,
@@ -21,19 +20,19 @@ pub(crate) struct HeadRead {
 pub(crate) enum HeadFault {
     /// The source failed.
     Read,
-    /// The source ended first.
+    /// The source ended before the head did.
     Closed,
-    /// The bytes begin no head, or one with too many fields.
+    /// The bytes don't begin a head, or one with too many fields.
     Bad,
     /// The head has too many bytes.
     TooLarge,
 }
 
-/// The bytes begin no head.
+/// The bytes don't begin a head.
 #[derive(Clone, Copy)]
 struct NoHead;
 
-/// Finds the parts of the head that the bytes begin with. `None` where there may be one once more bytes come.
+/// Finds the parts of the head that the bytes begin with. `None` if more bytes may complete a head.
 fn parse(bytes: &[u8], fields: &mut [HeaderSpan]) -> Result<Option<RequestSpans>, NoHead>
     requires { length fields.old ≡ most_fields }
     ensures ok { IfOk result (λ found. MatchOption found (IsOpenHead bytes.now) (IsWhole bytes.now fields.new)) }
@@ -46,8 +45,8 @@ fn parse(bytes: &[u8], fields: &mut [HeaderSpan]) -> Result<Option<RequestSpans>
     }
 }
 
-/// Reads a head to the front of a buffer, and whatever comes with it. The bytes are parsed after each read, so that no
-/// read is made without need.
+/// Reads a head to the front of a buffer, with whatever comes after it. The bytes are parsed after each read, so that
+/// each read is needed.
 pub(crate) fn read_head<R: Source>(
     buffer: &mut [u8],
     fields: &mut [HeaderSpan],

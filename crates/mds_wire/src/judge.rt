@@ -1,4 +1,4 @@
-//! The checks of a head, in their order: the first that stands gives the answer.
+//! The checks of a head, in their order: the first that fails gives the answer.
 
 ghost use Rattle.std.specs.Prelude.{◌≡◌, ◌≤◌, ℕ, List, length, map, min, All, slice_index_or, ◌==◌, nat_lt, ◌+◌, if◌then◌else◌, Option, Some, None, IsUtf8};
 ghost use Rattle.std.specs.Char.{is_ascii_digit};
@@ -26,7 +26,7 @@ pub(crate) enum Judged {
     Wanted(Route, usize),
 }
 
-/// The values of the fields of a name.
+/// The values of the fields with a name.
 #[derive(Clone, Copy)]
 enum Values<'b> {
     None,
@@ -37,7 +37,7 @@ enum Values<'b> {
 /// The most bytes of a body.
 const LONGEST_BODY: usize = 8_388_608;
 
-/// What a head means. The parser gave the places of its parts.
+/// What a head means. The parser found the places of its parts.
 pub(crate) fn judge_head<F: RouteFinder>(
     routes: &F,
     bytes: &[u8],
@@ -73,7 +73,7 @@ pub(crate) fn judge_head<F: RouteFinder>(
     judge_length(route, values_of(bytes, fields, b"content-length"))
 }
 
-/// The values of the fields of a name, whatever the case of its letters.
+/// The values of the fields with a name, whatever the case of its letters.
 fn values_of<'b>(bytes: &'b [u8], fields: &[HeaderSpan], name: &[u8]) -> Values<'b>
     requires { All (IsHeaderWithin (length bytes.now)) fields.now }
     ensures { IsValues (values_in name.now (map (header_bytes bytes.now) fields.now)) result }
@@ -90,7 +90,7 @@ fn values_of<'b>(bytes: &'b [u8], fields: &[HeaderSpan], name: &[u8]) -> Values<
     found
 }
 
-/// Whether the values of the `Host` fields are a fault, in HTTP/1.0 or 1.1 by `minor`.
+/// Whether the values of the `Host` fields are a fault. `minor` is 0 or 1, for HTTP/1.0 or 1.1.
 fn is_host_fault(minor: u8, values: Values<'_>) -> bool
     ensures { (found : List (List ℕ)) → IsValues found values.entry → result ≡ is_host_fault minor found }
 {
@@ -144,7 +144,7 @@ fn judge_length(route: Route, values: Values<'_>) -> Judged
     }
 }
 
-/// The number that digits write, or `None` where some byte is no digit. From 8,388,609 on it is 8,388,609, so that no
+/// The number that digits write, or `None` if some byte is no digit. From 8,388,609 on it is 8,388,609, so that no
 /// row of digits is too long.
 fn number(value: &[u8]) -> Option<usize>
     ensures { result ≡ (if list_all is_ascii_digit value.now

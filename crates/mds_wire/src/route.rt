@@ -1,4 +1,4 @@
-//! The routes, their methods, and the router that knows the paths that they are for.
+//! The routes, their methods, and the router that finds the route of a path.
 
 ghost use Rattle.std.specs.Prelude.{◌≡◌, ◌≤◌, length, IfOk};
 ghost use Rattle.mds_wire.specs.Routes.{route_of, routes, method_of, part_length};
@@ -25,7 +25,7 @@ pub enum Route {
 }
 
 impl Route {
-    /// All routes, in the order of their paths: the router keeps each behind those before it.
+    /// All routes, in the order of their paths. The router keeps each after the earlier ones.
     const ALL: [Route; 10] = [
         Route::Days,
         Route::Exports,
@@ -39,7 +39,7 @@ impl Route {
         Route::Versions,
     ];
 
-    /// The one method that it has.
+    /// Its only method.
     pub(crate) fn method(self) -> Method
         ensures value { result ≡ method_of self }
         ensures size { length result ≤ 4 }
@@ -50,7 +50,7 @@ impl Route {
         }
     }
 
-    /// What the router is told of its paths. A name in braces stands for any part that isn't empty.
+    /// The template of its paths, for the router. A name in braces matches any part that isn't empty.
     fn template(self) -> &'static str
         ensures { result.now ≡ template_of self }
     {
@@ -69,12 +69,12 @@ impl Route {
     }
 }
 
-/// Whoever finds the route of a path.
+/// Anything that finds the route of a path.
 pub trait RouteFinder {
     ghost use Rattle.std.specs.Prelude.{◌≡◌};
     ghost use Rattle.mds_wire.specs.Routes.{route_of};
 
-    /// The route that a path is for: `/v1/streams` is for `Streams`, `/v1/days/NEM1201009/E1/20240101` for `Days`.
+    /// The route of a path: `/v1/streams` is for `Streams`, `/v1/days/NEM1201009/E1/20240101` for `Days`.
     fn find(&self, path: &str) -> Option<Route>
         ensures { result ≡ route_of path.now };
 }
@@ -99,7 +99,7 @@ impl Model for Routes {
 }
 
 impl Routes {
-    /// Tells a router each route. No two of them conflict, so that only memory can be wanting.
+    /// Inserts each route into a router. No two of them conflict, so this fails only without memory.
     pub fn new(alloc: Global) -> Result<Routes, AllocError>
         ensures { IfOk result (λ made. made ≡ routes) }
     {
@@ -125,7 +125,7 @@ impl RouteFinder for Routes {
     }
 }
 
-/// How many bytes stand before the next slash.
+/// How many bytes come before the next slash.
 pub(crate) fn part_length(path: &[u8]) -> usize
     ensures value { result ≡ part_length path.now }
     ensures within { result ≤ length path.now }

@@ -1,4 +1,4 @@
-//! One request, read, handled and answered.
+//! Reads, handles and answers one request.
 
 ghost use Rattle.std.specs.Prelude.{◌≡◌, ◌≢◌, ◌+◌, ◌-◌, ◌^◌, ◌<◌, ◌≤◌, ◌++◌, ℕ, [], length, take, Err, bytes_eq, codes, vec_capacity, vec_len, IfOk, OnErr, OnOk, is_ok, if◌then◌else◌};
 ghost use Rattle.std.specs.Io.KnownBytes.{Appends};
@@ -22,7 +22,7 @@ use std::io;
 #[derive(Clone, Copy)]
 pub struct Unavailable;
 
-/// Whoever answers requests.
+/// What answers requests.
 pub trait Handler {
     ghost use Rattle.std.specs.Prelude.{ℕ, List};
     ghost use Rattle.mds_wire.specs.declared.answer.Status.{Status};
@@ -32,20 +32,20 @@ pub trait Handler {
     /// What is made of a body while it comes.
     type Body: Drop;
 
-    /// A step: the state before, the route, the target, the body, then the answer's status, type and body, and the
-    /// state after.
+    /// A step: the state before, the route, the target and the body. Then the answer's status, type and body, and the state
+    /// after.
     ghost step: { Self → Route → List ℕ → List ℕ → Status → Kind → List ℕ → Self → Type 0 };
 
-    /// What is kept is the same in both states.
+    /// Both states keep the same.
     ghost same: { Self → Self → Type 0 };
 
-    /// What takes memory before a step: of a route, a target and a body of so many bytes, behind what came of it, a piece.
+    /// What takes memory before a step: for a route, a target and a body of some size, a piece after what came of the body.
     ghost takes_memory: { Route → List ℕ → ℕ → List ℕ → List ℕ → Type 0 };
 
-    /// It was begun for a route, a target and so many bytes, and was fed these.
+    /// The body was begun for a route, a target and a size, and was fed these bytes.
     ghost holds: { Self.Body → Route → List ℕ → ℕ → List ℕ → Type 0 };
 
-    /// Begins a body of so many bytes, of which nothing has come. It fails only where that takes memory.
+    /// Begins a body of `size` bytes, of which nothing has come. It fails only if that takes memory.
     fn begin(
         &self,
         alloc: Global,
@@ -56,7 +56,7 @@ pub trait Handler {
         ensures begun { IfOk result (λ body. holds body route target.now size []) }
         ensures only { OnErr result (takes_memory route target.now size [] []) };
 
-    /// Takes more of a body, and no more than it has. It fails only where this piece takes memory behind what came before.
+    /// Takes more of a body, and no more than it has. It fails only if this piece takes memory after what came before.
     fn feed(body: &mut Self::Body, piece: &[u8]) -> Result<(), Unavailable>
         ensures fed { (route : Route) (target : List ℕ) (size : ℕ) (bytes : List ℕ) → holds body.old route target size bytes
             → length (bytes ++ piece.now) ≤ size → size ≤ longest_body
@@ -65,9 +65,8 @@ pub trait Handler {
             → length (bytes ++ piece.now) ≤ size → size ≤ longest_body
             → OnErr result (takes_memory route target size bytes piece.now) };
 
-    /// Makes a step with a body that is whole, and writes the answer's body. There is room for 768 bytes of it. Where
-    /// memory or what is kept is unavailable, nothing has changed. Whatever was written then counts for nothing, and
-    /// the answer is 503.
+    /// Makes a step with a whole body, and writes the answer's body, which has room for 768 bytes. If memory or what is kept is
+    /// unavailable, nothing has changed. Then whatever was written is ignored, and the answer is 503.
     fn handle(
         &mut self,
         alloc: Global,
@@ -85,7 +84,7 @@ pub trait Handler {
             → OnErr result (takes_memory route target.now (length bytes) bytes []) };
 }
 
-/// What is answered. It is a refusal, and whether the request's method is `HEAD`, or what the handler tells.
+/// What is answered: a refusal, with whether the request's method is `HEAD`, or what the handler wrote.
 #[derive(Clone, Copy)]
 enum Reply {
     Refused(Status, bool),
@@ -154,7 +153,7 @@ impl Reply {
         }
     }
 
-    /// Whether the answer ends with its head.
+    /// Whether the answer is only a head.
     fn ends_early(self) -> bool
         ensures { result ≡ ends_early self }
     {
@@ -164,7 +163,7 @@ impl Reply {
         }
     }
 
-    /// The answer's body, where the handler wrote `told`.
+    /// The answer's body, if the handler wrote `told`.
     fn body<'b>(self, told: &'b [u8]) -> &'b [u8]
         ensures { result.now ≡ body_of self told.now }
     {
@@ -175,7 +174,7 @@ impl Reply {
     }
 }
 
-/// As many of the bytes as a body has.
+/// The front of the bytes, as many as a body has.
 fn front_of(rest: &[u8], size: usize) -> &[u8]
     ensures value { result.now ≡ take size rest.now }
     ensures short { length result.now ≤ size }
@@ -194,7 +193,8 @@ fn is_head(method: &[u8]) -> bool
     method == b"HEAD".as_slice()
 }
 
-/// Feeds the body of a request whose head is whole to the handler, and does what it asks. Where the handler fails it answers 503.
+/// Feeds the body of a request to the handler, once the head is whole, and does what it asks. If the handler fails, it answers
+/// 503.
 fn perform<F: RouteFinder, H: Handler, R: Source>(
     alloc: Global,
     routes: &F,
@@ -275,7 +275,7 @@ fn understand<F: RouteFinder, H: Handler, R: Source>(
     }
 }
 
-/// Writes all of two texts, one behind the other, without joining them.
+/// Writes all of two texts, one after the other, without joining them.
 fn write_both<W: Sink>(head: &[u8], body: &[u8], writer: &mut W) -> io::Result<()>
     requires { W.failures writer.old < 2 ^ 64 - 1 }
     ensures done { OnOk result (Appends (W.contents writer.old) (W.contents writer.new) (head.now ++ body.now)) }
@@ -331,9 +331,9 @@ fn room_of_head(alloc: Global) -> Result<Vec<u8>, AllocError>
     vec![in alloc; 0; LONGEST_HEAD]
 }
 
-/// Reads one request, handles it, and writes its answer, whose status it says. At most 16,384 bytes are read for the
-/// head, with whatever comes behind it. The handler is fed the body as it comes, and no byte beyond it is read. All the
-/// memory that a refusal needs is taken before the first read.
+/// Reads one request, handles it, and writes its answer. Returns the answer's status. At most 16,384 bytes are read for the head,
+/// with whatever comes after it. The handler is fed the body as it comes, and no byte beyond it is read. All the memory that a
+/// refusal needs is taken before the first read.
 ///
 /// # Errors
 ///

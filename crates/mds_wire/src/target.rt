@@ -6,7 +6,7 @@ ghost use Rattle.mds_wire.specs.Routes.{part};
 
 use crate::route::part_length;
 
-/// Where the first question mark stands, or how long the target is.
+/// The place of the first question mark, or the target's length.
 fn mark_place(target: &[u8]) -> usize
     ensures value { result ≡ mark_place target.now }
     ensures within { result ≤ length target.now }
@@ -17,14 +17,14 @@ fn mark_place(target: &[u8]) -> usize
         .unwrap_or(target.len())
 }
 
-/// A target's path: what stands before the first question mark.
+/// A target's path: all that comes before the first question mark.
 pub fn path_of(target: &[u8]) -> &[u8]
     ensures { result.now ≡ path_of target.now }
 {
     &target[..mark_place(target)]
 }
 
-/// What stands behind the byte at a place, or nothing where that is the end.
+/// What follows the byte at a place. It is empty at the end.
 fn behind(text: &[u8], place: usize) -> &[u8]
     requires { place ≤ length text.now }
     ensures { result.now ≡ drop (place + 1) text.now }
@@ -35,15 +35,15 @@ fn behind(text: &[u8], place: usize) -> &[u8]
     &text[place + 1..]
 }
 
-/// A target's query: what stands behind the first question mark, or nothing.
+/// A target's query: all that follows the first question mark, or nothing.
 pub fn query_of(target: &[u8]) -> &[u8]
     ensures { result.now ≡ query_of target.now }
 {
     behind(target, mark_place(target))
 }
 
-/// The part of a path that has this number: what stands between two slashes. Part 0 stands before the first slash, where a path
-/// has nothing.
+/// The part of a path with this number: the bytes between two slashes. Part 0 comes before the first slash, where a path has
+/// nothing.
 pub fn part(path: &[u8], number: usize) -> &[u8]
     ensures { result.now ≡ part number path.now }
 {

@@ -14,7 +14,7 @@ use Rattle.mds_words.specs.declared.words.Words.{Words}
 use Rattle.mds_words.specs.declared.words.Words.TheVariants.{Check, Init, Migrate, Import, Substitute, Holidays, Streams}
 use Rattle.mds_words.specs.declared.words.Words.TheVariants.{Day, Versions, Periods, Gaps, Finals, Export, Serve, Explain}
 
--- standard input, or the file of a name
+-- standard input, or a file by its name
 abbrev pub input_value : Input → Option Text
 input_value Standard = None
 input_value (File name) = Some name.now
@@ -31,7 +31,7 @@ value_of id rows = unwrap_or (first_of id rows) []
 abbrev pub values_of : Text → List Row → List Text
 values_of id rows = unwrap_or (all_of id rows) []
 
--- whether a flag is there: clap gives it a value, `true` where it is and `false` where it isn't
+-- whether a flag is there: clap gives it a value, `true` if it is and `false` if it isn't
 abbrev pub has_flag : Text → List Row → Bool
 has_flag id rows = bytes_eq (value_of id rows) (codes "true")
 
@@ -39,7 +39,7 @@ has_flag id rows = bytes_eq (value_of id rows) (codes "true")
 abbrev pub kind_of_name : Text → FileKind
 kind_of_name name = if bytes_eq name (codes "nem13") then Nem13 else Nem12
 
--- the number that a text is, where it is one below a limit
+-- the number in a text, if it is below a limit
 abbrev pub number_below : ℕ → Text → ℕ
 number_below limit text =
     let digits = without_leading_plus text in
@@ -116,7 +116,8 @@ Asks (Some (name, rows)) (Serve store port count has_log) = (name ≡ codes "ser
 Asks (Some (name, rows)) (Explain code) = (name ≡ codes "explain")
     × (texts code.items ≡ values_of (codes "code") rows)
 
--- Words, by the grammar of an app, ask for this: clap finds no fault in them, and the command that they name asks so.
+-- Words ask for this, by the grammar of an app: clap finds no fault in them, and the command that they name asks for
+-- it.
 abbrev pub IsAskedBy : App → List Text → Words → Type 0
 IsAskedBy app words asked = (fault_of app words ≡ []) × Asks (subcommand_of app words) asked
 

@@ -1,4 +1,4 @@
--- What clap holds of an argument, and of a command.
+-- What clap knows of an argument, and of a command.
 use Rattle.std.specs.Prelude.{◌≡◌, List, [], Bool, false, fold}
 use Rattle.std.specs.List.{list_any}
 use Rattle.std.specs.Str.{bytes_eq}
@@ -7,7 +7,7 @@ use Rattle.clap.specs.declared.builder.command.Command.{Command}
 use Rattle.clap.specs.Words.{App, Rule, Shape, Text, app_of, rule_of, with_subcommand}
 use Rattle.clap.specs.declared.builder.command.Command.TheViews.{out-Command as fields_of}
 
--- the argument has this rule, and is the command's alone
+-- the argument has this rule, and belongs to the command alone
 pub record HasRule (rule : Rule) (arg : Arg) : Type 0 where
   pub rule_is : rule_of arg ≡ rule
   pub own : arg.global ≡ false
@@ -25,6 +25,6 @@ IsLeaf shape = IsApp (record { top = shape; subs = [] })
 abbrev pub with_commands : App → List Shape → App
 with_commands app more = fold with_subcommand app more
 
--- an app has a command of the name
+-- an app has a command with this name
 abbrev pub has_command : App → Text → Bool
 has_command app name = list_any (λ shape. bytes_eq shape.name name) app.subs

@@ -1,4 +1,4 @@
--- What words the commands of the program take, in clap's words.
+-- The words that the commands of the program take, in clap's terms.
 use Rattle.std.specs.Prelude.{◌≡◌, ◌++◌, ◌∷◌, List, [], Some, pos, true, false, codes, map}
 use Rattle.std.specs.Borrow.{Bor}
 use Rattle.clap.specs.Lexer.{usize_max}
@@ -18,7 +18,7 @@ use Rattle.mds_words.specs.declared.names.Word.TheVariants as word
 abbrev pub named : Text → Rule
 named id = record (new_rule id) { value_names = 1 }
 
--- such an argument that can't be left out
+-- such an argument that is required
 abbrev pub placed : Text → Rule
 placed id = record (named id) { required = true }
 
@@ -41,7 +41,7 @@ code = record (new_rule (codes "code")) {
   });
 }
 
--- an argument by the flag of its id
+-- an argument with a flag, which is its id
 abbrev pub flagged : Text → Rule
 flagged id = record (new_rule id) { value_names = 1; long = Some id }
 
@@ -52,7 +52,7 @@ store = record (flagged (codes "store")) { required = true }
 abbrev pub sums : Rule
 sums = record (flagged (codes "sums")) { action = Some SetTrue }
 
--- the names of the kinds of files, wherever they lie
+-- the names of the kinds of files, wherever they are in memory
 abbrev pub AreKinds : Bor (List (Bor Text)) → Type 0
 AreKinds kinds = texts kinds.now ≡ codes "nem12" ∷ codes "nem13" ∷ []
 
@@ -144,7 +144,7 @@ abbrev pub file_commands : Bor (List (Bor Text)) → List Shape
 file_commands kinds = check_command kinds ∷ init_command ∷ migrate_command ∷ import_command kinds
     ∷ substitute_command ∷ holidays_command ∷ []
 
--- ---- the commands on a store alone
+-- ---- the commands with only a store
 
 abbrev pub stream : List Rule
 stream = store ∷ placed (codes "nmi") ∷ placed (codes "suffix") ∷ []
@@ -232,7 +232,7 @@ words_of name.Export = word.Store ∷ word.Nmi ∷ word.From ∷ word.To ∷ wor
 words_of name.Serve = word.Store ∷ word.Port ∷ word.Count ∷ word.Log ∷ []
 words_of name.Explain = word.Code ∷ []
 
--- the command of a name
+-- the command with this name
 abbrev pub shape_of : Bor (List (Bor Text)) → Name → Shape
 shape_of kinds name = command_of (name_text name) (map (rule_of_word kinds) (words_of name))
 
@@ -250,6 +250,6 @@ mdstore_app kinds = record {
   subs = file_commands kinds ++ store_commands ++ explain_command ∷ [];
 }
 
--- the program's commands, wherever the names of the kinds of files lie
+-- the program's commands, wherever the names of the kinds of files are in memory
 abbrev pub IsMdstore : App → Type 0
 IsMdstore app = (kinds : Bor (List (Bor Text))) × AreKinds kinds × (app ≡ mdstore_app kinds)

@@ -1,4 +1,4 @@
-//! The grammar of the commands, as `clap` takes it.
+//! The grammar of the commands, for `clap`.
 
 ghost use Rattle.std.specs.Prelude.{◌≡◌, map, IfOk};
 ghost use Rattle.std.specs.List.{AllZip};
@@ -22,7 +22,7 @@ pub(crate) fn kinds() -> &'static [&'static str]
     KINDS.as_slice()
 }
 
-/// The commands, and what words they take. The names of the kinds of files lie at `kinds`.
+/// The commands, and the words that they take. `kinds` has the names of the kinds of files.
 pub(crate) fn grammar<'a>(alloc: Global, kinds: &'a [&'a str]) -> Result<Command<'a>, AllocError>
     ensures { IfOk result (IsApp (mdstore_app kinds.entry)) }
 {
@@ -36,7 +36,7 @@ pub(crate) fn grammar<'a>(alloc: Global, kinds: &'a [&'a str]) -> Result<Command
         .subcommands(commands)
 }
 
-/// Where the names of the kinds of files lie. It is a struct since the proof of a loop sees of a reference only what it points to.
+/// Holds the names of the kinds of files. It is a struct because the proof of a loop sees of a reference only what it points to.
 #[derive(Clone, Copy)]
 struct KindNames<'a> {
     names: &'a [&'a str],
@@ -53,7 +53,7 @@ fn commands<'a>(alloc: Global, kinds: KindNames<'a>) -> Result<Vec<Command<'a>>,
     Ok(commands)
 }
 
-/// The command of a name.
+/// The command with this name.
 fn command<'a>(alloc: Global, kinds: KindNames<'a>, name: Name) -> Result<Command<'a>, AllocError>
     ensures { IfOk result (IsLeaf (shape_of kinds.entry.names name)) }
 {
@@ -62,7 +62,7 @@ fn command<'a>(alloc: Global, kinds: KindNames<'a>, name: Name) -> Result<Comman
     Command::new(alloc, text).about(about).args(arguments)
 }
 
-/// The arguments of words.
+/// The arguments for words.
 fn arguments<'a>(
     alloc: Global,
     kinds: KindNames<'a>,
@@ -77,7 +77,7 @@ fn arguments<'a>(
     Ok(arguments)
 }
 
-/// The argument of a word.
+/// The argument for a word.
 fn argument<'a>(alloc: Global, kinds: KindNames<'a>, word: Word) -> Arg<'a>
     ensures { HasRule (rule_of_word kinds.entry.names word) result }
 {
@@ -142,14 +142,14 @@ fn code<'a>(alloc: Global) -> Arg<'a>
     named(alloc, Word::Code).num_args(1..)
 }
 
-/// An argument by the flag of its id.
+/// An argument with a flag, which is its id.
 fn flagged<'a>(alloc: Global, word: Word) -> Arg<'a>
     ensures { HasRule (flagged (id_of word)) result }
 {
     named(alloc, word).long(word.id())
 }
 
-/// An argument that a command can't do without, by its place.
+/// A required argument, by its place.
 fn required<'a>(alloc: Global, word: Word) -> Arg<'a>
     ensures { HasRule (placed (id_of word)) result }
 {

@@ -36,7 +36,8 @@ pub(crate) fn read_by_grammar<'a>(
     }
 }
 
-/// What an error of `clap` comes to. Its text says what is wrong with the words, or is the help or the version that they ask for.
+/// The fault that an error of `clap` becomes. Its text says what is wrong with the words, or is the help or the version that they
+/// ask for.
 fn words_fault(alloc: Global, error: &Error) -> WordsFault
     ensures memory { kind_of error.now ≡ ErrorKind.OutOfMemory → result ≡ WordsFault.Memory }
     ensures kind { IsRefusedAs (kind_of error.now) result }
@@ -51,7 +52,7 @@ fn words_fault(alloc: Global, error: &Error) -> WordsFault
     }
 }
 
-/// What the words ask for, or what `clap` says of them. The names of the kinds of files lie at `kinds`.
+/// What the words ask for, or what `clap` says of them. `kinds` has the names of the kinds of files.
 fn matched<'a>(alloc: Global, kinds: &'a [&'a str], words: &'a [String]) -> Result<Words<'a>, Error>
     ensures asked { IfOk result (IsAskedBy (mdstore_app kinds.entry) (map string_bytes words.now)) }
     ensures passes { IfErr result (λ error.
@@ -60,12 +61,12 @@ fn matched<'a>(alloc: Global, kinds: &'a [&'a str], words: &'a [String]) -> Resu
     ensures kinds { IfErr result (HasKind (fault_of (mdstore_app kinds.entry) (map string_bytes words.now))) }
 {
     let matches = grammar(alloc, kinds)?.try_get_matches_from(words)?;
-    // The grammar asks for a command, so that there is one.
+    // The grammar requires a command, so there is one.
     let (name, found) = matches.subcommand().unwrap();
     Ok(asked(alloc, name, found)?)
 }
 
-/// What is asked for by the name of a command and the arguments that were found behind it.
+/// What the name of a command and its arguments ask for.
 fn asked<'a>(alloc: Global, name: &str, found: &ArgMatches<'a>) -> Result<Words<'a>, AllocError>
     ensures { IfOk result (λ words. (kinds : Bor (List (Bor Text)))
         → has_command (mdstore_app kinds) name.now ≡ true
@@ -89,7 +90,7 @@ fn asked<'a>(alloc: Global, name: &str, found: &ArgMatches<'a>) -> Result<Words<
     }
 }
 
-/// The same of a command whose arguments take one word each.
+/// The same for a command whose arguments take one word each.
 fn asked_without_memory<'a>(name: &str, found: &ArgMatches<'a>, store: &'a str) -> Words<'a>
     requires { store.now ≡ value_of (codes "store") (rows_of (found_of found.now)) }
     ensures { (kinds : Bor (List (Bor Text)))
@@ -127,7 +128,7 @@ fn asked_without_memory<'a>(name: &str, found: &ArgMatches<'a>, store: &'a str) 
     }
 }
 
-/// The same of a command on a stream.
+/// The same for a command on a stream.
 fn asked_of_stream<'a>(name: &str, store: &'a str, words: QueryWords<'a>) -> Words<'a>
     ensures { (rows : List Row) → store.entry.now ≡ value_of (codes "store") rows → AreFound (λ id. value_of id rows) words.entry
         → list_any (λ shape. bytes_eq shape.name name.now) (day_command ∷ versions_command ∷ periods_command
@@ -164,7 +165,7 @@ fn asked_of_stream<'a>(name: &str, store: &'a str, words: QueryWords<'a>) -> Wor
     }
 }
 
-/// The arguments that were found behind a command.
+/// The arguments that were found after a command.
 #[derive(Drop)]
 struct Found<'m, 'a> {
     matches: &'m ArgMatches<'a>,
@@ -185,7 +186,7 @@ fn query_words<'a>(found: &ArgMatches<'a>) -> QueryWords<'a>
     QueryWords::of(&Found { matches: found })
 }
 
-/// The word of an argument. It is empty where the command has no such argument.
+/// The word of an argument. It is empty if the command has no such argument.
 fn word<'a>(found: &ArgMatches<'a>, id: &str) -> &'a str
     ensures { result.now ≡ value_of id.now (rows_of (found_of found.now)) }
 {
@@ -246,7 +247,7 @@ fn has_flag(found: &ArgMatches<'_>, id: &str) -> bool
     word(found, id) == "true"
 }
 
-/// The kind of file that is named.
+/// The kind of file that the words name.
 fn kind(found: &ArgMatches<'_>) -> FileKind
     ensures { result ≡ kind_of_name (value_of (codes "kind") (rows_of (found_of found.now))) }
 {
@@ -256,14 +257,14 @@ fn kind(found: &ArgMatches<'_>) -> FileKind
     }
 }
 
-/// The port, which is a number, since the grammar asks for one.
+/// The port. It is a number, since the grammar requires one.
 fn port(found: &ArgMatches<'_>) -> u16
     ensures { result ≡ number_of (2 ^ 16) (codes "port") (rows_of (found_of found.now)) }
 {
     found.get_one::<u16>("port").unwrap_or(0)
 }
 
-/// The count, which is a number, since the grammar asks for one.
+/// The count. It is a number, since the grammar requires one.
 fn count(found: &ArgMatches<'_>) -> u32
     ensures { result ≡ number_of (2 ^ 32) (codes "count") (rows_of (found_of found.now)) }
 {

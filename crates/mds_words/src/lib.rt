@@ -1,4 +1,9 @@
-//! The words of a call: what they ask for, or what is to be printed where they ask for nothing.
+//! The words of a call: what they ask for, or what is printed if they ask for nothing.
+//!
+//! It decides the commands with their arguments (`names.rt`), their grammar and the version (`commands.rt`). `clap` reads the words by that
+//! grammar. A call without words is `check -`, and takes no memory.
+//! Callers: `mdstore`. `mds_full` re-exports `read_words`.
+//! Must not change: commands, flags and help, which `docs/USE.md`, the manual page and the completions of the shells repeat.
 #![tactic(auto)]
 
 mod commands;

@@ -1,4 +1,4 @@
-//! The commands of the program, and what words they take.
+//! The commands of the program, and the words that they take.
 
 ghost use Rattle.std.specs.Prelude.{◌≡◌};
 ghost use Rattle.mds_words.specs.Grammar.{id_of, name_text, words_of};
@@ -23,7 +23,7 @@ pub(crate) enum Name {
     Explain,
 }
 
-/// A word that a command takes, or, for `Files`, `Suffixes` and `Code`, several.
+/// A word that a command takes. For `Files`, `Suffixes` and `Code` it is several words.
 #[derive(Clone, Copy)]
 pub(crate) enum Word {
     Store,
@@ -121,7 +121,7 @@ impl Name {
         }
     }
 
-    /// What words it takes.
+    /// The words that it takes.
     pub(crate) fn words(self) -> &'static [Word]
         ensures { result.now ≡ words_of self }
     {
@@ -191,7 +191,7 @@ impl Word {
         }
     }
 
-    /// What it is called in the usage.
+    /// Its name in the usage.
     pub(crate) fn value_name(self) -> &'static str {
         match self {
             Word::Store => "PATH",
@@ -214,7 +214,7 @@ impl Word {
         }
     }
 
-    /// What it is.
+    /// Its help.
     pub(crate) fn help(self) -> &'static str {
         match self {
             Word::Store => "The file of the store",

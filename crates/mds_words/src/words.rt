@@ -14,55 +14,55 @@ use std::alloc::Global;
 pub enum Input<'a> {
     /// Standard input.
     Standard,
-    /// The file of a name.
+    /// The file with this name.
     File(&'a str),
 }
 
-/// What the words of a call ask for. What a query's words spell isn't judged here.
+/// What the words of a call ask for. Whether a query's words are good isn't checked here.
 #[derive(Drop)]
 pub enum Words<'a> {
-    /// A file of a kind is checked.
+    /// Checks a file of a kind.
     Check {
         kind: FileKind,
         input: Input<'a>,
     },
-    /// A store is made in the file of a name, with a sum in each page if that is asked for.
+    /// Makes a store in the named file, with a sum in each page if that is asked for.
     Init {
         store: &'a str,
         has_sums: bool,
     },
-    /// The store of an earlier schema in the file of a name is taken to schema 4.
+    /// Migrates the store of an earlier schema in the named file to schema 4.
     Migrate {
         store: &'a str,
     },
-    /// Files of a kind are imported, one after the other, into the store in the file of a name.
+    /// Imports files of a kind, one after the other, into the store in the named file.
     Import {
         store: &'a str,
         kind: FileKind,
         inputs: Vec<Input<'a>>,
     },
-    /// The substitution job that a file says is done in the store in the file of a name.
+    /// Does the substitution job in a file, in the store in the named file.
     Substitute {
         store: &'a str,
         input: Input<'a>,
     },
-    /// The days of a list in a file are listed as holidays in the store in the file of a name.
+    /// Adds the days of a list in a file to the holidays of the store in the named file.
     Holidays {
         store: &'a str,
         input: Input<'a>,
     },
-    /// The known streams, from the store in the file of a name.
+    /// Prints the known streams of the store in the named file.
     Streams {
         store: &'a str,
     },
-    /// A day of a stream, from the store in the file of a name.
+    /// Prints a day of a stream, from the store in the named file.
     Day {
         store: &'a str,
         nmi: &'a str,
         suffix: &'a str,
         date: &'a str,
     },
-    /// The versions of an interval of a day, from the store in the file of a name.
+    /// Prints the versions of an interval of a day, from the store in the named file.
     Versions {
         store: &'a str,
         nmi: &'a str,
@@ -70,36 +70,36 @@ pub enum Words<'a> {
         date: &'a str,
         interval: &'a str,
     },
-    /// The accumulations of a stream, from the store in the file of a name.
+    /// Prints the accumulations of a stream, from the store in the named file.
     Periods {
         store: &'a str,
         nmi: &'a str,
         suffix: &'a str,
     },
-    /// The gaps of a stream in a range of days, from the store in the file of a name.
+    /// Prints the gaps of a stream in a range of days, from the store in the named file.
     Gaps {
         store: &'a str,
         range: RangeArguments<'a>,
     },
-    /// The finals of a stream in a range of days, from the store in the file of a name.
+    /// Prints the finals of a stream in a range of days, from the store in the named file.
     Finals {
         store: &'a str,
         range: RangeArguments<'a>,
     },
-    /// An export of some streams of a meter in a range of days, from the store in the file of a name.
+    /// Prints an export of some streams of a meter in a range of days, from the store in the named file.
     Export {
         store: &'a str,
         arguments: ExportArguments<'a>,
     },
-    /// So many connections to a port are served, one after the other, from the store in the file of a name. They are logged, if that
-    /// is asked for.
+    /// Serves a count of connections to a port, one after the other, from the store in the named file. They are logged if that is
+    /// asked for.
     Serve {
         store: &'a str,
         port: u16,
         count: u32,
         has_log: bool,
     },
-    /// What a printed code means, which may be of several words. Without one it is what each code means.
+    /// Explains a printed code, which may be several words. Without one it explains each code.
     Explain {
         code: Vec<&'a str>,
     },
@@ -110,9 +110,9 @@ pub enum Words<'a> {
 pub enum WordsFault {
     /// There was no memory to read them.
     Memory,
-    /// What is wrong with them, or the help that they ask for: this is to be printed.
+    /// This text is to be printed: what is wrong with them, or the help that they ask for.
     Text(String),
-    /// They ask for the version of the program, which this is.
+    /// They ask for the version of the program, which is this text.
     Version(String),
 }
 
@@ -128,10 +128,11 @@ impl<'a> Input<'a> {
     }
 }
 
-/// What the words that follow the program's name ask for.
+/// What the words after the program's name ask for.
 pub fn read_words<'a>(alloc: Global, words: &'a [String]) -> Result<Words<'a>, WordsFault>
     ensures asked { IfOk result (IsAsked (map string_bytes words.now)) }
-    // No words are never refused, and words that the grammar takes only for want of memory. `Version` is told just where they ask for it.
+    // No words are never refused, and words that the grammar takes only if memory runs out. `Version` is returned just if they ask for
+    // it.
     ensures passes { IfErr result (IsRefused (map string_bytes words.now)) }
 {
     if words.is_empty() {

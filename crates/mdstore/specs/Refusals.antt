@@ -1,4 +1,4 @@
--- What a migration and the end of a service come to, and what the want of a store or of a request does (profile).
+-- The outcomes of a migration, of the end of a service, and of a store or a request that can't be had (profile).
 use Rattle.std.specs.Prelude.{Result, Ok, Err}
 use Rattle.mds_store.specs.declared.starting.StoreFault.{StoreFault}
 use Rattle.mds_store.specs.declared.starting.StoreFault.TheVariants as store

@@ -1,4 +1,4 @@
-//! What a store in a file is asked, and what that comes to.
+//! Requests to a store in a file, and their outcomes.
 
 ghost use Rattle.std.specs.Prelude.{◌≡◌};
 ghost use Rattle.mdstore.specs.Refusals.{of_request_fault};
@@ -11,7 +11,7 @@ use mds_requests::{FileCommand, RequestFault, request_in};
 use std::io;
 use std::io::{ErrorKind, Read};
 
-/// All that a reader gives, or what a call comes to where it can't be read to its end.
+/// All that a reader brings, or the outcome of a call if it can't be read to its end.
 pub(crate) fn read_whole<R: Read + Drop>(rt: &HostRuntime, reader: R) -> Result<Vec<u8>, Outcome> {
     let mut reader = reader;
     let mut bytes = Vec::new(rt.alloc());
@@ -22,7 +22,7 @@ pub(crate) fn read_whole<R: Read + Drop>(rt: &HostRuntime, reader: R) -> Result<
     }
 }
 
-/// Asks a keeper for what was read. What couldn't be read asks for nothing.
+/// Asks a keeper for what was read. If it couldn't be read, nothing is asked.
 pub(crate) fn ask_keeper<K: Keeper>(
     rt: &HostRuntime,
     keeper: &mut K,
@@ -49,7 +49,7 @@ pub(crate) fn perform_request<K: Keeper>(
     Outcome::of_request(perform(rt.alloc(), keeper, request, &mut writer))
 }
 
-/// What a file comes to that asks for nothing.
+/// The outcome for a file that asks for nothing.
 fn of_request_fault(fault: RequestFault) -> Outcome
     ensures { result ≡ of_request_fault fault }
 {

@@ -15,11 +15,11 @@ use mds_words::{Words, WordsFault, read_words};
 use std::io::ErrorKind;
 use std::{env, io};
 
-/// What is printed where no code is as the words spell it.
+/// What is printed if no code is spelled like the words.
 const NO_SUCH_CODE: &str =
     "unknown code; the codes are L1 to L12, M1 to M12, H1, U1 to U3, bad job, bad argument, a word is not UTF-8, cannot read file and cannot listen\n";
 
-/// Runs the program, and gives the status to end with.
+/// Runs the program, and returns the status to end with.
 pub(crate) fn run(rt: &HostRuntime) -> Status {
     let outcome = outcome_of_call(rt);
     match print!(rt; "{outcome}") {
@@ -28,7 +28,7 @@ pub(crate) fn run(rt: &HostRuntime) -> Status {
     }
 }
 
-/// Does what the words of the call ask for, but for printing the outcome.
+/// Does what the words of the call ask for. The outcome is yet to be printed.
 fn outcome_of_call(rt: &HostRuntime) -> Outcome {
     let words = match env::args(rt) {
         Ok(words) => words,
@@ -104,7 +104,7 @@ fn outcome_of_words(rt: &HostRuntime, words: Words<'_>) -> Outcome {
     }
 }
 
-/// What a call comes to whose words can't be had.
+/// The outcome of a call whose words can't be read.
 fn without_words(error: &io::Error) -> Outcome
     ensures memory { error_kind error.now ≡ ErrorKind.OutOfMemory → result ≡ Outcome.Unavailable }
 {
@@ -114,7 +114,7 @@ fn without_words(error: &io::Error) -> Outcome
     }
 }
 
-/// Tells what a code means that words spell, or, without words, what all codes mean.
+/// Prints the meaning of the code that words name, or without words of all codes.
 fn explain(rt: &HostRuntime, words: &[&str]) -> Outcome {
     let Ok(code) = words.join(rt.alloc(), " ") else {
         return Outcome::Unavailable;
@@ -132,7 +132,7 @@ fn explain(rt: &HostRuntime, words: &[&str]) -> Outcome {
     }
 }
 
-/// Prints a text, and says what the call comes to then.
+/// Prints a text, and returns this outcome if that succeeds.
 fn tell(rt: &HostRuntime, text: &str, outcome: Outcome) -> Outcome {
     match print!(rt; "{text}") {
         Ok(()) => outcome,

@@ -13,8 +13,8 @@ use mds_requests::FileCommand;
 use mds_wire::Routes;
 use std::io::Read;
 
-/// Asks the store of a path, which isn't made where there is none, for what a reader gives. What it gives is read before the store
-/// is opened, so that it may come from another command on the same store. A fault of the store is told first all the same.
+/// Asks the store at a path, which isn't made if it is missing, for what a reader brings. The reader is read before the store is
+/// opened, so that its bytes may come from another command on the same store. A fault of the store is printed first all the same.
 pub(crate) fn ask<R: Read + Drop>(
     rt: &HostRuntime,
     path: &str,
@@ -25,7 +25,7 @@ pub(crate) fn ask<R: Read + Drop>(
     in_store(rt, path, Asking { command, bytes })
 }
 
-/// To ask for what was read.
+/// Asks for what was read.
 #[derive(Drop)]
 struct Asking {
     command: FileCommand,
@@ -41,12 +41,12 @@ impl Task for Asking {
     }
 }
 
-/// Puts a request to the store of a path, which isn't made where there is none.
+/// Passes a request to the store at a path, which isn't made if it is missing.
 pub(crate) fn query(rt: &HostRuntime, path: &str, request: &Request) -> Outcome {
     in_store(rt, path, Querying { request })
 }
 
-/// To put a request.
+/// Passes a request.
 #[derive(Drop)]
 struct Querying<'a> {
     request: &'a Request,
@@ -60,7 +60,7 @@ impl<'a> Task for Querying<'a> {
     }
 }
 
-/// Serves so many connections to a port of 127.0.0.1, one after the other, from the store of a path. A line for each is logged, if that
+/// Serves `count` connections to a port of 127.0.0.1, one after the other, from the store at a path. A line for each is logged, if that
 /// is asked for.
 pub(crate) fn serve(rt: &HostRuntime, path: &str, port: u16, count: u32, has_log: bool) -> Outcome {
     let log = if has_log {
@@ -71,7 +71,7 @@ pub(crate) fn serve(rt: &HostRuntime, path: &str, port: u16, count: u32, has_log
     in_store(rt, path, Serving { port, count, log })
 }
 
-/// To serve connections.
+/// Serves connections.
 #[derive(Drop)]
 struct Serving {
     port: u16,
@@ -90,7 +90,7 @@ impl Task for Serving {
     }
 }
 
-/// What it comes to that no more connections are served.
+/// The outcome of a service that serves no more connections.
 fn of_serving(ended: Ended) -> Outcome
     ensures { result ≡ of_serving ended }
 {

@@ -1,4 +1,4 @@
-//! NEM12 files, taken in as they are read.
+//! Imports NEM12 files as they are read.
 
 use crate::store_file::{Task, in_store};
 use mds_desk::{Outcome, import_file, import_read};
@@ -8,15 +8,15 @@ use mds_nem12::{Delivery, ReadFault, read_delivery};
 use std::io;
 use std::io::Read;
 
-/// Imports what a reader gives into the store of a path, which isn't made where there is none. It is read before the store is opened,
-/// so that it may come from another command on the same store. A fault of the store is told first all the same.
+/// Imports what a reader brings into the store at a path, which isn't made if it is missing. The file is read before the store is
+/// opened, so that it may come from another command on the same store. A fault of the store is printed first all the same.
 pub(crate) fn import<R: Read + Drop>(rt: &HostRuntime, path: &str, reader: R) -> Outcome {
     let mut reader = Counted::new(reader);
     let read = read_delivery(rt.alloc(), &mut reader);
     in_store(rt, path, TakingIn { read })
 }
 
-/// To take in what was read.
+/// Imports what was read.
 #[derive(Drop)]
 struct TakingIn {
     read: Result<Delivery, ReadFault>,
@@ -31,7 +31,7 @@ impl Task for TakingIn {
     }
 }
 
-/// Imports what a reader gives over a keeper, and prints the answer.
+/// Imports what a reader brings over a keeper, and prints the answer.
 pub(crate) fn import_over<K: Keeper, R: Read + Drop>(
     rt: &HostRuntime,
     keeper: &mut K,

@@ -1,4 +1,4 @@
-//! What is done with inputs: files, and standard input.
+//! Commands on inputs: files, and standard input.
 
 use crate::asking::{ask_keeper, read_whole};
 use crate::commands::ask;
@@ -25,7 +25,7 @@ pub(crate) fn check_input(rt: &HostRuntime, kind: FileKind, input: Input<'_>) ->
     }
 }
 
-/// Checks what a reader gives, and prints its lines.
+/// Checks what a reader brings, and prints its lines.
 fn check_reader(rt: &HostRuntime, kind: FileKind, reader: impl Read + Drop) -> Outcome {
     let mut reader = Counted::new(reader);
     let mut writer = Counted::new(io::writer(rt));
@@ -48,7 +48,7 @@ pub(crate) fn ask_input(
     }
 }
 
-/// Imports inputs of a kind into a store, one after the other, with one open of it. Where they are several, each line begins with the
+/// Imports inputs of a kind into a store, one after the other, with one open of it. If there are several, each line begins with the
 /// name of its input.
 pub(crate) fn import_inputs(
     rt: &HostRuntime,
@@ -62,7 +62,7 @@ pub(crate) fn import_inputs(
     }
 }
 
-/// Imports an input of a kind into a store. A NEM12 file is taken in as it is read, a NEM13 file once it was read.
+/// Imports an input of a kind into a store. A NEM12 file is imported as it is read, a NEM13 file after it was read.
 fn import_input(rt: &HostRuntime, store: &str, kind: FileKind, input: Input<'_>) -> Outcome {
     match (kind, input) {
         (FileKind::Nem12, Input::Standard) => import(rt, store, rt.reader()),
@@ -74,7 +74,7 @@ fn import_input(rt: &HostRuntime, store: &str, kind: FileKind, input: Input<'_>)
     }
 }
 
-/// To import several inputs. All are tried, and the run ends with the greatest of their statuses; where one can't be printed it ends
+/// Imports several inputs. All are tried, and the run ends with the greatest of their statuses. If a line can't be printed, it ends
 /// there.
 #[derive(Drop)]
 struct Importing<'a> {
@@ -96,7 +96,7 @@ impl<'a> Task for Importing<'a> {
     }
 }
 
-/// Imports an input, and prints what that comes to behind the input's name. Where that can't be printed there is no status.
+/// Imports an input, and prints its name followed by the outcome. If that can't be printed, there is no status.
 fn import_named<K: Keeper>(
     rt: &HostRuntime,
     keeper: &mut K,
@@ -120,7 +120,7 @@ fn import_named<K: Keeper>(
     Some(outcome.status())
 }
 
-/// Takes in a NEM12 file over a keeper, and prints its answer.
+/// Imports a NEM12 file over a keeper, and prints its answer.
 fn import_nem12<K: Keeper>(rt: &HostRuntime, keeper: &mut K, input: Input<'_>) -> Outcome {
     match input {
         Input::Standard => import_over(rt, keeper, rt.reader()),
@@ -131,7 +131,7 @@ fn import_nem12<K: Keeper>(rt: &HostRuntime, keeper: &mut K, input: Input<'_>) -
     }
 }
 
-/// Takes in a NEM13 file over a keeper, and prints its answer.
+/// Imports a NEM13 file over a keeper, and prints its answer.
 fn import_nem13<K: Keeper>(rt: &HostRuntime, keeper: &mut K, input: Input<'_>) -> Outcome {
     let bytes = match input {
         Input::Standard => read_whole(rt, rt.reader()),

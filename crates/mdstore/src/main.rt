@@ -1,8 +1,13 @@
-//! The program `mdstore`: from the words that it is called with to what it prints and the status that it ends with.
+//! The program `mdstore`: from the words of a call to what it prints and its status.
 //!
-//! `call` does what words ask for. `inputs` and `queries` put files and questions to a store. `asking` does so over a keeper, and
-//! `importing` takes NEM12 files in as they are read. `commands` are those on a store in a file, which `store_file` opens and closes.
-//! `place` knows what stood at its path, so that a refusal leaves just that.
+//! `call` does what the words ask for. `inputs` and `queries` pass files and queries to a store, and `asking` does so over a keeper.
+//! `importing` imports NEM12 files as they are read. `commands` are those on a store in a file, which `store_file` opens and closes.
+//! `place` records what was at its path.
+//!
+//! It decides the order of faults: those of the words, the file, the store, the reading, what is read, and then the request. It decides
+//! what becomes of a store's file and its log (`place.rt`): a refusal leaves them as they were.
+//! Callers: users and their scripts.
+//! Must not change: what is printed and which status a call ends with, which `docs/USE.md` lists.
 #![tactic(auto)]
 
 mod asking;

@@ -1,4 +1,4 @@
-//! What stands at the path of a store before it is opened, so that a refusal leaves just that.
+//! What is at the path of a store before it is opened, so that a refusal leaves just that.
 
 use crate::store_file::LockedFiles;
 use std::fs::OpenOptions;
@@ -7,28 +7,28 @@ use std::os::unix::fs::OpenOptionsExt;
 use std::path::PathBuf;
 use std::{fs, io};
 
-/// The fewest bytes of a database, those of the least page.
+/// The fewest bytes of a database, those of the smallest page.
 const SHORTEST_DATABASE: u64 = 512;
 
-/// The fewest bytes of a log that holds a page: its header, and the least page behind a header of its own.
+/// The fewest bytes of a log that holds a page: its header, and the smallest page after a header of its own.
 const SHORTEST_LOG: u64 = 32 + 24 + SHORTEST_DATABASE;
 
-/// Where the header of a database says how many bytes at the end of each page are no part of it.
+/// Where the header of a database says how many bytes at the end of each page don't belong to it.
 const RESERVED: usize = 20;
 
-/// How many these are where each page ends in a sum.
+/// How many these are if each page ends in a sum.
 const SUM_BYTES: u8 = 8;
 
 /// The file of a store and its log, as a call found them.
 #[derive(Drop)]
 pub(crate) struct Place {
-    // The file that a link leads to.
+    // The file to which a link leads.
     file: PathBuf,
-    // How many bytes it had; none where the call made it.
+    // How many bytes it had; none if the call made it.
     file_bytes: Option<u64>,
-    // The log lies beside that file.
+    // The log, which is next to that file.
     log: String,
-    // How many bytes the log had; none where it wasn't there.
+    // How many bytes the log had; none if it wasn't there.
     log_bytes: Option<u64>,
 }
 
@@ -46,7 +46,7 @@ pub(crate) enum Standing {
 }
 
 impl Place {
-    /// The place of a file that is there.
+    /// The place of an existing file.
     pub(crate) fn of_file(rt: &HostRuntime, path: &str) -> io::Result<Place> {
         let found = fs::metadata(rt, path)?;
         if !found.is_file() {
@@ -55,7 +55,7 @@ impl Place {
         Place::look(rt, path, Some(found.len()))
     }
 
-    /// The place of a file, which is made where there is none, so that nobody else can have made it.
+    /// The place of a file. If there is no file it is made, by a call that fails if another process makes it.
     pub(crate) fn to_make(rt: &HostRuntime, path: &str) -> io::Result<Place> {
         let made = OpenOptions::new()
             .write(true)
@@ -78,7 +78,7 @@ impl Place {
         }
     }
 
-    /// Notes what stands beside a file that is there by now.
+    /// Records what is next to a file that exists by now.
     fn look(rt: &HostRuntime, path: &str, file_bytes: Option<u64>) -> io::Result<Place> {
         let file = fs::canonicalize(rt, path)?;
         let log = format!(in rt.alloc(); "{}-wal", file.as_str())?;
@@ -110,13 +110,13 @@ impl Place {
         Ok(header[RESERVED] == SUM_BYTES)
     }
 
-    /// Removes the log, which is empty or all of which is in the file. While the files are locked nobody else uses it.
-    /// One that can't be removed does no harm.
+    /// Removes the log, which is empty or whose content is all in the file. While the files are locked nobody else
+    /// uses it. If it can't be removed, that does no harm.
     pub(crate) fn remove_log(&self, rt: &HostRuntime, _locked: &LockedFiles) {
         let _ = fs::remove_file(rt, self.log.as_str());
     }
 
-    /// Takes away what the call made, while the files are locked.
+    /// Removes what the call made, while the files are locked.
     pub(crate) fn restore(&self, rt: &HostRuntime, locked: &LockedFiles) {
         match self.standing() {
             Standing::Nothing => {
@@ -127,14 +127,14 @@ impl Place {
         }
     }
 
-    /// Removes a log that the call made, where it holds no page. One that holds a page may be needed.
+    /// Removes a log that the call made, if it holds no page. One that holds a page may be needed.
     pub(crate) fn remove_empty_log(&self, rt: &HostRuntime, locked: &LockedFiles) {
         if self.log_bytes.is_none() && is_shorter(rt, self.log.as_str(), SHORTEST_LOG) {
             self.remove_log(rt, locked);
         }
     }
 
-    /// Takes away the file that the call made, where it couldn't be opened and has no bytes yet.
+    /// Removes the file that the call made, if it couldn't be opened and has no bytes yet.
     pub(crate) fn take_away_file(&self, rt: &HostRuntime) {
         if self.file_bytes.is_none() && is_shorter(rt, self.file.as_str(), 1) {
             let _ = fs::remove_file(rt, self.file.as_str());
@@ -142,7 +142,7 @@ impl Place {
     }
 }
 
-/// How many bytes a file has, if it is there. What isn't a file, as a folder or a link, is an error.
+/// How many bytes a file has, if it exists. Anything but a file, such as a folder or a link, is an error.
 fn bytes_of(rt: &HostRuntime, path: &str) -> io::Result<Option<u64>> {
     match fs::symlink_metadata(rt, path) {
         Ok(found) if found.is_file() => Ok(Some(found.len())),
@@ -152,12 +152,12 @@ fn bytes_of(rt: &HostRuntime, path: &str) -> io::Result<Option<u64>> {
     }
 }
 
-/// Whether a file is there and has fewer bytes than so many.
+/// Whether a file exists and is shorter than `length` bytes.
 fn is_shorter(rt: &HostRuntime, path: &str, length: u64) -> bool {
     matches!(bytes_of(rt, path), Ok(Some(bytes)) if bytes < length)
 }
 
-/// Removes a file that wasn't there, and cuts one that had no bytes.
+/// Removes a file that didn't exist before, and empties one that was empty.
 fn put_back(rt: &HostRuntime, path: &str, before: Option<u64>) -> io::Result<()> {
     match before {
         None => fs::remove_file(rt, path),

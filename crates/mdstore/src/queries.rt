@@ -1,11 +1,11 @@
-//! Queries of a store, where their arguments are what they are to be.
+//! Queries of a store, if their arguments are good.
 
 use crate::commands;
 use mds_arguments::{Argument, ArgumentsFault, ExportArguments, export_request};
 use mds_desk::Outcome;
 use mds_messages::Request;
 
-/// Puts a request that was read to a store.
+/// Passes a request to a store, if its arguments were good.
 pub(crate) fn query(rt: &HostRuntime, store: &str, read: Result<Request, Argument>) -> Outcome {
     match read {
         Ok(request) => commands::query(rt, store, &request),

@@ -13,20 +13,20 @@ use sqlite::{Alter, Connection, FileFrom, FileStore, Files, Leftover, Options, W
 use sqlite_std_file::OpenError;
 use std::hash::{BuildHasher, RandomState};
 
-/// How many pages are kept that were read. They take 2 MB, as sqlite3 has it. The library's own open keeps four times as many, and makes room
-/// for all of them at once.
+/// How many read pages are kept. They take 2 MB, as in sqlite3. The library's own open keeps four times as many, and makes room for all of
+/// them at once.
 const PAGES_KEPT: usize = 500;
 
-/// What is done with an open store. It is written over any keeper, so that it is proved without all that the library says of files.
+/// What is done with an open store. It is written over any keeper, so that its proof doesn't load what the library says of files.
 pub(crate) trait Task {
-    /// Does it, and gives the keeper back and what the run comes to.
+    /// Does it, and returns the keeper and the outcome of the run.
     fn perform<K: Keeper>(self, rt: &HostRuntime, keeper: K) -> (K, Outcome);
 }
 
 /// The file of a database and its log, which are locked until they are dropped.
 pub(crate) type LockedFiles = Files<FileFrom<Wary>>;
 
-/// Makes a store where nothing is, or in a file that has no bytes or is an empty database. Where sums are asked for, such a database has to
+/// Makes a store where there is no file, or in a file that has no bytes or is an empty database. If sums are asked for, such a database must
 /// have them: pages that were made without sums get none.
 pub(crate) fn make_store(rt: &HostRuntime, path: &str, has_sums: bool) -> Outcome {
     let Ok(place) = Place::to_make(rt, path) else {
@@ -48,17 +48,17 @@ pub(crate) fn make_store(rt: &HostRuntime, path: &str, has_sums: bool) -> Outcom
     }
 }
 
-/// Opens the store of a path, which isn't made where there is none, does something with it, and closes it.
+/// Opens the store at a path, which isn't made if it is missing, does something with it, and closes it.
 pub(crate) fn in_store<T: Task + Drop>(rt: &HostRuntime, path: &str, task: T) -> Outcome {
     in_file(rt, path, Adopt { task })
 }
 
-/// Takes the store of a path, which isn't made where there is none, to schema 4. A store of that is left as it is.
+/// Migrates the store at a path, which isn't made if it is missing, to schema 4. A store of that schema is left as it is.
 pub(crate) fn migrate_store(rt: &HostRuntime, path: &str) -> Outcome {
     in_file(rt, path, Migrate)
 }
 
-/// Opens the database of a path, which isn't made where there is none, does something with it, and closes it.
+/// Opens the database at a path, which isn't made if it is missing, does something with it, and closes it.
 fn in_file<T: DatabaseTask + Drop>(rt: &HostRuntime, path: &str, task: T) -> Outcome {
     let Ok(place) = Place::of_file(rt, path) else {
         return Outcome::Unavailable;
@@ -70,13 +70,13 @@ fn in_file<T: DatabaseTask + Drop>(rt: &HostRuntime, path: &str, task: T) -> Out
     }
 }
 
-/// What is done with an open database, whatever it lies in.
+/// What is done with an open database, wherever it is stored.
 trait DatabaseTask {
-    /// Does it, and gives the connection back and what the run comes to.
+    /// Does it, and returns the connection and the outcome of the run.
     fn run<S: Alter>(self, rt: &HostRuntime, conn: Connection<S>) -> (Connection<S>, Outcome);
 }
 
-/// To make a store in it, whose pages have sums if that is asked for.
+/// Makes a store in it, whose pages have sums if that is asked for.
 #[derive(Drop)]
 struct Make<'a> {
     place: &'a Place,
@@ -84,7 +84,7 @@ struct Make<'a> {
 }
 
 impl<'a> Make<'a> {
-    /// What the run comes to where no store is to be made in the open database.
+    /// The outcome of the run if no store is to be made in the open database.
     fn refusal(&self, rt: &HostRuntime) -> Option<Outcome> {
         if !self.has_sums {
             return None;
@@ -109,7 +109,7 @@ impl<'a> DatabaseTask for Make<'a> {
     }
 }
 
-/// To do something with the store that it is.
+/// Does something with the store that it is.
 #[derive(Drop)]
 struct Adopt<T> {
     task: T,
@@ -127,7 +127,7 @@ impl<T: Task + Drop> DatabaseTask for Adopt<T> {
     }
 }
 
-/// To take the store that it is to schema 4.
+/// Migrates the store that it is to schema 4.
 #[derive(Drop)]
 struct Migrate;
 
@@ -139,7 +139,7 @@ impl DatabaseTask for Migrate {
     }
 }
 
-/// What a migration comes to.
+/// The outcome of a migration.
 fn of_migration(answer: Result<Migrated, MigrateFault>) -> Outcome
     ensures { result ≡ of_migration answer }
 {
@@ -151,7 +151,7 @@ fn of_migration(answer: Result<Migrated, MigrateFault>) -> Outcome
     }
 }
 
-/// What the want of a store comes to.
+/// The outcome if the store can't be used.
 fn of_store(fault: StoreFault) -> Outcome
     ensures { result ≡ of_store fault }
 {
@@ -162,9 +162,9 @@ fn of_store(fault: StoreFault) -> Outcome
     }
 }
 
-/// Opens the database of a path, does something with it, and closes it. A new one gets sums if that is asked for; in any other its header
-/// tells of them. Where it can't be opened, what that made is taken away. A torn write may leave anything on the disk, so each commit syncs
-/// twice.
+/// Opens the database at a path, does something with it, and closes it. A new one gets sums if that is asked for. The header of any other
+/// says whether it has them. If it can't be opened, what the attempt made is removed. A torn write may leave anything on the disk, so each
+/// commit syncs twice.
 fn in_database<T: DatabaseTask + Drop>(
     rt: &HostRuntime,
     path: &str,
@@ -181,7 +181,7 @@ fn in_database<T: DatabaseTask + Drop>(
             place.restore(rt, &left.into_files());
             Outcome::Unavailable
         }
-        // Another process has the file: what it finds there is its own.
+        // Another process has the file. Whatever that process finds there is its own.
         Err(OpenFault::Busy) => Outcome::Unavailable,
         Err(OpenFault::Files) => {
             place.take_away_file(rt);
@@ -190,23 +190,23 @@ fn in_database<T: DatabaseTask + Drop>(
     }
 }
 
-/// Why a database isn't open.
+/// Why a database couldn't be opened.
 enum OpenFault {
-    /// Another process has its file.
+    /// Another process uses its file.
     Busy,
     /// Its files can't be opened.
     Files,
-    /// They hold no database that can be read. They are left as they are.
+    /// They hold no readable database. They are left as they are.
     Database(Leftover<FileFrom<Wary>>),
 }
 
-/// Opens the database of a path. It is the library's open by a path, but for the pages that are kept.
+/// Opens the database at a path. It does what the library's open by a path does, except for the count of kept pages.
 fn open_database(
     rt: &HostRuntime,
     path: &str,
     new_has_sums: bool,
 ) -> Result<Connection<FileStore<FileFrom<Wary>>>, OpenFault> {
-    // SQLite takes these for other things than paths.
+    // SQLite doesn't treat these as paths.
     if path == ":memory:" || path.starts_with("file:") {
         return Err(OpenFault::Files);
     }
@@ -226,8 +226,8 @@ fn open_database(
     }
 }
 
-/// Closes a database, so that all of it is in its one file. Where that fails the file and its log together are the store, and the run comes
-/// to what it came to before.
+/// Closes a database, so that all of it is in its one file. If that fails, the file and its log together are the store, and the outcome of
+/// the run stays the same.
 fn close(
     rt: &HostRuntime,
     place: &Place,
