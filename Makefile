@@ -44,6 +44,7 @@ tests/power_cuts crates/mdstore/out/mdstore
 tests/changed_bytes crates/mdstore/out/mdstore
 tests/causes
 tests/definitions
+tests/code_map
 tests/wrong_bodies
 tests/openapi crates/mdstore/out/mdstore
 tests/words crates/mdstore/out/mdstore

@@ -46,6 +46,7 @@ pub fn day_request(nmi: &[u8], suffix: &[u8], date: &[u8]) -> Result<Request, Ar
         (IsFirstBad (day_tests nmi.now suffix.now date.now)) }
 {
     let stream = read_stream(nmi, suffix)?;
+    // decides: bad argument: an argument isn't what its request needs
     let day = Day::read(date).ok_or(Argument::Date)?;
     Ok(Request::Day { stream, day })
 }
@@ -62,6 +63,7 @@ pub fn versions_request(
 {
     let stream = read_stream(nmi, suffix)?;
     let day = Day::read(date).ok_or(Argument::Date)?;
+    // decides: bad argument: an argument isn't what its request needs
     let interval = interval_number(interval).ok_or(Argument::Interval)?;
     Ok(Request::Versions {
         stream,
@@ -110,6 +112,7 @@ pub fn finals_request(arguments: &RangeArguments<'_>) -> Result<Request, Argumen
 fn read_stream(nmi: &[u8], suffix: &[u8]) -> Result<Stream, Argument>
     ensures { MatchResult result (SpellStream nmi.now suffix.now) (IsFirstBad (stream_tests nmi.now suffix.now)) }
 {
+    // decides: bad argument: an argument isn't what its request needs
     let nmi = Nmi::read(nmi).ok_or(Argument::Nmi)?;
     let suffix = Suffix::read(suffix).ok_or(Argument::Suffix)?;
     Ok(Stream { nmi, suffix })
@@ -131,6 +134,7 @@ fn read_range(words: &RangeArguments<'_>) -> Result<StreamRange, Argument>
         (IsFirstBad (range_tests words.now.nmi.now words.now.suffix.now words.now.from.now words.now.to.now)) }
 {
     let stream = read_stream(words.nmi, words.suffix)?;
+    // decides: bad argument: an argument isn't what its request needs
     let first = Day::read(words.from).ok_or(Argument::From)?;
     let last = Day::read(words.to).ok_or(Argument::To)?;
     Ok(StreamRange {
@@ -151,6 +155,7 @@ pub fn export_request(
         (IsExportFault arguments.now.nmi.now arguments.now.from.now arguments.now.to.now arguments.now.moment.now
         arguments.now.sender.now arguments.now.receiver.now (map (λ suffix. suffix.now) arguments.now.suffixes.items)) }
 {
+    // decides: bad argument: an argument isn't what its request needs
     let Some(nmi) = Nmi::read(arguments.nmi) else {
         return Err(ArgumentsFault::Bad(Argument::Nmi));
     };

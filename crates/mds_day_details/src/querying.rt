@@ -46,6 +46,7 @@ pub fn current_details<S: Alter>(
     // For the proof: a day's number is at most that of the last day.
     let _ = day.number();
     let own = or_unavailable(details_rows(conn, stream, day))?;
+    // decides: which details of a day are current? (definition: IsCurrentDetails in mds_world/specs/Current.antt)
     if !own.is_empty() {
         return first_details(alloc, &own);
     }

@@ -37,6 +37,7 @@ pub(crate) fn details_rows<S: Alter>(
 ) -> Result<Vec<Row>, Error>
     ensures { QueriesOf forms_layout (state S.Store conn.old) (state S.Store conn.new) result (ShowsDetails stream.now day) }
 {
+    // decides: which details of a day are current? (definition: IsCurrentDetails in mds_world/specs/Current.antt)
     conn.query_all(
         "SELECT moment, configuration, register, datastream, meter, next FROM mds_daydetail WHERE nmi = ?1 AND suffix = ?2 AND day = ?3 ORDER BY moment DESC, configuration DESC, register DESC, datastream DESC, meter DESC, next DESC",
         &day_cells(stream, day),

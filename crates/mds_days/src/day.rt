@@ -152,6 +152,7 @@ impl DayData {
     pub fn leaves_gap(&self) -> bool
         ensures { result ≡ leaves_gap (length self.now.values) self.now.mark self.now.runs }
     {
+        // decides: L8: the runs of a variable day leave an interval out
         self.mark.quality.flag() == VARIABLE && !self.cover.is_full()
     }
 
@@ -164,6 +165,7 @@ impl DayData {
             Some(RunFault::Order) => Some(FaultCode::RunOrder),
             Some(_) => Some(FaultCode::RunRange),
             None => {
+                // decides: L12: a 400 whose quality isn't N has an interval without a value
                 let needs_values = event.mark.quality.flag() != NULL;
                 if needs_values && lacks_value(self.values.as_slice(), event.first, event.last) {
                     return Some(FaultCode::NoValue);
@@ -202,6 +204,7 @@ impl DayData {
         ensures memory { OnErr result (0 < length self.now.values) }
     {
         let mut readings = DayReadings::with_capacity(self.alloc, self.count())?;
+        // decides: which mark and value does an interval have?
         let mut runs = self.cover.runs();
         if runs.is_empty() {
             readings.push_all(&self.mark, self.values.as_slice())?;

@@ -477,6 +477,7 @@ What to do: check the path. Remove what was added: `docs/USE.md`, "What other pr
 pub fn section_of<'a>(text: &'a str, name: &str) -> Option<&'a str>
     ensures { option_map (λ section. section.now) result ≡ section_of name.now text.now }
 {
+    // decides: what does a printed code mean (`EXPLANATIONS`)?
     text.split('#').find(|section| is_named(section, name))
 }
 

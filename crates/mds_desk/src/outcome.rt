@@ -117,6 +117,7 @@ impl Outcome {
     pub fn status(self) -> Status
         ensures { result ≡ status_of self }
     {
+        // decides: which status does a run end with?
         match self {
             Outcome::Done | Outcome::Created | Outcome::Migrated | Outcome::AlreadyCurrent => {
                 Status::Done

@@ -163,6 +163,7 @@ fn print_text<W: Sink>(text: &[u8], status: Status, writer: &mut W) -> Result<St
 fn status_of(answer: &Answer) -> Status
     ensures { result ≡ answer_status answer.now }
 {
+    // decides: which status does a run end with?
     match answer {
         Answer::Imported { .. }
         | Answer::Substituted { .. }

@@ -119,6 +119,7 @@ pub(crate) fn write_header(row: &HeaderRow<'_>, out: &mut Vec<u8>) -> Result<(),
         × (vec_capacity out.old < vec_len out.old + length text)) }
 {
     let (digits, count) = moment_digits(row.moment);
+    // decides: how is a line of an export written (100, 200, 300, 400, 900)?
     write_line(
         out,
         &[
@@ -153,6 +154,7 @@ pub(crate) fn write_details(row: &DetailsRow<'_>, out: &mut Vec<u8>) -> Result<(
 {
     let (stream, _) = (row.stream, row.length.minutes());
     let (next, count) = day_digits(row.details.next());
+    // decides: how is a line of an export written (100, 200, 300, 400, 900)?
     write_details_of(
         stream.nmi.text().as_bytes(),
         stream.suffix.text().as_bytes(),
@@ -236,6 +238,7 @@ pub(crate) fn write_day(row: &DayRow<'_>, out: &mut Vec<u8>) -> Result<(), Alloc
         × (vec_capacity out.old < vec_len out.old + length text)) }
 {
     let (date, update) = (row.date.digits(), row.update.digits());
+    // decides: how is a line of an export written (100, 200, 300, 400, 900)?
     write_field(out, b"300")?;
     write_field(out, &date)?;
     write_values(row.readings, out)?;
@@ -294,6 +297,7 @@ pub fn write_run(row: &RunRow<'_>, out: &mut Vec<u8>) -> Result<(), AllocError>
     row.mark.parts_are_lawful();
     let (letters, count) = row.mark.quality.letters();
     let mut buffer = Buffer::new();
+    // decides: how is a line of an export written (100, 200, 300, 400, 900)?
     write_line(
         out,
         &[
@@ -315,5 +319,6 @@ pub(crate) fn write_end(out: &mut Vec<u8>) -> Result<(), AllocError>
     ensures full { OnErr result ((text : List ℕ) × IsRowText (row_value Row.End) text
         × (vec_capacity out.old < vec_len out.old + length text)) }
 {
+    // decides: how is a line of an export written (100, 200, 300, 400, 900)?
     write_line(out, &[b"900"])
 }

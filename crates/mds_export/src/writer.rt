@@ -144,6 +144,7 @@ fn is_governed(before: Option<&SelectedDay>, day: &SelectedDay) -> bool
     // For the proof: the laws of their `==`.
     let _ = day.length.minutes();
     let _ = day.unit.text();
+    // decides: when does an export write a 200?
     match before {
         Some(before) => {
             before.length == day.length && before.unit == day.unit && before.details == day.details
@@ -159,6 +160,7 @@ fn write_readings(day: &SelectedDay, out: &mut Vec<u8>) -> Result<(), AllocError
         × Appends out.old.items out.new.items text) }
     ensures grown { OnErr result (Begins out.old.items out.new.items) }
 {
+    // decides: when is an exported day V with 400 records?
     let Some(mark) = one_mark(&day.readings) else {
         write_interval_data(day, None, out)?;
         return write_runs(&day.readings, out);

@@ -34,6 +34,7 @@ fn candidate(day: Day, of_holiday: bool, place: u32, holidays: &[Day]) -> Option
     ensures none { IfNone result
         ((found : ℕ) → IsCandidate (λ holiday. Member holiday holidays.now) day place found → ⊥) }
 {
+    // decides: which days are like days?
     if of_holiday {
         return sunday_before(day, place);
     }

@@ -74,6 +74,7 @@ fn nearest_like_day<'a>(job: &Job, context: &'a Context) -> Option<&'a DayBook>
         ((place day : ℕ) → IsLike w (content_of job.now) place day → HasAll w (content_of job.now) day → ⊥)
         (λ book. (day : ℕ) × IsNearestLike w (content_of job.now) day × IsBookOf w job.now.stream day book.now) }
 {
+    // decides: check 8 of a job, M7: no like day has values
     for slot in &context.candidates {
         if let Some(book) = like_day(slot, job) {
             return Some(book);
@@ -108,7 +109,9 @@ fn mean_at(job: &Job, context: &Context, interval: u16) -> Option<Quantity>
         candidate_value(&candidates[2], job, interval),
         candidate_value(&candidates[3], job, interval),
     ];
+    // decides: how is the mean of method 15 computed?
     let (sum, count) = sum_and_count(&values);
+    // decides: check 8 of a job, M7: no like day has values
     if count == 0 {
         return None;
     }
@@ -141,6 +144,7 @@ fn line(job: &Job, context: &Context) -> Result<Source<'static>, RefusalCode>
     ensures refused { (w : World) → IsContext w (content_of job.now) context.now → job.now.method ≡ 17
         → IfErr result (IsLack w (content_of job.now)) }
 {
+    // decides: check 9 of a job, M9: a neighbour of the intervals to fill isn't usable
     let Some(before) = value_before(job, context) else {
         return Err(RefusalCode::NoAnchor);
     };
@@ -189,5 +193,6 @@ fn on_line(job: &Job, before: Quantity, after: Quantity, interval: u16) -> Quant
 {
     let place = u64::from(interval + 1 - job.first);
     let count = u64::from(job.last + 1 - job.first);
+    // decides: how is the line of method 17 computed?
     between(before, after, place, count)
 }

@@ -56,6 +56,7 @@ fn is_protected(book: &DayBook, interval: u16) -> bool
 {
     // For the proof: a book's day shows one reading of an interval.
     book.is_lawful();
+    // decides: check 5 of a job, M5: an interval to fill is A or F
     match book.current(interval) {
         Some(version) => is_actual_or_final(version.mark),
         None => false,
@@ -87,6 +88,7 @@ fn is_stale(book: &DayBook, interval: u16, than: Moment) -> bool
     let Some(version) = book.current(interval) else {
         return false;
     };
+    // decides: check 6 of a job, M6: an interval to fill has a version of the current length that isn't older
     version.update.seconds() >= than.seconds()
 }
 
@@ -98,6 +100,7 @@ fn is_too_long(job: &Job) -> bool
     match method_of(job) {
         Method::Interpolation => {
             let count = i64::from(job.last + 1 - job.first);
+            // decides: check 7 of a job, M8: more than 120 minutes to interpolate
             count * job.length.minutes() > MOST_MINUTES
         }
         Method::LikeDay | Method::MeanOfLikeDays | Method::Zeros => false,

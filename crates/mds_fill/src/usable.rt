@@ -22,6 +22,7 @@ pub(crate) fn usable_value(book: &DayBook, job: &Job, interval: u16) -> Option<Q
 {
     // For the proof: a book's day shows one reading of an interval.
     book.is_lawful();
+    // decides: which values may a job use?
     if !has_form_of(book, job) {
         return None;
     }

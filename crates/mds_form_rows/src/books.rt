@@ -45,6 +45,7 @@ fn versions_in(alloc: Global, forms: &[Row], packs: &[Row]) -> Result<VersionRow
     ensures under { IfOk result (λ versions. AreUnder forms.now packs.now (rows_of versions)) }
     ensures paired { OnOk result (list_length forms.now ≡ list_length packs.now) }
 {
+    // decides: what does a row of packed days say? (definition: pack_facts in mds_pack_rows/specs/PackFacts.antt)
     match whole_in(alloc, forms, packs)? {
         Some(versions) => Ok(versions),
         None => Ok(VersionRows::Each(each_in(alloc, forms, packs)?)),
@@ -82,6 +83,7 @@ fn each_in(alloc: Global, forms: &[Row], packs: &[Row]) -> Result<Vec<(u16, Vers
     ensures under { IfOk result (λ versions. AreUnder forms.now packs.now versions.items) }
     ensures paired { OnOk result (list_length forms.now ≡ list_length packs.now) }
 {
+    // decides: which rows of a day are refused?
     if forms.len() != packs.len() {
         return Err(Unavailable);
     }
@@ -103,6 +105,7 @@ fn add_row(
 {
     let head = told(head_in(form, pack))?;
     let (update, length) = head;
+    // decides: which rows of a day are refused?
     let readings = told(readings_for(alloc, length, pack, 1)?)?;
     add_held(length, update, readings, versions)
 }
@@ -116,6 +119,7 @@ fn head_in(form: &Row, pack: &Row) -> Option<(Moment, Length)>
     let update = moment_at(form, 0)?;
     let length = length_at(form, 1)?;
     let of_pack = moment_at(pack, 0)?;
+    // decides: which rows of a day are refused?
     if of_pack == update {
         Some((update, length))
     } else {

@@ -105,6 +105,7 @@ fn are_formed_indexes(indexes: &[Index]) -> bool
 pub fn has_schema_4(schema: &Schema) -> bool
     ensures { MatchBool result (schema.now ≡ schema_4) (schema.now ≢ schema_4) }
 {
+    // decides: U3: a database is no store
     are_formed_tables(schema.tables.as_slice())
         && are_formed_indexes(schema.indexes.as_slice())
         && schema.views.is_empty()

@@ -31,6 +31,7 @@ pub(crate) fn have_units<S: Alter>(
     ensures same_reference { tx.new.conn.ghost_name ≡ tx.old.conn.ghost_name }
     ensures asks { AsksThere (state S.Store tx.old.conn.now) (state S.Store tx.new.conn.now) result (λ _. SayUnits heads.now) }
 {
+    // decides: which unit does a row of `mds_form` have? (definition: unit_in in mds_pack_rows/specs/FormLayout.antt)
     let (eights, rest) = heads.as_chunks::<TOGETHER>();
     for eight in eights {
         have_eight(tx, eight)?;

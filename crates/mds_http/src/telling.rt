@@ -85,6 +85,7 @@ fn tell_short(answer: &Answer, out: &mut Vec<u8>) -> (Status, Kind)
 fn status_of(answer: &Answer) -> Status
     ensures { result ≡ status_of_answer answer.now }
 {
+    // decides: which HTTP status does an answer have?
     match answer {
         Answer::File(_) => Status::Unprocessable,
         Answer::Refused(refusal) => status_of_rule(refusal.code),
@@ -97,6 +98,7 @@ fn status_of(answer: &Answer) -> Status
 fn status_of_rule(code: RefusalCode) -> Status
     ensures { result ≡ status_of_code code }
 {
+    // decides: which HTTP status does an answer have?
     match code {
         RefusalCode::LengthConflict
         | RefusalCode::UnitConflict
@@ -119,6 +121,7 @@ pub(crate) fn refuse_target(out: &mut Vec<u8>) -> (Status, Kind)
     requires room { short_answer ≤ vec_capacity out.old }
     ensures { TellsFault fault.Bad result.0 result.1 out.new.items }
 {
+    // decides: which HTTP status does an answer have?
     let Ok(()) = out.extend_from_slice(Status::BadRequest.refusal()) else {
         unreachable!();
     };
@@ -131,6 +134,7 @@ pub(crate) fn refuse_holidays(row: u64, out: &mut Vec<u8>) -> (Status, Kind)
     requires room { short_answer ≤ vec_capacity out.old }
     ensures { TellsFault (fault.BadHolidays row) result.0 result.1 out.new.items }
 {
+    // decides: which HTTP status does an answer have?
     let Ok(()) = holidays_json(row, out) else {
         unreachable!();
     };

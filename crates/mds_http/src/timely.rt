@@ -62,6 +62,7 @@ enum Stage {
 impl Stage {
     /// How many seconds the next byte may take, counted from when the connection was accepted.
     const fn seconds(self) -> u64 {
+        // decides: how long may a peer take (`ANSWER_SECONDS`, `REST_SECONDS`)?
         match self {
             Stage::Nothing => 1,
             Stage::InLine | Stage::LineEnd => 2,
@@ -141,6 +142,7 @@ impl<'a> RequestReads<'a> {
 impl<'a> AnswerWrites<'a> {
     /// The writes of an answer. Nothing was written yet.
     pub(crate) fn new(rt: &'a HostRuntime, stream: &'a TcpStream) -> AnswerWrites<'a> {
+        // decides: how long may a peer take (`ANSWER_SECONDS`, `REST_SECONDS`)?
         AnswerWrites {
             writes: Timely {
                 rt,
@@ -161,6 +163,7 @@ impl<'a> AnswerWrites<'a> {
 impl<'a> RestReads<'a> {
     /// The reads of a rest. Nothing was read yet.
     pub(crate) fn new(rt: &'a HostRuntime, stream: &'a TcpStream) -> RestReads<'a> {
+        // decides: how long may a peer take (`ANSWER_SECONDS`, `REST_SECONDS`)?
         RestReads {
             reads: Timely {
                 rt,

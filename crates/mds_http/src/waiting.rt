@@ -86,6 +86,7 @@ impl<'a> WaitingRoom<'a> {
 
     /// The next connection, to be served or dropped. Those that said something come first, in the order of acceptance.
     pub(crate) fn next(&mut self) -> Turn {
+        // decides: which connection is served next, and how many may wait (`MOST_WAITING`)?
         self.end_serving();
         for _ in 0..u64::MAX {
             self.accept_all();
@@ -146,6 +147,7 @@ impl<'a> WaitingRoom<'a> {
             }
         }
         self.failed = None;
+        // decides: which connection is served next, and how many may wait (`MOST_WAITING`)?
         for _ in self.waiting.len()..MOST_WAITING {
             if !self.may_accept || self.left == 0 || self.failed.is_some() {
                 return;

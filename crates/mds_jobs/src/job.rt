@@ -76,6 +76,7 @@ impl Job {
     pub fn is_bad(&self) -> bool
         ensures { MatchBool result (IsBad (content_of self.now)) (IsBad (content_of self.now) → ⊥) }
     {
+        // decides: check 1 of a job, M11: the job is bad
         let is_within = self.first >= 1
             && self.first <= self.last
             && usize::from(self.last) <= self.length.count();

@@ -29,6 +29,7 @@ impl Method {
     pub fn of_code(code: u8) -> Option<Method>
         ensures { MatchOption result (Member code methods → ⊥) (λ method. code ≡ method_code method) }
     {
+        // decides: which methods may a job have?
         match code {
             14 => Some(Method::LikeDay),
             15 => Some(Method::MeanOfLikeDays),

@@ -208,6 +208,7 @@ impl DayBook {
     pub fn length_under(&self, update: Moment) -> Option<Length>
         ensures { IsLengthUnder self.now update result }
     {
+        // decides: which length does a day have under an update?
         match self.lent_rows() {
             LentRows::Each(rows) => length_in(rows, update),
             LentRows::Whole(length, of_all, _) => {
@@ -230,6 +231,7 @@ impl DayBook {
     {
         // For the proof: the facts of a book are a lawful World.
         self.is_lawful();
+        // decides: what is current of an interval? (definition: IsCurrent in mds_world/specs/World.antt)
         let (length, _) = self.form()?;
         match self.lent_rows() {
             LentRows::Each(rows) => last_of(rows, length, interval),
@@ -268,6 +270,7 @@ impl DayBook {
     {
         // For the proof: the facts of a book are a lawful World.
         self.is_lawful();
+        // decides: what is the update of a day?
         match self.lent_rows() {
             LentRows::Each(rows) => greatest_update(rows),
             LentRows::Whole(_, update, _) => Some(update),
@@ -637,6 +640,7 @@ fn form_of(unit: Option<Unit>, rows: &[(u16, Version)]) -> Option<(Length, Unit)
     ensures form { IsFormOfRows result rows.now }
     ensures unit { (rows.now ≡ []) ⊎ (unit_of result ≡ unit) }
 {
+    // decides: which length of a day is current? (definition: IsFormOf in mds_world/specs/Current.antt)
     let update = greatest_update(rows)?;
     let length = length_in(rows, update)?;
     let unit = unit?;

@@ -116,6 +116,8 @@ pub fn head_conflict(
     ensures some { IfSome result (BreaksHead known of_day length unit) }
     ensures none { IfNone result (SuitsHead known of_day length unit) }
 {
+    // decides: check 4 of a job, M1, M2: another length under its update, another unit
+    // decides: M1, M2 of a file: another length under the update, another unit
     if let Some(other) = known {
         if other != length {
             return Some(RefusalCode::LengthConflict);
@@ -236,6 +238,7 @@ fn count_held(book: &DayBook, update: Moment, readings: &DayReadings) -> Result<
     requires whole { AreAsMany book.now update (length readings.now) }
     ensures { (minutes : ℕ) → AreOfLength book.now minutes update → AreHeld book.now minutes update readings.now result }
 {
+    // decides: M3 of an interval: another reading under the same update
     match book.lent_rows() {
         LentRows::Each(rows) => count_in_rows(book, rows, update, readings),
         LentRows::Whole(length, of_all, known) => {
@@ -347,6 +350,7 @@ fn difference(
     ensures none { IfNone result ((k : ℕ)
         → slice_get (claimed_readings book.now update claimed.now) k ≡ slice_get readings.now k) }
 {
+    // decides: M3 of an interval: another reading under the same update
     match claimed {
         Some(claimed) => difference_between(claimed, readings),
         None => difference_in(book, update, readings),
@@ -393,6 +397,7 @@ fn settle_head(
         length,
         unit,
     };
+    // decides: is a head the first of its day?
     if is_new_day {
         additions.new_days.push(head)?;
         return Ok(());
@@ -618,6 +623,7 @@ impl DayMerge {
         // For the proof: the facts of a book are a lawful World, and a day has intervals of each length.
         self.book.is_lawful();
         length.count();
+        // decides: M1, M2 of a file: another length under the update, another unit
         let known = known_length(&self.book, &self.claimed, update);
         if let Some(code) = head_conflict(known, self.unit, length, unit) {
             return Err(Stop::Refused(Refusal::at_line(code, line)));
@@ -632,6 +638,7 @@ impl DayMerge {
             Ok(held) => held,
             Err(interval) => return Err(conflict(line, interval)),
         };
+        // decides: what counts as added, and what as known?
         let fresh = readings.len() as u64 - held;
         // A file has fewer than 2^64 readings.
         let Some(all_held) = self.held.checked_add(held) else {

@@ -92,6 +92,7 @@ impl<'a> Line<'a> {
     pub fn kind(&self) -> Result<Kind, KindFault>
         ensures { result ≡ kind_of (text_of self.now) }
     {
+        // decides: L1: the line isn't UTF-8
         if !simdutf8::is_utf8(self.text) {
             return Err(KindFault::NotText);
         }
@@ -104,6 +105,7 @@ impl<'a> Line<'a> {
 fn kind_named(indicator: &[u8]) -> Option<Kind>
     ensures { result ≡ named indicator.now }
 {
+    // decides: L2: its first field is no record indicator
     if indicator == b"100".as_slice() {
         Some(Kind::Header)
     } else if indicator == b"200".as_slice() {

@@ -232,6 +232,7 @@ fn nearest<'a>(
         × IsGreatestDetail (details_world kept.now) stream.now day (meter_on meter.now of)) }
     ensures none { IfNone result ((other : Detail) → IsUpto (details_world kept.now) stream.now day other → ⊥) }
 {
+    // decides: which details of a day are current? (definition: IsCurrentDetails in mds_world/specs/Current.antt)
     let mut last = None;
     let mut from = Day::from_number(0).unwrap();
     for (meter, days) in kept.range(first_meter(alloc, stream)..) {

@@ -32,6 +32,7 @@ impl Stage for Dating {
     ghost step = { dating };
 
     fn take_on<S: Alter>(alloc: Global, tx: &mut Transaction<'_, S>) -> Result<(), Unavailable> {
+        // decides: what does a step of a migration do?
         or_unavailable(make_daydetail(tx))?;
         date_days(alloc, tx)?;
         clear_details(tx)?;
@@ -78,6 +79,7 @@ fn date_day<S: Alter>(
         → KeepsCommit (state S.Store tx.old.conn.now) (state S.Store tx.new.conn.now) }
     ensures survives { Survives (state S.Store tx.old.conn.now) (state S.Store tx.new.conn.now) (λ _. ⊥) }
 {
+    // decides: which details does a migration give a day? (definition: Becomes in mds_migrate/specs/OldDetails.antt)
     let head = told(head_in(row))?;
     know(alloc, tx, known, head.stream)?;
     put_known(tx, known, head.day)

@@ -27,6 +27,7 @@ impl Stage for Forming {
     ghost step = { forming };
 
     fn take_on<S: Alter>(alloc: Global, tx: &mut Transaction<'_, S>) -> Result<(), Unavailable> {
+        // decides: what does a step of a migration do?
         or_unavailable(make_form(tx))?;
         form_days(alloc, tx)?;
         clear_lengths(tx)?;
@@ -134,6 +135,7 @@ fn form_in(alloc: Global, head: &Head, pack: &Row) -> Result<Head, Unavailable>
     ensures is { IfOk result (λ form. form ≡ form_of head.now pack.now) }
     ensures says { OnOk result (SaysForm head.now pack.now) }
 {
+    // decides: which length does a migration give an update? (definition: IsFormedOf in mds_migrate/specs/OldHeads.antt)
     let update = told(moment_at(pack, 0))?;
     told(readings_for(alloc, head.length, pack, 1)?)?;
     Ok(Head {

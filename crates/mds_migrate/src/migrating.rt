@@ -70,9 +70,11 @@ pub fn migrate<S: Alter>(alloc: Global, conn: &mut Connection<S>) -> Result<Migr
     ensures mode { conn.new.in_transaction ≡ conn.old.in_transaction }
     ensures survives { Survives (state S.Store conn.old) (state S.Store conn.new) (LeavesMigrated (state S.Store conn.old)) }
 {
+    // decides: U1: a migration fails
     if !conn.is_autocommit() {
         return Err(MigrateFault::Unavailable);
     }
+    // decides: which step does a migration take?
     if has_schema_4(conn.schema()) {
         return if_current(conn);
     }
@@ -82,6 +84,7 @@ pub fn migrate<S: Alter>(alloc: Global, conn: &mut Connection<S>) -> Result<Migr
     if has_schema_2(conn.schema()) {
         return if_packed(alloc, conn);
     }
+    // decides: U3: a database to migrate is of none of the schemas
     if !has_schema_1(conn.schema()) {
         return Err(MigrateFault::OtherSchema);
     }
@@ -98,6 +101,7 @@ fn if_current<S: Alter>(conn: &mut Connection<S>) -> Result<Migrated, MigrateFau
     ensures mode { conn.new.in_transaction ≡ false }
     ensures survives { Survives (state S.Store conn.old) (state S.Store conn.new) (λ _. ⊥) }
 {
+    // decides: U3: a database to migrate is of none of the schemas
     let is_current = are_formed(conn)?;
     if !is_current {
         return Err(MigrateFault::OtherSchema);
@@ -115,6 +119,7 @@ fn if_daily<S: Alter>(alloc: Global, conn: &mut Connection<S>) -> Result<Migrate
     ensures mode { conn.new.in_transaction ≡ false }
     ensures survives { Survives (state S.Store conn.old) (state S.Store conn.new) (LeavesMigrated (state S.Store conn.old)) }
 {
+    // decides: U3: a database to migrate is of none of the schemas
     let is_daily = are_daily(conn)?;
     if !is_daily {
         return Err(MigrateFault::OtherSchema);
@@ -132,6 +137,7 @@ fn if_packed<S: Alter>(alloc: Global, conn: &mut Connection<S>) -> Result<Migrat
     ensures mode { conn.new.in_transaction ≡ false }
     ensures survives { Survives (state S.Store conn.old) (state S.Store conn.new) (LeavesMigrated (state S.Store conn.old)) }
 {
+    // decides: U3: a database to migrate is of none of the schemas
     let is_packed = are_packed(conn)?;
     if !is_packed {
         return Err(MigrateFault::OtherSchema);
@@ -149,6 +155,7 @@ fn if_first<S: Alter>(alloc: Global, conn: &mut Connection<S>) -> Result<Migrate
     ensures mode { conn.new.in_transaction ≡ false }
     ensures survives { Survives (state S.Store conn.old) (state S.Store conn.new) (LeavesMigrated (state S.Store conn.old)) }
 {
+    // decides: U3: a database to migrate is of none of the schemas
     let is_first = is_version(conn, 1)?;
     if !is_first {
         return Err(MigrateFault::OtherSchema);

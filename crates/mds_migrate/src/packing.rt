@@ -29,6 +29,7 @@ impl Stage for Packing {
     ghost step = { packing };
 
     fn take_on<S: Alter>(alloc: Global, tx: &mut Transaction<'_, S>) -> Result<(), Unavailable> {
+        // decides: what does a step of a migration do?
         or_unavailable(make_pack(tx))?;
         pack_days(alloc, tx)?;
         clear_versions(tx)?;

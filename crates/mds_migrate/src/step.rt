@@ -54,6 +54,7 @@ pub(crate) fn take_step<T: Stage, S: Alter>(
     ensures survives { HoldsFrom T.step (state S.Store conn.old)
         → Survives (state S.Store conn.old) (state S.Store conn.new) (LeavesTaken T.step (state S.Store conn.old)) }
 {
+    // decides: U1: a migration fails
     ready(conn)?;
     write::<T, S>(alloc, conn)?;
     Ok(Migrated::Done)

@@ -58,6 +58,7 @@ impl PeriodSink for AccumulationBuilder {
         let register = PrintableString::of(self.alloc, &period.register)?;
         let mut content = String::new(self.alloc);
         write_fields(period, &mut content)?;
+        // decides: which update does a 250 without one have?
         let key = PeriodKey {
             stream: period.stream,
             register,

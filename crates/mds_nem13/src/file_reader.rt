@@ -46,6 +46,7 @@ impl LastRecord {
     fn allows(&self, kind: Kind) -> bool
         ensures { result ≡ is_in_place (last_kind self.now) kind }
     {
+        // decides: L3: its record isn't in place
         match self {
             LastRecord::Nothing => matches!(kind, Kind::Header),
             LastRecord::Header(_) => matches!(kind, Kind::AccumulationData | Kind::EndOfData),
@@ -203,6 +204,7 @@ impl<T: PeriodSink + Drop> RecordSink for FileReader<T> {
     }
 
     fn finish(self) -> Result<T, FaultCode> {
+        // decides: L9: the file ends without its end of data
         match self.last {
             LastRecord::End => Ok(self.sink),
             _ => Err(FaultCode::MissingEnd),

@@ -47,6 +47,7 @@ pub fn put_day<S: Alter>(
     ensures kept { IsThere (state S.Store tx.old.conn.now) (state S.Store tx.new.conn.now) → KeepsCommit (state S.Store tx.old.conn.now) (state S.Store tx.new.conn.now) }
     ensures survives { Survives (state S.Store tx.old.conn.now) (state S.Store tx.new.conn.now) (λ _. ⊥) }
 {
+    // decides: which versions go into one row?
     match &added.rows {
         VersionRows::Each(rows) => {
             put_listed(alloc, tx, &added.stream, added.day, rows.as_slice())
@@ -129,6 +130,7 @@ fn end_of_run(rows: &[(u16, Version)]) -> usize
     ensures { (0 < result) × (result ≤ list_length rows.now) }
 {
     let update = rows[0].1.update.seconds();
+    // decides: which versions go into one row?
     for end in 1..rows.len() {
         if rows[end].1.update.seconds() != update {
             return end;

@@ -40,6 +40,7 @@ pub(crate) fn put_readings<S: Alter>(
         return Ok(());
     }
     let rows = body_rows(tx, stream, day, update)?;
+    // decides: when is a row replaced, and which?
     match rows.as_slice() {
         [] => add_row(alloc, tx, stream, day, update, readings),
         [row] => lay_over(alloc, tx, row, readings),

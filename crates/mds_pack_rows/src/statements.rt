@@ -38,6 +38,7 @@ fn key_cells<'a>(stream: &'a Stream, day: Day, update: Moment) -> [ValueRef<'a>;
 fn pack_cells<'a>(stream: &'a Stream, day: Day, update: Moment, body: &'a [u8]) -> [ValueRef<'a>; 5]
     ensures { bound result ≡ row.pack_cells stream.now day update body.now }
 {
+    // decides: which row does a packed day get?
     [
         ValueRef::Text(stream.nmi.text().as_bytes()),
         ValueRef::Text(stream.suffix.text().as_bytes()),
@@ -225,6 +226,7 @@ pub(crate) fn replace_body<S: Alter>(
     ensures kept { HasCleanDisk (state S.Store tx.new.conn.now) → KeepsCommit (state S.Store tx.old.conn.now) (state S.Store tx.new.conn.now) }
     ensures survives { Survives (state S.Store tx.old.conn.now) (state S.Store tx.new.conn.now) (λ _. ⊥) }
 {
+    // decides: when is a row replaced, and which?
     let count = or_unavailable(tx.execute(
         "UPDATE mds_pack SET body = ?2 WHERE rowid = ?1",
         &body_cells(id, body),

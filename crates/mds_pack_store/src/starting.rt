@@ -53,9 +53,11 @@ pub fn create<S: Alter>(
     if !conn.is_autocommit() {
         return Err((StoreFault::InTransaction, conn));
     }
+    // decides: U3: a database to make a store in isn't empty
     if !is_empty(conn.schema()) {
         return Err((StoreFault::OtherSchema, conn));
     }
+    // decides: U1: a store can't be made or adopted
     match make_tables(&mut conn) {
         Ok(()) => Ok(PackKeeper::over(alloc, conn)),
         Err(error) => Err((StoreFault::from(error), conn)),
@@ -96,9 +98,11 @@ pub fn adopt<S: Alter>(
     if has_schema_3(conn.schema()) {
         return Err(refusal_of_third(conn));
     }
+    // decides: U3: a database is no store
     if !has_schema_4(conn.schema()) {
         return Err((StoreFault::OtherSchema, conn));
     }
+    // decides: U1: a store can't be made or adopted
     match are_formed(&mut conn) {
         Ok(true) => Ok(PackKeeper::over(alloc, conn)),
         Ok(false) => Err((StoreFault::OtherSchema, conn)),
@@ -115,6 +119,7 @@ pub fn are_formed<S: Alter>(conn: &mut Connection<S>) -> Result<bool, Error>
     ensures cause { HasCleanDisk (state S.Store conn.new) → HoldsTablesOf forms_layout (state S.Store conn.old)
         → IfErr result (HasFailed (state S.Store conn.old) (state S.Store conn.new)) }
 {
+    // decides: U3: a database is no store
     let says_4 = is_version(conn, 4)?;
     if !says_4 {
         return Ok(false);
@@ -177,6 +182,7 @@ fn is_unversioned<S: Alter>(conn: &mut Connection<S>) -> Result<bool, Error>
     ensures cause { (layout : Layout) → HasCleanDisk (state S.Store conn.new) → HoldsTablesOf layout (state S.Store conn.old)
         → IfErr result (HasFailed (state S.Store conn.old) (state S.Store conn.new)) }
 {
+    // decides: U3: `mds_version` or `mds_detail` has rows in a schema that leaves it empty
     ready(conn)?;
     let rows = slot_rows(conn)?;
     Ok(are_none(&rows))
@@ -190,6 +196,7 @@ fn is_undated<S: Alter>(conn: &mut Connection<S>) -> Result<bool, Error>
     ensures cause { (layout : Layout) → HasCleanDisk (state S.Store conn.new) → HoldsTablesOf layout (state S.Store conn.old)
         → IfErr result (HasFailed (state S.Store conn.old) (state S.Store conn.new)) }
 {
+    // decides: U3: `mds_version` or `mds_detail` has rows in a schema that leaves it empty
     ready(conn)?;
     let moments = detail_rows(conn)?;
     Ok(are_none(&moments))
@@ -215,6 +222,7 @@ fn refusal_of_first<S: Alter>(conn: Connection<S>) -> (StoreFault, Connection<S>
     ensures survives { Survives (state S.Store conn) (state S.Store result.1) (λ _. ⊥) }
 {
     let mut conn = conn;
+    // decides: U2: a store of schema 1, 2 or 3
     match is_version(&mut conn, 1) {
         Ok(true) => (StoreFault::EarlierSchema, conn),
         Ok(false) => (StoreFault::OtherSchema, conn),
@@ -234,6 +242,7 @@ fn refusal_of_second<S: Alter>(conn: Connection<S>) -> (StoreFault, Connection<S
     ensures survives { Survives (state S.Store conn) (state S.Store result.1) (λ _. ⊥) }
 {
     let mut conn = conn;
+    // decides: U2: a store of schema 1, 2 or 3
     match are_packed(&mut conn) {
         Ok(true) => (StoreFault::EarlierSchema, conn),
         Ok(false) => (StoreFault::OtherSchema, conn),
@@ -253,6 +262,7 @@ fn refusal_of_third<S: Alter>(conn: Connection<S>) -> (StoreFault, Connection<S>
     ensures survives { Survives (state S.Store conn) (state S.Store result.1) (λ _. ⊥) }
 {
     let mut conn = conn;
+    // decides: U2: a store of schema 1, 2 or 3
     match are_daily(&mut conn) {
         Ok(true) => (StoreFault::EarlierSchema, conn),
         Ok(false) => (StoreFault::OtherSchema, conn),

@@ -32,6 +32,7 @@ pub fn pack_day(alloc: Global, readings: &[Option<Reading>]) -> Result<Vec<u8>, 
         → unpacked (length readings.now) body.items ≡ Some readings.now) }
 {
     let mut out = Vec::with_capacity(alloc, HEAD + RUN + VALUE * readings.len())?;
+    // decides: which bytes are a packed day? (definition: body_of in mds_packs/specs/Body.antt)
     out.push(VERSION)?;
     put_two(&mut out, readings.len() as u16)?;
     put_two(&mut out, 0)?;
@@ -53,6 +54,7 @@ pub fn pack_readings(alloc: Global, readings: &DayReadings) -> Result<Vec<u8>, A
     readings.are_lawful();
     let runs = readings.runs();
     let mut out = Vec::with_capacity(alloc, HEAD + RUN * runs.len() + VALUE * readings.len())?;
+    // decides: which bytes are a packed day? (definition: body_of in mds_packs/specs/Body.antt)
     out.push(VERSION)?;
     put_two(&mut out, readings.len() as u16)?;
     put_two(&mut out, runs.len() as u16)?;

@@ -48,6 +48,7 @@ pub fn unpack_day(
     ensures value { IfOk result (λ o. option_map (λ v. v.items) o ≡ unpacked (count_of length) body.now) }
     ensures memory { OnErr result (IsSome (size_in (count_of length) body.now)) }
 {
+    // decides: which bytes are a packed day? (definition: body_of in mds_packs/specs/Body.antt)
     read_all(alloc, intervals_of(length), body)
 }
 

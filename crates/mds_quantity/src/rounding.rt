@@ -13,6 +13,7 @@ pub fn mean(sum: i128, count: u64) -> Quantity
     requires of_quantities { unsigned_abs sum ≤ (limit - 1) * count }
     ensures { IsRounded sum count result }
 {
+    // decides: how is the mean of method 15 computed?
     rounded(sum, count)
 }
 
@@ -28,6 +29,7 @@ pub fn between(before: Quantity, after: Quantity, place: u64, count: u64) -> Qua
     let parts = count + 1;
     let start = i128::from(before.millionths());
     let rise = i128::from(after.millionths()) - start;
+    // decides: how is the line of method 17 computed?
     rounded(start * i128::from(parts) + rise * i128::from(place), parts)
 }
 
@@ -38,6 +40,7 @@ fn rounded(total: i128, parts: u64) -> Quantity
     ensures { IsRounded total parts result }
 {
     let parts = u128::from(parts);
+    // decides: how are computed values rounded?
     let nearest = (2 * total.unsigned_abs() + parts) / (2 * parts);
     signed(total < 0, nearest as u64)
 }

@@ -12,5 +12,6 @@ const MOST_BETWEEN: i64 = 400;
 pub fn is_too_wide(first: Day, last: Day) -> bool
     ensures { IsTrue result ↔ IsTooWide first last }
 {
+    // decides: M12: more than 400 days
     last.number() - first.number() >= MOST_BETWEEN
 }

@@ -33,6 +33,7 @@ pub fn current_readings(
 fn current_reading(book: &DayBook, interval: u16) -> Result<Reading, AllocError>
     ensures { IfOk result (IsDayReading (book_world book.now) book.now.stream book.now.day interval) }
 {
+    // decides: which reading does an interval without a version have?
     let Some(version) = book.current(interval) else {
         return Ok(no_reading());
     };

@@ -56,6 +56,7 @@ fn gap_rows(
     ensures { (w : World) (stream : Stream) → AreDaysOf w stream first last books.now
         → IfOk result (λ rows. AreGapRows w stream first last rows.items) }
 {
+    // decides: which rows do the gaps and finals of a range have?
     let mut rows = Vec::new(alloc);
     let mut from = number_of(first);
     for book in books {
@@ -73,6 +74,7 @@ fn final_rows(alloc: Global, books: &[DayBook]) -> Result<Vec<FinalRow>, AllocEr
     ensures { (w : World) (stream : Stream) (first last : ℕ) → AreDaysOf w stream first last books.now
         → IfOk result (λ rows. AreFinalRows w stream first last rows.items) }
 {
+    // decides: which rows do the gaps and finals of a range have?
     let mut rows = Vec::new(alloc);
     for book in books {
         add_finals(alloc, &mut rows, book)?;

@@ -35,6 +35,7 @@ pub fn selection_of<K: Keeper>(
         (λ selection. IsSelection (K.kept keeper.old).world nmi suffixes.now first last selection.streams.items) }
     ensures unasked { length suffixes.now ≡ 0 → IfOk result (λ selection. selection.streams.items ≡ []) }
 {
+    // decides: what does an export select?
     let streams = selected_streams(alloc, keeper, nmi, suffixes, first, last)?;
     // These are a selection if the keeper is sound.
     made_of(streams).ok_or(Unavailable)

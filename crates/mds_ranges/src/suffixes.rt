@@ -49,6 +49,7 @@ pub fn distinct(suffixes: &[Suffix]) -> Option<Suffixes>
     let mut count = 0;
     let mut last = None;
     while let Some(next) = next_after(&last, suffixes) {
+        // decides: M12: more than eight suffixes
         if count == MOST_SUFFIXES {
             return None;
         }

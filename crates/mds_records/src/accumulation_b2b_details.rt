@@ -51,6 +51,7 @@ pub fn read_accumulation_b2b_details(
     let previous_ticket = PrintableText::read(fields.previous_ticket);
     let current_trans = optional_trans(fields.current_trans);
     let current_ticket = PrintableText::read(fields.current_ticket);
+    // decides: L5: a field isn't what its layout says
     let good = [
         previous_trans.is_some(),
         previous_ticket.is_some(),

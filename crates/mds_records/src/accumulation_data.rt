@@ -201,6 +201,7 @@ fn read_meter<'a>(fields: &MeterFields<'a>) -> Result<MeterTerms<'a>, FieldFault
     let datastream = PrintableText::read(fields.datastream);
     let meter = PrintableText::read(fields.meter);
     let direction = Direction::read(fields.direction);
+    // decides: L5: a field isn't what its layout says
     let good = [
         nmi.is_some(),
         configuration.is_some(),
@@ -233,6 +234,7 @@ fn read_amount(fields: &AccumulationFields<'_>) -> Result<AmountTerms, FieldFaul
     let unit = Unit::read(fields.unit);
     let next = optional_day(fields.next);
     let update = optional_moment(fields.update);
+    // decides: L5: a field isn't what its layout says
     let good = [
         quantity.is_ok(),
         unit.is_some(),

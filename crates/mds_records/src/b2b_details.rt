@@ -49,6 +49,7 @@ pub fn read_b2b_details(text: &[u8]) -> Result<B2bDetailsRecord<'_>, FieldFault>
     let ticket = PrintableText::read(fields.ticket);
     let moment = optional_moment(fields.moment);
     let reading = PrintableText::read(fields.reading);
+    // decides: L5: a field isn't what its layout says
     let good = [
         trans.is_some(),
         ticket.is_some(),

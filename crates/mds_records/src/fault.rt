@@ -52,6 +52,7 @@ pub(crate) fn least_bad(from: usize, good: &[bool]) -> Option<usize>
     requires { from + length good.now < 2 ^ 64 }
     ensures { result ≡ first_false from good.now }
 {
+    // decides: L5: a field isn't what its layout says
     for (i, is_good) in good.iter().enumerate() {
         if !*is_good {
             return Some(from + i);
@@ -64,5 +65,6 @@ pub(crate) fn least_bad(from: usize, good: &[bool]) -> Option<usize>
 pub(crate) fn has_right_count(has_least: bool, rest: Option<&[u8]>) -> bool
     ensures { result ≡ (has_least && are_blank (fields_left (option_copied rest.entry))) }
 {
+    // decides: L4: too few fields, or one past the last that isn't empty
     has_least && is_blank_from(rest)
 }

@@ -42,6 +42,7 @@ pub fn read_header(text: &[u8], file: HeaderName) -> Result<HeaderRecord<'_>, Fi
     let moment = Moment::read_date_time(fields.date_time);
     let sender = PrintableText::read(fields.sender);
     let receiver = PrintableText::read(fields.receiver);
+    // decides: L5: a field isn't what its layout says
     let good = [
         is_name(file, fields.name),
         moment.is_some(),
@@ -89,6 +90,7 @@ fn is_name(file: HeaderName, name: &[u8]) -> bool
 fn is_other_name(file: HeaderName, name: &[u8]) -> bool
     ensures { result ≡ bytes_eq name.now (other_file_name file) }
 {
+    // decides: L11: the header is that of the other kind of file
     match file {
         HeaderName::Nem12 => matches!(name, b"NEM13"),
         HeaderName::Nem13 => matches!(name, b"NEM12"),

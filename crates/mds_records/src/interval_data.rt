@@ -62,6 +62,7 @@ pub fn read_interval_data<'a>(
     let mark = MarkRef::read(quality, code, text);
     let parts = mark_parts(&mark, quality, code, text);
     let update = optional_moment(fields.update);
+    // decides: L5: a field isn't what its layout says
     let good = [
         parts.quality.is_some(),
         parts.has_code,
@@ -98,6 +99,7 @@ fn split_interval_data<'a>(
 {
     let (_, rest) = next_field(Some(text));
     let (date, rest) = next_field(rest);
+    // decides: L4: too few fields, or one past the last that isn't empty
     let day = values.read(rest?, count)?;
     let (quality, rest) = next_field(Some(day.rest));
     let (reason_code, rest) = next_field(rest);
@@ -123,6 +125,7 @@ fn split_interval_data<'a>(
 fn least_of(is_day: bool, in_values: Option<usize>, after: Option<usize>) -> Option<usize>
     ensures { result ≡ (if is_day then or_else in_values after else Some 2) }
 {
+    // decides: L5: a field isn't what its layout says
     if is_day { in_values.or(after) } else { Some(2) }
 }
 

@@ -47,6 +47,7 @@ pub fn read_interval_event(text: &[u8]) -> Result<IntervalEventRecord<'_>, Field
     let (quality, code, text) = (fields.quality, fields.reason_code, fields.reason_text);
     let mark = MarkRef::read(quality, code, text);
     let parts = mark_parts(&mark, quality, code, text);
+    // decides: L5: a field isn't what its layout says
     let good = [
         first.is_some(),
         last.is_some(),

@@ -55,6 +55,7 @@ pub fn read_nmi_data_details(text: &[u8]) -> Result<NmiDataDetailsRecord<'_>, Fi
     let unit = Unit::read(fields.unit);
     let length = Length::read(fields.length);
     let next = optional_day(fields.next);
+    // decides: L5: a field isn't what its layout says
     let good = [
         nmi.is_some(),
         configuration.is_some(),

@@ -75,6 +75,7 @@ pub(crate) fn read_register<'a>(
     let quality = Quality::read(fields.quality);
     let reason = ReasonRef::read(fields.reason_code, fields.reason_text);
     let parts = reason_parts(&reason, fields.reason_code, fields.reason_text);
+    // decides: L5: a field isn't what its layout says
     let good = [
         reading.is_some(),
         moment.is_some(),

@@ -89,6 +89,7 @@ fn is_null(book: &DayBook, interval: u16) -> bool
         (IsNull w book.now.stream book.now.day interval → ⊥) }
 {
     book.is_lawful();
+    // decides: what is a gap, and what a final?
     match book.current(interval) {
         Some(version) => version.mark.quality.flag() == NULL,
         None => true,
@@ -102,6 +103,7 @@ fn final_mark(book: &DayBook, interval: u16) -> Option<&Mark>
         (λ mark. IsFinalWith w book.now.stream book.now.day mark.now interval) }
 {
     book.is_lawful();
+    // decides: what is a gap, and what a final?
     let Some(version) = book.current(interval) else {
         return None;
     };

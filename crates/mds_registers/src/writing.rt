@@ -36,6 +36,7 @@ pub fn write_gaps(stream: &Stream, rows: &[GapRow], out: &mut Vec<u8>) -> Result
         × Appends out.old.items out.new.items text) }
     ensures kept { OnErr result (out.new.items ≡ out.old.items) }
 {
+    // decides: which rows do the gaps and finals of a range have?
     let text = gaps_text(*out.allocator(), stream, rows)?;
     out.extend_from_slice(&text)
 }
@@ -48,6 +49,7 @@ pub fn write_finals(stream: &Stream, rows: &[FinalRow], out: &mut Vec<u8>) -> Re
         × Appends out.old.items out.new.items text) }
     ensures kept { OnErr result (out.new.items ≡ out.old.items) }
 {
+    // decides: which rows do the gaps and finals of a range have?
     let text = finals_text(*out.allocator(), stream, rows)?;
     out.extend_from_slice(&text)
 }

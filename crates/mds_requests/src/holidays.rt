@@ -63,6 +63,7 @@ fn read_days(
     let mut number = 1;
     while next_row(reader, row)? {
         number += 1;
+        // decides: H1: the row is no day of a list of holidays
         let Some(day) = day_in(row) else {
             return Err(HolidaysFault::BadHolidays(number));
         };

@@ -28,6 +28,7 @@ pub fn job_from_json(alloc: Global, text: &[u8]) -> Result<Option<Job>, AllocErr
     let Ok(text) = str::from_utf8(text) else {
         return Ok(None);
     };
+    // decides: bad job: the text is no substitution job
     match Value::from_str(alloc, text) {
         Ok(value) => job_in(alloc, &value),
         Err(error) => {

@@ -85,6 +85,7 @@ fn request_by(
     ensures { MatchResult result (AsksBy route path.now (texts_of query.now) body.items)
         (IsFaultBy route path.now (texts_of query.now) body.items) }
 {
+    // decides: which request does a target ask for?
     match route {
         Route::Imports => import_asked(alloc, query, body),
         Route::Gaps => gaps_asked(query),

@@ -74,9 +74,11 @@ impl Cover {
     pub fn refusal(&self, first: u16, last: u16) -> Option<RunFault>
         ensures { result ≡ refusal self.now.count self.now.runs first last }
     {
+        // decides: L6: the intervals of a 400 aren't within the day
         if !is_in_range(self.count, first, last) {
             return Some(RunFault::Range);
         }
+        // decides: L7: a 400 doesn't begin after the run before it
         if first <= last_end(&self.runs) {
             return Some(RunFault::Order);
         }
@@ -159,6 +161,7 @@ pub fn mark_from<'a>(runs: &'a [Run], default: &'a Mark, interval: u16) -> (&'a 
     ensures left { result.1.now ≡ filter (λ run. nat_le interval run.last) runs.now }
     ensures lawful { AreAscending result.1.now }
 {
+    // decides: which mark and value does an interval have?
     let left = runs_from(runs, interval);
     (first_mark(left, default, interval), left)
 }

@@ -91,6 +91,7 @@ impl DayReadings {
         mark.parts_are_lawful();
         self.millionths.reserve(values.len())?;
         let end = (self.millionths.len() + values.len()) as u16;
+        // decides: how are a day's readings stored in memory?
         put_stretch(&mut self.runs, mark, end)?;
         put_values(&mut self.millionths, is_null(mark), values)
     }

@@ -233,6 +233,7 @@ pub(crate) fn version_in(
     ensures err { OnErr result ((key : KeyValue) (reading : ReadingValue) → IsRowOfVersion row.now key reading
         → 0 < list_length reading.mark.reason.text) }
 {
+    // decides: which version does a row of schema 1 say? (definition: version_fact in mds_tables/specs/RowFacts.antt)
     let key = told(key_in(length, row))?;
     let reading = told(reading_read(alloc, row)?)?;
     Ok((key, reading))

@@ -106,6 +106,7 @@ fn ask_all<K: Keeper>(
             details,
             days,
         };
+        // decides: which details does a file give a day?
         let days = keeper.days_without(&group)?;
         if !days.is_empty() {
             group.days = days;

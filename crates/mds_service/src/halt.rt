@@ -81,6 +81,7 @@ impl From<Halt> for Answer {
     ghost from_gives = { λ halt answer. answer ≡ answer_of_halt halt };
 
     fn from(halt: Halt) -> Answer {
+        // decides: U1: a request can't be answered
         match halt {
             Halt::File(fault) => Answer::File(fault),
             Halt::Refused(refusal) => Answer::Refused(refusal),

@@ -34,5 +34,6 @@ impl From<Error> for StoreFault {
 pub fn is_empty(schema: &Schema) -> bool
     ensures { MatchBool result (schema.now ≡ no_schema) (schema.now ≢ no_schema) }
 {
+    // decides: U3: a database to make a store in isn't empty
     schema.tables.is_empty() && schema.indexes.is_empty() && schema.views.is_empty()
 }

@@ -50,6 +50,7 @@ pub fn range_cells<'a>(stream: &'a Stream, first: Day, last: Day) -> [ValueRef<'
 pub fn unit_cells<'a>(head: &'a Head) -> [ValueRef<'a>; 5]
     ensures { bound result ≡ row.unit_cells head.now }
 {
+    // decides: which rows does a head get?
     [
         ValueRef::Text(head.stream.nmi.text().as_bytes()),
         ValueRef::Text(head.stream.suffix.text().as_bytes()),
@@ -63,6 +64,7 @@ pub fn unit_cells<'a>(head: &'a Head) -> [ValueRef<'a>; 5]
 pub fn form_cells<'a>(head: &'a Head) -> [ValueRef<'a>; 5]
     ensures { bound result ≡ row.form_cells head.now }
 {
+    // decides: which rows does a head get?
     [
         ValueRef::Text(head.stream.nmi.text().as_bytes()),
         ValueRef::Text(head.stream.suffix.text().as_bytes()),

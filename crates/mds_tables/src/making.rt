@@ -16,6 +16,7 @@ use sqlite::{Alter, Error, Transaction};
 fn statement(n: usize) -> &'static str
     ensures { result.now ≡ create n }
 {
+    // decides: which tables does a store have?
     match n {
         0 => "CREATE TABLE mds_schema (version INTEGER NOT NULL, UNIQUE (version)) STRICT",
         1 =>

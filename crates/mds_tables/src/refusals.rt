@@ -10,6 +10,7 @@ use sqlite::Error;
 pub fn or_unavailable<T>(answer: Result<T, Error>) -> Result<T, Unavailable>
     ensures { MatchResult result (λ x. answer ≡ Ok x) (λ _. IsErr answer) }
 {
+    // decides: U1: a query fails
     match answer {
         Ok(x) => Ok(x),
         Err(_) => Err(Unavailable),
@@ -20,6 +21,7 @@ pub fn or_unavailable<T>(answer: Result<T, Error>) -> Result<T, Unavailable>
 pub fn told<T>(cell: Option<T>) -> Result<T, Unavailable>
     ensures { MatchResult result (λ x. cell ≡ Some x) (λ _. cell ≡ None) }
 {
+    // decides: U1: a row doesn't read
     match cell {
         Some(x) => Ok(x),
         None => Err(Unavailable),

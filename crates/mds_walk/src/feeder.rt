@@ -59,6 +59,7 @@ impl<T: RecordSink + Drop> LineFeeder<T> {
         ensures memory { (text : List ℕ) → WasFed T.judge T.taken text self.old → fault_answered self.old ≡ None
             → result ≡ Err TakeFault.Memory → MayLackFor T.may_lack T.judge text piece.now }
     {
+        // decides: what is a file's first fault? (definition: fault_of in mds_nem12/specs/Faults.antt)
         match self.walk.fault() {
             Some(fault) => Err(fault),
             None => self.feed_next(piece),
@@ -170,6 +171,7 @@ impl<T: RecordSink + Drop> LineFeeder<T> {
         ensures memory { result ≡ Err TakeFault.Memory
             → (front.now ≢ []) × (length self.old.rest.items + length front.now ≤ longest_line) }
     {
+        // decides: L10: the line is too long, or the file has too many
         if front.len() > LONGEST_LINE || self.rest.len() > LONGEST_LINE - front.len() {
             return Err(at_end(FaultCode::TooLarge, u64::from(self.lines)));
         }

@@ -45,6 +45,7 @@ impl<T: RecordSink + Drop> Walk<T> {
             × (fault_answered self.new ≡ Some fault)) }
         ensures kept { IfErr result (λ fault. fault_answered self.new ≡ Some fault) }
     {
+        // decides: what is a file's first fault? (definition: fault_of in mds_nem12/specs/Faults.antt)
         match self.fault {
             Some(fault) => Err(fault),
             None => match take_line(&mut self.sink, line) {
@@ -71,6 +72,8 @@ impl<T: RecordSink + Drop> Walk<T> {
             × T.may_lack before (line_text piece.now) (text_fault T.judge before (line_text piece.now)) }
     {
         let number = u64::from(lines) + 1;
+        // decides: L10: the line is too long, or the file has too many
+        // decides: how large may a line, a head or a body be (`LONGEST_LINE`, `LONGEST_HEAD`, `LONGEST_BODY`)?
         if piece.len() > LONGEST_LINE || number > MOST_LINES {
             return Err(at_end(FaultCode::TooLarge, u64::from(lines)));
         }
@@ -103,6 +106,7 @@ impl<T: RecordSink + Drop> Walk<T> {
         if let Some(fault) = self.fault {
             return Err(fault);
         }
+        // decides: which line has a fault of the end of a file?
         match self.sink.finish() {
             Ok(output) => Ok(output),
             Err(code) => Err(at_end(code, lines)),

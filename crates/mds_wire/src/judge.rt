@@ -49,6 +49,7 @@ pub(crate) fn judge_head<F: RouteFinder>(
     ensures value { result ≡ judge (parts_at bytes.now fields.now spans.now) }
     ensures few { (route : RouteOf) (size : ℕ) → result ≡ Judged.Wanted route size → size ≤ longest_body }
 {
+    // decides: what does the head of a request over HTTP mean?
     let fields = &fields[..spans.headers];
     if is_host_fault(spans.version, values_of(bytes, fields, b"host")) {
         return Judged::Refused(Status::BadRequest);
@@ -128,6 +129,7 @@ fn judge_length(route: Route, values: Values<'_>) -> Judged
     ensures value { (found : List (List ℕ)) → IsValues found values.entry → result ≡ judge_length route found }
     ensures few { (other : RouteOf) (size : ℕ) → result ≡ Judged.Wanted other size → size ≤ longest_body }
 {
+    // decides: what does the head of a request over HTTP mean?
     match values {
         Values::None => Judged::Refused(Status::LengthRequired),
         Values::Several => Judged::Refused(Status::BadRequest),
@@ -137,6 +139,7 @@ fn judge_length(route: Route, values: Values<'_>) -> Judged
             }
             match number(value) {
                 None => Judged::Refused(Status::BadRequest),
+                // decides: how large may a line, a head or a body be (`LONGEST_LINE`, `LONGEST_HEAD`, `LONGEST_BODY`)?
                 Some(size) if size > LONGEST_BODY => Judged::Refused(Status::ContentTooLarge),
                 Some(size) => Judged::Wanted(route, size),
             }

@@ -44,6 +44,7 @@ impl Route {
         ensures value { result ≡ method_of self }
         ensures size { length result ≤ 4 }
     {
+        // decides: which route does a path have, and which method?
         match self {
             Route::Imports | Route::Substitutions | Route::Holidays => Method::POST,
             _ => Method::GET,
@@ -54,6 +55,7 @@ impl Route {
     fn template(self) -> &'static str
         ensures { result.now ≡ template_of self }
     {
+        // decides: which route does a path have, and which method?
         match self {
             Route::Imports => "/v1/imports",
             Route::Substitutions => "/v1/substitutions",

@@ -354,6 +354,7 @@ pub fn serve_one<F: RouteFinder, H: Handler, R: Source, W: Sink>(
     ensures writer { (result ≡ Err WireFault.Write → W.failures writer.new ≡ W.failures writer.old + 1)
         × (result ≢ Err WireFault.Write → W.failures writer.new ≡ W.failures writer.old) }
 {
+    // decides: how large may a line, a head or a body be (`LONGEST_LINE`, `LONGEST_HEAD`, `LONGEST_BODY`)?
     let mut buffer = room_of_head(alloc)?;
     let mut text = Vec::with_capacity(alloc, LONGEST_ANSWER_HEAD)?;
     let mut answer = Vec::with_capacity(alloc, SHORT_ANSWER)?;

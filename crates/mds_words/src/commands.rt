@@ -26,6 +26,7 @@ pub(crate) fn kinds() -> &'static [&'static str]
 pub(crate) fn grammar<'a>(alloc: Global, kinds: &'a [&'a str]) -> Result<Command<'a>, AllocError>
     ensures { IfOk result (IsApp (mdstore_app kinds.entry)) }
 {
+    // decides: which version is the program (`VERSION`)?
     let commands = commands(alloc, KindNames { names: kinds })?;
     Command::new(alloc, "mdstore")
         .about("The interval data store of an electricity metering data provider")

@@ -93,6 +93,7 @@ impl Place {
 
     /// What the file and its log may be.
     pub(crate) fn standing(&self) -> Standing {
+        // decides: what happens to the log beside a store?
         let has_log = self.log_bytes.unwrap_or(0) > 0;
         match self.file_bytes {
             None if has_log => Standing::LogAlone,
@@ -118,6 +119,7 @@ impl Place {
 
     /// Removes what the call made, while the files are locked.
     pub(crate) fn restore(&self, rt: &HostRuntime, locked: &LockedFiles) {
+        // decides: what happens to the log beside a store?
         match self.standing() {
             Standing::Nothing => {
                 let _ = put_back(rt, self.log.as_str(), self.log_bytes);

@@ -29,6 +29,7 @@ pub(crate) type LockedFiles = Files<FileFrom<Wary>>;
 /// Makes a store where there is no file, or in a file that has no bytes or is an empty database. If sums are asked for, such a database must
 /// have them: pages that were made without sums get none.
 pub(crate) fn make_store(rt: &HostRuntime, path: &str, has_sums: bool) -> Outcome {
+    // decides: U1: the file of the store can't be opened
     let Ok(place) = Place::to_make(rt, path) else {
         return Outcome::Unavailable;
     };
@@ -40,6 +41,7 @@ pub(crate) fn make_store(rt: &HostRuntime, path: &str, has_sums: bool) -> Outcom
             };
             in_database(rt, path, &place, has_sums, task)
         }
+        // decides: U3: a file without bytes, or for `init` a log without a file
         Standing::LogAlone => {
             place.take_away_file(rt);
             Outcome::OtherSchema
@@ -60,11 +62,13 @@ pub(crate) fn migrate_store(rt: &HostRuntime, path: &str) -> Outcome {
 
 /// Opens the database at a path, which isn't made if it is missing, does something with it, and closes it.
 fn in_file<T: DatabaseTask + Drop>(rt: &HostRuntime, path: &str, task: T) -> Outcome {
+    // decides: U1: the file of the store can't be opened
     let Ok(place) = Place::of_file(rt, path) else {
         return Outcome::Unavailable;
     };
     match place.standing() {
         Standing::Files => in_database(rt, path, &place, false, task),
+        // decides: U3: a file without bytes, or for `init` a log without a file
         Standing::Nothing | Standing::LogAlone => Outcome::OtherSchema,
         Standing::NoDatabase => Outcome::Unavailable,
     }
@@ -89,6 +93,7 @@ impl<'a> Make<'a> {
         if !self.has_sums {
             return None;
         }
+        // decides: U3: an empty database has no sums, and `--sums` asks for them
         match self.place.has_sums(rt) {
             Ok(true) => None,
             Ok(false) => Some(Outcome::OtherSchema),
@@ -172,6 +177,7 @@ fn in_database<T: DatabaseTask + Drop>(
     new_has_sums: bool,
     task: T,
 ) -> Outcome {
+    // decides: U1: the file of the store can't be opened
     match open_database(rt, path, new_has_sums) {
         Ok(conn) => {
             let (conn, outcome) = task.run(rt, conn);
@@ -234,6 +240,7 @@ fn close(
     conn: Connection<FileStore<FileFrom<Wary>>>,
     outcome: Outcome,
 ) -> Outcome {
+    // decides: what happens to the log beside a store?
     let files = match conn.close_files() {
         Ok(files) => {
             place.remove_log(rt, &files);
