@@ -25,37 +25,11 @@ try: bin/mdstore-tried # builds the program without proofs, within five minutes,
 bin/mdstore-tried: $(SOURCES) tools/try
 	tools/try
 
-# Each script of tests/ with the programs that it runs.
-define SCRIPTS
-tests/check crates/mdstore/out/mdstore
-tests/commands crates/mdstore/out/mdstore
-tests/program crates/mdstore/out/mdstore
-tests/service crates/mdstore/out/mdstore
-tests/soak crates/mdstore/out/mdstore
-tests/examples crates/mdstore/out/mdstore crates/mds_trials/out/mds_trials
-tests/keepers crates/mdstore/out/mdstore crates/mds_trials/out/mds_trials
-tests/text crates/mdstore/out/mdstore
-tests/migration crates/mdstore/out/mdstore
-tests/pieces crates/mdstore/out/mdstore crates/mds_trials/out/mds_trials
-tests/no_memory crates/mdstore/out/mdstore crates/mds_trials/out/mds_trials
-tests/stops crates/mdstore/out/mdstore crates/mds_trials/out/mds_trials
-tests/faults crates/mdstore/out/mdstore
-tests/power_cuts crates/mdstore/out/mdstore
-tests/changed_bytes crates/mdstore/out/mdstore
-tests/causes
-tests/definitions
-tests/code_map
-tests/wrong_bodies
-tests/openapi crates/mdstore/out/mdstore
-tests/words crates/mdstore/out/mdstore
-endef
-export SCRIPTS
-
 test: # proves every crate, tries wrong bodies, and runs the scripts of tests/, an hour on four processors
 	tools/wrong-bodies --look
 	rt ci
 	tools/wrong-bodies --ci --share commit/24 $(if $(NOTES),--notes $(NOTES)) || [ $$? = 77 ]
-	@echo "$$SCRIPTS" | tools/run-scripts $(NOTES)
+	tests/run --verbose $(if $(NOTES),--notes $(NOTES))
 
 bench: bin/mdstore # measures, and prints figures as bench/README.md has them
 	bench/run

@@ -1,0 +1,1 @@
+"""What the scripts share: how they check and end, the programs that they run, and the services that they ask."""
