@@ -12,33 +12,39 @@ use Rattle.mds_statements.specs.declared.blocks.DeliveredDay.{DeliveredDay}
 use Rattle.mds_statements.specs.declared.delivery.Delivery.{Delivery}
 use Rattle.mds_world.proofs.Lists.{append_right, flat_in, in_map, map_in}
 use Rattle.mds_world.specs.Lists.{Member}
-use Rattle.mds_service.specs.Asking.{AreDays, AreOfDates, AreStated, AsksOnly}
-use Rattle.mds_service.specs.Asking.AsksOnly.{Nothing, Then}
+use Rattle.mds_service.specs.Asking.{AreDays, AreOfDates, AreStated, AsksOnly, IsNone}
+use Rattle.mds_service.specs.Asking.AsksOnly.{Nothing, Other, Then}
 use Rattle.mds_service.specs.Gathering.{block_days, day_of}
 use Rattle.mds_service.specs.OpeningSteps.{IsOfDates}
 use Rattle.mds_service.specs.declared.opening.Stretch.{Stretch}
 
-module _ {S : Type 0} {asks : S → Stream → ℕ → ℕ → S → Type 0} where
+module _ {S : Type 0} {asks : S → Stream → ℕ → ℕ → S → Type 0} {others : S → S → Type 0} where
   pub asks_one : {Holds : Stream → ℕ → ℕ → Type 0} {old new : S} (stream : Stream) (first last : ℕ)
-      → asks old stream first last new → Holds stream first last → AsksOnly asks Holds old new
+      → asks old stream first last new → Holds stream first last → AsksOnly asks others Holds old new
   asks_one stream first last asked holds = Then stream first last Nothing asked holds
 
-  pub asks_on : {Holds : Stream → ℕ → ℕ → Type 0} {old mid new : S} → AsksOnly asks Holds old mid → AsksOnly asks Holds mid new
-      → AsksOnly asks Holds old new
+  pub asks_on : {Holds : Stream → ℕ → ℕ → Type 0} {old mid new : S} → AsksOnly asks others Holds old mid → AsksOnly asks others Holds mid new
+      → AsksOnly asks others Holds old new
   asks_on one Nothing = one
   asks_on one (Then stream first last other asked holds) = Then stream first last (asks_on one other) asked holds
+  asks_on one (Other earlier call) = Other (asks_on one earlier) call
 
   pub asks_wider : {Holds Says : Stream → ℕ → ℕ → Type 0} {old new : S}
-      → ((stream : Stream) (first last : ℕ) → Holds stream first last → Says stream first last) → AsksOnly asks Holds old new
-      → AsksOnly asks Says old new
+      → ((stream : Stream) (first last : ℕ) → Holds stream first last → Says stream first last) → AsksOnly asks others Holds old new
+      → AsksOnly asks others Says old new
   asks_wider so Nothing = Nothing
   asks_wider so (Then stream first last other asked holds) =
       Then stream first last (asks_wider so other) asked (so stream first last holds)
+  asks_wider so (Other earlier call) = Other (asks_wider so earlier) call
+
+  -- calls that ask for no days ask for these alone
+  pub asks_none : {Holds : Stream → ℕ → ℕ → Type 0} {old new : S} → AsksOnly asks others IsNone old new → AsksOnly asks others Holds old new
+  asks_none asked = asks_wider (λ _ _ _ none. absurd none) asked
 
   -- days of one of these stretches are of their dates
   pub asks_of_stretch : {old new : S} (stream : Stream) (dates : List ℕ) (ahead : List Stretch) (i : ℕ) (stretch : Stretch)
       → i < length ahead → stretch ≡ slice_index_or ahead i stretch → All (IsOfDates dates) ahead
-      → AsksOnly asks (AreDays stream stretch.first stretch.last) old new → AsksOnly asks (AreOfDates stream dates) old new
+      → AsksOnly asks others (AreDays stream stretch.first stretch.last) old new → AsksOnly asks others (AreOfDates stream dates) old new
   asks_of_stretch stream dates ahead i stretch here is all asked =
       let of_dates = subst (IsOfDates dates) (sym is) (All-get_or (IsOfDates dates) ahead i stretch here all) in
       asks_wider (λ of first last are. (
@@ -52,8 +58,8 @@ module _ {S : Type 0} {asks : S → Stream → ℕ → ℕ → S → Type 0} whe
   -- days of the stretches of a block's dates are days that it states
   pub asks_of_block : {old new : S} (block : Block) (days : List DeliveredDay) (found ahead : List Stretch)
       → days ≡ block.days.items → All (IsOfDates (map (λ day. day.date) days)) found → ahead ≡ found
-      → ((dates : List ℕ) → All (IsOfDates dates) ahead → AsksOnly asks (AreOfDates block.stream dates) old new)
-      → AsksOnly asks (AreStated (block_days block)) old new
+      → ((dates : List ℕ) → All (IsOfDates dates) ahead → AsksOnly asks others (AreOfDates block.stream dates) old new)
+      → AsksOnly asks others (AreStated (block_days block)) old new
   asks_of_block block days found ahead same all is asked = asks_wider (λ stream first last are. record {
     each = λ day from upto.
         let at = in_map (λ (day : DeliveredDay). day.date) block.days.items day (are.1.each day from upto) in (
@@ -69,8 +75,8 @@ module _ {S : Type 0} {asks : S → Stream → ℕ → ℕ → S → Type 0} whe
   -- so is one of its days
   pub asks_of_day : {old new : S} (block : Block) (front behind later : List DeliveredDay) (day : DeliveredDay)
       → front ++ behind ≡ block.days.items → behind ≡ day ∷ later
-      → AsksOnly asks (AreDays block.stream day.date day.date) old new
-      → AsksOnly asks (AreStated (block_days block)) old new
+      → AsksOnly asks others (AreDays block.stream day.date day.date) old new
+      → AsksOnly asks others (AreStated (block_days block)) old new
   asks_of_day block front behind later day all first asked = asks_wider (λ stream from upto are. record {
     each = λ number low high. (
       day_of block.stream block.length block.unit day,
@@ -85,8 +91,8 @@ module _ {S : Type 0} {asks : S → Stream → ℕ → ℕ → S → Type 0} whe
   -- days of a block are days of all blocks
   pub asks_of_blocks : {old new : S} (blocks front behind later : List Block) (block : Block)
       → front ++ behind ≡ blocks → behind ≡ block ∷ later
-      → AsksOnly asks (AreStated (block_days block)) old new
-      → AsksOnly asks (AreStated (flat_map block_days blocks)) old new
+      → AsksOnly asks others (AreStated (block_days block)) old new
+      → AsksOnly asks others (AreStated (flat_map block_days blocks)) old new
   asks_of_blocks blocks front behind later block all first asked = asks_wider (λ stream from upto are. record {
     each = λ day low high.
         let stated = are.each day low high in (
@@ -101,7 +107,7 @@ module _ {S : Type 0} {asks : S → Stream → ℕ → ℕ → S → Type 0} whe
 
   -- days of all its blocks are days of a delivery
   pub asks_of_delivery : {old new : S} (delivery : Delivery)
-      → AsksOnly asks (AreStated (flat_map block_days delivery.blocks.items)) old new
-      → AsksOnly asks (AreStated (days_of (delivery_statements delivery))) old new
+      → AsksOnly asks others (AreStated (flat_map block_days delivery.blocks.items)) old new
+      → AsksOnly asks others (AreStated (days_of (delivery_statements delivery))) old new
   asks_of_delivery {old = old} {new = new} delivery asked =
-      subst (λ days. AsksOnly asks (AreStated days) old new) (sym (days_delivered delivery)) asked
+      subst (λ days. AsksOnly asks others (AreStated days) old new) (sym (days_delivered delivery)) asked

@@ -7,9 +7,11 @@ ghost use Rattle.mds_world.specs.Lists.{Apart, Member};
 ghost use Rattle.mds_world.specs.Sets.{◌∈◌};
 ghost use Rattle.mds_keeper.specs.Content.{details_of, details_on};
 ghost use Rattle.mds_keeper.specs.Kept.{OfKept, Stays};
+ghost use Rattle.mds_service.specs.Asking.{AsksOnly, IsNone};
 ghost use Rattle.mds_service.specs.SharedDays.{HasDetail};
 
-use mds_keeper::{DetailDays, Keeper, Unavailable};
+use crate::asking::ImportKeeper;
+use mds_keeper::{DetailDays, Unavailable};
 use mds_terms::{Day, Details, Moment, Stream};
 use std::alloc::{AllocError, Global};
 use std::collections::BTreeMap;
@@ -23,12 +25,13 @@ struct SharedDetails {
 }
 
 /// The details among these that aren't kept yet, each once. Days of one stream with equal details are asked for at once.
-pub(crate) fn new_details<K: Keeper>(
+pub(crate) fn new_details<K: ImportKeeper>(
     alloc: Global,
     keeper: &mut K,
     details: Vec<DetailDays>,
 ) -> Result<Vec<DetailDays>, Unavailable>
     ensures stays { Stays (K.kept keeper.old) (K.kept keeper.new) }
+    ensures asked { AsksOnly K.asks K.others IsNone keeper.old keeper.new }
     ensures apart { (K.kept keeper.new).honest → IfOk result (λ new. Apart (details_of new.items)) }
     ensures just { OfKept (K.kept keeper.old) (K.kept keeper.new)
         (λ w. IfOk result (λ new. (detail : Detail) → Member detail (details_of new.items)
@@ -82,12 +85,13 @@ fn put_group(
 }
 
 /// Asks which of the days that share details don't have them yet. Each of these is returned once.
-fn ask_all<K: Keeper>(
+fn ask_all<K: ImportKeeper>(
     alloc: Global,
     keeper: &mut K,
     together: BTreeMap<SharedDetails, Vec<Day>>,
 ) -> Result<Vec<DetailDays>, Unavailable>
     ensures stays { Stays (K.kept keeper.old) (K.kept keeper.new) }
+    ensures asked { AsksOnly K.asks K.others IsNone keeper.old keeper.new }
     ensures apart { (K.kept keeper.new).honest → IfOk result (λ new. Apart (details_of new.items)) }
     ensures just { OfKept (K.kept keeper.old) (K.kept keeper.new)
         (λ w. IfOk result (λ new. (detail : Detail) → Member detail (details_of new.items)

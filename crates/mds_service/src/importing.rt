@@ -4,11 +4,14 @@ ghost use Rattle.std.specs.Prelude.{ℕ, List};
 ghost use Rattle.mds_nem12.specs.Reader.{HasRead};
 ghost use Rattle.mds_records.specs.declared.file.FileKind.TheVariants as kinds;
 ghost use Rattle.mds_statements.specs.Delivered.{delivery_statements};
+ghost use Rattle.mds_statements.specs.Statements.{days_of};
+ghost use Rattle.mds_service.specs.Asking.{AreStated, AsksOnly};
 ghost use Rattle.mds_service.specs.Crashes.{GoesBy};
 ghost use Rattle.mds_service.specs.Halts.{answer_of};
 ghost use Rattle.mds_service.specs.Machine.{ImportStep, TakesIn};
 
 use crate::accumulating::import_nem13;
+use crate::asking::ImportKeeper;
 use crate::details::new_details;
 use crate::gathering::{Gathered, gather};
 use crate::halt::{Halt, answer_of};
@@ -89,8 +92,15 @@ pub fn import_delivery<K: Keeper>(alloc: Global, keeper: &mut K, delivery: Deliv
 }
 
 /// Imports what a delivery states: all of it by one commit, or nothing.
-fn taken_in<K: Keeper>(alloc: Global, keeper: &mut K, delivery: Delivery) -> Result<Answer, Halt>
-    ensures { GoesBy (K.kept keeper.old) (K.kept keeper.new) (λ w. TakesIn w (delivery_statements delivery)) (answer_of result) }
+fn taken_in<K: ImportKeeper>(
+    alloc: Global,
+    keeper: &mut K,
+    delivery: Delivery,
+) -> Result<Answer, Halt>
+    ensures step { GoesBy (K.kept keeper.old) (K.kept keeper.new) (λ w. TakesIn w (delivery_statements delivery)) (answer_of result) }
+
+    // It asks for no other days than those that the file states.
+    ensures asked { AsksOnly K.asks K.others (AreStated (days_of (delivery_statements delivery))) keeper.old keeper.new }
 {
     let gathered = gather(alloc, keeper, delivery)?;
     let Gathered {

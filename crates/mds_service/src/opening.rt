@@ -17,7 +17,7 @@ ghost use Rattle.mds_service.specs.Imports.{AreMerges};
 ghost use Rattle.mds_service.specs.Asking.{AreDays, AreOfDates, AsksOnly};
 ghost use Rattle.mds_service.specs.OpeningSteps.{AreUnknown, IsOfDates};
 
-use crate::asking::DayKeeper;
+use crate::asking::ImportKeeper;
 use mds_keeper::{DayBook, DayMerge, Stop, StreamDay};
 use mds_statements::DeliveredDay;
 use mds_terms::{Day, Stream};
@@ -74,7 +74,7 @@ fn goes_on(found: &mut Vec<Stretch>, date: Day) -> bool
 }
 
 /// Opens the merges of the next stretch, if it begins at this date.
-pub(crate) fn open_ahead<K: DayKeeper>(
+pub(crate) fn open_ahead<K: ImportKeeper>(
     alloc: Global,
     keeper: &mut K,
     merges: &mut BTreeMap<StreamDay, DayMerge>,
@@ -91,7 +91,7 @@ pub(crate) fn open_ahead<K: DayKeeper>(
 
     // It asks for no days except those of the stretches.
     ensures asked { (dates : List ℕ) → All (IsOfDates dates) ahead.now
-        → AsksOnly K.asks (AreOfDates stream.now dates) keeper.old keeper.new }
+        → AsksOnly K.asks K.others (AreOfDates stream.now dates) keeper.old keeper.new }
 {
     let Some(stretch) = ahead.get(*next) else {
         return Ok(());
@@ -104,7 +104,7 @@ pub(crate) fn open_ahead<K: DayKeeper>(
 }
 
 /// Opens the merges of a stream's days in a range that have none yet. A single day is left to its claim.
-fn open_stretch<K: DayKeeper>(
+fn open_stretch<K: ImportKeeper>(
     alloc: Global,
     keeper: &mut K,
     merges: &mut BTreeMap<StreamDay, DayMerge>,
@@ -119,7 +119,7 @@ fn open_stretch<K: DayKeeper>(
         (λ w. IsLawful w → OnOk result ((facts : World) → AreMerges ⟦<StreamDay as Ord>⟧.cmp w facts merges.old
         → AreMerges ⟦<StreamDay as Ord>⟧.cmp w facts merges.new)) }
     ensures memory { IfErr result (λ stop. stop ≡ Memory) }
-    ensures asked { AsksOnly K.asks (AreDays stream.now first last) keeper.old keeper.new }
+    ensures asked { AsksOnly K.asks K.others (AreDays stream.now first last) keeper.old keeper.new }
 {
     if first == last {
         return Ok(());

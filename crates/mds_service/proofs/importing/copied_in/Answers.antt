@@ -14,4 +14,4 @@ returns-in_err-copy g c =
 pub returns : goal.returns
 returns g c =
     subst (λ statements. GoesBy (g.K.Keeper.kept c.args.keeper.now) (g.K.Keeper.kept c.taken_in.new.keeper)
-    (λ w. TakesIn w statements) (answer_of c.taken_in.result)) c.in_ok-copy.ensures.value c.taken_in.ensures
+    (λ w. TakesIn w statements) (answer_of c.taken_in.result)) c.in_ok-copy.ensures.value c.taken_in.ensures.step

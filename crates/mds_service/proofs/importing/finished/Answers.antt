@@ -11,4 +11,4 @@ returns-in_err-delivery g c text read =
 
 pub returns : goal.returns
 returns g c text read =
-    let told = c.in_ok-delivery.ensures.ended text read in as_import Nem12 text told.0 _ told.1 c.taken_in.ensures
+    let told = c.in_ok-delivery.ensures.ended text read in as_import Nem12 text told.0 _ told.1 c.taken_in.ensures.step

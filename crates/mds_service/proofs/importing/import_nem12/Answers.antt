@@ -11,4 +11,4 @@ returns-in_err-delivery g c =
     rw (p.1, p.2) (unread Nem12 c.args.text.now c.in_err-delivery.field-0.0 (λ found e. c.in_err-delivery.ensures.fault found (ap Err e)))
 
 pub returns : goal.returns
-returns g c = as_import Nem12 c.args.text.now c.in_ok-delivery.ensures.done.0 _ c.in_ok-delivery.ensures.done.1 c.taken_in.ensures
+returns g c = as_import Nem12 c.args.text.now c.in_ok-delivery.ensures.done.0 _ c.in_ok-delivery.ensures.done.1 c.taken_in.ensures.step
