@@ -82,14 +82,13 @@ def as_typed(tried):
 
 
 def lines_of_failure(what, got, expected, given):
-    """What is printed of a failed check. Long values are cut to the part where they first differ."""
-    got, expected = repr(got), repr(expected)
+    """What is printed of a failed check, from the texts of both values. Long texts are cut to the part where they first differ."""
     at = first_difference(got, expected)
     lines = [f"{SCRIPT}: failed: {cut(' / '.join(what.splitlines()), MOST_OF_NAME)}", f"    expected: {cut(expected, MOST_OF_VALUE, at)}",
              f"    got:      {cut(got, MOST_OF_VALUE, at)}"]
     if latest.tried is not None:
         lines.append(f"    last run: {cut(as_typed(latest.tried), MOST_OF_VALUE)}")
-    if given is not None or latest.given is not None:
+    if given is not None or latest.given:
         lines.append(f"    input:    {cut(repr(latest.given if given is None else given), MOST_OF_VALUE)}")
     return lines
 
@@ -100,7 +99,16 @@ def check(what, got, expected, given=None):
     if got != expected:
         failed.append(what)
         if screen.left > 0:
-            screen.put(lines_of_failure(what, got, expected, given))
+            screen.put(lines_of_failure(what, repr(got), repr(expected), given))
+
+
+def check_that(what, is_so, got, expected):
+    """Checks that a condition holds for a value. Else it prints the value, and in words what was expected."""
+    next(checks_made)
+    if not is_so:
+        failed.append(what)
+        if screen.left > 0:
+            screen.put(lines_of_failure(what, repr(got), expected, None))
 
 
 def again():
