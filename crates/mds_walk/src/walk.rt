@@ -71,9 +71,9 @@ impl<T: RecordSink + Drop> Walk<T> {
             → result ≡ Err TakeFault.Memory → (length piece.now ≤ longest_line)
             × T.may_lack before (line_text piece.now) (text_fault T.judge before (line_text piece.now)) }
     {
+        // decides: how large may a line, a head or a body be (`LONGEST_LINE`, `LONGEST_HEAD`, `LONGEST_BODY`)?
         let number = u64::from(lines) + 1;
         // decides: L10: the line is too long, or the file has too many
-        // decides: how large may a line, a head or a body be (`LONGEST_LINE`, `LONGEST_HEAD`, `LONGEST_BODY`)?
         if piece.len() > LONGEST_LINE || number > MOST_LINES {
             return Err(at_end(FaultCode::TooLarge, u64::from(lines)));
         }
