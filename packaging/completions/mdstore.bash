@@ -2,7 +2,7 @@
 
 _mdstore() {
     local word=${COMP_WORDS[COMP_CWORD]} before=${COMP_WORDS[COMP_CWORD - 1]} command=${COMP_WORDS[1]} options=
-    local commands="check init migrate import substitute holidays streams day versions periods gaps finals export serve explain help"
+    local commands="check init migrate import substitute holidays streams day versions periods gaps finals missing readings export serve explain help"
     COMPREPLY=()
     if ((COMP_CWORD == 1)); then
         if [[ $word == -* ]]; then
@@ -28,19 +28,20 @@ _mdstore() {
             mapfile -t COMPREPLY < <(compgen -W "nem12 nem13" -- "$word")
             return
             ;;
-        --port | --count)
+        --port | --count | --since)
             return
             ;;
     esac
     if [[ $word == -* ]]; then
         case $command in
-            check) options="--kind" ;;
-            init) options="--store --sums" ;;
-            import) options="--store --kind" ;;
-            serve) options="--store --port --count --log" ;;
+            check) options="--kind --why" ;;
+            init) options="--store --sums --why" ;;
+            import) options="--store --kind --why" ;;
+            missing) options="--store --since --why" ;;
+            serve) options="--store --port --count --log --why" ;;
             explain) ;;
             help) return ;;
-            *) options="--store" ;;
+            *) options="--store --why" ;;
         esac
         mapfile -t COMPREPLY < <(compgen -W "$options -h --help" -- "$word")
         return

@@ -88,8 +88,8 @@ class Peer:
         self.acts, self.weights = zip(*[
             (self.new_days, 22), (self.correction, 10), (self.partly_known, 3), (self.repeat, 10), (self.conflict, 4), (self.faulty, 4),
             (self.job, 10), (self.reused_job, 1), (self.list_days, 3), (self.period, 3), (self.ask_day, 6), (self.ask_versions, 3),
-            (self.ask_range, 4), (self.ask_export, 3), (self.ask_streams, 1), (self.ask_periods, 1), (self.rubbish, 5), (self.break_off, 4),
-            (self.go_away, 3), (self.hold_up, 0.04)])
+            (self.ask_range, 5), (self.ask_missing, 1), (self.ask_export, 3), (self.ask_streams, 1), (self.ask_periods, 1), (self.rubbish, 5),
+            (self.break_off, 4), (self.go_away, 3), (self.hold_up, 0.04)])
 
     def run(self):
         """Makes requests until all peers together have made enough."""
@@ -390,8 +390,27 @@ class Peer:
     def ask_range(self):
         place = self.any_meter()
         first, last, query = self.any_range(place)
-        name, wanted = self.made.choice([("gaps", self.meters[place].gaps_answer), ("finals", self.meters[place].finals_answer)])
+        meter = self.meters[place]
+        name, wanted = self.made.choice([("gaps", meter.gaps_answer), ("finals", meter.finals_answer), ("readings", meter.readings_answer)])
         self.ask(get(f"/v1/{name}?{query}"), wanted(first, last))
+
+    def ask_missing(self):
+        """The gaps of all streams in a few days, now and then since a day. Only those of this peer are looked at."""
+        place = self.any_meter()
+        first, last = self.next_days[place] - 3, self.next_days[place]
+        since = self.made.choice([None, 0, last - 1, last])
+        request = get(f"/v1/missing?from={date_text(first)}&to={date_text(last)}" + ("" if since is None else f"&since={date_text(since)}"))
+        wanted = "".join(it.gap_rows(first, last) for it in self.meters if since is None or max(it.days) >= since)
+        while True:
+            answer, life = self.exchange(request)
+            if is_whole(answer):
+                head, *gaps = answer.partition(b"\r\n\r\n")[2].decode().splitlines(True)
+                own = "".join(it for it in gaps if it.startswith(f"NEM{self.number}"))
+                self.hold(f"the gaps of peer {self.number}", (head, own), (rows.GAPS_HEAD, wanted))
+                days = [it.split(",")[:3] for it in gaps]
+                self.hold("the order of all gaps", days, sorted(days))
+                return
+            self.hold_part(b"missing", answer, answer, life)
 
     def ask_export(self):
         place = self.any_meter()

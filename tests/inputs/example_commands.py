@@ -20,7 +20,9 @@ def words_of(request):
         return ["substitute", "-"]
     if kind == "holidays" and body is not None:
         return ["holidays", "-"]
-    if kind in ("gaps", "finals"):
+    if kind == "missing":
+        return [kind, *(["--since", *query["since"]] if "since" in query else []), *query["from"], *query["to"]]
+    if kind in ("gaps", "finals", "readings"):
         return [kind, *(query[name][0] for name in ["nmi", "suffix", "from", "to"])]
     if kind == "exports":
         return ["export", *(query[name][0] for name in ["nmi", "from", "to", "moment", "sender", "receiver"]), *query.get("suffix", [])]

@@ -101,9 +101,17 @@ def limits():
         (get_day(LONG_DATES[-1]), day_answer(LONG_DATES[-1], {1: "A,,,1"}, "20240103000000", 5)),
         (get_gaps("20240101", "20250203"), gaps(*unknown)),
         (get_finals(MARKED_DAY, MARKED_DAY), finals(*stretches)),
+        (get_readings(MARKED_DAY, "20250203"), readings(
+            day_of_rows(MARKED_DAY, {k: f"{mark},20240102000000" for k, mark in marks.items()}, 5),
+            day_of_rows(UPDATED_DAY, {1: f"A,,,{UPDATES},{UPDATED_DAY}0000{UPDATES:02}"}, 5))),
+        (get_readings("20010101", "20020204"), readings(*(day_of_rows(date, {1: "A,,,1,20240103000000"}, 5) for date in LONG_DATES[:56]))),
+        (get_missing(MARKED_DAY, "20250203", UPDATED_DAY), missing(*(f"{NMI},E1,{row}" for row in unknown))),
+        (get_missing(MARKED_DAY, "20250203"), missing(*(f"{NMI},E1,{row}" for row in unknown),
+                                                      *(f"{nmi},E1,{row}" for nmi in OTHER_NMIS for row in [f"{UPDATED_DAY},0,0", *unknown]))),
         (export(MARKED_DAY, MARKED_DAY, "E1"), exported(long_block(NMI, 5), *marked_day())),
         (job, filled(HALF_HOURS)),
         (job, filled_before(HALF_HOURS)),
+        (get_missing(FILLED_DAY, FILLED_DAY, UPDATED_DAY), missing(f"{NMI},E1,{FILLED_DAY},0,0")),
         (GET_STREAMS, streams_answer(*(f"{nmi},{details}" for nmi in [NMI, *OTHER_NMIS]))),
     ]
 
@@ -142,6 +150,7 @@ def large():
     gappy = ["20240101", "20240102", "20240103", "20240104"]
     days = take_in(header(), long_block(NMI, 5), *[line for date in gappy for line in gappy_day(date)], END)
     stretches = [f"{date},{k},{k}" for date in gappy for k in range(2, FIVE_MINUTES + 1, 2)]
+    marks = {k: "N,,,,20240202000000" if k % 2 == 0 else "A,,,1,20240202000000" for k in range(1, FIVE_MINUTES + 1)}
     method, target, body = export(gappy[0], gappy[0], *(1550 * ["E1"]))
     return [
         (file, added(len(accumulations), 0)),
@@ -149,5 +158,7 @@ def large():
         (get_periods(NMI, "E1"), periods_answer(NMI, "E1", *([fields] for fields in accumulations))),
         (days, added(len(gappy) * FIVE_MINUTES, 0)),
         (get_gaps(gappy[0], gappy[-1]), gaps(*stretches)),
+        (get_missing(gappy[0], gappy[-1], gappy[-1]), missing(*(f"{NMI},E1,{row}" for row in stretches))),
+        (get_readings(gappy[0], gappy[-1]), readings(*(day_of_rows(date, marks, 5) for date in gappy))),
         ((method, target, body), exported(long_block(NMI, 5), *gappy_day(gappy[0]))),
     ]

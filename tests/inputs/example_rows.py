@@ -1,5 +1,7 @@
 """Examples: lists of requests to a store that is empty at first, each with the answer that it has to get."""
 
+import datetime
+
 from inputs.example_texts import *
 from inputs.file_parts import record_300
 
@@ -10,6 +12,7 @@ FIRST = take_in(header(), block(), FIRST_DAY, END)
 EARLIER = take_in(header(), block(), day("20240101", half_hours("9"), "20240101230000"), END)
 FIRST_ANSWER = day_answer("20240101", {1: "A,,,1.5"}, "20240102010203")
 EXPORTED_FIRST = exported(block(), FIRST_DAY)
+ROWS_OF_FIRST = readings(day_of_rows("20240101", {1: "A,,,1.5,20240102010203"}))
 FIVE_MINUTES = header() + block(5)
 LATER_DAY = day("20240103", half_hours("2"), "20240104000000")
 # A meter is exchanged between two days of one file.
@@ -51,6 +54,15 @@ TAKEN_IN = [
     (take_in(), refused("L9", line=1)),
     (take_in(header()), refused("L9", line=2)),
     (take_in(END), refused("L3", line=1)),
+    (get_readings("20240101", "20240101"), ROWS_OF_FIRST),
+    (get_missing("20240101", "20240102"), missing(f"{NMI},{SUFFIX},20240102,0,0")),
+]
+
+# The first rows of a day, letter by letter.
+FIRST_ROWS = [
+    (FIRST, added(48, 0)),
+    (get_readings("20240101", "20240101"), (200, CSV, "nmi,suffix,start,minutes,unit,quality,code,text,value,update\n" + "".join(
+        f"NEM1201009,E1,2024-01-01T{hour:02}:{minute},30,kWh,A,,,1.5,20240102010203\n" for hour in range(24) for minute in ["00", "30"]))),
 ]
 
 # A day of 5 minutes is imported.
@@ -61,6 +73,7 @@ DAY_OF_FIVE_MINUTES = [
     (take_in(FIVE_MINUTES, day("20240101", 288 * ["1"], "20240102010203"), END), added(288, 0)),
     (get_versions("20240101", 288), versions_answer("20240101", 288, "20240102010203,A,,,1", length=5)),
     (get_versions("20240101", 289), refused("M10")),
+    (get_readings("20240101", "20240101"), readings(day_of_rows("20240101", {1: "A,,,1,20240102010203"}, 5))),
 ]
 
 # The latest update is current, in whatever order the files come.
@@ -73,6 +86,7 @@ LATEST_UPDATE = [
     (take_in(header(), block(), FIRST_DAY, event("O", "", "20240102000000", "15.5"), END), added(0, 48)),
     (get_day("20240101"), day_answer("20240101", {1: "A,,,1.5"}, "20240102010203", events=["O,,20240102000000,15.5"])),
     (get_versions("20240101", 0), refused("M10")),
+    (get_readings("20231231", "20240102"), ROWS_OF_FIRST),
 ]
 
 # A file changes nothing if it conflicts with what is kept, or with itself.
@@ -219,6 +233,9 @@ MARKS = [
     (get_versions("20240101", 21), versions_answer("20240101", 21, "20240102010203,N,,,",
                                                   "20240103000000,S14,999,Zähler gewechselt,1.5")),
     (MARKED, added(0, 48)),
+    (get_readings("20240101", "20240101"), readings(day_of_rows("20240101", {
+        1: "A,,,-1.5,20240103000000", 2: "A,,,1.5,20240103000000", 21: "S14,999,Zähler gewechselt,1.5,20240103000000",
+        22: "F52,76,,1.5,20240103000000", 48: "N,,,,20240103000000"}))),
 ]
 
 # A day of 5 minutes that comes with its correction.
@@ -235,6 +252,7 @@ TWO_UPDATES = [
 QUARTERS_OF_ONE = 288 * ["0.25"]
 IN_FIVE_MINUTES = take_in(FIVE_MINUTES, day("20240101", QUARTERS_OF_ONE, "20240105000000"), END)
 FIVE_MINUTES_ANSWER = day_answer("20240101", {1: "A,,,0.25"}, "20240105000000", 5)
+FIVE_MINUTES_ROWS = readings(day_of_rows("20240101", {1: "A,,,0.25,20240105000000"}, 5))
 EXPORTED_IN_FIVE_MINUTES = exported(block(5), day("20240101", QUARTERS_OF_ONE, "20240105000000"))
 ANOTHER_LENGTH = [
     (FIRST, added(48, 0)),
@@ -246,6 +264,7 @@ ANOTHER_LENGTH = [
     (get_versions("20240101", 289), refused("M10")),
     (FIRST, added(0, 48)),
     (get_day("20240101"), FIVE_MINUTES_ANSWER),
+    (get_readings("20240101", "20240101"), FIVE_MINUTES_ROWS),
     (export("20240101", "20240101", "E1"), EXPORTED_IN_FIVE_MINUTES),
     (take_in(EXPORTED_IN_FIVE_MINUTES[2]), added(0, 288)),
     (fill_in("J1", "20240101", 1, 1, 19, "S", "20240106000000"), refused("M1")),
@@ -254,6 +273,7 @@ ANOTHER_LENGTH = [
     # Half hours come again under a still later update.
     (take_in(header(), block(), day("20240101", half_hours("1.25"), "20240107000000"), END), added(48, 0)),
     (get_day("20240101"), day_answer("20240101", {1: "A,,,1.25"}, "20240107000000")),
+    (get_readings("20240101", "20240101"), readings(day_of_rows("20240101", {1: "A,,,1.25,20240107000000"}))),
     (get_versions("20240101", 288), versions_answer("20240101", 288, "20240105000000,A,,,0.25", length=5)),
     (export("20240101", "20240101", "E1"), exported(block(), day("20240101", half_hours("1.25"), "20240107000000"))),
 ]
@@ -265,6 +285,7 @@ AN_EARLIER_LENGTH = [
     (take_in(FIVE_MINUTES, day("20240101", QUARTERS_OF_ONE, "20240101120000"), END), added(288, 0)),
     (get_day("20240101"), FIRST_ANSWER),
     (get_gaps("20240101", "20240101"), gaps()),
+    (get_readings("20240101", "20240101"), ROWS_OF_FIRST),
     (get_versions("20240101", 288), versions_answer("20240101", 288, "20240101120000,A,,,0.25", length=5)),
     (take_in(header(), block(5, unit="MWh"), day("20240101", QUARTERS_OF_ONE, "20240101120000"), END), refused("M2", line=3)),
     (take_in(header(), block(5, unit="MWh"), day("20240101", QUARTERS_OF_ONE, "20240101120001"), END), refused("M2", line=3)),
@@ -291,9 +312,13 @@ A_JOB_OF_FIVE_MINUTES = [
     (take_in(header(), block(), day("20240109", half_hours("1"), "20240109230000"), END), added(48, 0)),
     (get_day("20240109"), ONE_INTERVAL),
     (get_gaps("20240109", "20240109"), gaps("20240109,2,288")),
+    (get_missing("20240109", "20240110"), missing("NEM1201009,E1,20240109,2,288", "NEM1201009,E1,20240110,0,0")),
+    (get_readings("20240109", "20240109"), readings(day_of_rows("20240109", {1: "S19,,,0,20240110000000", 2: "N,,,,"}, 5))),
     (fill_in("J2", "20240109", 2, 2, 19, "S", "20240109230000", length=5), refused("M1")),
     (fill_in("J2", "20240109", 2, 2, 19, "S", "20240109220000", length=5), filled(1)),
     (get_day("20240109"), day_answer("20240109", {1: "S19,,,0", 3: "N,,,"}, "20240110000000", 5)),
+    (get_readings("20240109", "20240109"),
+     readings(day_of_rows("20240109", {1: "S19,,,0,20240110000000", 2: "S19,,,0,20240109220000", 3: "N,,,,"}, 5))),
     (get_versions("20240109", 2), versions_of_lengths_answer("20240109", 2, "20240109220000,S19,,,0,5", "20240109230000,A,,,1,30")),
     (take_in(header(), block(), day("20240109", half_hours("1"), "20240111000000"), END), added(48, 0)),
     (get_day("20240109"), day_answer("20240109", {1: "A,,,1"}, "20240111000000")),
@@ -318,6 +343,9 @@ FIRST_MOMENT = [
     (GET_STREAMS, streams_answer("NEM1201009,E1,E1,1,N1,01009,19700101")),
     (get_day("19700101"), day_answer("19700101", {1: "A,,,1.5"}, "19700101000000", events=["O,,19700101000000,"])),
     (get_versions("19700101", 48), versions_answer("19700101", 48, "19700101000000,A,,,1.5")),
+    (get_readings("19700101", "19710204"), readings(day_of_rows("19700101", {1: "A,,,1.5,19700101000000"}))),
+    (get_missing("19700101", "19700102", "19700101"), missing("NEM1201009,E1,19700102,0,0")),
+    (get_missing("19700101", "19700102", "19700102"), missing()),
     (OF_1970, added(0, 48)),
 ]
 
@@ -397,7 +425,10 @@ ACCUMULATIONS = [
     (take_in_periods(header(), END), refused("L11", line=1)),
     (take_in(HEADER_13, TO_FEBRUARY, END), refused("L11", line=1)),
     (take_in_periods(HEADER_13, END), added(0, 0)),
+    (get_missing("20040201", "20040201"), missing()),
+    (get_readings("20040201", "20040201"), readings()),
     (FIRST, added(48, 0)),
+    (get_missing("20231231", "20240101", "20240101"), missing("NEM1201009,E1,20231231,0,0")),
 ]
 
 # The accumulations of a stream are ordered by register, and then by their reads, in whatever order they came. A file that conflicts with itself
@@ -446,6 +477,7 @@ EXPORTED = [
 FILLED_DAY = day_answer("20240122", {1: "N,,,", 5: "F15,76,,1.000002", 9: "N,,,"}, "20240123000000")
 FILLED_GAPS = gaps("20240122,1,4", "20240122,9,48", "20240123,0,0")
 FILLED_FINALS = finals("20240122,5,8,15,76,")
+FILLED_ROWS = {1: "N,,,,", 5: "F15,76,,1.000002,20240123000000", 9: "N,,,,"}
 EXPORTED_FILLED = exported(block(), day("20240122", 4 * ["0"] + 4 * ["1.000002"] + 40 * ["0"], "20240123000000", "V"),
                            run(1, 4, "N"), run(5, 8, "F15", "76"), run(9, 48, "N"))
 EXPORTED_SUBSTITUTION = [
@@ -454,13 +486,21 @@ EXPORTED_SUBSTITUTION = [
     (get_day("20240122"), FILLED_DAY),
     (get_gaps("20240122", "20240123"), FILLED_GAPS),
     (get_finals("20240122", "20240123"), FILLED_FINALS),
+    (get_readings("20240122", "20240123"), readings(day_of_rows("20240122", FILLED_ROWS))),
+    (get_readings("20240115", "20240123"), readings(day_of_rows("20240115", {1: "A,,,1.000001,20240116000000"}),
+                                                    day_of_rows("20240122", FILLED_ROWS))),
     (export("20240122", "20240122", "E1"), EXPORTED_FILLED),
     (take_in(EXPORTED_FILLED[2]), added(44, 4)),
+    (get_readings("20240122", "20240122"), readings(day_of_rows("20240122", {
+        number: reading if number == 5 else "N,,,,20240123000000" for number, reading in FILLED_ROWS.items()}))),
     (get_day("20240122"), FILLED_DAY),
     (get_gaps("20240122", "20240123"), FILLED_GAPS),
     (get_finals("20240122", "20240123"), FILLED_FINALS),
     (export("20240122", "20240122", "E1"), EXPORTED_FILLED),
 ]
+
+# The days from 2 January 2023 to 5 February 2024.
+DATES_OF_400 = [f"{datetime.date(2023, 1, 2) + datetime.timedelta(days):%Y%m%d}" for days in range(400)]
 
 # A range has at most 400 days, and an export at most eight streams, each of which counts once. A range that ends before it begins has no day.
 WIDE_RANGES = [
@@ -470,6 +510,16 @@ WIDE_RANGES = [
     (get_gaps("20240101", "20250204"), refused("M12")),
     (get_gaps("20240101", "20240102"), gaps("20240102,0,0")),
     (get_gaps("20240102", "20240101"), gaps()),
+    (get_missing("20230102", "20240205"), missing(*(f"NEM1201009,E1,{date},0,0" for date in DATES_OF_400 if date != "20240101"))),
+    (get_missing("20230102", "20240206"), refused("M12")),
+    (get_missing("20230102", "20240206", "20240102"), refused("M12")),
+    (get_missing("20230102", "99991231", "20240101"), refused("M12")),
+    (get_missing("20240102", "20240101"), missing()),
+    (get_missing("99991231", "19700101"), missing()),
+    (get_readings("20230102", "20240205"), ROWS_OF_FIRST),
+    (get_readings("20230102", "20240206"), refused("M12")),
+    (get_readings("20240101", "20250204"), refused("M12")),
+    (get_readings("20240102", "20240101"), readings()),
     (export("20240101", "20250203", "E1"), EXPORTED_FIRST),
     (export("20240101", "20250204", "E1"), refused("M12")),
     (export("20240101", "20240101", "E1", "E2", "E3", "E4", "E5", "E6", "E7", "E8", "E1", "E8"), EXPORTED_FIRST),
@@ -512,6 +562,78 @@ STRETCHES = [
     (get_day("20240122"), day_answer("20240122", {1: 'F04,,a"b,1.5', 5: 'F14,,a"b,1.5', 7: "F04,,ab,1.5", 8: 'F04,7,a"b,1.5',
                                                  9: 'S14,,a"b,1.5', 10: 'A,,a"b,1.5', 11: 'F04,,a"b,1.5', 12: 'N,,a"b,',
                                                  14: 'F04,,a"b,1.5'}, "19700101000020")),
+    (get_readings("20240122", "20240122"), readings(day_of_rows("20240122", {
+        number: f"{reading},19700101000020" for number, reading in [
+            (1, 'F04,,"a""b",1.5'), (5, 'F14,,"a""b",1.5'), (7, "F04,,ab,1.5"), (8, 'F04,7,"a""b",1.5'), (9, 'S14,,"a""b",1.5'),
+            (10, 'A,,"a""b",1.5'), (11, 'F04,,"a""b",1.5'), (12, 'N,,"a""b",'), (14, 'F04,,"a""b",1.5')]}))),
+]
+
+# The gaps of all streams. The streams are ordered by the bytes of their NMIs, then of their suffixes, whichever came first. A stream of
+# accumulations alone isn't one of them, and neither is one without a day. `since` is compared with the last known day of each stream, though the
+# range has other days.
+A_GAP = [day("20240102", half_hours("1"), "20240103000000"), run(11, 12, "N")]
+SEVERAL_STREAMS = take_in(
+    header(), block(nmi="NEM1201010"), day("20240101", half_hours("1"), "20240102000000"), block(nmi="ZEM1201009", suffix="B1"), *A_GAP,
+    block(nmi="NEM1201009"), day("20240105", half_hours("1"), "20240106000000"), block(nmi="NEM1201009", suffix="B1"), *A_GAP,
+    block(nmi="NEM1201011"), block(nmi="1000000000", suffix="K1"), day("20240103", half_hours(""), "20240104000000", "N"), END)
+GAPS_OF_STREAMS = {
+    "1000000000,K1": ["20240101,0,0", "20240102,0,0", "20240103,1,48"],
+    "NEM1201009,B1": ["20240101,0,0", "20240102,11,12", "20240103,0,0"],
+    "NEM1201009,E1": ["20240101,0,0", "20240102,0,0", "20240103,0,0"],
+    "NEM1201010,E1": ["20240102,0,0", "20240103,0,0"],
+    "ZEM1201009,B1": ["20240101,0,0", "20240102,11,12", "20240103,0,0"],
+}
+
+
+def gaps_of(*streams):
+    """The rows of these streams from the first to the third of January."""
+    return missing(*(f"{stream},{row}" for stream in streams for row in GAPS_OF_STREAMS[stream]))
+
+
+ALL_STREAMS = [
+    (get_missing("20240101", "20240103"), missing()),
+    (get_missing("20240101", "20240103", "20240101"), missing()),
+    (get_missing("20240101", "20250204"), refused("M12")),
+    (SEVERAL_STREAMS, added(240, 0)),
+    (take_in_periods(HEADER_13, TO_FEBRUARY, END), added(1, 0)),
+    (get_missing("20240101", "20240103"), gaps_of(*GAPS_OF_STREAMS)),
+    (get_missing("20240101", "20240103", "19700101"), gaps_of(*GAPS_OF_STREAMS)),
+    (get_missing("20240101", "20240103", "20240101"), gaps_of(*GAPS_OF_STREAMS)),
+    (get_missing("20240101", "20240103", "20240102"), gaps_of("1000000000,K1", "NEM1201009,B1", "NEM1201009,E1", "ZEM1201009,B1")),
+    (get_missing("20240101", "20240103", "20240103"), gaps_of("1000000000,K1", "NEM1201009,E1")),
+    (get_missing("20240101", "20240103", "20240104"), gaps_of("NEM1201009,E1")),
+    (get_missing("20240101", "20240103", "20240105"), gaps_of("NEM1201009,E1")),
+    (get_missing("20240101", "20240103", "20240106"), missing()),
+    (get_missing("20240101", "20240103", "99991231"), missing()),
+    (get_missing("20240102", "20240102"), missing("1000000000,K1,20240102,0,0", "NEM1201009,B1,20240102,11,12", "NEM1201009,E1,20240102,0,0",
+                                                  "NEM1201010,E1,20240102,0,0", "ZEM1201009,B1,20240102,11,12")),
+    (get_missing("20240103", "20240101"), missing()),
+    # A job adds a day that is the last one of its stream from then on.
+    (fill_in("J1", "20240107", 1, 48, 19, "F", "20240108000000", nmi="NEM1201010"), filled(48)),
+    (get_missing("20240107", "20240107", "20240106"), missing()),
+    (get_missing("20240106", "20240107", "20240106"), missing("NEM1201010,E1,20240106,0,0")),
+    (get_readings("20240101", "20240103"), readings()),
+    (get_readings("20240105", "20240107"), readings(day_of_rows("20240105", {1: "A,,,1,20240106000000"}))),
+]
+
+# A range of days of several lengths and units. The length of a day is that of its latest update.
+SEVERAL_LENGTHS = [
+    (take_in(header(), block(5), day("20240101", QUARTERS_OF_ONE, "20240102000000"), block(15, "MWh"),
+             day("20240103", 96 * ["0.000001"], "20240104000000", "S52", "1", "x"), block(30), day("20240104", half_hours("-1"), "20240105000000"),
+             END), added(432, 0)),
+    (get_readings("20231231", "20240104"), readings(
+        day_of_rows("20240101", {1: "A,,,0.25,20240102000000"}, 5), day_of_rows("20240103", {1: "S52,1,x,0.000001,20240104000000"}, 15, "MWh"),
+        day_of_rows("20240104", {1: "A,,,-1,20240105000000"}))),
+    # Another length comes under an earlier update, and then under a later one.
+    (take_in(header(), block(15), day("20240104", 96 * ["2"], "20240104120000"), END), added(96, 0)),
+    (get_readings("20240104", "20240104"), readings(day_of_rows("20240104", {1: "A,,,-1,20240105000000"}))),
+    (take_in(header(), block(15), day("20240104", 96 * ["3"], "20240106000000"), END), added(96, 0)),
+    (get_readings("20240104", "20240104"), readings(day_of_rows("20240104", {1: "A,,,3,20240106000000"}, 15))),
+    # A job fills in intervals that are null under the latest update. Each interval has its own update then.
+    (take_in(header(), block(30), day("20240105", half_hours("1"), "20240106000000"), run(47, 48, "N"), END), added(48, 0)),
+    (fill_in("J1", "20240105", 48, 48, 19, "F", "20240107000000", code="76", text="no signal"), filled(1)),
+    (get_readings("20240105", "20240105"), readings(day_of_rows("20240105", {
+        1: "A,,,1,20240106000000", 47: "N,,,,20240106000000", 48: "F19,76,no signal,0,20240107000000"}))),
 ]
 
 # The answers about the first file if its last interval has no version. The file is imported again to add it.
@@ -520,8 +642,10 @@ WITHOUT_LAST = [
     (get_versions("20240101", 48), versions_answer("20240101", 48)),
     (get_day("20240101"), day_answer("20240101", {1: "A,,,1.5", 48: "N,,,"}, "20240102010203")),
     (get_gaps("20240101", "20240101"), gaps("20240101,48,48")),
+    (get_readings("20240101", "20240101"), readings(day_of_rows("20240101", {1: "A,,,1.5,20240102010203", 48: "N,,,,"}))),
     (FIRST, added(1, 47)),
     (get_day("20240101"), FIRST_ANSWER),
+    (get_readings("20240101", "20240101"), ROWS_OF_FIRST),
 ]
 
 EXAMPLES = {
@@ -561,4 +685,7 @@ EXAMPLES = {
     "wide ranges": WIDE_RANGES,
     "claims of a day": CLAIMS,
     "stretches": STRETCHES,
+    "the first rows": FIRST_ROWS,
+    "all streams": ALL_STREAMS,
+    "several lengths": SEVERAL_LENGTHS,
 }

@@ -100,6 +100,15 @@ def get_finals(first, last):
     return "GET", f"/v1/finals?nmi={NMI}&suffix={SUFFIX}&from={first}&to={last}", None
 
 
+def get_missing(first, last, since=None):
+    """The request for the gaps of all streams, or of those that have a known day from `since` on."""
+    return "GET", f"/v1/missing?from={first}&to={last}" + ("" if since is None else f"&since={since}"), None
+
+
+def get_readings(first, last):
+    return "GET", f"/v1/readings?nmi={NMI}&suffix={SUFFIX}&from={first}&to={last}", None
+
+
 def export(first, last, *suffixes):
     """The request that exports a range of days of the meter, under the header that `exported` writes."""
     names = "".join(f"&suffix={suffix}" for suffix in suffixes)
@@ -180,6 +189,26 @@ def gaps(*rows):
 def finals(*rows):
     """The register of finals. Each row has the date, the first and the last interval, and the method, code and text."""
     return 200, CSV, "".join(["nmi,suffix,date,first,last,method,code,text\n", *(f"{NMI},{SUFFIX},{row}\n" for row in rows)])
+
+
+def missing(*rows):
+    """The gaps of all streams. Each row has the NMI, the suffix, the date, and the first and the last interval."""
+    return 200, CSV, "".join(["nmi,suffix,date,first,last\n", *(f"{row}\n" for row in rows)])
+
+
+def readings(*days):
+    """The readings of days as rows, one for each interval. `day_of_rows` makes those of a day."""
+    return 200, CSV, "".join(["nmi,suffix,start,minutes,unit,quality,code,text,value,update\n", *(f"{row}\n" for rows in days for row in rows)])
+
+
+def day_of_rows(date, readings, length=30, unit="kWh"):
+    """The rows of a day. A reading is its quality, code, text, value and update, with commas between them. It is given for the first interval
+    that has it."""
+    rows, reading = [], None
+    for interval in range(1, 1440 // length + 1):
+        reading, minutes = readings.get(interval, reading), (interval - 1) * length
+        rows.append(f"{NMI},{SUFFIX},{date[:4]}-{date[4:6]}-{date[6:]}T{minutes // 60:02}:{minutes % 60:02},{length},{unit},{reading}")
+    return rows
 
 
 def exported(*records):

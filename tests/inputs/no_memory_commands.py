@@ -92,6 +92,8 @@ def queries(port):
         "periods": Command(["periods", *STORE, NMI, "11"], found=whole, text=texts["periods"] + "\n"),
         "gaps": Command(["gaps", *IN_RANGE], found=whole, text=texts["gaps"]),
         "finals": Command(["finals", *IN_RANGE], found=whole, text=texts["finals"]),
+        "missing": Command(["missing", *STORE, "--since", "20240122", "20240115", "20240122"], found=whole, text=texts["missing"]),
+        "readings": Command(["readings", *IN_RANGE], found=whole, text=texts["readings"]),
         "export": Command(["export", *export], found=whole, text=texts["an export"]),
         "serve where it can't listen": Command(["serve", *STORE, "--port", str(port)], found=whole, text="cannot listen\n", status=3),
     }

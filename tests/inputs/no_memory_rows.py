@@ -69,6 +69,10 @@ RANGE = f"nmi={NMI}&suffix=E1&from=20240115&to=20240122"
 GAPS = "nmi,suffix,date,first,last\n" + "".join(f"{NMI},E1,202401{number},0,0\n" for number in range(16, 22)) + (
     f"{NMI},E1,20240122,1,4\n{NMI},E1,20240122,9,48\n")
 FINALS = f"nmi,suffix,date,first,last,method,code,text\n{NMI},E1,20240122,5,8,15,76,\n"
+ROWS = "nmi,suffix,start,minutes,unit,quality,code,text,value,update\n" + "".join(
+    f"{NMI},E1,2024-01-{number}T{half // 2:02}:{half % 2 * 30:02},30,kWh,{rows[half]}\n"
+    for number, rows in [("15", 48 * ["A,,,1.000001,20240116000000"]),
+                         ("22", 4 * ["N,,,,"] + 4 * ["F15,76,,1.000002,20240123000000"] + 40 * ["N,,,,"])] for half in range(48))
 FILLED = 4 * ["0"] + 4 * ["1.000002"] + 40 * ["0"]
 EXPORT = file_of(block(NMI, meter="01010"), day("20240103", 48 * ["1.5"], update="20240104010203"), block(NMI),
                  day("20240108", 48 * ["1.000002"], update="20240116000000"), day("20240115", 48 * ["1.000001"], update="20240116000000"),
@@ -87,6 +91,9 @@ QUESTIONS = [
     *((f"{name} that is known", text_of(NUMBER), known) for name, text_of, _, known, _ in CHANGES),
     ("gaps", request("GET", "/v1/gaps?" + RANGE), answer(OK, GAPS)),
     ("finals", request("GET", "/v1/finals?" + RANGE), answer(OK, FINALS)),
+    ("missing", request("GET", "/v1/missing?from=20240115&to=20240122"), answer(OK, GAPS)),
+    ("missing since a day", request("GET", "/v1/missing?from=20240115&to=20240122&since=20240122"), answer(OK, GAPS)),
+    ("readings", request("GET", "/v1/readings?" + RANGE), answer(OK, ROWS)),
     ("an export", request("GET", f"/v1/exports/nem12?{RANGE.replace('20240115', '20240103')}&moment=202401030000&sender=MDP1&receiver=RETAILER"),
      answer(OK, EXPORT.replace("\n", "\r\n"))),
     ("periods", request("GET", f"/v1/periods/{NMI}/11"), json_answer(**PERIODS)),

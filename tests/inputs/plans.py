@@ -27,7 +27,7 @@ def over_http(request):
 
 
 # Steps. A store is created or adopted, and serves requests. Or it is adopted for lists of requests, each of which one run answers, or for a
-# request over a limited reader and writer.
+# request over a limited reader and writer. Other bytes may follow such a request.
 
 def create(*requests):
     return b"c" + parts(*map(over_http, requests))
@@ -41,5 +41,5 @@ def run_lists(*lists):
     return b"r" + parts(*(parts(*(text for _, target, body in requests for text in (target.encode(), body or b""))) for requests in lists))
 
 
-def talk(request, reads=limit(), writes=limit()):
-    return b"t" + reads + writes + part(over_http(request))
+def talk(request, reads=limit(), writes=limit(), behind=b""):
+    return b"t" + reads + writes + part(over_http(request) + behind)

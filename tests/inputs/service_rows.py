@@ -119,6 +119,12 @@ ROUTES = [
     ("GET /v1/periods/N/11 HTTP/1.1\r\nHost: x\r\n\r\n", BAD),
     ("GET /v1/exports/nem12 HTTP/1.1\r\nHost: x\r\n\r\n", BAD),
     ("GET /v1/finals HTTP/1.1\r\nHost: x\r\n\r\n", BAD),
+    ("GET /v1/missing HTTP/1.1\r\nHost: x\r\n\r\n", BAD),
+    ("GET /v1/readings HTTP/1.1\r\nHost: x\r\n\r\n", BAD),
+    ("GET /v1/missing?from=20240101&to=20240102 HTTP/1.1\r\nHost: x\r\n\r\n", answer(OK, "nmi,suffix,date,first,last\n")),
+    ("POST /v1/missing HTTP/1.1\r\nHost: x\r\n\r\n", not_allowed("GET")),
+    ("POST /v1/readings HTTP/1.1\r\nHost: x\r\n\r\n", not_allowed("GET")),
+    ("HEAD /v1/missing HTTP/1.1\r\nHost: x\r\n\r\n", not_allowed("GET", is_whole=False)),
     ("GET /v1/imports HTTP/1.1\r\nHost: x\r\n\r\n", not_allowed("POST")),
     ("POST /v1/streams HTTP/1.1\r\nHost: x\r\n\r\n", not_allowed("GET")),
     ("get /v1/streams HTTP/1.1\r\nHost: x\r\n\r\n", not_allowed("GET")),
@@ -166,6 +172,9 @@ PATHS = [
     ("GET /%3F+?%3F+ HTTP/1.1\r\nHost: x\r\n\r\n", NO_ROUTE),
     ("GET /v1/streams%3F HTTP/1.1\r\nHost: x\r\n\r\n", NO_ROUTE),
     ("GET ?/x HTTP/1.1\r\nHost: x\r\n\r\n", BAD),
+    ("GET /v1/missing/ HTTP/1.1\r\nHost: x\r\n\r\n", NO_ROUTE),
+    ("GET /v1/missing/20240101/20240102 HTTP/1.1\r\nHost: x\r\n\r\n", NO_ROUTE),
+    ("GET /v1/readings/NEM1201009/E1/20240101 HTTP/1.1\r\nHost: x\r\n\r\n", NO_ROUTE),
     ("GET a/b HTTP/1.1\r\nHost: x\r\n\r\n", BAD),
     ("GET /v1/gaps?nmi=A HTTP/1.1\r\nHost: x\r\n\r\n", BAD),
     ("GET /v1/gaps?a?b HTTP/1.1\r\nHost: x\r\n\r\n", BAD),
@@ -250,7 +259,7 @@ PERIODS = [
     ("/v1/periods/NEM1201009/E1?x=", BAD),
 ]
 
-# The queries for a range, for gaps and for finals: each name once, in any order, decoded, and no other name. A range can be asked for from its
+# The queries for a range, for gaps, finals and readings: each name once, in any order, decoded, and no other name. A range can be asked for from its
 # last day to its first. It has no day then.
 RANGE, REVERSED = "the range", "the range from its last day to its first"
 RANGES = [
@@ -290,6 +299,65 @@ FINALS_ANSWERS = {
     RANGE: answer(OK, FINALS_HEAD + "NEM1201009,E1,20240101,1,48,14,76,\nNEM1201009,E1,20240107,1,48,14,76,\n"),
     REVERSED: answer(OK, FINALS_HEAD),
 }
+READINGS_HEAD = "nmi,suffix,start,minutes,unit,quality,code,text,value,update\n"
+
+
+def rows_of(date, rest):
+    """The rows of a day of half hours, all of them with the same rest."""
+    return "".join(f"NEM1201009,E1,{date}T{half // 2:02}:{half % 2 * 30:02},30,kWh,{rest}\n" for half in range(48))
+
+
+READINGS_ANSWERS = {
+    RANGE: answer(OK, READINGS_HEAD + "".join(rows_of(date, "F14,76,,1.5,20240109010203") for date in ["2024-01-01", "2024-01-07"])),
+    REVERSED: answer(OK, READINGS_HEAD),
+}
+
+# The queries for the gaps of all streams. `from` and `to` come once, and `since` at most once. The last known day of E1 is 19 January, that of B1
+# is 7 January.
+MISSING_B1, MISSING_E1 = "".join(f"NEM1201009,B1,{date},0,0\n" for date in [20240106, 20240108]), "NEM1201009,E1,20240106,0,0\n"
+MISSING_BOTH, MISSING_ONE = answer(OK, GAPS_HEAD + MISSING_B1 + MISSING_E1), answer(OK, GAPS_HEAD + MISSING_E1)
+MISSING = [
+    ("?from=20240106&to=20240108", MISSING_BOTH),
+    ("?to=20240108&from=20240106", MISSING_BOTH),
+    ("?&&to=20240108&&from=20240106&", MISSING_BOTH),
+    ("?%66rom=2024010%36&to=20240108&%73ince=1970010%31", MISSING_BOTH),
+    ("?from=20240106&to=20240108&since=20240107", MISSING_BOTH),
+    ("?since=20240108&from=20240106&to=20240108", MISSING_ONE),
+    ("?from=20240106&since=20240119&to=20240108", MISSING_ONE),
+    ("?from=20240106&to=20240108&since=20240120", answer(OK, GAPS_HEAD)),
+    ("?from=20240106&to=20240108&since=99991231", answer(OK, GAPS_HEAD)),
+    ("?from=20240108&to=20240106", answer(OK, GAPS_HEAD)),
+    ("?from=20240108&to=20240106&since=20240101", answer(OK, GAPS_HEAD)),
+    ("?from=20240101&to=20250204", refused(UNPROCESSABLE, error="M12")),
+    ("?from=20240101&to=20250204&since=20240120", refused(UNPROCESSABLE, error="M12")),
+    ("?from=20240101&to=20250204&since=", BAD),
+    ("", BAD),
+    ("?", BAD),
+    ("?&&", BAD),
+    ("?since=20240101", BAD),
+    ("?from=20240106", BAD),
+    ("?to=20240108", BAD),
+    ("?from=20240106&since=20240107", BAD),
+    ("?to=20240108&since=20240107", BAD),
+    ("?from=20240106&from=20240106&to=20240108", BAD),
+    ("?from=20240106&to=20240108&to=20240108", BAD),
+    ("?from=20240106&to=20240108&since=20240107&since=20240107", BAD),
+    ("?from=20240106&to=20240108&since=", BAD),
+    ("?from=20240106&to=20240108&since", BAD),
+    ("?from=20240106&to=20240108&since=2024", BAD),
+    ("?from=20240106&to=20240108&since=20230229", BAD),
+    ("?from=20240106&to=20240108&since=20240107+", BAD),
+    ("?from=20240230&to=20240108", BAD),
+    ("?from=20240106&to=2024-01-08", BAD),
+    ("?from=&to=20240108", BAD),
+    ("?from=20240106&to", BAD),
+    ("?from=20240106&to=20240108&Since=20240107", BAD),
+    ("?FROM=20240106&to=20240108", BAD),
+    ("?from=20240106&to=20240108&nmi=NEM1201009", BAD),
+    ("?nmi=NEM1201009&suffix=E1&from=20240106&to=20240108", BAD),
+    ("?from=20240106&to=20240108&suffix=E1", BAD),
+    ("?from=20240106&to=20240108&=", BAD),
+]
 
 
 def exported(sender, receiver, *suffixes):
@@ -335,6 +403,11 @@ EXPORTS = [
 QUERIES = STREAMS + DAYS + VERSIONS + PERIODS + EXPORTS
 QUERIES += [("/v1/gaps" + query, GAPS_ANSWERS.get(wanted, wanted)) for query, wanted in RANGES]
 QUERIES += [("/v1/finals" + query, FINALS_ANSWERS.get(wanted, wanted)) for query, wanted in RANGES]
+QUERIES += [("/v1/readings" + query, READINGS_ANSWERS.get(wanted, wanted)) for query, wanted in RANGES]
+QUERIES += [("/v1/readings?nmi=NEM1201009&suffix=E1&from=20240101&to=20250204", refused(UNPROCESSABLE, error="M12")),
+            ("/v1/readings?nmi=NEM1201009&suffix=E1&from=20240101&to=20240107&since=20240101", BAD),
+            ("/v1/gaps?nmi=NEM1201009&suffix=E1&from=20240101&to=20240107&since=20240101", BAD)]
+QUERIES += [("/v1/missing" + query, wanted) for query, wanted in MISSING]
 
 # The kind that the query names, once, or interval data. A NEM12 file without days is imported as NEM12, and is L11 as NEM13.
 AS_NEM12, AS_NEM13 = json_answer(added=0, known=0), refused(UNPROCESSABLE, error="L11", line=1)

@@ -3,8 +3,8 @@ target, a body and the whole answer."""
 
 from inputs.file_parts import HEADER, record_300
 from inputs.service_rows import (
-    ACTUAL, BAD, BLOCK, CONFLICT, FINALS_HEAD, GAPS_HEAD, NO_PERIODS, OK, UNKNOWN_DAY, UNPROCESSABLE, answer, day, file_of, json_answer, refused,
-    stream, versions_answer)
+    ACTUAL, BAD, BLOCK, CONFLICT, FINALS_HEAD, GAPS_HEAD, NO_PERIODS, OK, READINGS_HEAD, UNKNOWN_DAY, UNPROCESSABLE, answer, day, file_of,
+    json_answer, refused, rows_of, stream, versions_answer)
 
 BLOCK_5 = BLOCK.replace(",30,", ",5,")
 FIRST = file_of(day("20240101", "1.5", ACTUAL))
@@ -40,6 +40,10 @@ RANGES = [
     ("POST", "/v1/imports", FIRST, ADDED),
     ("GET", "/v1/gaps?nmi=NEM1201009&suffix=E1&from=20240101&to=20240102", "", answer(OK, GAPS_HEAD + "NEM1201009,E1,20240102,0,0\n")),
     ("GET", "/v1/finals?nmi=NEM1201009&suffix=E1&from=20240101&to=20240102", "", answer(OK, FINALS_HEAD)),
+    ("GET", "/v1/missing?from=20240101&to=20240102", "", answer(OK, GAPS_HEAD + "NEM1201009,E1,20240102,0,0\n")),
+    ("GET", "/v1/missing?from=20240101&to=20240102&since=20240102", "", answer(OK, GAPS_HEAD)),
+    ("GET", "/v1/readings?nmi=NEM1201009&suffix=E1&from=20240101&to=20240102", "",
+     answer(OK, READINGS_HEAD + rows_of("2024-01-01", "A,,,1.5,20240102010203"))),
     ("GET", EXPORT, "", EXPORTED),
     ("GET", "/v1/gaps?nmi=NEM1201009&suffix=E1&from=20240101&to=20250204", "", refused(UNPROCESSABLE, error="M12")),
     ("GET", "/v1/gaps?nmi=NEM1201009&suffix=E1&from=20240101", "", BAD),
@@ -81,6 +85,12 @@ JOBS = [
     ("POST", "/v1/substitutions", "{}", BAD),
     ("GET", "/v1/finals?nmi=NEM1201009&suffix=E1&from=20240115&to=20240115", "",
      answer(OK, FINALS_HEAD + "NEM1201009,E1,20240115,5,8,15,76,\n")),
+    ("GET", "/v1/missing?from=20240108&to=20240115&since=20240115", "",
+     answer(OK, GAPS_HEAD + "".join(f"NEM1201009,E1,{date},0,0\n" for date in range(20240109, 20240115))
+            + "NEM1201009,E1,20240115,1,4\nNEM1201009,E1,20240115,9,48\n")),
+    ("GET", "/v1/readings?nmi=NEM1201009&suffix=E1&from=20240109&to=20240115", "",
+     answer(OK, READINGS_HEAD + "".join(row if 4 <= place < 8 else row.replace("F15,76,,1.5,20240123000000", "N,,,,")
+                                        for place, row in enumerate(rows_of("2024-01-15", "F15,76,,1.5,20240123000000").splitlines(True))))),
 ]
 
 # Holidays are listed once, or not at all.
@@ -107,6 +117,8 @@ PERIODS = [
      json_answer(nmi="1234567890", periods=[{"fields": PERIOD_FIELDS, "notes": [["N", "", "A", ""]]}], suffix="11")),
     ("GET", "/v1/periods/NEM1201009/E1", "", NO_PERIODS),
     ("GET", "/v1/streams", "", json_answer(streams=[stream("1234567890", "11")])),
+    ("GET", "/v1/missing?from=20040101&to=20040501", "", answer(OK, GAPS_HEAD)),
+    ("GET", "/v1/readings?nmi=1234567890&suffix=11&from=20040101&to=20040501", "", answer(OK, READINGS_HEAD)),
 ]
 
 # Texts of all kinds of readings, events, versions and details.

@@ -20,6 +20,8 @@ NO_DETAILS = ("", "", "", "", "")
 MOST_DAYS, MOST_SUFFIXES, MOST_MINUTES = 400, 8, 120
 WEEKS = [7, 14, 21, 28]
 
+GAPS_HEAD = ["nmi", "suffix", "date", "first", "last"]
+
 
 class Refused(Exception):
     """A refusal: its code, and the line and the interval that apply."""
@@ -58,6 +60,11 @@ def moved(date, days):
     if not datetime.date(1970, 1, 1).toordinal() <= number <= datetime.date.max.toordinal():
         return None
     return datetime.date.fromordinal(number).strftime("%Y%m%d")
+
+
+def beginning(date, minutes):
+    """The moment so many minutes after a day begins, as ISO 8601 writes it without a zone."""
+    return f"{date[:4]}-{date[4:6]}-{date[6:]}T{minutes // 60:02}:{minutes % 60:02}"
 
 
 def with_seconds(moment):
@@ -140,11 +147,15 @@ class Facts:
         """The length under the latest update."""
         return self.lengths[max(self.lengths)]
 
-    def reading(self, interval):
-        """The reading of the latest update among those of the current length."""
+    def current(self, interval):
+        """The latest update among those of the current length that have a version of the interval, or an empty text."""
         length = self.length()
-        updates = [update for update, readings in self.versions.items() if interval in readings and self.lengths[update] == length]
-        return self.versions[max(updates)][interval] if updates else BARE_N
+        return max((update for update, readings in self.versions.items() if interval in readings and self.lengths[update] == length), default="")
+
+    def reading(self, interval):
+        """The reading of that update."""
+        update = self.current(interval)
+        return self.versions[update][interval] if update else BARE_N
 
     def readings(self):
         return [self.reading(interval) for interval in range(1, 1440 // self.length() + 1)]
@@ -182,10 +193,13 @@ class Machine:
                 return self.answer_periods(*parts)
             if route == "streams":
                 return self.answer_streams()
-            nmi, suffixes, days = words["nmi"][0], words.get("suffix", []), days_from(words["from"][0], words["to"][0])
+            days = days_from(words["from"][0], words["to"][0])
+            if route == "missing":
+                return self.missing(days, *words.get("since", []))
+            nmi, suffixes = words["nmi"][0], words.get("suffix", [])
             if route == "exports":
                 return self.export(nmi, suffixes, days, words)
-            return self.gaps(nmi, *suffixes, days) if route == "gaps" else self.finals(nmi, *suffixes, days)
+            return {"gaps": self.gaps, "finals": self.finals, "readings": self.readings}[route](nmi, *suffixes, days)
         except Refused as fault:
             return fault.answer
 
@@ -353,18 +367,36 @@ class Machine:
                                   **dict(zip(names, self.details(stream, max(self.days[stream], default=""))))} for stream in sorted(known)]})
 
     def gaps(self, nmi, suffix, days):
+        return register(GAPS_HEAD, self.gap_rows(nmi, suffix, days))
+
+    def gap_rows(self, nmi, suffix, days):
         rows = []
         for date in days:
             facts = self.days[nmi, suffix].get(date)
             flags = [quality == "N" for quality, *_ in facts.readings()] if facts else []
             rows += [[date, first, last] for first, last, is_gap in stretches(flags) if is_gap] if facts else [[date, 0, 0]]
-        return register(["nmi", "suffix", "date", "first", "last"], [[nmi, suffix, *row] for row in rows])
+        return [[nmi, suffix, *row] for row in rows]
+
+    def missing(self, days, since=""):
+        """The gaps of each stream that has a known day, by NMI and suffix. A stream whose last known day is before `since` is left out."""
+        known = [stream for stream, kept in self.days.items() if kept and max(kept) >= since]
+        return register(GAPS_HEAD, [row for stream in sorted(known) for row in self.gap_rows(*stream, days)])
+
+    def readings(self, nmi, suffix, days):
+        """The current reading of each interval of each known day, with the moment when it begins, and with its update."""
+        known, rows = self.days[nmi, suffix], []
+        for date in days:
+            if date in known:
+                facts, length = known[date], known[date].length()
+                rows += [[nmi, suffix, beginning(date, (interval - 1) * length), length, facts.unit, *texts_of(reading), facts.current(interval)]
+                         for interval, reading in enumerate(facts.readings(), 1)]
+        return register(["nmi", "suffix", "start", "minutes", "unit", "quality", "code", "text", "value", "update"], rows)
 
     def finals(self, nmi, suffix, days):
         rows = [[nmi, suffix, date, first, last, quality[1:], code, text]
                 for date in days if date in self.days[nmi, suffix]
                 for first, last, (quality, code, text) in stretches(self.days[nmi, suffix][date].marks()) if quality[0] == "F"]
-        return register(["nmi", "suffix", "date", "first", "last", "method", "code", "text"], rows)
+        return register([*GAPS_HEAD, "method", "code", "text"], rows)
 
     def export(self, nmi, suffixes, days, words):
         if len(set(suffixes)) > MOST_SUFFIXES:
@@ -407,6 +439,6 @@ def days_from(first, last):
 
 
 def register(head, rows):
-    """A register as CSV. A text with a quotation mark is put into quotation marks, and its own are doubled."""
-    quoted = [['"' + text.replace('"', '""') + '"' if '"' in text else text for text in map(str, row)] for row in [head, *rows]]
+    """A register as CSV. A text with a comma, a quotation mark or the end of a line is put into quotation marks, and its own are doubled."""
+    quoted = [['"' + text.replace('"', '""') + '"' if set(text) & set(',"\r\n') else text for text in map(str, row)] for row in [head, *rows]]
     return 200, CSV, "".join(",".join(row) + "\n" for row in quoted)

@@ -161,11 +161,24 @@ class Meter:
         return rows.json_answer(date=date_text(number), interval=interval, nmi=self.nmi, suffix="E1", versions=versions)
 
     def gaps_answer(self, first, last):
-        text = "nmi,suffix,date,first,last\n"
+        return rows.answer(rows.OK, rows.GAPS_HEAD + self.gap_rows(first, last))
+
+    def gap_rows(self, first, last):
+        text = ""
         for number in range(first, last + 1):
             is_known = self.day(number).updates
             found = stretches(it[0] for it in self.day(number).readings()) if is_known else [(0, 0, "N")]
             text += "".join(f"{self.nmi},E1,{date_text(number)},{begin},{end}\n" for begin, end, flag in found if flag == "N")
+        return text
+
+    def readings_answer(self, first, last):
+        text = rows.READINGS_HEAD
+        for number in range(first, last + 1):
+            current = self.day(number).current() if self.day(number).updates else []
+            for place, it in enumerate(current):
+                begin = (EPOCH + datetime.timedelta(number, minutes=place * minutes(len(current)))).strftime("%Y-%m-%dT%H:%M")
+                texts = [*reading_texts(it[1]), moment_text(it[0])] if it else [*reading_texts(NULL), ""]
+                text += ",".join([self.nmi, "E1", begin, str(minutes(len(current))), "kWh", *texts]) + "\n"
         return rows.answer(rows.OK, text)
 
     def finals_answer(self, first, last):

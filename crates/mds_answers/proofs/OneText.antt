@@ -102,6 +102,8 @@ one_data days moments (told.Streams answers) a b (streams, are, is) (streams', a
     cc
 one_data days moments (told.Gaps text) a b p q = absurd p
 one_data days moments (told.Finals text) a b p q = absurd p
+one_data days moments (told.Missing text) a b p q = absurd p
+one_data days moments (told.Readings text) a b p q = absurd p
 one_data days moments (told.Exported text) a b p q = absurd p
 one_data days moments (told.File fault) a b p q = p ∙ sym q
 one_data days moments (told.Refused refusal) a b p q = p ∙ sym q

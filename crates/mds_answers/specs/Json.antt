@@ -141,13 +141,11 @@ IsData (told.Day answer) json = IsDayData answer json
 IsData (told.Versions answer) json = IsVersionsData answer json
 IsData (told.Period answer) json = ArePeriods answer json
 IsData (told.Streams answers) json = AreStreams answers.items json
-IsData (told.Gaps text) json = ⊥
-IsData (told.Finals text) json = ⊥
-IsData (told.Exported text) json = ⊥
 IsData (told.File fault) json = json ≡ refused (fault_code_text fault.code) fault.field 0 fault.line
 IsData (told.Refused refusal) json =
     json ≡ refused (rule_code_text refusal.code) refusal.field refusal.interval refusal.line
 IsData told.Unavailable json = json ≡ refused (codes "U1") 0 0 0
+IsData answer json = ⊥
 
 -- the JSON text of an answer
 abbrev pub IsJson : Answer → List ℕ → Type 0

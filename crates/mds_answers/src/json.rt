@@ -45,13 +45,11 @@ pub fn answer_json(alloc: Global, answer: &Answer, out: &mut Vec<u8>) -> Result<
     ensures kept { OnErr result (out.new.items ≡ out.old.items) }
     ensures short { has_list answer.now ≡ false → vec_len out.old + short_room ≤ vec_capacity out.old → is_ok result ≡ true }
 {
-    match answer {
-        Answer::Day(_) | Answer::Versions(_) | Answer::Period(_) | Answer::Streams(_) => {
-            let text = list_json(alloc, answer)?;
-            out.extend_from_slice(&text)
-        }
-        _ => short_json(answer, out),
+    if answer.has_list() {
+        let text = list_json(alloc, answer)?;
+        return out.extend_from_slice(&text);
     }
+    short_json(answer, out)
 }
 
 /// The JSON value of an answer with a list.

@@ -1,12 +1,12 @@
 //! The requests that arguments ask for.
 
-ghost use Rattle.std.specs.Prelude.{◌≡◌, ◌<◌, false, length, map, IfOk, OnErr, MatchOption, MatchResult, Some, None, is_some};
+ghost use Rattle.std.specs.Prelude.{◌≡◌, ◌<◌, false, length, map, IfErr, IfOk, OnErr, MatchOption, MatchResult, Some, None, is_some};
 ghost use Rattle.std.specs.List.{list_all};
-ghost use Rattle.mds_calendar.specs.Calendar.{day_of};
 ghost use Rattle.mds_names.specs.Names.{suffix_of};
-ghost use Rattle.mds_arguments.specs.Arguments.{AskForDay, AskForExport, AskForFinals, AskForGaps, AskForPeriods, AskForVersions, IsExportFault, IsFirstBad, SpellStream, day_tests, interval_tests, range_tests, stream_tests};
+ghost use Rattle.mds_messages.specs.declared.request.Request.{Request as Asked};
+ghost use Rattle.mds_arguments.specs.Arguments.{AskFor, AskForExport, IsExportFault, IsFirstBad, SpellDayIfSome, SpellRange, SpellStream, found_texts, is_day_if_some, range_tests, stream_tests, tests_of, word_texts};
 
-use crate::arguments::{Argument, ExportArguments, RangeArguments};
+use crate::arguments::{Argument, ExportArguments, FoundWords, QueryName, QueryWords};
 use mds_marks::interval_number;
 use mds_messages::Request;
 use mds_statements::Header;
@@ -32,39 +32,69 @@ impl From<AllocError> for ArgumentsFault {
     }
 }
 
-/// The request for the accumulations of a stream.
-pub fn periods_request(nmi: &[u8], suffix: &[u8]) -> Result<Request, Argument>
-    ensures { MatchResult result (AskForPeriods nmi.now suffix.now) (IsFirstBad (stream_tests nmi.now suffix.now)) }
+/// The request that the words of a query ask for.
+pub fn query_request(query: QueryName, words: &QueryWords<'_>) -> Result<Request, Argument>
+    ensures value { MatchResult result (AskFor query (word_texts words.now))
+        (IsFirstBad (tests_of query (word_texts words.now))) }
+    // The words ask for nothing then.
+    ensures none { IfErr result (λ _. (request : Asked) → ¬ AskFor query (word_texts words.now) request) }
 {
-    let stream = read_stream(nmi, suffix)?;
+    match query {
+        QueryName::Streams => Ok(Request::Streams),
+        QueryName::Day => day_request(words),
+        QueryName::Versions => versions_request(words),
+        QueryName::Periods => periods_request(words),
+        QueryName::Gaps => gaps_request(words),
+        QueryName::Finals => finals_request(words),
+        QueryName::Missing => missing_request(words),
+        QueryName::Readings => readings_request(words),
+    }
+}
+
+/// The request that a query asks for, with the words that are found by the ids of its arguments.
+pub fn found_request<'a, F: FoundWords<'a>>(
+    query: QueryName,
+    found: &F,
+) -> Result<Request, Argument>
+    ensures value { MatchResult result (AskFor query (found_texts (F.word_of found.now)))
+        (IsFirstBad (tests_of query (found_texts (F.word_of found.now)))) }
+    ensures none { IfErr result (λ _. (request : Asked) → ¬ AskFor query (found_texts (F.word_of found.now)) request) }
+{
+    query_request(query, &QueryWords::of(found))
+}
+
+/// The request for the accumulations of a stream.
+fn periods_request(words: &QueryWords<'_>) -> Result<Request, Argument>
+    ensures value { MatchResult result (AskFor QueryName.Periods (word_texts words.now))
+        (IsFirstBad (tests_of QueryName.Periods (word_texts words.now))) }
+    ensures none { IfErr result (λ _. (request : Asked) → ¬ AskFor QueryName.Periods (word_texts words.now) request) }
+{
+    let stream = read_stream(words)?;
     Ok(Request::Period { stream })
 }
 
 /// The request for a day of a stream.
-pub fn day_request(nmi: &[u8], suffix: &[u8], date: &[u8]) -> Result<Request, Argument>
-    ensures { MatchResult result (AskForDay nmi.now suffix.now date.now)
-        (IsFirstBad (day_tests nmi.now suffix.now date.now)) }
+fn day_request(words: &QueryWords<'_>) -> Result<Request, Argument>
+    ensures value { MatchResult result (AskFor QueryName.Day (word_texts words.now))
+        (IsFirstBad (tests_of QueryName.Day (word_texts words.now))) }
+    ensures none { IfErr result (λ _. (request : Asked) → ¬ AskFor QueryName.Day (word_texts words.now) request) }
 {
-    let stream = read_stream(nmi, suffix)?;
+    let stream = read_stream(words)?;
     // decides: bad argument: an argument isn't what its request needs
-    let day = Day::read(date).ok_or(Argument::Date)?;
+    let day = Day::read(words.date).ok_or(Argument::Date)?;
     Ok(Request::Day { stream, day })
 }
 
 /// The request for the versions of an interval of a stream's day.
-pub fn versions_request(
-    nmi: &[u8],
-    suffix: &[u8],
-    date: &[u8],
-    interval: &[u8],
-) -> Result<Request, Argument>
-    ensures { MatchResult result (AskForVersions nmi.now suffix.now date.now interval.now)
-        (IsFirstBad (interval_tests nmi.now suffix.now date.now interval.now)) }
+fn versions_request(words: &QueryWords<'_>) -> Result<Request, Argument>
+    ensures value { MatchResult result (AskFor QueryName.Versions (word_texts words.now))
+        (IsFirstBad (tests_of QueryName.Versions (word_texts words.now))) }
+    ensures none { IfErr result (λ _. (request : Asked) → ¬ AskFor QueryName.Versions (word_texts words.now) request) }
 {
-    let stream = read_stream(nmi, suffix)?;
-    let day = Day::read(date).ok_or(Argument::Date)?;
+    let stream = read_stream(words)?;
+    let day = Day::read(words.date).ok_or(Argument::Date)?;
     // decides: bad argument: an argument isn't what its request needs
-    let interval = interval_number(interval).ok_or(Argument::Interval)?;
+    let interval = interval_number(words.interval).ok_or(Argument::Interval)?;
     Ok(Request::Versions {
         stream,
         day,
@@ -73,16 +103,16 @@ pub fn versions_request(
 }
 
 /// The request for the gaps of a range.
-pub fn gaps_request(arguments: &RangeArguments<'_>) -> Result<Request, Argument>
-    ensures { MatchResult result
-        (AskForGaps arguments.now.nmi.now arguments.now.suffix.now arguments.now.from.now arguments.now.to.now)
-        (IsFirstBad (range_tests arguments.now.nmi.now arguments.now.suffix.now arguments.now.from.now arguments.now.to.now)) }
+fn gaps_request(words: &QueryWords<'_>) -> Result<Request, Argument>
+    ensures value { MatchResult result (AskFor QueryName.Gaps (word_texts words.now))
+        (IsFirstBad (tests_of QueryName.Gaps (word_texts words.now))) }
+    ensures none { IfErr result (λ _. (request : Asked) → ¬ AskFor QueryName.Gaps (word_texts words.now) request) }
 {
     let StreamRange {
         stream,
         first,
         last,
-    } = read_range(arguments)?;
+    } = read_range(words)?;
     Ok(Request::Gaps {
         stream,
         first,
@@ -91,16 +121,16 @@ pub fn gaps_request(arguments: &RangeArguments<'_>) -> Result<Request, Argument>
 }
 
 /// The request for the finals of a range.
-pub fn finals_request(arguments: &RangeArguments<'_>) -> Result<Request, Argument>
-    ensures { MatchResult result
-        (AskForFinals arguments.now.nmi.now arguments.now.suffix.now arguments.now.from.now arguments.now.to.now)
-        (IsFirstBad (range_tests arguments.now.nmi.now arguments.now.suffix.now arguments.now.from.now arguments.now.to.now)) }
+fn finals_request(words: &QueryWords<'_>) -> Result<Request, Argument>
+    ensures value { MatchResult result (AskFor QueryName.Finals (word_texts words.now))
+        (IsFirstBad (tests_of QueryName.Finals (word_texts words.now))) }
+    ensures none { IfErr result (λ _. (request : Asked) → ¬ AskFor QueryName.Finals (word_texts words.now) request) }
 {
     let StreamRange {
         stream,
         first,
         last,
-    } = read_range(arguments)?;
+    } = read_range(words)?;
     Ok(Request::Finals {
         stream,
         first,
@@ -108,13 +138,63 @@ pub fn finals_request(arguments: &RangeArguments<'_>) -> Result<Request, Argumen
     })
 }
 
-/// The stream that the texts name.
-fn read_stream(nmi: &[u8], suffix: &[u8]) -> Result<Stream, Argument>
-    ensures { MatchResult result (SpellStream nmi.now suffix.now) (IsFirstBad (stream_tests nmi.now suffix.now)) }
+/// The request for the gaps of all streams.
+fn missing_request(words: &QueryWords<'_>) -> Result<Request, Argument>
+    ensures value { MatchResult result (AskFor QueryName.Missing (word_texts words.now))
+        (IsFirstBad (tests_of QueryName.Missing (word_texts words.now))) }
+    ensures none { IfErr result (λ _. (request : Asked) → ¬ AskFor QueryName.Missing (word_texts words.now) request) }
+{
+    let since = read_since(words)?;
+    // decides: bad argument: an argument isn't what its request needs
+    let from = Day::read(words.from).ok_or(Argument::From)?;
+    let to = Day::read(words.to).ok_or(Argument::To)?;
+    Ok(Request::Missing {
+        first: from,
+        last: to,
+        since,
+    })
+}
+
+/// The request for the current readings of a range.
+fn readings_request(words: &QueryWords<'_>) -> Result<Request, Argument>
+    ensures value { MatchResult result (AskFor QueryName.Readings (word_texts words.now))
+        (IsFirstBad (tests_of QueryName.Readings (word_texts words.now))) }
+    ensures none { IfErr result (λ _. (request : Asked) → ¬ AskFor QueryName.Readings (word_texts words.now) request) }
+{
+    let StreamRange {
+        stream,
+        first,
+        last,
+    } = read_range(words)?;
+    Ok(Request::Readings {
+        stream,
+        first,
+        last,
+    })
+}
+
+/// The day that the last known day of a stream has to reach, if one is given.
+fn read_since(words: &QueryWords<'_>) -> Result<Option<Day>, Argument>
+    ensures { MatchResult result (SpellDayIfSome (word_texts words.now).since)
+        (λ argument. (argument ≡ Argument.Since) × (is_day_if_some (word_texts words.now).since ≡ false)) }
+{
+    let Some(text) = words.since else {
+        return Ok(None);
+    };
+    // decides: bad argument: an argument isn't what its request needs
+    let Some(day) = Day::read(text) else {
+        return Err(Argument::Since);
+    };
+    Ok(Some(day))
+}
+
+/// The stream that the words name.
+fn read_stream(words: &QueryWords<'_>) -> Result<Stream, Argument>
+    ensures { MatchResult result (SpellStream (word_texts words.now)) (IsFirstBad (stream_tests (word_texts words.now))) }
 {
     // decides: bad argument: an argument isn't what its request needs
-    let nmi = Nmi::read(nmi).ok_or(Argument::Nmi)?;
-    let suffix = Suffix::read(suffix).ok_or(Argument::Suffix)?;
+    let nmi = Nmi::read(words.nmi).ok_or(Argument::Nmi)?;
+    let suffix = Suffix::read(words.suffix).ok_or(Argument::Suffix)?;
     Ok(Stream { nmi, suffix })
 }
 
@@ -126,14 +206,12 @@ struct StreamRange {
     last: Day,
 }
 
-/// The range that the texts name.
-fn read_range(words: &RangeArguments<'_>) -> Result<StreamRange, Argument>
-    ensures { MatchResult result
-        (λ range. SpellStream words.now.nmi.now words.now.suffix.now range.stream
-        × (day_of words.now.from.now ≡ Some range.first) × (day_of words.now.to.now ≡ Some range.last))
-        (IsFirstBad (range_tests words.now.nmi.now words.now.suffix.now words.now.from.now words.now.to.now)) }
+/// The range that the words name.
+fn read_range(words: &QueryWords<'_>) -> Result<StreamRange, Argument>
+    ensures { MatchResult result (λ range. SpellRange (word_texts words.now) range.stream range.first range.last)
+        (IsFirstBad (range_tests (word_texts words.now))) }
 {
-    let stream = read_stream(words.nmi, words.suffix)?;
+    let stream = read_stream(words)?;
     // decides: bad argument: an argument isn't what its request needs
     let first = Day::read(words.from).ok_or(Argument::From)?;
     let last = Day::read(words.to).ok_or(Argument::To)?;

@@ -38,6 +38,8 @@ module _ (statements : List Statement) where
   no_list w v (told.Streams answers) list h = h
   no_list w v (told.Gaps it) list h = h
   no_list w v (told.Finals it) list h = h
+  no_list w v (told.Missing it) list h = h
+  no_list w v (told.Readings it) list h = h
   no_list w v (told.Exported it) list h = h
   no_list w v (told.File fault) list h = h
   no_list w v (told.Refused refusal) list h = cc

@@ -348,7 +348,7 @@ What to do: correct the job. `docs/FORMATS.md`, "Substitution jobs", says what a
 
 A range has more than 400 days, or an export has more than eight different suffixes.
 
-Usual causes: gaps or exports of several years in one request.
+Usual causes: gaps, readings or exports of several years in one request.
 
 Example: `mdstore gaps` from 20240101 to 20250204 asks for 401 days, and prints `M12`.
 

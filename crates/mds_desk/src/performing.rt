@@ -1,11 +1,11 @@
 //! One request over a store, as a command does it.
 
-ghost use Rattle.std.specs.Prelude.{◌≡◌, ◌+◌, ◌-◌, ◌<◌, ◌≤◌, ◌^◌, ◌++◌, ℕ, List, true, Err, OnErr, IfErr, IfOk, if◌then◌else◌, is_ok, codes, decimal, length, take};
+ghost use Rattle.std.specs.Prelude.{◌≡◌, ◌+◌, ◌-◌, ◌<◌, ◌≤◌, ◌^◌, ◌++◌, ℕ, List, false, true, Err, OnErr, IfErr, IfOk, if◌then◌else◌, is_ok, codes, decimal, length, take};
 ghost use Rattle.std.specs.Io.KnownBytes.{Appends as AppendsKnown, Keeps};
 ghost use Rattle.mds_messages.specs.declared.answer.Answer.{Answer as AnAnswer};
 ghost use Rattle.mds_records.specs.Printed.{fault_text};
 ghost use Rattle.mds_keeper.specs.Refusals.{place_text, refusal_text};
-ghost use Rattle.mds_messages.specs.Answers.{has_list};
+ghost use Rattle.mds_messages.specs.Answers.{has_list, has_text};
 ghost use Rattle.mds_service.specs.Crashes.{Goes};
 ghost use Rattle.mds_desk.specs.Performed.{IsAnswerText, IsJsonLine, IsToldAs, answer_status, is_write_failure};
 ghost use Rattle.mds_desk.specs.Printed.{printed_bytes};
@@ -41,21 +41,13 @@ impl<'a> Printed<'a> {
         ensures text { IfOk result (λ printed. IsAnswerText answer.now (printed_bytes printed)) }
         ensures memory { OnErr result (has_list answer.now ≡ true) }
     {
-        Ok(match answer {
-            Answer::Imported { added, known } => Printed::Line(added_line(*added, *known)),
-            Answer::Substituted { count } => Printed::Line(count_line("substituted ", *count)),
-            Answer::Known { count } => Printed::Line(count_line("known ", *count)),
-            Answer::HolidaysAdded { added, known } => Printed::Line(added_line(*added, *known)),
-            Answer::Gaps(text) | Answer::Finals(text) | Answer::Exported(text) => {
-                Printed::Text(text)
-            }
-            Answer::File(fault) => Printed::Line(fault_line(fault)),
-            Answer::Refused(refusal) => Printed::Line(refusal_line(refusal)),
-            Answer::Unavailable => Printed::Line(unavailable_line()),
-            Answer::Day(_) | Answer::Versions(_) | Answer::Period(_) | Answer::Streams(_) => {
-                Printed::Json(json_line(alloc, answer)?)
-            }
-        })
+        if let Some(text) = answer.text() {
+            return Ok(Printed::Text(text));
+        }
+        if answer.has_list() {
+            return Ok(Printed::Json(json_line(alloc, answer)?));
+        }
+        Ok(Printed::Line(short_line(answer)))
     }
 
     /// Its bytes.
@@ -165,19 +157,27 @@ fn status_of(answer: &Answer) -> Status
 {
     // decides: which status does a run end with?
     match answer {
-        Answer::Imported { .. }
-        | Answer::Substituted { .. }
-        | Answer::Known { .. }
-        | Answer::HolidaysAdded { .. }
-        | Answer::Day(_)
-        | Answer::Versions(_)
-        | Answer::Period(_)
-        | Answer::Streams(_)
-        | Answer::Gaps(_)
-        | Answer::Finals(_)
-        | Answer::Exported(_) => Status::Done,
         Answer::File(_) | Answer::Refused(_) => Status::Fault,
         Answer::Unavailable => Status::Unavailable,
+        _ => Status::Done,
+    }
+}
+
+/// The line of a short answer.
+fn short_line(answer: &Answer) -> Line
+    requires text { has_text answer.now ≡ false }
+    requires list { has_list answer.now ≡ false }
+    ensures { IsAnswerText answer.now result.bytes }
+{
+    match answer {
+        Answer::Imported { added, known } => added_line(*added, *known),
+        Answer::Substituted { count } => count_line("substituted ", *count),
+        Answer::Known { count } => count_line("known ", *count),
+        Answer::HolidaysAdded { added, known } => added_line(*added, *known),
+        Answer::File(fault) => fault_line(fault),
+        Answer::Refused(refusal) => refusal_line(refusal),
+        Answer::Unavailable => unavailable_line(),
+        _ => unreachable!(),
     }
 }
 

@@ -1,5 +1,5 @@
 -- What a request over HTTP does to a store, and its answer (profile).
-use Rattle.std.specs.Prelude.{◌≡◌, ◌⊎◌, ℕ, List, codes}
+use Rattle.std.specs.Prelude.{◌≡◌, ◌⊎◌, ℕ, List, Option, Some, None, codes}
 use Rattle.serde_json.specs.Written.{compact_text}
 use Rattle.mds_keeper.specs.declared.refusal.RefusalCode.{RefusalCode}
 use Rattle.mds_keeper.specs.declared.refusal.RefusalCode.TheVariants.{LengthConflict, UnitConflict, VersionConflict, JobReused, Protected, StaleUpdate, NoLikeDay, TooLong, NoAnchor, UnknownDay, BadJob, RangeTooWide}
@@ -8,6 +8,7 @@ use Rattle.mds_service.specs.Crashes.{Goes}
 use Rattle.mds_messages.specs.declared.request.Request.{Request}
 use Rattle.mds_messages.specs.declared.answer.Answer.{Answer}
 use Rattle.mds_messages.specs.declared.answer.Answer.TheVariants as told
+use Rattle.mds_messages.specs.Answers.{TextKind, text_of}
 use Rattle.mds_answers.specs.Json.{IsJson, refused}
 use Rattle.mds_requests.specs.Targets.{AsksAt, IsFaultAt}
 use Rattle.mds_requests.specs.declared.targets.TargetFault.{TargetFault}
@@ -43,12 +44,14 @@ status_of (told.Refused refusal) = status_of_rule refusal.code
 status_of told.Unavailable = Unavailable
 status_of answer = Success
 
--- the type of its body, and the body: the text of a register or an export, else JSON
+-- the type of a body, and the body: a text of its own as it is, else JSON
+abbrev pub TellsText : Option (TextKind × List ℕ) → Answer → Kind → List ℕ → Type 0
+TellsText (Some text) answer kind body = (kind ≡ Csv) × (body ≡ text.1)
+TellsText None answer kind body = (kind ≡ Json) × IsJson answer body
+
+-- those of an answer
 abbrev pub Tells : Answer → Kind → List ℕ → Type 0
-Tells (told.Gaps text) kind body = (kind ≡ Csv) × (body ≡ text.items)
-Tells (told.Finals text) kind body = (kind ≡ Csv) × (body ≡ text.items)
-Tells (told.Exported text) kind body = (kind ≡ Csv) × (body ≡ text.items)
-Tells answer kind body = (kind ≡ Json) × IsJson answer body
+Tells answer kind body = TellsText (text_of answer) answer kind body
 
 -- the answer to a target and a body that ask for nothing
 abbrev pub TellsFault : TargetFault → Status → Kind → List ℕ → Type 0

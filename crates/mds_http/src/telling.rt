@@ -20,11 +20,9 @@ pub(crate) fn tell(alloc: Global, answer: Answer, out: &mut Vec<u8>) -> (Status,
     requires room { short_answer ≤ vec_capacity out.old }
     ensures { TellsOrNot answer result.0 result.1 out.new.items }
 {
-    match answer {
-        Answer::Gaps(text) => tell_text(text, out),
-        Answer::Finals(text) => tell_text(text, out),
-        Answer::Exported(text) => tell_text(text, out),
-        other => tell_json(alloc, &other, out),
+    match answer.into_text() {
+        Ok(text) => tell_text(text, out),
+        Err(other) => tell_json(alloc, &other, out),
     }
 }
 
@@ -43,12 +41,10 @@ fn tell_json(alloc: Global, answer: &Answer, out: &mut Vec<u8>) -> (Status, Kind
     requires room { short_answer ≤ vec_capacity out.old }
     ensures { TellsOrNot answer.now result.0 result.1 out.new.items }
 {
-    match answer {
-        Answer::Day(_) | Answer::Versions(_) | Answer::Period(_) | Answer::Streams(_) => {
-            tell_list(alloc, answer, out)
-        }
-        _ => tell_short(answer, out),
+    if answer.has_list() {
+        return tell_list(alloc, answer, out);
     }
+    tell_short(answer, out)
 }
 
 /// Writes the text of an answer with a list, which takes memory.

@@ -22,6 +22,8 @@ unanswered old (asked.Period stream) new step = step.1
 unanswered old asked.Streams new step = step.1
 unanswered old (asked.Gaps stream first last) new step = step.1
 unanswered old (asked.Finals stream first last) new step = step.1
+unanswered old (asked.Missing first last since) new step = step.1
+unanswered old (asked.Readings stream first last) new step = step.1
 unanswered old (asked.Export nmi suffixes first last header) new step = step.1
 
 not_given : (answer : Answer) → is_given answer ≡ false → answer ≡ told.Unavailable
@@ -35,6 +37,8 @@ not_given (told.Period it) e = cc
 not_given (told.Streams answers) e = cc
 not_given (told.Gaps text) e = cc
 not_given (told.Finals text) e = cc
+not_given (told.Missing text) e = cc
+not_given (told.Readings text) e = cc
 not_given (told.Exported text) e = cc
 not_given (told.File fault) e = cc
 not_given (told.Refused refusal) e = cc

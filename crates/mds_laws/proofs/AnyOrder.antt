@@ -87,6 +87,8 @@ file_taken old kind bytes (told.Period answer) new well agrees step given = absu
 file_taken old kind bytes (told.Streams answers) new well agrees step given = absurd step
 file_taken old kind bytes (told.Gaps text) new well agrees step given = absurd step
 file_taken old kind bytes (told.Finals text) new well agrees step given = absurd step
+file_taken old kind bytes (told.Missing text) new well agrees step given = absurd step
+file_taken old kind bytes (told.Readings text) new well agrees step given = absurd step
 file_taken old kind bytes (told.Exported text) new well agrees step given = absurd step
 
 taken : (old : World) (request : Request) (answer : Answer) (new : World) → IsWellFormed request
@@ -102,6 +104,8 @@ taken old (asked.Period stream) answer new well agrees step given = absurd well
 taken old asked.Streams answer new well agrees step given = absurd well
 taken old (asked.Gaps stream first last) answer new well agrees step given = absurd well
 taken old (asked.Finals stream first last) answer new well agrees step given = absurd well
+taken old (asked.Missing first last since) answer new well agrees step given = absurd well
+taken old (asked.Readings stream first last) answer new well agrees step given = absurd well
 taken old (asked.Export nmi suffixes first last header) answer new well agrees step given = absurd well
 
 all_taken : (old new : World) (files : List Request) (answers : List Answer) → All IsWellFormed files
@@ -159,6 +163,8 @@ facts_of_request (asked.Period stream) = refl
 facts_of_request asked.Streams = refl
 facts_of_request (asked.Gaps stream first last) = refl
 facts_of_request (asked.Finals stream first last) = refl
+facts_of_request (asked.Missing first last since) = refl
+facts_of_request (asked.Readings stream first last) = refl
 facts_of_request (asked.Export nmi suffixes first last header) = refl
 
 facts_of_requests : (requests : List Request) → map facts_in requests ≡ map stated (map statements_in requests)

@@ -18,7 +18,8 @@ use Rattle.mds_laws.proofs.Answered.{all_given, unanswered_stand_aside}
 use Rattle.mds_laws.proofs.Kept.{law_stays}
 use Rattle.mds_laws.proofs.OneChange.{same_holidays, same_import, same_job}
 use Rattle.mds_laws.proofs.OneQuery.{same_day, same_periods, same_streams, same_versions}
-use Rattle.mds_laws.proofs.OneRange.{same_export, same_finals, same_gaps}
+use Rattle.mds_laws.proofs.OneRange.{same_export, same_finals, same_gaps, same_missing}
+use Rattle.mds_laws.proofs.OneReadings.{same_readings}
 
 -- what asks the same has the same steps
 asks : (w v : World) (request other : Request) (answer : Answer) → AskTheSame request other → Step w request answer v
@@ -46,6 +47,10 @@ one_answer w v u (asked.Gaps stream first last) a b lawful x y g h =
     (same_gaps w stream first last a b x.0 y.0 g h, x.1 ∙ sym y.1)
 one_answer w v u (asked.Finals stream first last) a b lawful x y g h =
     (same_finals w stream first last a b x.0 y.0 g h, x.1 ∙ sym y.1)
+one_answer w v u (asked.Missing first last since) a b lawful x y g h =
+    (same_missing w first last since a b x.0 y.0 g h, x.1 ∙ sym y.1)
+one_answer w v u (asked.Readings stream first last) a b lawful x y g h =
+    (same_readings w lawful.agrees stream first last a b x.0 y.0 g h, x.1 ∙ sym y.1)
 one_answer w v u (asked.Export nmi suffixes first last header) a b lawful x y g h = (
   same_export w lawful.agrees nmi suffixes.items first last (header_value header) a b x.0 y.0 g h,
   x.1 ∙ sym y.1,

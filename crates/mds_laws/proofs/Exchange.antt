@@ -127,6 +127,8 @@ module _ (w : World) (kind : FileKind) (bytes : Vec ℕ Global) (job : Job)
   file_alike (told.Streams answers) m step = absurd step
   file_alike (told.Gaps text) m step = absurd step
   file_alike (told.Finals text) m step = absurd step
+  file_alike (told.Missing text) m step = absurd step
+  file_alike (told.Readings text) m step = absurd step
   file_alike (told.Exported text) m step = absurd step
 
   module _ (readings : List ReadingValue) (are : AreSubstitutes w (content_of job) readings) (suits : SuitsDay w job) where
@@ -182,6 +184,8 @@ module _ (w : World) (kind : FileKind) (bytes : Vec ℕ Global) (job : Job)
     file_over (told.Streams answers) m step = absurd step
     file_over (told.Gaps text) m step = absurd step
     file_over (told.Finals text) m step = absurd step
+    file_over (told.Missing text) m step = absurd step
+    file_over (told.Readings text) m step = absurd step
     file_over (told.Exported text) m step = absurd step
 
     -- and under it
@@ -210,6 +214,8 @@ module _ (w : World) (kind : FileKind) (bytes : Vec ℕ Global) (job : Job)
     file_back (told.Streams answers) v step = absurd step
     file_back (told.Gaps text) v step = absurd step
     file_back (told.Finals text) v step = absurd step
+    file_back (told.Missing text) v step = absurd step
+    file_back (told.Readings text) v step = absurd step
     file_back (told.Exported text) v step = absurd step
 
 -- ---- a job over a World that is the same to it
@@ -234,6 +240,8 @@ job_idle w m job s (told.Period answer) new none step = absurd step
 job_idle w m job s (told.Streams answers) new none step = absurd step
 job_idle w m job s (told.Gaps text) new none step = absurd step
 job_idle w m job s (told.Finals text) new none step = absurd step
+job_idle w m job s (told.Missing text) new none step = absurd step
+job_idle w m job s (told.Readings text) new none step = absurd step
 job_idle w m job s (told.Exported text) new none step = absurd step
 job_idle w m job s (told.File fault) new none step = absurd step
 
@@ -308,6 +316,8 @@ module _ (old new : World) (kind : FileKind) (bytes : Vec ℕ Global) (job : Job
   either (told.Streams answers) = idle_either (told.Streams answers) tt
   either (told.Gaps text) = idle_either (told.Gaps text) tt
   either (told.Finals text) = idle_either (told.Finals text) tt
+  either (told.Missing text) = idle_either (told.Missing text) tt
+  either (told.Readings text) = idle_either (told.Readings text) tt
   either (told.Exported text) = idle_either (told.Exported text) tt
   either (told.File fault) = idle_either (told.File fault) tt
 

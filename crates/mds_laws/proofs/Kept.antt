@@ -33,7 +33,7 @@ use Rattle.mds_messages.specs.declared.answer.Answer.{Answer}
 use Rattle.mds_messages.specs.declared.answer.Answer.TheVariants as told
 use Rattle.mds_service.specs.Holidays.{HolidaysStep, holidays_world}
 use Rattle.mds_service.specs.Machine.{ImportStep, Run, Step, TellsDay, TellsPeriods, TellsStreams, TellsVersions, stated_in}
-use Rattle.mds_service.specs.RangeAnswers.{TellsExport, TellsFinals, TellsGaps}
+use Rattle.mds_service.specs.RangeAnswers.{TellsExport, TellsFinals, TellsGaps, TellsMissing, TellsReadings}
 use Rattle.mds_service.specs.Substitution.{SubstituteStep, SuitsDay, head_of, job_world}
 use Rattle.mds_service.proofs.ListedWorld.{lawful_with_holidays}
 use Rattle.mds_service.proofs.Substituted.{lawful_with_job}
@@ -203,6 +203,8 @@ quiet Tells (told.Period answer) file job tells = refl
 quiet Tells (told.Streams answers) file job tells = refl
 quiet Tells (told.Gaps text) file job tells = refl
 quiet Tells (told.Finals text) file job tells = refl
+quiet Tells (told.Missing text) file job tells = refl
+quiet Tells (told.Readings text) file job tells = refl
 quiet Tells (told.Exported text) file job tells = refl
 quiet Tells (told.File fault) file job tells = refl
 quiet Tells (told.Refused refusal) file job tells = refl
@@ -223,6 +225,8 @@ grows old (asked.Import kind bytes) (told.Period answer) new step = absurd step
 grows old (asked.Import kind bytes) (told.Streams answers) new step = absurd step
 grows old (asked.Import kind bytes) (told.Gaps text) new step = absurd step
 grows old (asked.Import kind bytes) (told.Finals text) new step = absurd step
+grows old (asked.Import kind bytes) (told.Missing text) new step = absurd step
+grows old (asked.Import kind bytes) (told.Readings text) new step = absurd step
 grows old (asked.Import kind bytes) (told.Exported text) new step = absurd step
 grows old (asked.Substitute job) (told.Substituted count) new step = grows_job old job count new step
 grows old (asked.Substitute job) (told.Known count) new step = idle _ _ _ _ refl step.2
@@ -236,6 +240,8 @@ grows old (asked.Substitute job) (told.Period answer) new step = absurd step
 grows old (asked.Substitute job) (told.Streams answers) new step = absurd step
 grows old (asked.Substitute job) (told.Gaps text) new step = absurd step
 grows old (asked.Substitute job) (told.Finals text) new step = absurd step
+grows old (asked.Substitute job) (told.Missing text) new step = absurd step
+grows old (asked.Substitute job) (told.Readings text) new step = absurd step
 grows old (asked.Substitute job) (told.Exported text) new step = absurd step
 grows old (asked.Substitute job) (told.File fault) new step = absurd step
 grows old (asked.Holidays days) (told.HolidaysAdded added known) new step = grows_holidays old days added known new step
@@ -249,6 +255,8 @@ grows old (asked.Holidays days) (told.Period answer) new step = absurd step
 grows old (asked.Holidays days) (told.Streams answers) new step = absurd step
 grows old (asked.Holidays days) (told.Gaps text) new step = absurd step
 grows old (asked.Holidays days) (told.Finals text) new step = absurd step
+grows old (asked.Holidays days) (told.Missing text) new step = absurd step
+grows old (asked.Holidays days) (told.Readings text) new step = absurd step
 grows old (asked.Holidays days) (told.Exported text) new step = absurd step
 grows old (asked.Holidays days) (told.File fault) new step = absurd step
 grows old (asked.Holidays days) (told.Refused refusal) new step = absurd step
@@ -264,6 +272,10 @@ grows old (asked.Gaps stream first last) answer new step =
     idle _ _ _ _ (quiet (TellsGaps old stream first last) answer (λ _ _ h. h) (λ _ h. h) step.0) step.1
 grows old (asked.Finals stream first last) answer new step =
     idle _ _ _ _ (quiet (TellsFinals old stream first last) answer (λ _ _ h. h) (λ _ h. h) step.0) step.1
+grows old (asked.Missing first last since) answer new step =
+    idle _ _ _ _ (quiet (TellsMissing old first last since) answer (λ _ _ h. h) (λ _ h. h) step.0) step.1
+grows old (asked.Readings stream first last) answer new step =
+    idle _ _ _ _ (quiet (TellsReadings old stream first last) answer (λ _ _ h. h) (λ _ h. h) step.0) step.1
 grows old (asked.Export nmi suffixes first last header) answer new step =
     idle _ _ _ _ (quiet (TellsExport old nmi suffixes.items first last (header_value header)) answer (λ _ _ h. h) (λ _ h. h) step.0) step.1
 

@@ -13,11 +13,13 @@ pub mod OneJob
 pub mod OneList
 pub mod OneQuery
 pub mod OneRange
+pub mod OneReadings
 pub mod OneRefusal
 pub mod OneSelection
 pub mod Origins
 pub mod Parts
 pub mod PutBeside
+pub mod Registers
 pub mod Returned
 pub mod ReturnedCounts
 pub mod ReturnedDays

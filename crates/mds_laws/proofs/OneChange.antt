@@ -41,6 +41,8 @@ module _ (w : World) (kind : FileKind) (text : List ℕ) where
   file_told (told.Streams answers) new step is_given = absurd step
   file_told (told.Gaps text) new step is_given = absurd step
   file_told (told.Finals text) new step is_given = absurd step
+  file_told (told.Missing text) new step is_given = absurd step
+  file_told (told.Readings text) new step is_given = absurd step
   file_told (told.Exported text) new step is_given = absurd step
   file_told (told.File fault) new step is_given = inl (fault, refl, step)
   file_told (told.Refused refusal) new step is_given = inr (inr (refusal, refl, step))
@@ -82,6 +84,8 @@ module _ (w : World) (days : List ℕ) where
   listed_told (told.Streams answers) new step is_given = absurd step
   listed_told (told.Gaps text) new step is_given = absurd step
   listed_told (told.Finals text) new step is_given = absurd step
+  listed_told (told.Missing text) new step is_given = absurd step
+  listed_told (told.Readings text) new step is_given = absurd step
   listed_told (told.Exported text) new step is_given = absurd step
   listed_told (told.File fault) new step is_given = absurd step
   listed_told (told.Refused refusal) new step is_given = absurd step
@@ -114,6 +118,8 @@ module _ (w : World) (lawful : IsLawful w) (job : Job) where
   job_told (told.Streams answers) new step is_given = absurd step
   job_told (told.Gaps text) new step is_given = absurd step
   job_told (told.Finals text) new step is_given = absurd step
+  job_told (told.Missing text) new step is_given = absurd step
+  job_told (told.Readings text) new step is_given = absurd step
   job_told (told.Exported text) new step is_given = absurd step
   job_told (told.File fault) new step is_given = absurd step
   job_told (told.Refused refusal) new step is_given = inr (inr (refusal, refl, step))

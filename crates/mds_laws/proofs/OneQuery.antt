@@ -20,7 +20,7 @@ use Rattle.mds_world.proofs.Details.{one_details}
 use Rattle.mds_world.proofs.Forms.{form_known, one_day_reading, one_size}
 use Rattle.mds_world.specs.Current.{IsCurrentDetails, IsLastDay, IsLatest, IsStreamDetails}
 use Rattle.mds_world.specs.World.{Agrees, IsKnownDay, World}
-use Rattle.mds_keeper.specs.Queries.{period_cmp, stream_cmp}
+use Rattle.mds_keeper.specs.Queries.{AreKnownStreams, period_cmp, stream_cmp}
 use Rattle.mds_keeper.specs.declared.day_book.Version.{Version}
 use Rattle.mds_keeper.specs.declared.refusal.Refusal.{Refusal}
 use Rattle.mds_messages.specs.declared.answer.Answer.{Answer}
@@ -88,6 +88,8 @@ module _ (w : World) (agrees : Agrees w) (s : Stream) (d : ℕ) where
   day_told (told.Streams answers) tells is_given = absurd tells
   day_told (told.Gaps text) tells is_given = absurd tells
   day_told (told.Finals text) tells is_given = absurd tells
+  day_told (told.Missing text) tells is_given = absurd tells
+  day_told (told.Readings text) tells is_given = absurd tells
   day_told (told.Exported text) tells is_given = absurd tells
   day_told (told.File fault) tells is_given = absurd tells
   day_told (told.Refused refusal) tells is_given = inr (refusal, refl, tells.0, tells.1)
@@ -135,6 +137,8 @@ module _ (w : World) (s : Stream) (d i : ℕ) where
   versions_told (told.Streams answers) tells is_given = absurd tells
   versions_told (told.Gaps text) tells is_given = absurd tells
   versions_told (told.Finals text) tells is_given = absurd tells
+  versions_told (told.Missing text) tells is_given = absurd tells
+  versions_told (told.Readings text) tells is_given = absurd tells
   versions_told (told.Exported text) tells is_given = absurd tells
   versions_told (told.File fault) tells is_given = absurd tells
   versions_told (told.Refused refusal) tells is_given = inr (refusal, refl, tells.0, tells.1)
@@ -181,6 +185,8 @@ module _ (w : World) (s : Stream) where
   period_told (told.Streams answers) tells is_given = absurd tells
   period_told (told.Gaps text) tells is_given = absurd tells
   period_told (told.Finals text) tells is_given = absurd tells
+  period_told (told.Missing text) tells is_given = absurd tells
+  period_told (told.Readings text) tells is_given = absurd tells
   period_told (told.Exported text) tells is_given = absurd tells
   period_told (told.File fault) tells is_given = absurd tells
   period_told (told.Refused refusal) tells is_given = absurd tells
@@ -226,14 +232,15 @@ module _ (w : World) where
       let rest = with_details xs ys same.1 (All-tail HasDetails x xs a) (All-tail HasDetails y ys b) in
       λ i. record { stream = same.0 i; details = details i } ∷ rest i
 
+  pub one_known : (xs ys : List Stream) → AreKnownStreams w xs → AreKnownStreams w ys → xs ≡ ys
+  one_known xs ys a b =
+      one_ascending (λ p q. stream_cmp p q ≡ Less) (not_both_less stream_cmp stream_total) xs ys a.ascending b.ascending
+      (λ s m. (b.each s).1 ((a.each s).0 m))
+      (λ s m. (a.each s).1 ((b.each s).0 m))
+
   one_streams : (xs ys : List StreamAnswer) → AreStreamAnswers w xs → AreStreamAnswers w ys → xs ≡ ys
   one_streams xs ys a b =
-      with_details xs ys
-      (one_ascending (λ p q. stream_cmp p q ≡ Less) (not_both_less stream_cmp stream_total) (map stream_of xs)
-      (map stream_of ys) a.streams.ascending b.streams.ascending
-      (λ s m. (b.streams.each s).1 ((a.streams.each s).0 m))
-      (λ s m. (a.streams.each s).1 ((b.streams.each s).0 m)))
-      a.details b.details
+      with_details xs ys (one_known (map stream_of xs) (map stream_of ys) a.streams b.streams) a.details b.details
 
   streams_told : (answer : Answer) → TellsStreams w answer → IsGiven answer
       → (it : Vec StreamAnswer Global) × (answer ≡ told.Streams it) × AreStreamAnswers w it.items
@@ -247,6 +254,8 @@ module _ (w : World) where
   streams_told (told.Streams answers) tells is_given = (answers, refl, tells)
   streams_told (told.Gaps text) tells is_given = absurd tells
   streams_told (told.Finals text) tells is_given = absurd tells
+  streams_told (told.Missing text) tells is_given = absurd tells
+  streams_told (told.Readings text) tells is_given = absurd tells
   streams_told (told.Exported text) tells is_given = absurd tells
   streams_told (told.File fault) tells is_given = absurd tells
   streams_told (told.Refused refusal) tells is_given = absurd tells

@@ -63,6 +63,8 @@ module _ (old new : World) (requests : List Request) (answers : List Answer) (be
   by_file (asked.Import kind bytes) (told.Streams answers) step by = absurd by
   by_file (asked.Import kind bytes) (told.Gaps text) step by = absurd by
   by_file (asked.Import kind bytes) (told.Finals text) step by = absurd by
+  by_file (asked.Import kind bytes) (told.Missing text) step by = absurd by
+  by_file (asked.Import kind bytes) (told.Readings text) step by = absurd by
   by_file (asked.Import kind bytes) (told.Exported text) step by = absurd by
   by_file (asked.Import kind bytes) (told.File fault) step by = absurd by
   by_file (asked.Import kind bytes) (told.Refused refusal) step by = absurd by
@@ -77,6 +79,8 @@ module _ (old new : World) (requests : List Request) (answers : List Answer) (be
   by_file (asked.Substitute job) (told.Streams answers) step by = absurd by
   by_file (asked.Substitute job) (told.Gaps text) step by = absurd by
   by_file (asked.Substitute job) (told.Finals text) step by = absurd by
+  by_file (asked.Substitute job) (told.Missing text) step by = absurd by
+  by_file (asked.Substitute job) (told.Readings text) step by = absurd by
   by_file (asked.Substitute job) (told.Exported text) step by = absurd by
   by_file (asked.Substitute job) (told.File fault) step by = absurd by
   by_file (asked.Substitute job) (told.Refused refusal) step by = absurd by
@@ -88,6 +92,8 @@ module _ (old new : World) (requests : List Request) (answers : List Answer) (be
   by_file asked.Streams answer step by = absurd by
   by_file (asked.Gaps stream first last) answer step by = absurd by
   by_file (asked.Finals stream first last) answer step by = absurd by
+  by_file (asked.Missing first last since) answer step by = absurd by
+  by_file (asked.Readings stream first last) answer step by = absurd by
   by_file (asked.Export nmi suffixes first last header) answer step by = absurd by
 
 pub each_period_came_by_file : (old new : World) (requests : List Request) (answers : List Answer) (key : PeriodKey)

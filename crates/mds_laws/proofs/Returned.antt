@@ -43,6 +43,8 @@ counted_of old text (told.Period answer) new step is = absurd is
 counted_of old text (told.Streams answers) new step is = absurd is
 counted_of old text (told.Gaps rows) new step is = absurd is
 counted_of old text (told.Finals rows) new step is = absurd is
+counted_of old text (told.Missing other) new step is = absurd is
+counted_of old text (told.Readings other) new step is = absurd is
 counted_of old text (told.Exported other) new step is = absurd is
 
 -- a World that has nothing, together with facts

@@ -1,6 +1,6 @@
 -- The machine has no choice (profile). A request, and the World before it, decide its answer and what it leaves. But any request
 -- may be answered Unavailable.
-use Rattle.std.specs.Prelude.{◌≡◌, ℕ, List, [], ◌∷◌}
+use Rattle.std.specs.Prelude.{◌≡◌, ℕ, List, [], ◌∷◌, Option, Some}
 use Rattle.std.specs.declared.alloc.Global.{Global}
 use Rattle.std.specs.declared.vec.Vec.{Vec}
 use Rattle.mds_records.specs.declared.file.FileKind.{FileKind}
@@ -10,6 +10,7 @@ use Rattle.mds_messages.specs.declared.request.Request.{Request}
 use Rattle.mds_messages.specs.declared.request.Request.TheVariants as asked
 use Rattle.mds_messages.specs.declared.answer.Answer.{Answer}
 use Rattle.mds_messages.specs.declared.answer.Answer.TheVariants as told
+use Rattle.mds_messages.specs.Answers.{TextKind, text_of}
 use Rattle.mds_messages.specs.declared.answer.DayAnswer.{DayAnswer}
 use Rattle.mds_messages.specs.declared.answer.PeriodAnswer.{PeriodAnswer}
 use Rattle.mds_messages.specs.declared.answer.VersionsAnswer.{VersionsAnswer}
@@ -45,6 +46,11 @@ pub record AreSamePeriods (a b : PeriodAnswer) : Type 0 where
   pub stream : a.stream ≡ b.stream
   pub periods : a.periods.items ≡ b.periods.items
 
+-- one text twice
+abbrev pub AreSameTexts : Option (TextKind × List ℕ) → Option (TextKind × List ℕ) → Type 0
+AreSameTexts (Some text) (Some other) = text ≡ other
+AreSameTexts a b = ⊥
+
 -- Two answers that say the same.
 abbrev pub AreSame : Answer → Answer → Type 0
 AreSame (told.Imported added known) (told.Imported other_added other_known) =
@@ -57,13 +63,10 @@ AreSame (told.Day a) (told.Day b) = IsSameDayTold a b
 AreSame (told.Versions a) (told.Versions b) = AreSameVersions a b
 AreSame (told.Period a) (told.Period b) = AreSamePeriods a b
 AreSame (told.Streams a) (told.Streams b) = a.items ≡ b.items
-AreSame (told.Gaps text) (told.Gaps other) = text.items ≡ other.items
-AreSame (told.Finals text) (told.Finals other) = text.items ≡ other.items
-AreSame (told.Exported text) (told.Exported other) = text.items ≡ other.items
 AreSame (told.File fault) (told.File other) = fault ≡ other
 AreSame (told.Refused refusal) (told.Refused other) = refusal ≡ other
 AreSame told.Unavailable told.Unavailable = Unit {0}
-AreSame a b = ⊥
+AreSame a b = AreSameTexts (text_of a) (text_of b)
 
 -- Over one lawful World, two answers to the same question say the same, and leave the same World.
 abbrev pub AnswersAreDetermined : Type 0

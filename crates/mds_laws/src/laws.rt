@@ -7,6 +7,7 @@ ghost use Rattle.mds_laws.specs.Determined.{AnswersAreDetermined, RunsAreDetermi
 ghost use Rattle.mds_laws.specs.Exchange.{ChangePlaces, MayChangePlaces};
 ghost use Rattle.mds_laws.specs.Returns.{ReturnsToAnEmptyStore, ReturnsToItsStore};
 ghost use Rattle.mds_laws.specs.Kept.{AnswersTellHowMany, EachCameByOne, EachPeriodCameByFile, LawStays, NothingIsAltered, NothingIsMissing};
+ghost use Rattle.mds_laws.specs.Registers.{MissingShowsGaps, ReadingsShowDays, ReadingsShowExports};
 ghost use Rattle.mds_laws.specs.Worlds.{EachFactCountsOnce, ListsAreTheirFacts, UnionsHaveBoth, WorldsAreTheirFacts};
 
 /// A World is the facts that are in it. Two Worlds with the same facts are one, and a union has the facts of both. So how facts are
@@ -65,4 +66,12 @@ pub fn a_job_and_a_file_change_places()
 pub fn an_export_comes_back()
     ensures empty { ReturnsToAnEmptyStore }
     ensures home { ReturnsToItsStore }
+{}
+
+/// The gaps of all streams have, for each stream that is asked for, the rows of its own register. A stream with a gap has rows. The
+/// register of readings has, for each day, the readings that the day's own query and an export have.
+pub fn registers_agree()
+    ensures missing { MissingShowsGaps }
+    ensures days { ReadingsShowDays }
+    ensures exports { ReadingsShowExports }
 {}

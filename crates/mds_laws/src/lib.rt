@@ -13,6 +13,6 @@ mod pieces;
 pub use laws::{
     a_job_and_a_file_change_places, a_world_is_its_facts, an_answer_is_determined,
     an_export_comes_back, files_come_in_any_order, nothing_is_lost,
-    one_length_a_day_agrees_as_before,
+    one_length_a_day_agrees_as_before, registers_agree,
 };
 pub use pieces::a_file_comes_in_pieces;

@@ -1,14 +1,28 @@
--- Answers that are printed in another way than the rest.
-use Rattle.std.specs.Prelude.{Bool, true, false}
+-- The three shapes of an answer: a text of its own, one with a list in it, and a short one. How an answer is printed, sent or
+-- compared goes by its shape.
+use Rattle.std.specs.Prelude.{ℕ, List, Bool, true, false, Option, Some, None, is_some}
 use Rattle.mds_messages.specs.declared.answer.Answer.{Answer}
 use Rattle.mds_messages.specs.declared.answer.Answer.TheVariants as told
 
--- an answer that is a text of its own
+-- what a text is: a register, or a NEM12 file
+pub data TextKind : Type 0 where
+  GapsText : TextKind
+  FinalsText : TextKind
+  MissingText : TextKind
+  ReadingsText : TextKind
+  ExportText : TextKind
+
+-- the text that an answer is, if it is one
+abbrev pub text_of : Answer → Option (TextKind × List ℕ)
+text_of (told.Gaps text) = Some (GapsText, text.items)
+text_of (told.Finals text) = Some (FinalsText, text.items)
+text_of (told.Missing text) = Some (MissingText, text.items)
+text_of (told.Readings text) = Some (ReadingsText, text.items)
+text_of (told.Exported text) = Some (ExportText, text.items)
+text_of answer = None
+
 abbrev pub has_text : Answer → Bool
-has_text (told.Gaps text) = true
-has_text (told.Finals text) = true
-has_text (told.Exported text) = true
-has_text answer = false
+has_text answer = is_some (text_of answer)
 
 -- an answer with a list in it, whose text takes memory
 abbrev pub has_list : Answer → Bool

@@ -1,5 +1,8 @@
 //! The answers of the machine.
 
+ghost use Rattle.std.specs.Prelude.{◌≡◌, false, Some, None, IfErr, IfOk, MatchOption};
+ghost use Rattle.mds_messages.specs.Answers.{TextKind, has_list, has_text, text_of};
+
 use mds_keeper::{Refusal, Version};
 use mds_quantity::Unit;
 use mds_records::FileFault;
@@ -27,6 +30,10 @@ pub enum Answer {
     Gaps(Vec<u8>),
     /// The register of finals, a CSV text.
     Finals(Vec<u8>),
+    /// The gaps of all streams, a CSV text.
+    Missing(Vec<u8>),
+    /// The current readings of a stream, a CSV text.
+    Readings(Vec<u8>),
     /// The NEM12 file.
     Exported(Vec<u8>),
     /// The file isn't well formed (L1 to L12). Nothing has changed.
@@ -35,6 +42,47 @@ pub enum Answer {
     Refused(Refusal),
     /// There is no answer now, as memory or the store failed (U1). Nothing has changed.
     Unavailable,
+}
+
+impl Answer {
+    /// The text that it is: a register, or a NEM12 file. `None` for an answer that is written as JSON.
+    pub fn text(&self) -> Option<&[u8]>
+        ensures { MatchOption result (text_of self.now ≡ None) (λ text. (kind : TextKind) × (text_of self.now ≡ Some (kind, text.now))) }
+    {
+        match self {
+            Answer::Gaps(text)
+            | Answer::Finals(text)
+            | Answer::Missing(text)
+            | Answer::Readings(text)
+            | Answer::Exported(text) => Some(text),
+            _ => None,
+        }
+    }
+
+    /// The same text without a copy, or the answer itself if it is none.
+    pub fn into_text(self) -> Result<Vec<u8>, Answer>
+        ensures text { IfOk result (λ text. (kind : TextKind) × (text_of self ≡ Some (kind, text.items))) }
+        ensures other { IfErr result (λ other. (other ≡ self) × (has_text other ≡ false)) }
+    {
+        match self {
+            Answer::Gaps(text)
+            | Answer::Finals(text)
+            | Answer::Missing(text)
+            | Answer::Readings(text)
+            | Answer::Exported(text) => Ok(text),
+            other => Err(other),
+        }
+    }
+
+    /// Whether it has a list in it. Its JSON text takes memory then.
+    pub fn has_list(&self) -> bool
+        ensures { result ≡ has_list self.now }
+    {
+        matches!(
+            self,
+            Answer::Day(_) | Answer::Versions(_) | Answer::Period(_) | Answer::Streams(_)
+        )
+    }
 }
 
 /// A known day.

@@ -46,6 +46,19 @@ pub enum Request {
         first: Day,
         last: Day,
     },
+    /// Asks for the gaps of all streams that have a known day, in a range of days, both ends included. With `since` only for streams
+    /// whose last known day is that day or later.
+    Missing {
+        first: Day,
+        last: Day,
+        since: Option<Day>,
+    },
+    /// Asks for the current readings of a stream in a range of days, both ends included, as rows.
+    Readings {
+        stream: Stream,
+        first: Day,
+        last: Day,
+    },
     /// Asks for the current readings of streams of one NMI in a range of days, both ends included, as a NEM12 file with this
     /// header. A suffix given twice counts once.
     Export {

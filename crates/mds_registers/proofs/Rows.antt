@@ -1,12 +1,13 @@
 -- The rows of a register, one after the other.
-use Rattle.std.proofs.Common.{◌≡◌, ℕ, ◌+◌, ◌<◌, ◌≤◌, List, [], ◌∷◌, ◌++◌, length, take, get_or, Some, refl, sym, ap, ◌∙◌, subst, append_assoc, append-nil}
+use Rattle.std.proofs.Common.{◌≡◌, ℕ, ◌+◌, ◌<◌, ◌≤◌, List, [], ◌∷◌, ◌++◌, length, take, get_or, Some, refl, sym, ap, ◌∙◌, subst, append_assoc, append-nil, arith}
 use Rattle.std.specs.Prelude.{Result, Ok, Err, IfOk}
-use Rattle.std.proofs.lemmas.List.{take_all, take_more}
+use Rattle.std.proofs.lemmas.List.{length-append, take_all, take_more}
 use Rattle.std.specs.declared.alloc.Global.{Global}
 use Rattle.std.specs.declared.vec.Vec.{Vec}
 use Rattle.csv.specs.Writing.{default_writer, row_text}
 use Rattle.csv.specs.declared.writer.Writer.{Writer}
 use Rattle.mds_calendar.specs.Calendar.{day_of}
+use Rattle.mds_world.specs.Lists.{Member}
 use Rattle.mds_registers.specs.Registers.{AreRows}
 use Rattle.mds_registers.specs.RegistersSteps.{HasWritten}
 
@@ -66,3 +67,32 @@ has_all {Row = Row} head day_in fields rows i writer (Ok bytes) over written has
   subst (λ (xs : List Row). AreRows day_in fields xs has.0) (take_all i rows over) has.1,
 )
 has_all head day_in fields rows i writer (Err error) over written has = tt
+
+-- a row has bytes: those that end it
+has_end : (body quotes rest : List ℕ) (end : ℕ) → (body ++ (quotes ++ end ∷ [])) ++ rest ≡ [] → ⊥
+has_end body quotes rest end e =
+    let whole = length-append (body ++ (quotes ++ end ∷ [])) rest in
+    let row = length-append body (quotes ++ end ∷ []) in
+    let tail = length-append quotes (end ∷ []) in
+    let none : length ((body ++ (quotes ++ end ∷ [])) ++ rest) ≡ 0 = ap length e in
+    omega (arith, whole, row, tail, none)
+
+row_has_some : (fields : List (List ℕ)) (rest : List ℕ) → row_text default_writer fields ++ rest ≡ [] → ⊥
+row_has_some fields rest e = has_end _ _ rest _ e
+
+-- a text of rows is empty only without rows
+pub rows_are_some : {Row : Type 0} (day_in : Row → ℕ) (fields : Row → List ℕ → List (List ℕ)) (rows : List Row) (text : List ℕ)
+    (row : Row) → Member row rows → AreRows day_in fields rows text → text ≡ [] → ⊥
+rows_are_some day_in fields [] text row within are none = absurd within
+rows_are_some day_in fields (x ∷ xs) text row within (date, rest, is, e, more) none =
+    row_has_some (fields x date) rest (sym e ∙ none)
+
+-- all rows, without a head
+pub has_rows_alone : {Row E : Type 0} (day_in : Row → ℕ) (fields : Row → List ℕ → List (List ℕ)) (rows : List Row)
+    (i : ℕ) (writer : Writer (Vec ℕ Global)) (result : Result (Vec ℕ Global) E) → length rows ≤ i
+    → ((text : List ℕ) → HasWritten writer text → IfOk result (λ bytes. bytes.items ≡ text))
+    → HasRows [] day_in fields (take i rows) writer → IfOk result (λ bytes. AreRows day_in fields rows bytes.items)
+has_rows_alone {Row = Row} day_in fields rows i writer (Ok bytes) over written has =
+    subst (λ (t : List ℕ). AreRows day_in fields rows t) (sym (written has.0 has.2))
+    (subst (λ (xs : List Row). AreRows day_in fields xs has.0) (take_all i rows over) has.1)
+has_rows_alone day_in fields rows i writer (Err error) over written has = tt

@@ -1,3 +1,5 @@
+pub mod Readings
+pub mod ReadingsSteps
 pub mod Registers
 pub mod RegistersSteps
 pub mod Stretches

@@ -25,6 +25,10 @@ finals_head =
     codes "nmi" ∷ codes "suffix" ∷ codes "date" ∷ codes "first" ∷ codes "last" ∷ codes "method" ∷ codes "code"
     ∷ codes "text" ∷ []
 
+-- the head row of gaps as it is written
+abbrev pub gaps_head_text : List ℕ
+gaps_head_text = row_text default_writer gaps_head
+
 -- the fields of a gap
 abbrev pub gap_fields : Stream → GapRow → List ℕ → List (List ℕ)
 gap_fields stream row date =
@@ -36,6 +40,10 @@ final_fields stream row date =
     let mark = row.stretch.mark in
     stream.nmi ∷ stream.suffix ∷ date ∷ decimal row.stretch.first ∷ decimal row.stretch.last
     ∷ two_digits mark.quality.method ∷ code_text mark.reason.code ∷ mark.reason.text ∷ []
+
+-- the rows of a stream's gaps, without a head row
+abbrev pub AreGapRowsText : Stream → List GapRow → List ℕ → Type 0
+AreGapRowsText stream rows text = AreRows (λ row. row.day) (gap_fields stream) rows text
 
 -- The registers of a stream.
 abbrev pub IsGapsText : Stream → List GapRow → List ℕ → Type 0

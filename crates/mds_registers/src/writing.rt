@@ -1,12 +1,12 @@
 //! The registers as CSV texts.
 
-ghost use Rattle.std.specs.Prelude.{◌≡◌, ◌++◌, ◌<◌, ℕ, List, IfOk, OnOk, OnErr, Some, map};
+ghost use Rattle.std.specs.Prelude.{◌≡◌, ◌++◌, ◌<◌, ℕ, List, [], IfOk, OnOk, OnErr, Some, map};
 ghost use Rattle.csv.specs.Writing.{default_writer, row_text};
 ghost use Rattle.mds_quantity.specs.Append.{Appends};
 ghost use Rattle.mds_calendar.specs.Calendar.{day_of};
 ghost use Rattle.mds_marks.specs.Quality.{two_digits as digits_of_method};
 ghost use Rattle.mds_marks.specs.Reason.{code_text as text_of_code};
-ghost use Rattle.mds_registers.specs.Registers.{IsFinalsText, IsGapsText, final_fields, gap_fields};
+ghost use Rattle.mds_registers.specs.Registers.{AreGapRowsText, IsFinalsText, IsGapsText, final_fields, gap_fields, gaps_head_text};
 ghost use Rattle.mds_registers.specs.RegistersSteps.{HasWritten};
 
 use crate::stretches::{Final, Gap};
@@ -41,6 +41,26 @@ pub fn write_gaps(stream: &Stream, rows: &[GapRow], out: &mut Vec<u8>) -> Result
     out.extend_from_slice(&text)
 }
 
+/// Appends the head row of the register of gaps. After an error nothing is appended.
+pub fn write_gaps_head(out: &mut Vec<u8>) -> Result<(), AllocError>
+    ensures done { OnOk result (Appends out.old.items out.new.items gaps_head_text) }
+    ensures kept { OnErr result (out.new.items ≡ out.old.items) }
+{
+    let text = written(gaps_writer(*out.allocator())?)?;
+    out.extend_from_slice(&text)
+}
+
+/// Appends a row for each gap of a stream, in the given order, without a head row. After an error nothing is appended.
+pub fn write_gap_rows(stream: &Stream, rows: &[GapRow], out: &mut Vec<u8>) -> Result<(), AllocError>
+    ensures done { OnOk result ((text : List ℕ) × AreGapRowsText stream.now rows.now text
+        × Appends out.old.items out.new.items text) }
+    ensures kept { OnErr result (out.new.items ≡ out.old.items) }
+{
+    // decides: which rows do the gaps and finals of a range have?
+    let text = gap_rows_text(*out.allocator(), stream, rows)?;
+    out.extend_from_slice(&text)
+}
+
 /// Appends the register of a stream's finals. The head row is `nmi,suffix,date,first,last,method,code,text`. A row for
 /// each final follows, in the given order. The method has two digits, and an absent code is empty. After an error
 /// nothing is appended.
@@ -58,16 +78,18 @@ pub fn write_finals(stream: &Stream, rows: &[FinalRow], out: &mut Vec<u8>) -> Re
 fn gaps_text(alloc: Global, stream: &Stream, rows: &[GapRow]) -> Result<Vec<u8>, AllocError>
     ensures { IfOk result (λ text. IsGapsText stream.now rows.now text.items) }
 {
-    let mut writer = headed_writer(
-        alloc,
-        &[
-            b"nmi".as_slice(),
-            b"suffix".as_slice(),
-            b"date".as_slice(),
-            b"first".as_slice(),
-            b"last".as_slice(),
-        ],
-    )?;
+    let mut writer = gaps_writer(alloc)?;
+    for row in rows {
+        write_gap(&mut writer, stream, row)?;
+    }
+    written(writer)
+}
+
+/// The rows of a stream's gaps, in their own buffer.
+fn gap_rows_text(alloc: Global, stream: &Stream, rows: &[GapRow]) -> Result<Vec<u8>, AllocError>
+    ensures { IfOk result (λ text. AreGapRowsText stream.now rows.now text.items) }
+{
+    let mut writer = new_writer(alloc);
     for row in rows {
         write_gap(&mut writer, stream, row)?;
     }
@@ -155,7 +177,7 @@ fn write_final(
 }
 
 /// The two digits of a number below a hundred.
-fn two_digits(number: u8) -> [u8; 2]
+pub(crate) fn two_digits(number: u8) -> [u8; 2]
     requires { number < 100 }
     ensures { result ≡ digits_of_method number }
 {
@@ -163,7 +185,7 @@ fn two_digits(number: u8) -> [u8; 2]
 }
 
 /// The text of a reason's code, which is empty if there is no code.
-fn code_text(code: Option<u16>, buffer: &mut Buffer) -> &str
+pub(crate) fn code_text(code: Option<u16>, buffer: &mut Buffer) -> &str
     ensures { result.now ≡ text_of_code code }
 {
     match code {
@@ -172,18 +194,41 @@ fn code_text(code: Option<u16>, buffer: &mut Buffer) -> &str
     }
 }
 
+/// A writer that has written the head row of gaps.
+fn gaps_writer(alloc: Global) -> Result<Writer<Vec<u8>>, AllocError>
+    ensures { IfOk result (λ writer. HasWritten writer gaps_head_text) }
+{
+    headed_writer(
+        alloc,
+        &[
+            b"nmi".as_slice(),
+            b"suffix".as_slice(),
+            b"date".as_slice(),
+            b"first".as_slice(),
+            b"last".as_slice(),
+        ],
+    )
+}
+
+/// A writer of rows that has written nothing.
+fn new_writer(alloc: Global) -> Writer<Vec<u8>>
+    ensures { HasWritten result [] }
+{
+    WriterBuilder::new().from_writer(Vec::new(alloc))
+}
+
 /// A writer of rows that has written a head row with these names.
-fn headed_writer(alloc: Global, names: &[&[u8]]) -> Result<Writer<Vec<u8>>, AllocError>
+pub(crate) fn headed_writer(alloc: Global, names: &[&[u8]]) -> Result<Writer<Vec<u8>>, AllocError>
     ensures { IfOk result (λ writer.
         HasWritten writer (row_text default_writer (map (λ name. name.now) names.now))) }
 {
-    let mut writer = WriterBuilder::new().from_writer(Vec::new(alloc));
+    let mut writer = new_writer(alloc);
     write_row(&mut writer, names)?;
     Ok(writer)
 }
 
 /// Writes a row of fields.
-fn write_row(writer: &mut Writer<Vec<u8>>, fields: &[&[u8]]) -> Result<(), AllocError>
+pub(crate) fn write_row(writer: &mut Writer<Vec<u8>>, fields: &[&[u8]]) -> Result<(), AllocError>
     ensures { (text : List ℕ) → HasWritten writer.old text → OnOk result
         (HasWritten writer.new (text ++ row_text default_writer (map (λ field. field.now) fields.now))) }
 {
@@ -194,7 +239,7 @@ fn write_row(writer: &mut Writer<Vec<u8>>, fields: &[&[u8]]) -> Result<(), Alloc
 }
 
 /// What a writer has written.
-fn written(writer: Writer<Vec<u8>>) -> Result<Vec<u8>, AllocError>
+pub(crate) fn written(writer: Writer<Vec<u8>>) -> Result<Vec<u8>, AllocError>
     ensures { (text : List ℕ) → HasWritten writer text → IfOk result (λ bytes. bytes.items ≡ text) }
 {
     match writer.into_inner() {

@@ -1,6 +1,8 @@
 -- The pairs of a query, one after the other.
-use Rattle.std.proofs.Common.{◌≡◌, ◌≢◌, ℕ, Bor, List, [], ◌∷◌, ◌++◌, map, Option, Some, None, append_assoc}
+use Rattle.std.proofs.Common.{◌≡◌, ◌≢◌, ◌||◌, ℕ, Bor, List, [], ◌∷◌, ◌++◌, bytes_eq, map, Option, Some, None, append_assoc, sym}
+use Rattle.std.specs.List.{list_any}
 use Rattle.std.proofs.lemmas.List.{map-append}
+use Rattle.std.proofs.lemmas.List.Folds.{list_any-append}
 use Rattle.std.specs.declared.borrow.CowStr.{CowStr}
 use Rattle.std.specs.Cow.{cow_str_bytes}
 use Rattle.form_urlencoded.specs.Form.{DecodesTo}
@@ -11,6 +13,13 @@ use Rattle.mds_requests.specs.QuerySteps.{texts_in}
 abbrev pub held : Option (Bor (List ℕ)) → List (List ℕ)
 held None = []
 held (Some value) = value.now ∷ []
+
+-- a name is among these or those
+pub among_either : (name : List ℕ) (names others : List (Bor (List ℕ)))
+    → (list_any (bytes_eq name) (map (λ known. known.now) names) || list_any (bytes_eq name) (map (λ known. known.now) others))
+    ≡ list_any (bytes_eq name) (map (λ known. known.now) names ++ map (λ known. known.now) others)
+among_either name names others =
+    sym (list_any-append (bytes_eq name) (map (λ (known : Bor (List ℕ)). known.now) names) (map (λ (known : Bor (List ℕ)). known.now) others))
 
 -- pairs, decoded
 abbrev pub decoded_all : List (List ℕ × List ℕ) → List (List ℕ × List ℕ)

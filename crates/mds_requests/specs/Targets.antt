@@ -6,15 +6,17 @@ use Rattle.mds_records.specs.declared.file.FileKind.{FileKind}
 use Rattle.mds_records.specs.declared.file.FileKind.TheVariants.{Nem12, Nem13}
 use Rattle.mds_requests.specs.Asking.{Asks}
 use Rattle.mds_requests.specs.declared.files.FileCommand.TheVariants as command
-use Rattle.mds_arguments.specs.Arguments.{AskForDay, AskForExport, AskForFinals, AskForGaps, AskForPeriods, AskForVersions, IsFirstBad, export_tests}
+use Rattle.mds_arguments.specs.Arguments.{AskFor, AskForExport, IsFirstBad, export_tests, found_texts}
 use Rattle.mds_arguments.specs.declared.arguments.Argument.{Argument}
+use Rattle.mds_arguments.specs.declared.arguments.QueryName.{QueryName}
+use Rattle.mds_arguments.specs.declared.arguments.QueryName.TheVariants as query
 use Rattle.mds_messages.specs.declared.request.Request.{Request}
 use Rattle.mds_messages.specs.declared.request.Request.TheVariants as asked
 use Rattle.mds_wire.specs.Judging.{path_of, query_of}
 use Rattle.mds_wire.specs.Routes.{part}
 use Rattle.mds_wire.specs.declared.route.Route.{Route}
-use Rattle.mds_wire.specs.declared.route.Route.TheVariants.{Imports, Substitutions, Holidays, Streams, Days, Versions, Periods, Gaps, Finals, Exports}
-use Rattle.mds_requests.specs.Queries.{has_only, only, pairs_of, values_named}
+use Rattle.mds_wire.specs.declared.route.Route.TheVariants.{Imports, Substitutions, Holidays, Streams, Days, Versions, Periods, Gaps, Finals, Missing, Readings, Exports}
+use Rattle.mds_requests.specs.Queries.{has_names, has_only, only, pairs_of, values_named}
 use Rattle.mds_requests.specs.declared.targets.TargetFault.{TargetFault}
 use Rattle.mds_requests.specs.declared.targets.TargetFault.TheVariants as fault
 
@@ -41,13 +43,7 @@ abbrev pub export_names : List (List ℕ)
 export_names =
     codes "nmi" ∷ codes "suffix" ∷ codes "from" ∷ codes "to" ∷ codes "moment" ∷ codes "sender" ∷ codes "receiver" ∷ []
 
--- the texts of a range that a query says
-abbrev pub SaysRange : List (List ℕ × List ℕ) → (nmi suffix from to : List ℕ) → Type 0
-SaysRange pairs nmi suffix from to =
-    (has_only range_names pairs ≡ true) × Says pairs (codes "nmi") nmi × Says pairs (codes "suffix") suffix
-    × Says pairs (codes "from") from × Says pairs (codes "to") to
-
--- and those of an export, without its suffixes
+-- the texts of an export that a query says, without its suffixes
 abbrev pub SaysExport : List (List ℕ × List ℕ) → (nmi from to moment sender receiver : List ℕ) → Type 0
 SaysExport pairs nmi from to moment sender receiver =
     (has_only export_names pairs ≡ true) × Says pairs (codes "nmi") nmi × Says pairs (codes "from") from
@@ -63,15 +59,11 @@ abbrev pub AskForImportBy : List (List ℕ × List ℕ) → (body : List ℕ) �
 AskForImportBy pairs body request =
     (kind : FileKind) × (kind_asked pairs ≡ Some kind) × Asks (command.Import kind) body request
 
--- for the gaps of a range,
-abbrev pub AskForGapsBy : List (List ℕ × List ℕ) → Request → Type 0
-AskForGapsBy pairs request =
-    (nmi suffix from to : List ℕ) × SaysRange pairs nmi suffix from to × AskForGaps nmi suffix from to request
-
--- for its finals,
-abbrev pub AskForFinalsBy : List (List ℕ × List ℕ) → Request → Type 0
-AskForFinalsBy pairs request =
-    (nmi suffix from to : List ℕ) × SaysRange pairs nmi suffix from to × AskForFinals nmi suffix from to request
+-- for a query by name, which has some names once, others at most once, and no more: its words are their values,
+abbrev pub AskForQueryBy : QueryName → (required optional : List (List ℕ)) → List (List ℕ × List ℕ) → Request → Type 0
+AskForQueryBy name required optional pairs request =
+    (has_names required optional pairs ≡ true)
+    × AskFor name (found_texts (λ key. only (values_named key pairs))) request
 
 -- for an export
 abbrev pub AskForExportBy : List (List ℕ × List ℕ) → Request → Type 0
@@ -79,18 +71,32 @@ AskForExportBy pairs request =
     (nmi from to moment sender receiver : List ℕ) × SaysExport pairs nmi from to moment sender receiver
     × AskForExport nmi from to moment sender receiver (values_named (codes "suffix") pairs) request
 
+-- the words of a query that are parts of a path
+abbrev pub word_at : (path : List ℕ) → (name : List ℕ) → Option (List ℕ)
+word_at path name =
+    if bytes_eq name (codes "nmi") then Some (part 3 path)
+    else if bytes_eq name (codes "suffix") then Some (part 4 path)
+    else if bytes_eq name (codes "date") then Some (part 5 path)
+    else if bytes_eq name (codes "interval") then Some (part 6 path) else None
+
+-- the request that a path asks for with a query by name
+abbrev pub AskForQueryAt : QueryName → (path : List ℕ) → Request → Type 0
+AskForQueryAt name path request = AskFor name (found_texts (word_at path)) request
+
 -- a route with the path, the pairs of the query and the body asks for this request
 abbrev pub AsksBy : Route → (path : List ℕ) → List (List ℕ × List ℕ) → (body : List ℕ) → Request → Type 0
 AsksBy Imports path pairs body request = AskForImportBy pairs body request
 AsksBy Substitutions path pairs body request = (pairs ≡ []) × Asks command.Substitute body request
 AsksBy Holidays path pairs body request = (pairs ≡ []) × Asks command.Holidays body request
 AsksBy Streams path pairs body request = (pairs ≡ []) × (request ≡ asked.Streams)
-AsksBy Days path pairs body request = (pairs ≡ []) × AskForDay (part 3 path) (part 4 path) (part 5 path) request
-AsksBy Versions path pairs body request =
-    (pairs ≡ []) × AskForVersions (part 3 path) (part 4 path) (part 5 path) (part 6 path) request
-AsksBy Periods path pairs body request = (pairs ≡ []) × AskForPeriods (part 3 path) (part 4 path) request
-AsksBy Gaps path pairs body request = AskForGapsBy pairs request
-AsksBy Finals path pairs body request = AskForFinalsBy pairs request
+AsksBy Days path pairs body request = (pairs ≡ []) × AskForQueryAt query.Day path request
+AsksBy Versions path pairs body request = (pairs ≡ []) × AskForQueryAt query.Versions path request
+AsksBy Periods path pairs body request = (pairs ≡ []) × AskForQueryAt query.Periods path request
+AsksBy Gaps path pairs body request = AskForQueryBy query.Gaps range_names [] pairs request
+AsksBy Finals path pairs body request = AskForQueryBy query.Finals range_names [] pairs request
+AsksBy Readings path pairs body request = AskForQueryBy query.Readings range_names [] pairs request
+AsksBy Missing path pairs body request =
+    AskForQueryBy query.Missing (codes "from" ∷ codes "to" ∷ []) (codes "since" ∷ []) pairs request
 AsksBy Exports path pairs body request = AskForExportBy pairs request
 
 -- what takes memory: a query with a pair, a job in UTF-8, and a list of holidays; an empty body takes none

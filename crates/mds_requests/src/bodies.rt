@@ -50,7 +50,7 @@ fn kind_asked(alloc: Global, query: &Query<'_>) -> Result<Option<FileKind>, Allo
     ensures ok { IfOk result (λ kind. kind ≡ kind_asked (texts_of query.now)) }
     ensures err { OnErr result (texts_of query.now ≢ []) }
 {
-    if !query.has_only(&["kind"]) {
+    if !query.has_only(&[], &["kind"]) {
         return Ok(None);
     }
     let kinds = query.values(alloc, "kind")?;

@@ -33,9 +33,12 @@ fn export_in<'q>(query: &'q Query<'_>, suffixes: Vec<&'q [u8]>) -> Option<Export
         (λ export. SaysExport (texts_of query.now) export.nmi.now export.from.now export.to.now export.moment.now
         export.sender.now export.receiver.now × (export.suffixes ≡ suffixes.entry)) }
 {
-    if !query.has_only(&[
-        "nmi", "suffix", "from", "to", "moment", "sender", "receiver",
-    ]) {
+    if !query.has_only(
+        &[
+            "nmi", "suffix", "from", "to", "moment", "sender", "receiver",
+        ],
+        &[],
+    ) {
         return None;
     }
     Some(ExportArguments {

@@ -14,10 +14,9 @@ mod holidays;
 mod job;
 mod job_fields;
 mod job_parts;
-mod paths;
 mod query;
-mod ranges;
 mod targets;
+mod words;
 
 pub use bodies::imports_interval_data;
 pub use files::{FileCommand, RequestFault, request_in};

@@ -1,16 +1,15 @@
 //! The request that a target and a body ask for.
 
-ghost use Rattle.std.specs.Prelude.{◌≡◌, MatchResult};
+ghost use Rattle.std.specs.Prelude.{◌≡◌, ◌≢◌, [], MatchResult};
 ghost use Rattle.mds_requests.specs.QuerySteps.{texts_of};
-ghost use Rattle.mds_requests.specs.Targets.{AsksAt, AsksBy, IsFaultAt, IsFaultBy};
+ghost use Rattle.mds_requests.specs.Targets.{AskForQueryBy, AsksAt, AsksBy, AsksNothing, IsFaultAt, IsFaultBy, range_names};
 
 use crate::bodies::{file_asked, import_asked};
 use crate::exports::export_asked;
 use crate::files::{FileCommand, RequestFault};
-use crate::paths::{day_asked, periods_asked, versions_asked};
 use crate::query::Query;
-use crate::ranges::{finals_asked, gaps_asked};
-use mds_arguments::Argument;
+use crate::words::{asked_by_pairs, asked_by_path};
+use mds_arguments::{Argument, QueryName};
 use mds_messages::Request;
 use mds_wire::{Route, path_of, query_of};
 use std::alloc::{AllocError, Global};
@@ -88,16 +87,26 @@ fn request_by(
     // decides: which request does a target ask for?
     match route {
         Route::Imports => import_asked(alloc, query, body),
-        Route::Gaps => gaps_asked(query),
-        Route::Finals => finals_asked(query),
+        Route::Gaps => asked_of_range(QueryName::Gaps, query),
+        Route::Finals => asked_of_range(QueryName::Finals, query),
+        Route::Readings => asked_of_range(QueryName::Readings, query),
+        Route::Missing => asked_by_pairs(QueryName::Missing, &["from", "to"], &["since"], query),
         Route::Exports => export_asked(alloc, query),
         // The other routes take no query.
         _ if !query.is_empty() => Err(TargetFault::Bad),
         Route::Substitutions => file_asked(alloc, FileCommand::Substitute, body),
         Route::Holidays => file_asked(alloc, FileCommand::Holidays, body),
         Route::Streams => Ok(Request::Streams),
-        Route::Days => day_asked(path),
-        Route::Versions => versions_asked(path),
-        Route::Periods => periods_asked(path),
+        Route::Days => asked_by_path(QueryName::Day, path),
+        Route::Versions => asked_by_path(QueryName::Versions, path),
+        Route::Periods => asked_by_path(QueryName::Periods, path),
     }
+}
+
+/// The request for a query of a range of days, whose names are all required.
+fn asked_of_range(query: QueryName, pairs: &Query<'_>) -> Result<Request, TargetFault>
+    ensures { MatchResult result (AskForQueryBy query range_names [] (texts_of pairs.now))
+        (AsksNothing (texts_of pairs.now ≢ []) (AskForQueryBy query range_names [] (texts_of pairs.now))) }
+{
+    asked_by_pairs(query, &["nmi", "suffix", "from", "to"], &[], pairs)
 }

@@ -23,6 +23,8 @@ module _ (kind : FileKind) (text : List ℕ) (well : fault_in kind text ≡ None
   as_step w v (told.Streams answers) h = absurd h
   as_step w v (told.Gaps text) h = absurd h
   as_step w v (told.Finals text) h = absurd h
+  as_step w v (told.Missing text) h = absurd h
+  as_step w v (told.Readings text) h = absurd h
   as_step w v (told.Exported text) h = absurd h
   as_step w v (told.File fault) h = absurd h
   as_step w v (told.Refused refusal) h = (well, h.0, h.1)

@@ -1,4 +1,4 @@
-//! Tests of what no run of the program shows: readers and writers that fail in mid-stream, and calls that no program makes.
+//! Tests of what no run of the program shows: a check whose reader or writer fails in mid-stream, and calls that no program makes.
 //!
 //! It decides nothing, and no crate uses it. What a run of the program shows is tried by the scripts in `tests/`.
 //! Must not change: the expected results, which are written out here.

@@ -13,9 +13,9 @@ use Rattle.matchit.specs.declared.error.InsertError.{InsertError}
 use Rattle.matchit.specs.declared.error.InsertError.TheVariants.{OutOfMemory, Conflict, InvalidParam, InvalidCatchAll, InvalidParamSegment}
 use Rattle.matchit.proofs.OnLiterals.{matchit_on_literals}
 use Rattle.mds_wire.specs.declared.route.Route.{Route}
-use Rattle.mds_wire.specs.Routes.{routes, fits, pattern_of, route_of, part_length}
-use Rattle.mds_wire.specs.RouteSteps.{routes_in, rows_of, template_of, row_of}
-use Rattle.mds_wire.specs.declared.route.Route.TheVariants.{Days, Exports, Finals, Gaps, Holidays, Imports, Periods, Streams, Substitutions, Versions}
+use Rattle.mds_wire.specs.Routes.{routes, fits, pattern_of, route_of, part_length, template_of}
+use Rattle.mds_wire.specs.RouteSteps.{routes_in, rows_of, row_of}
+use Rattle.mds_wire.specs.declared.route.Route.TheVariants.{Days, Exports, Finals, Gaps, Holidays, Imports, Missing, Periods, Readings, Streams, Substitutions, Versions}
 use Rattle.mds_wire.proofs.Walks.{AreGood, found, takes, behind, finds, both}
 
 -- the route at a place: its text is read, it conflicts with none of those before it, and its row comes behind theirs
@@ -25,7 +25,7 @@ record IsStep (i : ℕ) : Type 0 where
   alone : nearest scan.pattern (rows_of (take i routes)) ≡ None
   last : placed (scan.pattern, route_from scan (get_or routes i Imports)) (rows_of (take i routes)) ≡ rows_of (take (i + 1) routes)
 
-step_at : (i : ℕ) → i < 10 → IsStep i
+step_at : (i : ℕ) → i < 12 → IsStep i
 unfolding matchit_on_literals
 step_at zero lt = record { scan = _; reads = refl; alone = refl; last = refl }
 step_at (suc zero) lt = record { scan = _; reads = refl; alone = refl; last = refl }
@@ -37,10 +37,12 @@ step_at (suc (suc (suc (suc (suc (suc zero)))))) lt = record { scan = _; reads =
 step_at (suc (suc (suc (suc (suc (suc (suc zero))))))) lt = record { scan = _; reads = refl; alone = refl; last = refl }
 step_at (suc (suc (suc (suc (suc (suc (suc (suc zero)))))))) lt = record { scan = _; reads = refl; alone = refl; last = refl }
 step_at (suc (suc (suc (suc (suc (suc (suc (suc (suc zero))))))))) lt = record { scan = _; reads = refl; alone = refl; last = refl }
-step_at (suc (suc (suc (suc (suc (suc (suc (suc (suc (suc i)))))))))) lt = absurd (omega arith)
+step_at (suc (suc (suc (suc (suc (suc (suc (suc (suc (suc zero)))))))))) lt = record { scan = _; reads = refl; alone = refl; last = refl }
+step_at (suc (suc (suc (suc (suc (suc (suc (suc (suc (suc (suc zero))))))))))) lt = record { scan = _; reads = refl; alone = refl; last = refl }
+step_at (suc (suc (suc (suc (suc (suc (suc (suc (suc (suc (suc (suc i)))))))))))) lt = absurd (omega arith)
 
 -- the router takes it
-pub inserted : (i : ℕ) → i < 10 → (new : RowsOf (RouteOf Route))
+pub inserted : (i : ℕ) → i < 12 → (new : RowsOf (RouteOf Route))
     → InsertsRead (parse_route (template_of (get_or routes i Imports))) (get_or routes i Imports) (rows_of (take i routes)) new (Ok tt)
     → new ≡ rows_of (take (i + 1) routes)
 inserted i lt new h =
@@ -55,7 +57,7 @@ memory_alone p rs InvalidParam n h = absurd h
 memory_alone p rs InvalidCatchAll n h = absurd h
 
 -- or memory is wanting, and nothing else
-pub only_memory : (i : ℕ) → i < 10 → (new : RowsOf (RouteOf Route)) (e : InsertError)
+pub only_memory : (i : ℕ) → i < 12 → (new : RowsOf (RouteOf Route)) (e : InsertError)
     → InsertsRead (parse_route (template_of (get_or routes i Imports))) (get_or routes i Imports) (rows_of (take i routes)) new (Err e)
     → e ≡ OutOfMemory
 only_memory i lt new e h =
@@ -109,7 +111,9 @@ row_is Finals = (_, refl, refl, refl)
 row_is Gaps = (_, refl, refl, refl)
 row_is Holidays = (_, refl, refl, refl)
 row_is Imports = (_, refl, refl, refl)
+row_is Missing = (_, refl, refl, refl)
 row_is Periods = (_, refl, refl, refl)
+row_is Readings = (_, refl, refl, refl)
 row_is Streams = (_, refl, refl, refl)
 row_is Substitutions = (_, refl, refl, refl)
 row_is Versions = (_, refl, refl, refl)
@@ -121,7 +125,7 @@ routes_known = refl
 
 good : AreGood (rows_of routes)
 unfolding scan
-good = (refl, refl, (refl, refl, (refl, refl, (refl, refl, (refl, refl, (refl, refl, (refl, refl, (refl, refl, (refl, refl, (refl, refl, tt))))))))))
+good = (refl, refl, (refl, refl, (refl, refl, (refl, refl, (refl, refl, (refl, refl, (refl, refl, (refl, refl, (refl, refl, (refl, refl, (refl, refl, (refl, refl, tt))))))))))))
 
 -- the route that was found
 abbrev pub value_of : Option (RouteOf Route) → Option Route

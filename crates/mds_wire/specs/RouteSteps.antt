@@ -1,25 +1,11 @@
--- The templates of the routes in the router of `matchit`, and what it then holds. No public contract cites
--- it.
-use Rattle.std.specs.Prelude.{ℕ, List, [], ◌∷◌, ◌++◌, map, Result, Ok, Err, codes}
+-- What the router of `matchit` holds for routes. No public contract cites it.
+use Rattle.std.specs.Prelude.{ℕ, List, [], ◌∷◌, ◌++◌, map, Result, Ok, Err}
 use Rattle.matchit.specs.Route.{Scan, parse_route}
 use Rattle.matchit.specs.Router.{RouteOf, route_from}
 use Rattle.matchit.specs.Rows.{RowsOf}
 use Rattle.matchit.specs.declared.error.InsertError.{InsertError}
 use Rattle.mds_wire.specs.declared.route.Route.{Route}
-use Rattle.mds_wire.specs.declared.route.Route.TheVariants.{Imports, Substitutions, Holidays, Streams, Days, Versions, Periods, Gaps, Finals, Exports}
-
--- the template of each route
-abbrev pub template_of : Route → List ℕ
-template_of Imports = codes "/v1/imports"
-template_of Substitutions = codes "/v1/substitutions"
-template_of Holidays = codes "/v1/holidays"
-template_of Streams = codes "/v1/streams"
-template_of Days = codes "/v1/days/{nmi}/{suffix}/{date}"
-template_of Versions = codes "/v1/versions/{nmi}/{suffix}/{date}/{interval}"
-template_of Periods = codes "/v1/periods/{nmi}/{suffix}"
-template_of Gaps = codes "/v1/gaps"
-template_of Finals = codes "/v1/finals"
-template_of Exports = codes "/v1/exports/nem12"
+use Rattle.mds_wire.specs.Routes.{template_of}
 
 -- the row of a route whose text was read
 abbrev pub row_of : Result Scan InsertError → Route → RowsOf (RouteOf Route)

@@ -2,7 +2,7 @@
 use Rattle.std.specs.Prelude.{ℕ, zero, suc, ◌+◌, Bool, ◌==◌, ◌&&◌, nat_lt, List, [], ◌∷◌, drop, take, Option, if◌then◌else◌, codes, find, length, slice_index_or}
 use Rattle.std.specs.List.{position_or_len}
 use Rattle.mds_wire.specs.declared.route.Route.{Route}
-use Rattle.mds_wire.specs.declared.route.Route.TheVariants.{Imports, Substitutions, Holidays, Streams, Days, Versions, Periods, Gaps, Finals, Exports}
+use Rattle.mds_wire.specs.declared.route.Route.TheVariants.{Imports, Substitutions, Holidays, Streams, Days, Versions, Periods, Gaps, Finals, Missing, Readings, Exports}
 
 abbrev pub slash : ℕ
 slash = 47
@@ -39,11 +39,28 @@ pattern_of Versions = codes "/v1/versions/*/*/*/*"
 pattern_of Periods = codes "/v1/periods/*/*"
 pattern_of Gaps = codes "/v1/gaps"
 pattern_of Finals = codes "/v1/finals"
+pattern_of Missing = codes "/v1/missing"
+pattern_of Readings = codes "/v1/readings"
 pattern_of Exports = codes "/v1/exports/nem12"
+
+-- the template of each route in the router, where a part of any text has a name in braces
+abbrev pub template_of : Route → List ℕ
+template_of Imports = codes "/v1/imports"
+template_of Substitutions = codes "/v1/substitutions"
+template_of Holidays = codes "/v1/holidays"
+template_of Streams = codes "/v1/streams"
+template_of Days = codes "/v1/days/{nmi}/{suffix}/{date}"
+template_of Versions = codes "/v1/versions/{nmi}/{suffix}/{date}/{interval}"
+template_of Periods = codes "/v1/periods/{nmi}/{suffix}"
+template_of Gaps = codes "/v1/gaps"
+template_of Finals = codes "/v1/finals"
+template_of Missing = codes "/v1/missing"
+template_of Readings = codes "/v1/readings"
+template_of Exports = codes "/v1/exports/nem12"
 
 -- all routes, in the order of their paths
 abbrev pub routes : List Route
-routes = Days ∷ Exports ∷ Finals ∷ Gaps ∷ Holidays ∷ Imports ∷ Periods ∷ Streams ∷ Substitutions ∷ Versions ∷ []
+routes = Days ∷ Exports ∷ Finals ∷ Gaps ∷ Holidays ∷ Imports ∷ Missing ∷ Periods ∷ Readings ∷ Streams ∷ Substitutions ∷ Versions ∷ []
 
 -- the route that a path is for
 unfoldable pub route_of : List ℕ → Option Route

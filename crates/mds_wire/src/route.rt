@@ -1,8 +1,7 @@
 //! The routes, their methods, and the router that finds the route of a path.
 
 ghost use Rattle.std.specs.Prelude.{◌≡◌, ◌≤◌, length, IfOk};
-ghost use Rattle.mds_wire.specs.Routes.{route_of, routes, method_of, part_length};
-ghost use Rattle.mds_wire.specs.RouteSteps.{template_of};
+ghost use Rattle.mds_wire.specs.Routes.{route_of, routes, method_of, part_length, template_of};
 
 use http::Method;
 use matchit::{InsertError, Router};
@@ -21,19 +20,23 @@ pub enum Route {
     Periods,
     Gaps,
     Finals,
+    Missing,
+    Readings,
     Exports,
 }
 
 impl Route {
     /// All routes, in the order of their paths. The router keeps each after the earlier ones.
-    const ALL: [Route; 10] = [
+    const ALL: [Route; 12] = [
         Route::Days,
         Route::Exports,
         Route::Finals,
         Route::Gaps,
         Route::Holidays,
         Route::Imports,
+        Route::Missing,
         Route::Periods,
+        Route::Readings,
         Route::Streams,
         Route::Substitutions,
         Route::Versions,
@@ -66,6 +69,8 @@ impl Route {
             Route::Periods => "/v1/periods/{nmi}/{suffix}",
             Route::Gaps => "/v1/gaps",
             Route::Finals => "/v1/finals",
+            Route::Missing => "/v1/missing",
+            Route::Readings => "/v1/readings",
             Route::Exports => "/v1/exports/nem12",
         }
     }

@@ -5,14 +5,14 @@ use Rattle.std.specs.Str.Parse.{digits_value, without_leading_plus}
 use Rattle.clap.specs.ValueTests.{is_numeral}
 use Rattle.clap.specs.Walk.{texts}
 use Rattle.clap.specs.Words.{App, Row, Text, fault_of, subcommand_of, all_of, first_of, one_of}
+use Rattle.mds_arguments.specs.Arguments.{AreFound, IsExportOf, found_texts, query_name}
 use Rattle.mds_records.specs.declared.file.FileKind.{FileKind}
 use Rattle.mds_records.specs.declared.file.FileKind.TheVariants.{Nem12, Nem13}
 use Rattle.mds_words.specs.Grammar.{IsMdstore}
 use Rattle.mds_words.specs.declared.words.Input.{Input}
 use Rattle.mds_words.specs.declared.words.Input.TheVariants.{Standard, File}
 use Rattle.mds_words.specs.declared.words.Words.{Words}
-use Rattle.mds_words.specs.declared.words.Words.TheVariants.{Check, Init, Migrate, Import, Substitute, Holidays, Streams}
-use Rattle.mds_words.specs.declared.words.Words.TheVariants.{Day, Versions, Periods, Gaps, Finals, Export, Serve, Explain}
+use Rattle.mds_words.specs.declared.words.Words.TheVariants.{Check, Init, Migrate, Import, Substitute, Holidays, Query, Export, Serve, Explain}
 
 -- standard input, or a file by its name
 abbrev pub input_value : Input → Option Text
@@ -70,43 +70,12 @@ Asks (Some (name, rows)) (Substitute store input) = (name ≡ codes "substitute"
 Asks (Some (name, rows)) (Holidays store input) = (name ≡ codes "holidays")
     × (store.now ≡ value_of (codes "store") rows)
     × (input_value input ≡ input_of (value_of (codes "file") rows))
-Asks (Some (name, rows)) (Streams store) = (name ≡ codes "streams")
+Asks (Some (name, rows)) (Query store query words) = (name ≡ query_name query)
     × (store.now ≡ value_of (codes "store") rows)
-Asks (Some (name, rows)) (Day store nmi suffix date) = (name ≡ codes "day")
-    × (store.now ≡ value_of (codes "store") rows)
-    × (nmi.now ≡ value_of (codes "nmi") rows)
-    × (suffix.now ≡ value_of (codes "suffix") rows)
-    × (date.now ≡ value_of (codes "date") rows)
-Asks (Some (name, rows)) (Versions store nmi suffix date interval) = (name ≡ codes "versions")
-    × (store.now ≡ value_of (codes "store") rows)
-    × (nmi.now ≡ value_of (codes "nmi") rows)
-    × (suffix.now ≡ value_of (codes "suffix") rows)
-    × (date.now ≡ value_of (codes "date") rows)
-    × (interval.now ≡ value_of (codes "interval") rows)
-Asks (Some (name, rows)) (Periods store nmi suffix) = (name ≡ codes "periods")
-    × (store.now ≡ value_of (codes "store") rows)
-    × (nmi.now ≡ value_of (codes "nmi") rows)
-    × (suffix.now ≡ value_of (codes "suffix") rows)
-Asks (Some (name, rows)) (Gaps store range) = (name ≡ codes "gaps")
-    × (store.now ≡ value_of (codes "store") rows)
-    × (range.nmi.now ≡ value_of (codes "nmi") rows)
-    × (range.suffix.now ≡ value_of (codes "suffix") rows)
-    × (range.from.now ≡ value_of (codes "from") rows)
-    × (range.to.now ≡ value_of (codes "to") rows)
-Asks (Some (name, rows)) (Finals store range) = (name ≡ codes "finals")
-    × (store.now ≡ value_of (codes "store") rows)
-    × (range.nmi.now ≡ value_of (codes "nmi") rows)
-    × (range.suffix.now ≡ value_of (codes "suffix") rows)
-    × (range.from.now ≡ value_of (codes "from") rows)
-    × (range.to.now ≡ value_of (codes "to") rows)
+    × AreFound (λ id. first_of id rows) words
 Asks (Some (name, rows)) (Export store arguments) = (name ≡ codes "export")
     × (store.now ≡ value_of (codes "store") rows)
-    × (arguments.nmi.now ≡ value_of (codes "nmi") rows)
-    × (arguments.from.now ≡ value_of (codes "from") rows)
-    × (arguments.to.now ≡ value_of (codes "to") rows)
-    × (arguments.moment.now ≡ value_of (codes "moment") rows)
-    × (arguments.sender.now ≡ value_of (codes "sender") rows)
-    × (arguments.receiver.now ≡ value_of (codes "receiver") rows)
+    × IsExportOf (found_texts (λ id. first_of id rows)) arguments
     × (texts arguments.suffixes.items ≡ values_of (codes "suffixes") rows)
 Asks (Some (name, rows)) (Serve store port count has_log) = (name ≡ codes "serve")
     × (store.now ≡ value_of (codes "store") rows)

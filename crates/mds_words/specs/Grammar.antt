@@ -78,6 +78,14 @@ count = record (flagged (codes "count")) {
 abbrev pub log : Rule
 log = record (flagged (codes "log")) { action = Some SetTrue }
 
+-- a flag with a value, which may be left out
+abbrev pub since : Rule
+since = flagged (codes "since")
+
+-- a flag without a value
+abbrev pub why : Rule
+why = record (flagged (codes "why")) { action = Some SetTrue }
+
 -- the id of a word's argument
 abbrev pub id_of : Word → Text
 id_of word.Store = codes "store"
@@ -94,12 +102,14 @@ id_of word.Date = codes "date"
 id_of word.Interval = codes "interval"
 id_of word.From = codes "from"
 id_of word.To = codes "to"
+id_of word.Since = codes "since"
 id_of word.Moment = codes "moment"
 id_of word.Sender = codes "sender"
 id_of word.Receiver = codes "receiver"
 id_of word.Port = codes "port"
 id_of word.Count = codes "count"
 id_of word.Log = codes "log"
+id_of word.Why = codes "why"
 id_of word.Code = codes "code"
 
 -- the argument of a word
@@ -112,6 +122,8 @@ rule_of_word kinds word.Suffixes = several (codes "suffixes")
 rule_of_word kinds word.Port = port
 rule_of_word kinds word.Count = count
 rule_of_word kinds word.Log = log
+rule_of_word kinds word.Since = since
+rule_of_word kinds word.Why = why
 rule_of_word kinds word.Code = code
 rule_of_word kinds other = placed (id_of other)
 
@@ -123,34 +135,35 @@ command_of name rules = record (new_shape name) { rules = rules }
 -- ---- the commands on files
 
 abbrev pub check_command : Bor (List (Bor Text)) → Shape
-check_command kinds = command_of (codes "check") (kind kinds ∷ placed (codes "file") ∷ [])
+check_command kinds = command_of (codes "check") (kind kinds ∷ why ∷ placed (codes "file") ∷ [])
 
 abbrev pub init_command : Shape
-init_command = command_of (codes "init") (store ∷ sums ∷ [])
+init_command = command_of (codes "init") (store ∷ sums ∷ why ∷ [])
 
 abbrev pub migrate_command : Shape
-migrate_command = command_of (codes "migrate") (store ∷ [])
+migrate_command = command_of (codes "migrate") (store ∷ why ∷ [])
 
 abbrev pub import_command : Bor (List (Bor Text)) → Shape
-import_command kinds = command_of (codes "import") (store ∷ kind kinds ∷ several (codes "file") ∷ [])
+import_command kinds = command_of (codes "import") (store ∷ kind kinds ∷ why ∷ several (codes "file") ∷ [])
 
 abbrev pub substitute_command : Shape
-substitute_command = command_of (codes "substitute") (store ∷ placed (codes "file") ∷ [])
+substitute_command = command_of (codes "substitute") (store ∷ why ∷ placed (codes "file") ∷ [])
 
 abbrev pub holidays_command : Shape
-holidays_command = command_of (codes "holidays") (store ∷ placed (codes "file") ∷ [])
+holidays_command = command_of (codes "holidays") (store ∷ why ∷ placed (codes "file") ∷ [])
 
 abbrev pub file_commands : Bor (List (Bor Text)) → List Shape
 file_commands kinds = check_command kinds ∷ init_command ∷ migrate_command ∷ import_command kinds
     ∷ substitute_command ∷ holidays_command ∷ []
 
--- ---- the commands with only a store
+-- ---- the queries of a store
 
+-- a stream
 abbrev pub stream : List Rule
-stream = store ∷ placed (codes "nmi") ∷ placed (codes "suffix") ∷ []
+stream = store ∷ why ∷ placed (codes "nmi") ∷ placed (codes "suffix") ∷ []
 
 abbrev pub streams_command : Shape
-streams_command = command_of (codes "streams") (store ∷ [])
+streams_command = command_of (codes "streams") (store ∷ why ∷ [])
 
 abbrev pub day_command : Shape
 day_command = command_of (codes "day") (stream ++ placed (codes "date") ∷ [])
@@ -172,18 +185,29 @@ gaps_command = command_of (codes "gaps") range
 abbrev pub finals_command : Shape
 finals_command = command_of (codes "finals") range
 
+abbrev pub missing_command : Shape
+missing_command = command_of (codes "missing") (store ∷ since ∷ why ∷ placed (codes "from") ∷ placed (codes "to") ∷ [])
+
+abbrev pub readings_command : Shape
+readings_command = command_of (codes "readings") range
+
+abbrev pub query_commands : List Shape
+query_commands =
+    streams_command ∷ day_command ∷ versions_command ∷ periods_command ∷ gaps_command ∷ finals_command ∷ missing_command ∷ readings_command ∷ []
+
+-- ---- the other commands on a store
+
 abbrev pub export_command : Shape
 export_command = command_of (codes "export")
-    (store ∷ placed (codes "nmi") ∷ placed (codes "from") ∷ placed (codes "to")
+    (store ∷ why ∷ placed (codes "nmi") ∷ placed (codes "from") ∷ placed (codes "to")
     ∷ placed (codes "moment") ∷ placed (codes "sender") ∷ placed (codes "receiver")
     ∷ several (codes "suffixes") ∷ [])
 
 abbrev pub serve_command : Shape
-serve_command = command_of (codes "serve") (store ∷ port ∷ count ∷ log ∷ [])
+serve_command = command_of (codes "serve") (store ∷ port ∷ count ∷ log ∷ why ∷ [])
 
 abbrev pub store_commands : List Shape
-store_commands = streams_command ∷ day_command ∷ versions_command ∷ periods_command
-    ∷ gaps_command ∷ finals_command ∷ export_command ∷ serve_command ∷ []
+store_commands = export_command ∷ serve_command ∷ []
 
 -- ---- the command without a store
 
@@ -195,7 +219,7 @@ explain_command = command_of (codes "explain") (code ∷ [])
 -- all names, in the order of the help
 abbrev pub all_names : List Name
 all_names = name.Check ∷ name.Init ∷ name.Migrate ∷ name.Import ∷ name.Substitute ∷ name.Holidays ∷ name.Streams ∷ name.Day
-    ∷ name.Versions ∷ name.Periods ∷ name.Gaps ∷ name.Finals ∷ name.Export ∷ name.Serve ∷ name.Explain ∷ []
+    ∷ name.Versions ∷ name.Periods ∷ name.Gaps ∷ name.Finals ∷ name.Missing ∷ name.Readings ∷ name.Export ∷ name.Serve ∷ name.Explain ∷ []
 
 abbrev pub name_text : Name → Text
 name_text name.Check = codes "check"
@@ -210,26 +234,30 @@ name_text name.Versions = codes "versions"
 name_text name.Periods = codes "periods"
 name_text name.Gaps = codes "gaps"
 name_text name.Finals = codes "finals"
+name_text name.Missing = codes "missing"
+name_text name.Readings = codes "readings"
 name_text name.Export = codes "export"
 name_text name.Serve = codes "serve"
 name_text name.Explain = codes "explain"
 
 -- the words that a command takes
 abbrev pub words_of : Name → List Word
-words_of name.Check = word.Kind ∷ word.File ∷ []
-words_of name.Init = word.Store ∷ word.Sums ∷ []
-words_of name.Migrate = word.Store ∷ []
-words_of name.Import = word.Store ∷ word.Kind ∷ word.Files ∷ []
-words_of name.Substitute = word.Store ∷ word.Job ∷ []
-words_of name.Holidays = word.Store ∷ word.List ∷ []
-words_of name.Streams = word.Store ∷ []
-words_of name.Day = word.Store ∷ word.Nmi ∷ word.Suffix ∷ word.Date ∷ []
-words_of name.Versions = word.Store ∷ word.Nmi ∷ word.Suffix ∷ word.Date ∷ word.Interval ∷ []
-words_of name.Periods = word.Store ∷ word.Nmi ∷ word.Suffix ∷ []
-words_of name.Gaps = word.Store ∷ word.Nmi ∷ word.Suffix ∷ word.From ∷ word.To ∷ []
-words_of name.Finals = word.Store ∷ word.Nmi ∷ word.Suffix ∷ word.From ∷ word.To ∷ []
-words_of name.Export = word.Store ∷ word.Nmi ∷ word.From ∷ word.To ∷ word.Moment ∷ word.Sender ∷ word.Receiver ∷ word.Suffixes ∷ []
-words_of name.Serve = word.Store ∷ word.Port ∷ word.Count ∷ word.Log ∷ []
+words_of name.Check = word.Kind ∷ word.Why ∷ word.File ∷ []
+words_of name.Init = word.Store ∷ word.Sums ∷ word.Why ∷ []
+words_of name.Migrate = word.Store ∷ word.Why ∷ []
+words_of name.Import = word.Store ∷ word.Kind ∷ word.Why ∷ word.Files ∷ []
+words_of name.Substitute = word.Store ∷ word.Why ∷ word.Job ∷ []
+words_of name.Holidays = word.Store ∷ word.Why ∷ word.List ∷ []
+words_of name.Streams = word.Store ∷ word.Why ∷ []
+words_of name.Day = word.Store ∷ word.Why ∷ word.Nmi ∷ word.Suffix ∷ word.Date ∷ []
+words_of name.Versions = word.Store ∷ word.Why ∷ word.Nmi ∷ word.Suffix ∷ word.Date ∷ word.Interval ∷ []
+words_of name.Periods = word.Store ∷ word.Why ∷ word.Nmi ∷ word.Suffix ∷ []
+words_of name.Gaps = word.Store ∷ word.Why ∷ word.Nmi ∷ word.Suffix ∷ word.From ∷ word.To ∷ []
+words_of name.Finals = word.Store ∷ word.Why ∷ word.Nmi ∷ word.Suffix ∷ word.From ∷ word.To ∷ []
+words_of name.Readings = word.Store ∷ word.Why ∷ word.Nmi ∷ word.Suffix ∷ word.From ∷ word.To ∷ []
+words_of name.Missing = word.Store ∷ word.Since ∷ word.Why ∷ word.From ∷ word.To ∷ []
+words_of name.Export = word.Store ∷ word.Why ∷ word.Nmi ∷ word.From ∷ word.To ∷ word.Moment ∷ word.Sender ∷ word.Receiver ∷ word.Suffixes ∷ []
+words_of name.Serve = word.Store ∷ word.Port ∷ word.Count ∷ word.Log ∷ word.Why ∷ []
 words_of name.Explain = word.Code ∷ []
 
 -- the command with this name
@@ -247,7 +275,7 @@ mdstore_app kinds = record {
     subcommand_required = true;
     has_version = true;
   };
-  subs = file_commands kinds ++ store_commands ++ explain_command ∷ [];
+  subs = file_commands kinds ++ query_commands ++ store_commands ++ explain_command ∷ [];
 }
 
 -- the program's commands, wherever the names of the kinds of files are in memory

@@ -3,7 +3,7 @@
 ghost use Rattle.std.specs.Prelude.{◌≡◌, map, IfOk};
 ghost use Rattle.std.specs.List.{AllZip};
 ghost use Rattle.mds_words.specs.Commands.{HasRule, IsApp, IsLeaf};
-ghost use Rattle.mds_words.specs.Grammar.{AreKinds, all_names, code, count, flagged, id_of, kind, log, mdstore_app, named, placed, port, rule_of_word, shape_of, store, sums};
+ghost use Rattle.mds_words.specs.Grammar.{AreKinds, all_names, code, count, flagged, id_of, kind, log, mdstore_app, named, placed, port, rule_of_word, shape_of, store, sums, why};
 
 use crate::names::{Name, Word};
 use clap::{Arg, ArgAction, Command, value_parser};
@@ -89,6 +89,8 @@ fn argument<'a>(alloc: Global, kinds: KindNames<'a>, word: Word) -> Arg<'a>
         Word::Port => port(alloc),
         Word::Count => count(alloc),
         Word::Log => log(alloc),
+        Word::Since => flagged(alloc, word),
+        Word::Why => why(alloc),
         Word::Code => code(alloc),
         Word::Files | Word::Suffixes => required(alloc, word).num_args(1..),
         _ => required(alloc, word),
@@ -135,6 +137,12 @@ fn log<'a>(alloc: Global) -> Arg<'a>
     ensures { HasRule log result }
 {
     flagged(alloc, Word::Log).action(ArgAction::SetTrue)
+}
+
+fn why<'a>(alloc: Global) -> Arg<'a>
+    ensures { HasRule why result }
+{
+    flagged(alloc, Word::Why).action(ArgAction::SetTrue)
 }
 
 fn code<'a>(alloc: Global) -> Arg<'a>

@@ -4,19 +4,18 @@ ghost use Rattle.std.specs.Prelude.{◌≡◌, ◌∷◌, ◌^◌, List, [], Som
 ghost use Rattle.std.specs.List.{list_any};
 ghost use Rattle.std.specs.Borrow.{Bor};
 ghost use Rattle.clap.specs.Walk.{texts};
-ghost use Rattle.clap.specs.Words.{App, HasKind, Row, Text, fault_of, found_of, kind_of, rows_of, takes};
-ghost use Rattle.mds_arguments.specs.Words.{AreFound};
+ghost use Rattle.clap.specs.Words.{App, HasKind, Text, fault_of, first_of, found_of, kind_of, rows_of, takes};
+ghost use Rattle.mds_arguments.specs.Arguments.{AreFound};
 ghost use Rattle.mds_words.specs.Asked.{Asks, IsAskedBy, has_flag, input_of, input_value, kind_of_name, number_of, value_of, values_of};
 ghost use Rattle.mds_words.specs.Commands.{has_command};
 ghost use Rattle.mds_words.specs.Refused.{IsRefusedAs, IsRefusedBy};
-ghost use Rattle.mds_words.specs.Grammar.{IsMdstore, mdstore_app, check_command, init_command, substitute_command, holidays_command, streams_command};
-ghost use Rattle.mds_words.specs.Grammar.{migrate_command, day_command, versions_command, periods_command, gaps_command, finals_command, serve_command};
+ghost use Rattle.mds_words.specs.Grammar.{IsMdstore, mdstore_app, check_command, init_command, migrate_command, substitute_command, holidays_command, serve_command};
 
 use crate::commands::{grammar, kinds};
 use crate::words::{Input, Words, WordsFault};
 use clap::error::ErrorKind;
 use clap::{ArgMatches, Error};
-use mds_arguments::{FoundWords, QueryWords};
+use mds_arguments::{FoundWords, QueryName, QueryWords};
 use mds_records::FileKind;
 use std::alloc::{AllocError, Global};
 
@@ -73,6 +72,13 @@ fn asked<'a>(alloc: Global, name: &str, found: &ArgMatches<'a>) -> Result<Words<
         → Asks (Some (name.now, rows_of (found_of found.now))) words) }
 {
     let store = word(found, "store");
+    if let Some(query) = QueryName::named(name) {
+        return Ok(Words::Query {
+            store,
+            query,
+            words: query_words(found),
+        });
+    }
     match name {
         "import" => Ok(Words::Import {
             store,
@@ -90,13 +96,12 @@ fn asked<'a>(alloc: Global, name: &str, found: &ArgMatches<'a>) -> Result<Words<
     }
 }
 
-/// The same for a command whose arguments take one word each.
+/// The same for a command that needs no memory, and is no query.
 fn asked_without_memory<'a>(name: &str, found: &ArgMatches<'a>, store: &'a str) -> Words<'a>
     requires { store.now ≡ value_of (codes "store") (rows_of (found_of found.now)) }
     ensures { (kinds : Bor (List (Bor Text)))
         → list_any (λ shape. bytes_eq shape.name name.now) (check_command kinds ∷ init_command ∷ migrate_command ∷ substitute_command
-        ∷ holidays_command ∷ streams_command ∷ day_command ∷ versions_command ∷ periods_command ∷ gaps_command
-        ∷ finals_command ∷ serve_command ∷ []) ≡ true
+        ∷ holidays_command ∷ serve_command ∷ []) ≡ true
         → Asks (Some (name.now, rows_of (found_of found.now))) result }
 {
     match name {
@@ -117,50 +122,11 @@ fn asked_without_memory<'a>(name: &str, found: &ArgMatches<'a>, store: &'a str) 
             store,
             input: input(found),
         },
-        "streams" => Words::Streams { store },
-        "serve" => Words::Serve {
+        _ => Words::Serve {
             store,
             port: port(found),
             count: count(found),
             has_log: has_flag(found, "log"),
-        },
-        _ => asked_of_stream(name, store, query_words(found)),
-    }
-}
-
-/// The same for a command on a stream.
-fn asked_of_stream<'a>(name: &str, store: &'a str, words: QueryWords<'a>) -> Words<'a>
-    ensures { (rows : List Row) → store.entry.now ≡ value_of (codes "store") rows → AreFound (λ id. value_of id rows) words.entry
-        → list_any (λ shape. bytes_eq shape.name name.now) (day_command ∷ versions_command ∷ periods_command
-        ∷ gaps_command ∷ finals_command ∷ []) ≡ true
-        → Asks (Some (name.now, rows)) result }
-{
-    match name {
-        "day" => Words::Day {
-            store,
-            nmi: words.nmi,
-            suffix: words.suffix,
-            date: words.date,
-        },
-        "versions" => Words::Versions {
-            store,
-            nmi: words.nmi,
-            suffix: words.suffix,
-            date: words.date,
-            interval: words.interval,
-        },
-        "periods" => Words::Periods {
-            store,
-            nmi: words.nmi,
-            suffix: words.suffix,
-        },
-        "gaps" => Words::Gaps {
-            store,
-            range: words.range(),
-        },
-        _ => Words::Finals {
-            store,
-            range: words.range(),
         },
     }
 }
@@ -172,16 +138,19 @@ struct Found<'m, 'a> {
 }
 
 impl<'m, 'a> FoundWords<'a> for Found<'m, 'a> {
-    ghost word_of = { λ found id. value_of id (rows_of (found_of found.matches.now)) };
+    ghost word_of = { λ found id. first_of id (rows_of (found_of found.matches.now)) };
 
-    fn word(&self, id: &str) -> &'a str {
-        word(self.matches, id)
+    fn find(&self, id: &str) -> Option<&'a [u8]> {
+        match self.matches.get_str(id) {
+            Some(word) => Some(word.as_bytes()),
+            None => None,
+        }
     }
 }
 
 /// The words of a query's arguments.
 fn query_words<'a>(found: &ArgMatches<'a>) -> QueryWords<'a>
-    ensures { AreFound (λ id. value_of id (rows_of (found_of found.now))) result }
+    ensures { AreFound (λ id. first_of id (rows_of (found_of found.now))) result }
 {
     QueryWords::of(&Found { matches: found })
 }

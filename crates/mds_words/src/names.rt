@@ -18,6 +18,8 @@ pub(crate) enum Name {
     Periods,
     Gaps,
     Finals,
+    Missing,
+    Readings,
     Export,
     Serve,
     Explain,
@@ -40,18 +42,20 @@ pub(crate) enum Word {
     Interval,
     From,
     To,
+    Since,
     Moment,
     Sender,
     Receiver,
     Port,
     Count,
     Log,
+    Why,
     Code,
 }
 
 impl Name {
     /// All of them, in the order of the help.
-    pub(crate) const ALL: [Name; 15] = [
+    pub(crate) const ALL: [Name; 17] = [
         Name::Check,
         Name::Init,
         Name::Migrate,
@@ -64,6 +68,8 @@ impl Name {
         Name::Periods,
         Name::Gaps,
         Name::Finals,
+        Name::Missing,
+        Name::Readings,
         Name::Export,
         Name::Serve,
         Name::Explain,
@@ -86,6 +92,8 @@ impl Name {
             Name::Periods => "periods",
             Name::Gaps => "gaps",
             Name::Finals => "finals",
+            Name::Missing => "missing",
+            Name::Readings => "readings",
             Name::Export => "export",
             Name::Serve => "serve",
             Name::Explain => "explain",
@@ -111,6 +119,10 @@ impl Name {
             Name::Finals => {
                 "Prints the final substitutions of a stream in a range of days, as a CSV file"
             }
+            Name::Missing => "Prints the gaps of all streams in a range of days, as a CSV file",
+            Name::Readings => {
+                "Prints the current readings of a stream in a range of days, as a CSV file"
+            }
             Name::Export => {
                 "Prints the current readings of streams in a range of days, as a NEM12 file"
             }
@@ -126,30 +138,34 @@ impl Name {
         ensures { result.now ≡ words_of self }
     {
         match self {
-            Name::Check => &[Word::Kind, Word::File],
-            Name::Init => &[Word::Store, Word::Sums],
-            Name::Migrate | Name::Streams => &[Word::Store],
-            Name::Import => &[Word::Store, Word::Kind, Word::Files],
-            Name::Substitute => &[Word::Store, Word::Job],
-            Name::Holidays => &[Word::Store, Word::List],
-            Name::Day => &[Word::Store, Word::Nmi, Word::Suffix, Word::Date],
+            Name::Check => &[Word::Kind, Word::Why, Word::File],
+            Name::Init => &[Word::Store, Word::Sums, Word::Why],
+            Name::Migrate | Name::Streams => &[Word::Store, Word::Why],
+            Name::Import => &[Word::Store, Word::Kind, Word::Why, Word::Files],
+            Name::Substitute => &[Word::Store, Word::Why, Word::Job],
+            Name::Holidays => &[Word::Store, Word::Why, Word::List],
+            Name::Day => &[Word::Store, Word::Why, Word::Nmi, Word::Suffix, Word::Date],
             Name::Versions => &[
                 Word::Store,
+                Word::Why,
                 Word::Nmi,
                 Word::Suffix,
                 Word::Date,
                 Word::Interval,
             ],
-            Name::Periods => &[Word::Store, Word::Nmi, Word::Suffix],
-            Name::Gaps | Name::Finals => &[
+            Name::Periods => &[Word::Store, Word::Why, Word::Nmi, Word::Suffix],
+            Name::Gaps | Name::Finals | Name::Readings => &[
                 Word::Store,
+                Word::Why,
                 Word::Nmi,
                 Word::Suffix,
                 Word::From,
                 Word::To,
             ],
+            Name::Missing => &[Word::Store, Word::Since, Word::Why, Word::From, Word::To],
             Name::Export => &[
                 Word::Store,
+                Word::Why,
                 Word::Nmi,
                 Word::From,
                 Word::To,
@@ -158,7 +174,7 @@ impl Name {
                 Word::Receiver,
                 Word::Suffixes,
             ],
-            Name::Serve => &[Word::Store, Word::Port, Word::Count, Word::Log],
+            Name::Serve => &[Word::Store, Word::Port, Word::Count, Word::Log, Word::Why],
             Name::Explain => &[Word::Code],
         }
     }
@@ -181,12 +197,14 @@ impl Word {
             Word::Interval => "interval",
             Word::From => "from",
             Word::To => "to",
+            Word::Since => "since",
             Word::Moment => "moment",
             Word::Sender => "sender",
             Word::Receiver => "receiver",
             Word::Port => "port",
             Word::Count => "count",
             Word::Log => "log",
+            Word::Why => "why",
             Word::Code => "code",
         }
     }
@@ -204,12 +222,14 @@ impl Word {
             Word::Interval => "INTERVAL",
             Word::From => "FROM",
             Word::To => "TO",
+            Word::Since => "DATE",
             Word::Moment => "MOMENT",
             Word::Sender => "SENDER",
             Word::Receiver => "RECEIVER",
             Word::Port => "P",
             Word::Count => "N",
             Word::Log => "LOG",
+            Word::Why => "WHY",
             Word::Code => "CODE",
         }
     }
@@ -234,6 +254,9 @@ impl Word {
             Word::Interval => "The number of the interval, from 1, in one to four digits",
             Word::From => "The first day, CCYYMMDD",
             Word::To => "The last day, CCYYMMDD",
+            Word::Since => {
+                "Leaves out streams whose last known day is before this day, CCYYMMDD"
+            }
             Word::Moment => "When the file is made, CCYYMMDDhhmm or CCYYMMDDhhmmss",
             Word::Sender => {
                 "Who the file is from, in at most 240 printable ASCII characters without a comma"
@@ -244,6 +267,7 @@ impl Word {
             Word::Port => "The port",
             Word::Count => "After how many connections it ends",
             Word::Log => "Prints a line for each connection on standard error",
+            Word::Why => "Prints on standard error why something is refused",
             Word::Code => "The code, such as L8 or bad job",
         }
     }

@@ -5,7 +5,7 @@ ghost use Rattle.mds_words.specs.Asked.{IsAsked, input_of, input_value};
 ghost use Rattle.mds_words.specs.Refused.{IsRefused};
 
 use crate::grammar::read_by_grammar;
-use mds_arguments::{ExportArguments, RangeArguments};
+use mds_arguments::{ExportArguments, QueryName, QueryWords};
 use mds_records::FileKind;
 use std::alloc::Global;
 
@@ -51,40 +51,11 @@ pub enum Words<'a> {
         store: &'a str,
         input: Input<'a>,
     },
-    /// Prints the known streams of the store in the named file.
-    Streams {
+    /// Asks the store in the named file for a query with these words.
+    Query {
         store: &'a str,
-    },
-    /// Prints a day of a stream, from the store in the named file.
-    Day {
-        store: &'a str,
-        nmi: &'a str,
-        suffix: &'a str,
-        date: &'a str,
-    },
-    /// Prints the versions of an interval of a day, from the store in the named file.
-    Versions {
-        store: &'a str,
-        nmi: &'a str,
-        suffix: &'a str,
-        date: &'a str,
-        interval: &'a str,
-    },
-    /// Prints the accumulations of a stream, from the store in the named file.
-    Periods {
-        store: &'a str,
-        nmi: &'a str,
-        suffix: &'a str,
-    },
-    /// Prints the gaps of a stream in a range of days, from the store in the named file.
-    Gaps {
-        store: &'a str,
-        range: RangeArguments<'a>,
-    },
-    /// Prints the finals of a stream in a range of days, from the store in the named file.
-    Finals {
-        store: &'a str,
-        range: RangeArguments<'a>,
+        query: QueryName,
+        words: QueryWords<'a>,
     },
     /// Prints an export of some streams of a meter in a range of days, from the store in the named file.
     Export {

@@ -5,11 +5,10 @@ ghost use Rattle.std.specs.IoError.{error_kind};
 
 use crate::commands::serve;
 use crate::inputs::{ask_input, check_input, import_inputs};
-use crate::queries::{query, query_export};
+use crate::queries::{ask_query, query_export};
 use crate::store_file::{make_store, migrate_store};
-use mds_arguments::{day_request, finals_request, gaps_request, periods_request, versions_request};
+use crate::why::Why;
 use mds_desk::{EXPLANATIONS, Outcome, Status, section_of};
-use mds_messages::Request;
 use mds_requests::FileCommand;
 use mds_words::{Words, WordsFault, read_words};
 use std::io::ErrorKind;
@@ -21,15 +20,19 @@ const NO_SUCH_CODE: &str =
 
 /// Runs the program, and returns the status to end with.
 pub(crate) fn run(rt: &HostRuntime) -> Status {
-    let outcome = outcome_of_call(rt);
+    let mut why = Why::new(rt);
+    let outcome = outcome_of_call(rt, &mut why);
     match print!(rt; "{outcome}") {
-        Ok(()) => outcome.status(),
+        Ok(()) => {
+            why.print(rt, outcome);
+            outcome.status()
+        }
         Err(_) => Status::Unavailable,
     }
 }
 
 /// Does what the words of the call ask for. The outcome is yet to be printed.
-fn outcome_of_call(rt: &HostRuntime) -> Outcome {
+fn outcome_of_call(rt: &HostRuntime, why: &mut Why) -> Outcome {
     let words = match env::args(rt) {
         Ok(words) => words,
         Err(error) => return without_words(&error),
@@ -38,8 +41,9 @@ fn outcome_of_call(rt: &HostRuntime) -> Outcome {
     let Ok(words) = words else {
         return Outcome::Unavailable;
     };
+    why.look_at(words.as_slice());
     match read_words(rt.alloc(), words.as_slice()) {
-        Ok(words) => outcome_of_words(rt, words),
+        Ok(words) => outcome_of_words(rt, words, why),
         Err(WordsFault::Memory) => Outcome::Unavailable,
         Err(WordsFault::Text(text)) => tell(rt, text.as_str(), Outcome::Usage),
         Err(WordsFault::Version(text)) => tell(rt, text.as_str(), Outcome::Done),
@@ -47,59 +51,36 @@ fn outcome_of_call(rt: &HostRuntime) -> Outcome {
 }
 
 /// Does what words ask for.
-fn outcome_of_words(rt: &HostRuntime, words: Words<'_>) -> Outcome {
+fn outcome_of_words(rt: &HostRuntime, words: Words<'_>, why: &mut Why) -> Outcome {
     match words {
-        Words::Check { kind, input } => check_input(rt, kind, input),
-        Words::Init { store, has_sums } => make_store(rt, store, has_sums),
-        Words::Migrate { store } => migrate_store(rt, store),
+        Words::Check { kind, input } => check_input(rt, kind, input, why),
+        Words::Init { store, has_sums } => make_store(rt, store, has_sums, why),
+        Words::Migrate { store } => migrate_store(rt, store, why),
         Words::Import {
             store,
             kind,
             inputs,
-        } => import_inputs(rt, store, kind, &inputs),
-        Words::Substitute { store, input } => ask_input(rt, store, FileCommand::Substitute, input),
-        Words::Holidays { store, input } => ask_input(rt, store, FileCommand::Holidays, input),
-        Words::Streams { store } => query(rt, store, Ok(Request::Streams)),
-        Words::Day {
-            store,
-            nmi,
-            suffix,
-            date,
-        } => query(
+        } => import_inputs(rt, store, kind, &inputs, why),
+        Words::Substitute { store, input } => ask_input(
             rt,
             store,
-            day_request(nmi.as_bytes(), suffix.as_bytes(), date.as_bytes()),
+            FileCommand::Substitute,
+            input,
+            why,
         ),
-        Words::Versions {
+        Words::Holidays { store, input } => ask_input(rt, store, FileCommand::Holidays, input, why),
+        Words::Query {
             store,
-            nmi,
-            suffix,
-            date,
-            interval,
-        } => query(
-            rt,
-            store,
-            versions_request(
-                nmi.as_bytes(),
-                suffix.as_bytes(),
-                date.as_bytes(),
-                interval.as_bytes(),
-            ),
-        ),
-        Words::Periods { store, nmi, suffix } => query(
-            rt,
-            store,
-            periods_request(nmi.as_bytes(), suffix.as_bytes()),
-        ),
-        Words::Gaps { store, range } => query(rt, store, gaps_request(&range)),
-        Words::Finals { store, range } => query(rt, store, finals_request(&range)),
-        Words::Export { store, arguments } => query_export(rt, store, &arguments),
+            query,
+            words,
+        } => ask_query(rt, store, query, &words, why),
+        Words::Export { store, arguments } => query_export(rt, store, &arguments, why),
         Words::Serve {
             store,
             port,
             count,
             has_log,
-        } => serve(rt, store, port, count, has_log),
+        } => serve(rt, store, port, count, has_log, why),
         Words::Explain { code } => explain(rt, &code),
     }
 }

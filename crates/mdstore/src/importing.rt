@@ -1,6 +1,8 @@
 //! Imports NEM12 files as they are read.
 
+use crate::noted::Noted;
 use crate::store_file::{Task, in_store};
+use crate::why::Why;
 use mds_desk::{Outcome, import_file, import_read};
 use mds_keeper::Keeper;
 use mds_lines::Counted;
@@ -10,10 +12,16 @@ use std::io::Read;
 
 /// Imports what a reader brings into the store at a path, which isn't made if it is missing. The file is read before the store is
 /// opened, so that it may come from another command on the same store. A fault of the store is printed first all the same.
-pub(crate) fn import<R: Read + Drop>(rt: &HostRuntime, path: &str, reader: R) -> Outcome {
-    let mut reader = Counted::new(reader);
-    let read = read_delivery(rt.alloc(), &mut reader);
-    in_store(rt, path, TakingIn { read })
+pub(crate) fn import<R: Read + Drop>(
+    rt: &HostRuntime,
+    path: &str,
+    reader: R,
+    why: &mut Why,
+) -> Outcome {
+    let mut reader = Noted::new(reader);
+    let read = read_delivery(rt.alloc(), &mut Counted::new(&mut reader));
+    why.put_read(reader.error());
+    in_store(rt, path, TakingIn { read }, why)
 }
 
 /// Imports what was read.
@@ -23,11 +31,13 @@ struct TakingIn {
 }
 
 impl Task for TakingIn {
-    fn perform<K: Keeper>(self, rt: &HostRuntime, keeper: K) -> (K, Outcome) {
+    fn perform<K: Keeper>(self, rt: &HostRuntime, keeper: K, why: &mut Why) -> (K, Outcome) {
         let mut keeper = keeper;
         let mut writer = Counted::new(io::writer(rt));
         let answer = import_read(rt.alloc(), &mut keeper, self.read, &mut writer);
-        (keeper, Outcome::of_import(answer))
+        let outcome = Outcome::of_import(answer);
+        why.put_memory(outcome);
+        (keeper, outcome)
     }
 }
 
@@ -36,8 +46,14 @@ pub(crate) fn import_over<K: Keeper, R: Read + Drop>(
     rt: &HostRuntime,
     keeper: &mut K,
     reader: R,
+    why: &mut Why,
 ) -> Outcome {
-    let mut reader = Counted::new(reader);
+    let mut reader = Noted::new(reader);
     let mut writer = Counted::new(io::writer(rt));
-    Outcome::of_import(import_file(rt.alloc(), keeper, &mut reader, &mut writer))
+    let mut counted = Counted::new(&mut reader);
+    let answer = import_file(rt.alloc(), keeper, &mut counted, &mut writer);
+    let outcome = Outcome::of_import(answer);
+    why.put_read(reader.error());
+    why.put_memory(outcome);
+    outcome
 }

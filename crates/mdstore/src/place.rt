@@ -1,9 +1,11 @@
 //! What is at the path of a store before it is opened, so that a refusal leaves just that.
 
+use crate::cause::Cause;
+use crate::damage::damage_in;
 use crate::store_file::LockedFiles;
 use std::fs::OpenOptions;
 use std::io::{ErrorKind, Read};
-use std::os::unix::fs::OpenOptionsExt;
+use std::os::unix::fs::{MetadataExt, OpenOptionsExt};
 use std::path::PathBuf;
 use std::{fs, io};
 
@@ -50,7 +52,7 @@ impl Place {
     pub(crate) fn of_file(rt: &HostRuntime, path: &str) -> io::Result<Place> {
         let found = fs::metadata(rt, path)?;
         if !found.is_file() {
-            return Err(ErrorKind::Unsupported.into());
+            return Err(kind_without(found.is_dir()).into());
         }
         Place::look(rt, path, Some(found.len()))
     }
@@ -111,6 +113,15 @@ impl Place {
         Ok(header[RESERVED] == SUM_BYTES)
     }
 
+    /// What is wrong with the database, whose files are locked, if its bytes show it. A log may hold other pages than the file, so nothing is
+    /// known if there is one.
+    pub(crate) fn damage(&self, rt: &HostRuntime) -> io::Result<Option<Cause>> {
+        if self.log_bytes.unwrap_or(0) > 0 {
+            return Ok(None);
+        }
+        damage_in(rt, self.file.as_str())
+    }
+
     /// Removes the log, which is empty or whose content is all in the file. While the files are locked nobody else
     /// uses it. If it can't be removed, that does no harm.
     pub(crate) fn remove_log(&self, rt: &HostRuntime, _locked: &LockedFiles) {
@@ -142,6 +153,20 @@ impl Place {
             let _ = fs::remove_file(rt, self.file.as_str());
         }
     }
+}
+
+/// The error if something else is in the place of a file.
+fn kind_without(is_folder: bool) -> ErrorKind {
+    if is_folder {
+        ErrorKind::IsADirectory
+    } else {
+        ErrorKind::Unsupported
+    }
+}
+
+/// Whether a file has another name, too, by a hard link.
+pub(crate) fn has_other_name(rt: &HostRuntime, path: &str) -> bool {
+    matches!(fs::metadata(rt, path), Ok(found) if found.nlink() > 1)
 }
 
 /// How many bytes a file has, if it exists. Anything but a file, such as a folder or a link, is an error.

@@ -1,14 +1,23 @@
 //! Queries of a store, if their arguments are good.
 
+use crate::cause::Cause;
 use crate::commands;
-use mds_arguments::{Argument, ArgumentsFault, ExportArguments, export_request};
+use crate::why::Why;
+use mds_arguments::{
+    ArgumentsFault, ExportArguments, QueryName, QueryWords, export_request, query_request,
+};
 use mds_desk::Outcome;
-use mds_messages::Request;
 
-/// Passes a request to a store, if its arguments were good.
-pub(crate) fn query(rt: &HostRuntime, store: &str, read: Result<Request, Argument>) -> Outcome {
-    match read {
-        Ok(request) => commands::query(rt, store, &request),
+/// Asks a store for a query, if its words are good.
+pub(crate) fn ask_query(
+    rt: &HostRuntime,
+    store: &str,
+    query: QueryName,
+    words: &QueryWords<'_>,
+    why: &mut Why,
+) -> Outcome {
+    match query_request(query, words) {
+        Ok(request) => commands::query(rt, store, &request, why),
         Err(argument) => Outcome::BadArgument(argument),
     }
 }
@@ -18,10 +27,14 @@ pub(crate) fn query_export(
     rt: &HostRuntime,
     store: &str,
     arguments: &ExportArguments<'_>,
+    why: &mut Why,
 ) -> Outcome {
     match export_request(rt.alloc(), arguments) {
-        Ok(request) => commands::query(rt, store, &request),
+        Ok(request) => commands::query(rt, store, &request, why),
         Err(ArgumentsFault::Bad(argument)) => Outcome::BadArgument(argument),
-        Err(ArgumentsFault::Memory) => Outcome::Unavailable,
+        Err(ArgumentsFault::Memory) => {
+            why.put(Cause::NoMemory);
+            Outcome::Unavailable
+        }
     }
 }

@@ -3,15 +3,22 @@
 ghost use Rattle.std.specs.Prelude.{◌≡◌};
 ghost use Rattle.mdstore.specs.Refusals.{of_migration, of_store};
 
-use crate::place::{Place, Standing};
-use mds_desk::Outcome;
+use crate::cause::Cause;
+use crate::place::{Place, Standing, has_other_name};
+use crate::progress::Progress;
+use crate::why::Why;
+use mds_desk::{Outcome, Status};
 use mds_keeper::Keeper;
 use mds_migrate::{MigrateFault, Migrated, migrate_all};
+use mds_pack_rows::{has_schema_2, has_schema_3};
 use mds_pack_store::{adopt, create};
 use mds_store::StoreFault;
-use sqlite::{Alter, Connection, FileFrom, FileStore, Files, Leftover, Options, Wary};
+use mds_tables::has_schema_1;
+use sqlite::{Alter, Connection, Error, FileFrom, FileStore, Files, Leftover, Options, Wary};
 use sqlite_std_file::OpenError;
 use std::hash::{BuildHasher, RandomState};
+use std::io;
+use std::io::ErrorKind;
 
 /// How many read pages are kept. They take 2 MB, as in sqlite3. The library's own open keeps four times as many, and makes room for all of
 /// them at once.
@@ -20,7 +27,7 @@ const PAGES_KEPT: usize = 500;
 /// What is done with an open store. It is written over any keeper, so that its proof doesn't load what the library says of files.
 pub(crate) trait Task {
     /// Does it, and returns the keeper and the outcome of the run.
-    fn perform<K: Keeper>(self, rt: &HostRuntime, keeper: K) -> (K, Outcome);
+    fn perform<K: Keeper>(self, rt: &HostRuntime, keeper: K, why: &mut Why) -> (K, Outcome);
 }
 
 /// The file of a database and its log, which are locked until they are dropped.
@@ -28,10 +35,15 @@ pub(crate) type LockedFiles = Files<FileFrom<Wary>>;
 
 /// Makes a store where there is no file, or in a file that has no bytes or is an empty database. If sums are asked for, such a database must
 /// have them: pages that were made without sums get none.
-pub(crate) fn make_store(rt: &HostRuntime, path: &str, has_sums: bool) -> Outcome {
+pub(crate) fn make_store(rt: &HostRuntime, path: &str, has_sums: bool, why: &mut Why) -> Outcome {
+    why.name_store(rt, path);
     // decides: U1: the file of the store can't be opened
-    let Ok(place) = Place::to_make(rt, path) else {
-        return Outcome::Unavailable;
+    let place = match Place::to_make(rt, path) {
+        Ok(place) => place,
+        Err(error) => {
+            why.put(of_making(error));
+            return Outcome::Unavailable;
+        }
     };
     match place.standing() {
         Standing::Nothing | Standing::Files => {
@@ -39,45 +51,83 @@ pub(crate) fn make_store(rt: &HostRuntime, path: &str, has_sums: bool) -> Outcom
                 place: &place,
                 has_sums,
             };
-            in_database(rt, path, &place, has_sums, task)
+            in_database(rt, path, &place, has_sums, task, why)
         }
         // decides: U3: a file without bytes, or for `init` a log without a file
         Standing::LogAlone => {
             place.take_away_file(rt);
+            why.put(Cause::LogAlone);
             Outcome::OtherSchema
         }
-        Standing::NoDatabase => Outcome::Unavailable,
+        Standing::NoDatabase => {
+            why.put(Cause::NoDatabase);
+            Outcome::Unavailable
+        }
+    }
+}
+
+/// The cause if no file can be made.
+fn of_making(error: io::Error) -> Cause {
+    match error.kind() {
+        ErrorKind::NotFound => Cause::NoFolder,
+        _ => Cause::File(error),
     }
 }
 
 /// Opens the store at a path, which isn't made if it is missing, does something with it, and closes it.
-pub(crate) fn in_store<T: Task + Drop>(rt: &HostRuntime, path: &str, task: T) -> Outcome {
-    in_file(rt, path, Adopt { task })
+pub(crate) fn in_store<T: Task + Drop>(
+    rt: &HostRuntime,
+    path: &str,
+    task: T,
+    why: &mut Why,
+) -> Outcome {
+    in_file(rt, path, Adopt { task }, why)
 }
 
 /// Migrates the store at a path, which isn't made if it is missing, to schema 4. A store of that schema is left as it is.
-pub(crate) fn migrate_store(rt: &HostRuntime, path: &str) -> Outcome {
-    in_file(rt, path, Migrate)
+pub(crate) fn migrate_store(rt: &HostRuntime, path: &str, why: &mut Why) -> Outcome {
+    in_file(rt, path, Migrate, why)
 }
 
 /// Opens the database at a path, which isn't made if it is missing, does something with it, and closes it.
-fn in_file<T: DatabaseTask + Drop>(rt: &HostRuntime, path: &str, task: T) -> Outcome {
+fn in_file<T: DatabaseTask + Drop>(
+    rt: &HostRuntime,
+    path: &str,
+    task: T,
+    why: &mut Why,
+) -> Outcome {
+    why.name_store(rt, path);
     // decides: U1: the file of the store can't be opened
-    let Ok(place) = Place::of_file(rt, path) else {
-        return Outcome::Unavailable;
+    let place = match Place::of_file(rt, path) {
+        Ok(place) => place,
+        Err(error) => {
+            why.put_file(error);
+            return Outcome::Unavailable;
+        }
     };
     match place.standing() {
-        Standing::Files => in_database(rt, path, &place, false, task),
+        Standing::Files => in_database(rt, path, &place, false, task, why),
         // decides: U3: a file without bytes, or for `init` a log without a file
-        Standing::Nothing | Standing::LogAlone => Outcome::OtherSchema,
-        Standing::NoDatabase => Outcome::Unavailable,
+        Standing::Nothing | Standing::LogAlone => {
+            why.put(Cause::NoBytes);
+            Outcome::OtherSchema
+        }
+        Standing::NoDatabase => {
+            why.put(Cause::NoDatabase);
+            Outcome::Unavailable
+        }
     }
 }
 
 /// What is done with an open database, wherever it is stored.
 trait DatabaseTask {
     /// Does it, and returns the connection and the outcome of the run.
-    fn run<S: Alter>(self, rt: &HostRuntime, conn: Connection<S>) -> (Connection<S>, Outcome);
+    fn run<S: Alter>(
+        self,
+        rt: &HostRuntime,
+        conn: Connection<S>,
+        why: &mut Why,
+    ) -> (Connection<S>, Outcome);
 }
 
 /// Makes a store in it, whose pages have sums if that is asked for.
@@ -89,27 +139,41 @@ struct Make<'a> {
 
 impl<'a> Make<'a> {
     /// The outcome of the run if no store is to be made in the open database.
-    fn refusal(&self, rt: &HostRuntime) -> Option<Outcome> {
+    fn refusal(&self, rt: &HostRuntime, why: &mut Why) -> Option<Outcome> {
         if !self.has_sums {
             return None;
         }
         // decides: U3: an empty database has no sums, and `--sums` asks for them
         match self.place.has_sums(rt) {
             Ok(true) => None,
-            Ok(false) => Some(Outcome::OtherSchema),
-            Err(_) => Some(Outcome::Unavailable),
+            Ok(false) => {
+                why.put(Cause::NoSums);
+                Some(Outcome::OtherSchema)
+            }
+            Err(error) => {
+                why.put_file(error);
+                Some(Outcome::Unavailable)
+            }
         }
     }
 }
 
 impl<'a> DatabaseTask for Make<'a> {
-    fn run<S: Alter>(self, rt: &HostRuntime, conn: Connection<S>) -> (Connection<S>, Outcome) {
-        if let Some(outcome) = self.refusal(rt) {
+    fn run<S: Alter>(
+        self,
+        rt: &HostRuntime,
+        conn: Connection<S>,
+        why: &mut Why,
+    ) -> (Connection<S>, Outcome) {
+        if let Some(outcome) = self.refusal(rt, why) {
             return (conn, outcome);
         }
         match create(rt.alloc(), conn) {
             Ok(keeper) => (keeper.into_connection(), Outcome::Created),
-            Err((fault, conn)) => (conn, of_store(fault)),
+            Err((fault, conn)) => {
+                why.put(cause_of(fault, Cause::NotEmpty));
+                (conn, of_store(fault))
+            }
         }
     }
 }
@@ -121,13 +185,21 @@ struct Adopt<T> {
 }
 
 impl<T: Task + Drop> DatabaseTask for Adopt<T> {
-    fn run<S: Alter>(self, rt: &HostRuntime, conn: Connection<S>) -> (Connection<S>, Outcome) {
+    fn run<S: Alter>(
+        self,
+        rt: &HostRuntime,
+        conn: Connection<S>,
+        why: &mut Why,
+    ) -> (Connection<S>, Outcome) {
         match adopt(rt.alloc(), conn) {
             Ok(keeper) => {
-                let (keeper, outcome) = self.task.perform(rt, keeper);
+                let (keeper, outcome) = self.task.perform(rt, keeper, why);
                 (keeper.into_connection(), outcome)
             }
-            Err((fault, conn)) => (conn, of_store(fault)),
+            Err((fault, conn)) => {
+                why.put(cause_of(fault, Cause::OtherTables));
+                (conn, of_store(fault))
+            }
         }
     }
 }
@@ -137,10 +209,34 @@ impl<T: Task + Drop> DatabaseTask for Adopt<T> {
 struct Migrate;
 
 impl DatabaseTask for Migrate {
-    fn run<S: Alter>(self, rt: &HostRuntime, conn: Connection<S>) -> (Connection<S>, Outcome) {
+    fn run<S: Alter>(
+        self,
+        rt: &HostRuntime,
+        conn: Connection<S>,
+        why: &mut Why,
+    ) -> (Connection<S>, Outcome) {
         let mut conn = conn;
+        let progress = Progress::new(rt);
+        progress.show_migration(rt, schema_of(&conn));
         let outcome = of_migration(migrate_all(rt.alloc(), &mut conn));
+        progress.clear(rt);
+        if matches!(outcome, Outcome::OtherSchema) {
+            why.put(Cause::OtherTables);
+        }
         (conn, outcome)
+    }
+}
+
+/// The schema whose tables a database has: 1, 2 or 3. It is 4 for any other.
+fn schema_of<S: Alter>(conn: &Connection<S>) -> u8 {
+    if has_schema_1(conn.schema()) {
+        1
+    } else if has_schema_2(conn.schema()) {
+        2
+    } else if has_schema_3(conn.schema()) {
+        3
+    } else {
+        4
     }
 }
 
@@ -167,6 +263,16 @@ fn of_store(fault: StoreFault) -> Outcome
     }
 }
 
+/// Why the store can't be used. A database of another schema has the cause that is given.
+fn cause_of(fault: StoreFault, other: Cause) -> Cause {
+    match fault {
+        StoreFault::InTransaction => Cause::Unknown,
+        StoreFault::Unavailable(error) => Cause::of_error(error),
+        StoreFault::EarlierSchema => Cause::EarlierSchema,
+        StoreFault::OtherSchema => other,
+    }
+}
+
 /// Opens the database at a path, does something with it, and closes it. A new one gets sums if that is asked for. The header of any other
 /// says whether it has them. If it can't be opened, what the attempt made is removed. A torn write may leave anything on the disk, so each
 /// commit syncs twice.
@@ -176,22 +282,40 @@ fn in_database<T: DatabaseTask + Drop>(
     place: &Place,
     new_has_sums: bool,
     task: T,
+    why: &mut Why,
 ) -> Outcome {
     // decides: U1: the file of the store can't be opened
     match open_database(rt, path, new_has_sums) {
         Ok(conn) => {
-            let (conn, outcome) = task.run(rt, conn);
-            close(rt, place, conn, outcome)
+            let (conn, outcome) = task.run(rt, conn, why);
+            close(rt, place, conn, outcome, why)
         }
-        Err(OpenFault::Database(left)) => {
+        Err(OpenFault::Database(error, left)) => {
+            put_damage(rt, place, error, why);
             place.restore(rt, &left.into_files());
             Outcome::Unavailable
         }
         // Another process has the file. Whatever that process finds there is its own.
-        Err(OpenFault::Busy) => Outcome::Unavailable,
-        Err(OpenFault::Files) => {
+        Err(OpenFault::Busy) => {
+            why.put(Cause::InUse);
+            Outcome::Unavailable
+        }
+        Err(OpenFault::Files(cause)) => {
+            why.put(cause);
             place.take_away_file(rt);
             Outcome::Unavailable
+        }
+    }
+}
+
+/// Notes why a database can't be opened, whose files are locked. A damaged one is looked at, if its cause is wanted.
+fn put_damage(rt: &HostRuntime, place: &Place, error: Error, why: &mut Why) {
+    let cause = Cause::of_error(error);
+    let is_damaged = matches!(cause, Cause::Damaged | Cause::Unreadable);
+    why.put(cause);
+    if is_damaged && why.is_wanted(rt) {
+        if let Ok(Some(found)) = place.damage(rt) {
+            why.put(found);
         }
     }
 }
@@ -201,9 +325,9 @@ enum OpenFault {
     /// Another process uses its file.
     Busy,
     /// Its files can't be opened.
-    Files,
+    Files(Cause),
     /// They hold no readable database. They are left as they are.
-    Database(Leftover<FileFrom<Wary>>),
+    Database(Error, Leftover<FileFrom<Wary>>),
 }
 
 /// Opens the database at a path. It does what the library's open by a path does, except for the count of kept pages.
@@ -214,21 +338,39 @@ fn open_database(
 ) -> Result<Connection<FileStore<FileFrom<Wary>>>, OpenFault> {
     // SQLite doesn't treat these as paths.
     if path == ":memory:" || path.starts_with("file:") {
-        return Err(OpenFault::Files);
+        return Err(OpenFault::Files(Cause::NoPath));
     }
     let files = match sqlite_std_file::open(rt, path, Wary) {
         Ok(files) => files,
         Err(OpenError::Busy) => return Err(OpenFault::Busy),
-        Err(_) => return Err(OpenFault::Files),
+        Err(error) => return Err(OpenFault::Files(of_opening(rt, path, error))),
     };
-    let Ok(random) = RandomState::new(rt) else {
-        return Err(OpenFault::Files);
+    let random = match RandomState::new(rt) {
+        Ok(random) => random,
+        Err(error) => return Err(OpenFault::Files(Cause::File(error))),
     };
     let mut options = Options::new(random.hash_one(&0u8));
     options.cache_pages = PAGES_KEPT;
     match Connection::open_files_with(rt.alloc(), files, options, new_has_sums) {
         Ok(conn) => Ok(conn),
-        Err((_, left)) => Err(OpenFault::Database(left)),
+        Err((error, left)) => Err(OpenFault::Database(error, left)),
+    }
+}
+
+/// Why the files of a database can't be opened.
+fn of_opening(rt: &HostRuntime, path: &str, error: OpenError) -> Cause {
+    match error {
+        OpenError::Io(error) if error.kind() == ErrorKind::Unsupported => {
+            if has_other_name(rt, path) {
+                Cause::SecondName
+            } else {
+                Cause::File(error)
+            }
+        }
+        OpenError::Io(error) => Cause::File(error),
+        OpenError::OutOfMemory => Cause::NoMemory,
+        OpenError::Busy => Cause::InUse,
+        OpenError::HotJournal => Cause::Journal,
     }
 }
 
@@ -239,6 +381,7 @@ fn close(
     place: &Place,
     conn: Connection<FileStore<FileFrom<Wary>>>,
     outcome: Outcome,
+    why: &mut Why,
 ) -> Outcome {
     // decides: what happens to the log beside a store?
     let files = match conn.close_files() {
@@ -246,15 +389,40 @@ fn close(
             place.remove_log(rt, &files);
             files
         }
-        Err((_, store)) => {
+        Err((error, store)) => {
             let files = store.close();
+            put_unless_known(cause_in(&files), outcome, why);
+            put_unless_known(Cause::of_error(error), outcome, why);
             place.remove_empty_log(rt, &files);
             files
         }
     };
+    put_unless_known(cause_in(&files), outcome, why);
     if matches!(outcome, Outcome::Unavailable) {
         place.restore(rt, &files);
     }
     drop(files);
     outcome
+}
+
+/// Notes a cause of U1, if no other is known.
+fn put_unless_known(cause: Cause, outcome: Outcome, why: &mut Why) {
+    match outcome {
+        Outcome::Unavailable | Outcome::Answered(Status::Unavailable) => why.put_if_unknown(cause),
+        _ => (),
+    }
+}
+
+/// What the failed calls on the files of a database met.
+fn cause_in(files: &LockedFiles) -> Cause {
+    let met = files.tally();
+    if met.refused > 0 {
+        Cause::DiskFull
+    } else if met.caught > 0 {
+        Cause::Changed
+    } else if files.may_be_used() {
+        Cause::Unknown
+    } else {
+        Cause::DiskFailed
+    }
 }

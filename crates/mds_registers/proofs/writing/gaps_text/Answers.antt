@@ -1,4 +1,4 @@
-use Rattle.std.proofs.Common.{◌≡◌, ◌∷◌, [], ap}
+use Rattle.std.proofs.Common.{refl}
 use Rattle.csv.specs.Writing.{default_writer, row_text}
 use Rattle.mds_registers.specs.Registers.{gap_fields, gaps_head}
 use Rattle.mds_registers.specs.declared.writing.GapRow.{GapRow}
@@ -7,10 +7,8 @@ use Rattle.mds_registers.proofs.writing.gaps_text.Goals as goal
 
 pub loop-row-init : goal.loop-row-init
 loop-row-init c =
-    let names : c.as_slice.result.now ∷ c.as_slice-2.result.now ∷ c.as_slice-3.result.now ∷ c.as_slice-4.result.now ∷ c.as_slice-5.result.now ∷ [] ≡ gaps_head =
-    λ k. c.as_slice.ensures k ∷ c.as_slice-2.ensures k ∷ c.as_slice-3.ensures k ∷ c.as_slice-4.ensures k ∷ c.as_slice-5.ensures k ∷ [] in
     no_rows (row_text default_writer gaps_head) _ (λ (row : GapRow). row.day) (gap_fields c.args.stream.now) c.in_ok-writer.writer
-    (ap (row_text default_writer) names) c.in_ok-writer.ensures
+    refl c.in_ok-writer.ensures
 
 pub loop-row-preserved : goal.loop-row-preserved
 loop-row-preserved c =

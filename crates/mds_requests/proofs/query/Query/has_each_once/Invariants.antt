@@ -1,0 +1,11 @@
+use Rattle.std.proofs.Common.{◌≡◌, ◌==◌, Bool, List, ℕ, drop, length, map}
+use Rattle.std.specs.List.{list_all}
+use Rattle.mds_requests.specs.Queries.{values_named}
+use Rattle.mds_requests.specs.QuerySteps.{texts_of}
+use Rattle.mds_requests.proofs.query.Query.has_each_once.Given as goal
+
+-- what is left decides
+abbrev pub invariant-loop-name : goal.invariant-loop-name
+invariant-loop-name l =
+    let once : List ℕ → Bool = λ name. length (values_named name (texts_of l.self)) == 1 in
+    list_all once (map (λ name. name.now) l.names) ≡ list_all once (map (λ name. name.now) (drop l.name-index l.names))
