@@ -5,17 +5,13 @@ use Rattle.std.specs.List.{list_any}
 use Rattle.mds_marks.specs.Quality.{null}
 use Rattle.mds_records.specs.declared.file.FaultCode.{FaultCode}
 use Rattle.mds_records.specs.declared.file.FaultCode.TheVariants.{RunRange, RunOrder, NoValue}
+pub use Rattle.mds_records.specs.FieldFaults.{first_of}
 use Rattle.mds_runs.specs.Runs.{is_in_range, last_end}
 use Rattle.mds_runs.specs.declared.cover.Run.{Run}
 
--- a code if a test is met, and the first code of several that may be absent
+-- a code if a test is met
 abbrev pub when : Bool → FaultCode → Option FaultCode
 when test code = if test then Some code else None
-
-abbrev pub first_of : {T : Type 0} → List (Option T) → Option T
-first_of [] = None
-first_of (None ∷ rest) = first_of rest
-first_of (Some found ∷ rest) = Some found
 
 -- some interval from first to last has no value: its field is empty
 abbrev pub lacks_value : List (Option ℤ) → ℕ → ℕ → Bool

@@ -26,7 +26,7 @@ use Rattle.mds_marks.specs.Reason.{are_reason_chars, code_of, code_text, is_code
 use Rattle.mds_marks.specs.declared.mark.Mark.{Mark}
 use Rattle.mds_marks.proofs.Qualities.{quality_reads_back}
 use Rattle.mds_marks.proofs.Splits.{mark_reads}
-use Rattle.mds_names.specs.Names.{is_name, nmi_length, nmi_of, suffix_length, suffix_of}
+use Rattle.mds_names.specs.Names.{is_name, nmi_of, suffix_of}
 use Rattle.mds_terms.specs.Parts.{joined, optional}
 use Rattle.mds_terms.proofs.Texts.{both, day_is_digits, moment_is_digits}
 use Rattle.mds_records.specs.Layouts.{has_flag, interval_number_of}
@@ -99,10 +99,10 @@ optional_day (c ∷ text) x e =
     (day_is_digits (c ∷ text) m.0 m.1, omega (arith, day_length (c ∷ text) m.0 m.1), rw (none, m.1))
 
 -- names
-pub nmi_reads : (text : List ℕ) → is_name nmi_length text ≡ true → nmi_of text ≡ Some text
+pub nmi_reads : (text : List ℕ) → is_name 10 text ≡ true → nmi_of text ≡ Some text
 nmi_reads text h = rw h
 
-pub suffix_reads : (text : List ℕ) → is_name suffix_length text ≡ true → suffix_of text ≡ Some text
+pub suffix_reads : (text : List ℕ) → is_name 2 text ≡ true → suffix_of text ≡ Some text
 suffix_reads text h = rw h
 
 pub name_length : (n : ℕ) (text : List ℕ) → is_name n text ≡ true → length text ≡ n

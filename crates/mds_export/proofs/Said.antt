@@ -4,7 +4,7 @@ use Rattle.std.specs.Result.{result_ok}
 use Rattle.mds_quantity.specs.declared.unit.Unit.{Unit as MeasureUnit}
 use Rattle.mds_quantity.specs.declared.unit.Unit.TheVariants.{KWh}
 use Rattle.mds_calendar.specs.Length.{count_of}
-use Rattle.mds_names.specs.Names.{is_name, nmi_length, suffix_length}
+use Rattle.mds_names.specs.Names.{is_name}
 use Rattle.mds_names.specs.declared.stream.Stream.{Stream}
 use Rattle.mds_terms.specs.Details.{DetailsValue}
 use Rattle.mds_lines.specs.Lines.{field}
@@ -48,8 +48,8 @@ pub record SaysBlock (line : List ℕ) (block : Block) : Type 0 where
 pub block_said : (stream : Stream) (details : DetailsValue) (unit : MeasureUnit) (minutes : ℕ) (line : List ℕ)
     → Says (DetailsRow stream details unit minutes) line → SaysBlock line (record { stream = stream; length = minutes; unit = unit; details = details })
 block_said stream details unit minutes line s =
-    let nmi = name_is nmi_length (field line 2) stream.nmi (is_name nmi_length (field line 2)) s.0 in
-    let suffix = name_is suffix_length (field line 5) stream.suffix (is_name suffix_length (field line 5)) s.3 in
+    let nmi = name_is 10 (field line 2) stream.nmi (is_name 10 (field line 2)) s.0 in
+    let suffix = name_is 2 (field line 5) stream.suffix (is_name 2 (field line 5)) s.3 in
     record {
       stream = λ i. record { nmi = nmi i; suffix = suffix i };
       length = ap (λ o. unwrap_or o 0) s.7;

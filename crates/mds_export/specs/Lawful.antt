@@ -2,7 +2,7 @@
 use Rattle.std.specs.Prelude.{IsTrue, List}
 use Rattle.std.specs.List.{All}
 use Rattle.mds_calendar.specs.Length.{is_length}
-use Rattle.mds_names.specs.Names.{is_name, nmi_length, suffix_length}
+use Rattle.mds_names.specs.Names.{is_name}
 use Rattle.mds_marks.specs.Reading.{is_lawful}
 use Rattle.mds_terms.specs.Details.{is_details}
 use Rattle.mds_terms.specs.Printable.{is_printable}
@@ -14,7 +14,7 @@ use Rattle.mds_statements.specs.declared.selected.SelectedStream.{SelectedStream
 -- the names of a stream
 abbrev pub IsLawfulStream : SelectedStream → Type 0
 IsLawfulStream selected =
-    IsTrue (is_name nmi_length selected.stream.nmi) × IsTrue (is_name suffix_length selected.stream.suffix)
+    IsTrue (is_name 10 selected.stream.nmi) × IsTrue (is_name 2 selected.stream.suffix)
 
 -- the length of a day's intervals, the texts of its details, and its readings
 abbrev pub IsLawfulDay : SelectedDay → Type 0

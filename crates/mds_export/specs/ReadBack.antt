@@ -5,7 +5,7 @@ use Rattle.std.specs.List.{All}
 use Rattle.mds_quantity.specs.Unit.{unit_of}
 use Rattle.mds_calendar.specs.Calendar.{date_time_of, day_of, moment_of}
 use Rattle.mds_calendar.specs.Length.{is_length, length_of}
-use Rattle.mds_names.specs.Names.{is_name, nmi_length, nmi_of, suffix_length, suffix_of}
+use Rattle.mds_names.specs.Names.{is_name, nmi_of, suffix_of}
 use Rattle.mds_marks.specs.Mark.{is_mark, mark_of}
 use Rattle.mds_marks.specs.Quality.{variable}
 use Rattle.mds_marks.specs.Reading.{is_lawful}
@@ -34,8 +34,8 @@ row_kind EndRow = kind.EndOfData
 -- the parts are lawful terms
 abbrev pub IsLawful : RowValue → Type 0
 IsLawful (HeaderRow moment sender receiver) = IsTrue (is_printable sender) × IsTrue (is_printable receiver)
-IsLawful (DetailsRow stream details unit minutes) = IsTrue (is_name nmi_length stream.nmi)
-    × IsTrue (is_name suffix_length stream.suffix) × IsTrue (is_details details) × IsTrue (is_length minutes)
+IsLawful (DetailsRow stream details unit minutes) = IsTrue (is_name 10 stream.nmi)
+    × IsTrue (is_name 2 stream.suffix) × IsTrue (is_details details) × IsTrue (is_length minutes)
 IsLawful (DayRow date readings mark update) =
     All (λ reading. IsTrue (is_lawful reading)) readings × IfSome mark (λ mark. IsTrue (is_mark mark))
 IsLawful (RunRow first last mark) = IsTrue (is_mark mark)

@@ -147,10 +147,8 @@ IsFilled w job i value =
 
 -- The reading that a job adds for a target: with its flag, method, code and text, and the value that fills the target.
 pub record IsSubstitute (w : World) (job : JobContent) (i : ℕ) (reading : ReadingValue) : Type 0 where
-  pub mark : reading.mark ≡ record {
-    quality = record { flag = job.flag; method = job.method };
-    reason = record { code = job.code; text = job.text };
-  }
+  pub mark : reading.mark
+      ≡ record { quality = record { flag = job.flag; method = job.method }; reason = record { code = job.code; text = job.text } }
   pub value : ℤ
   pub same : reading.value ≡ Some value
   pub filled : IsFilled w job i value

@@ -11,7 +11,7 @@ use Rattle.mds_quantity.specs.Unit.{unit_of, unit_text}
 use Rattle.mds_quantity.specs.declared.unit.Unit.{Unit as MeasureUnit}
 use Rattle.mds_quantity.specs.declared.unit.Unit.TheVariants.{MWh, KWh, Wh, MVArh, KVArh, VArh, MVAr, KVAr, VAr, MW, KW, W, MVAh, KVAh, VAh, MVA, KVA, VA, KV, V, KA, A, Pf}
 use Rattle.mds_calendar.specs.Length.{is_length, length_of}
-use Rattle.mds_names.specs.Names.{is_name, nmi_length, nmi_of, suffix_length, suffix_of}
+use Rattle.mds_names.specs.Names.{is_name, nmi_of, suffix_of}
 use Rattle.mds_marks.specs.Mark.{mark_of}
 use Rattle.mds_marks.specs.Quality.{QualityValue, quality_of, quality_text}
 use Rattle.mds_marks.specs.Reason.{ReasonValue, code_of, code_text, is_reason, is_reason_text, reason_of}
@@ -36,10 +36,10 @@ abbrev pub reason_in : JobContent → ReasonValue
 reason_in job = record { code = job.code; text = job.text }
 
 -- each text reads back
-nmi_reads : (text : List ℕ) → is_name nmi_length text ≡ true → nmi_of text ≡ Some text
+nmi_reads : (text : List ℕ) → is_name 10 text ≡ true → nmi_of text ≡ Some text
 nmi_reads text h = rw h
 
-suffix_reads : (text : List ℕ) → is_name suffix_length text ≡ true → suffix_of text ≡ Some text
+suffix_reads : (text : List ℕ) → is_name 2 text ≡ true → suffix_of text ≡ Some text
 suffix_reads text h = rw h
 
 decimal_writes : (bits n : ℕ) → n < 2 ^ bits → n < 2 ^ 64 → Writes bits (decimal n) n
@@ -180,8 +180,8 @@ flag_by false letter flag e = absurd (cc)
 -- parts that are read as a job say it
 pub job_said : (parts : List (List ℕ)) (job : JobContent) → AreJobParts parts job → job ≡ job_in parts
 job_said parts job r =
-    let nmi : part_at parts 0 ≡ job.stream.nmi = named_by (is_name nmi_length (part_at parts 0)) (part_at parts 0) job.stream.nmi r.nmi in
-    let suffix : part_at parts 1 ≡ job.stream.suffix = named_by (is_name suffix_length (part_at parts 1)) (part_at parts 1) job.stream.suffix r.suffix in
+    let nmi : part_at parts 0 ≡ job.stream.nmi = named_by (is_name 10 (part_at parts 0)) (part_at parts 0) job.stream.nmi r.nmi in
+    let suffix : part_at parts 1 ≡ job.stream.suffix = named_by (is_name 2 (part_at parts 1)) (part_at parts 1) job.stream.suffix r.suffix in
     let flag : slice_index_or (part_at parts 8) 0 0 ≡ job.flag = flag_by _ (slice_index_or (part_at parts 8) 0 0) job.flag r.flag in
     let reason = reason_parts (part_at parts 9) (part_at parts 10) (reason_in job) r.reason in
     rw (nmi, suffix, r.day, r.first.value, r.last.value, r.length, r.unit, r.method.value, flag, reason.0, reason.1, r.update)

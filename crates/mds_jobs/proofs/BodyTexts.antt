@@ -10,7 +10,7 @@ use Rattle.mds_quantity.specs.Unit.{unit_text}
 use Rattle.mds_quantity.specs.declared.unit.Unit.{Unit as MeasureUnit}
 use Rattle.mds_quantity.specs.declared.unit.Unit.TheVariants.{MWh, KWh, Wh, MVArh, KVArh, VArh, MVAr, KVAr, VAr, MW, KW, W, MVAh, KVAh, VAh, MVA, KVA, VA, KV, V, KA, A, Pf}
 use Rattle.mds_calendar.specs.Length.{is_length}
-use Rattle.mds_names.specs.Names.{is_comma, is_name, is_name_char, nmi_length, suffix_length}
+use Rattle.mds_names.specs.Names.{is_comma, is_name, is_name_char}
 use Rattle.mds_marks.specs.Mark.{is_mark, mark_text}
 use Rattle.mds_marks.specs.Quality.{quality_text}
 use Rattle.mds_marks.specs.Reason.{code_text, is_reason}
@@ -130,7 +130,7 @@ body_parts job body l b =
     let last : job.last < 2 ^ 64 = omega (arith, l.last) in
     let method : job.method < 2 ^ 64 = omega (arith, l.method) in
     let lacks : list_all lacks_comma (texts_of_job job b.date b.update) ≡ true =
-    rw (name_lacks nmi_length job.stream.nmi l.nmi, name_lacks suffix_length job.stream.suffix l.suffix, digits_lack b.date (day_is_digits b.date job.day b.day), decimal_lacks job.first first, decimal_lacks job.last last, decimal_lacks job.length (length_below job.length l.length), unit_lacks job.unit, decimal_lacks job.method method, flag_lacks job.flag, r.0, r.1, digits_lack b.update (moment_is_digits b.update job.update b.moment)) in
+    rw (name_lacks 10 job.stream.nmi l.nmi, name_lacks 2 job.stream.suffix l.suffix, digits_lack b.date (day_is_digits b.date job.day b.day), decimal_lacks job.first first, decimal_lacks job.last last, decimal_lacks job.length (length_below job.length l.length), unit_lacks job.unit, decimal_lacks job.method method, flag_lacks job.flag, r.0, r.1, digits_lack b.update (moment_is_digits b.update job.update b.moment)) in
     ap (slice_split is_comma) b.texts ∙ joined_splits job.stream.nmi (job.stream.suffix ∷ b.date ∷ decimal job.first ∷ decimal job.last ∷ decimal job.length
     ∷ unit_text job.unit ∷ decimal job.method ∷ flag_text job.flag ∷ code_text job.code ∷ job.text ∷ b.update ∷ []) lacks
 

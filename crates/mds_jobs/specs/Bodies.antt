@@ -9,7 +9,7 @@ use Rattle.mds_quantity.specs.declared.unit.Unit.{Unit as MeasureUnit}
 use Rattle.mds_quantity.specs.declared.unit.Unit.TheVariants.{MWh}
 use Rattle.mds_calendar.specs.Calendar.{day_of, moment_of}
 use Rattle.mds_calendar.specs.Length.{is_length, length_of}
-use Rattle.mds_names.specs.Names.{is_comma, is_name, nmi_length, nmi_of, suffix_length, suffix_of}
+use Rattle.mds_names.specs.Names.{is_comma, is_name, nmi_of, suffix_of}
 use Rattle.mds_marks.specs.Reason.{code_of, code_text, is_reason, reason_of}
 use Rattle.mds_terms.specs.Parts.{joined}
 use Rattle.mds_world.specs.Facts.{JobContent}
@@ -31,8 +31,8 @@ pub record IsJobBody (job : JobContent) (body : List ℕ) : Type 0 where
 
 -- what the types of a job's parts guarantee, and a flag that is a capital letter
 pub record IsLawfulJob (job : JobContent) : Type 0 where
-  pub nmi : IsTrue (is_name nmi_length job.stream.nmi)
-  pub suffix : IsTrue (is_name suffix_length job.stream.suffix)
+  pub nmi : IsTrue (is_name 10 job.stream.nmi)
+  pub suffix : IsTrue (is_name 2 job.stream.suffix)
   pub first : job.first < 2 ^ 16
   pub last : job.last < 2 ^ 16
   pub length : IsTrue (is_length job.length)

@@ -10,6 +10,7 @@ use Rattle.mds_terms.specs.Details.{DetailsValue}
 use Rattle.mds_terms.specs.Event.{EventValue}
 use Rattle.mds_jobs.specs.Jobs.{content_of}
 use Rattle.mds_jobs.specs.declared.job.Job.{Job}
+pub use Rattle.mds_statements.specs.Selected.{stream_cmp}
 use Rattle.mds_statements.specs.declared.periods.Period.{Period}
 use Rattle.mds_world.specs.Facts.{JobContent, PeriodContent}
 use Rattle.mds_statements.specs.declared.periods.PeriodKey.{PeriodKey}
@@ -22,10 +23,6 @@ use Rattle.mds_world.specs.World.{IsEventOf, IsKnownDay, IsKnownStream, World}
 use Rattle.mds_keeper.specs.Books.{BookValue, IsDay}
 use Rattle.mds_keeper.specs.Content.{detail_on}
 use Rattle.mds_keeper.specs.declared.additions.DetailDays.{DetailDays}
-
--- by the bytes of the NMI, and then of the suffix
-abbrev pub stream_cmp : Stream → Stream → Ordering
-stream_cmp a b = ordering_then (slice_cmp nat_cmp a.nmi b.nmi) (slice_cmp nat_cmp a.suffix b.suffix)
 
 -- The known streams, ascending, each once.
 pub record AreKnownStreams (w : World) (streams : List Stream) : Type 0 where

@@ -23,13 +23,15 @@ use Rattle.mds_world.specs.World.{Agrees, IsKnownDay, World}
 use Rattle.mds_keeper.specs.Queries.{AreKnownStreams, period_cmp, stream_cmp}
 use Rattle.mds_keeper.specs.declared.day_book.Version.{Version}
 use Rattle.mds_keeper.specs.declared.refusal.Refusal.{Refusal}
+use Rattle.mds_keeper.specs.declared.refusal.RefusalCode.TheVariants.{UnknownDay}
 use Rattle.mds_messages.specs.declared.answer.Answer.{Answer}
 use Rattle.mds_messages.specs.declared.answer.Answer.TheVariants as told
 use Rattle.mds_messages.specs.declared.answer.DayAnswer.{DayAnswer}
 use Rattle.mds_messages.specs.declared.answer.PeriodAnswer.{PeriodAnswer}
 use Rattle.mds_messages.specs.declared.answer.StreamAnswer.{StreamAnswer}
 use Rattle.mds_messages.specs.declared.answer.VersionsAnswer.{VersionsAnswer}
-use Rattle.mds_service.specs.Machine.{AreStreamAnswers, HasInterval, IsDayAnswer, IsPeriodAnswer, IsUnknownDay, IsVersionsAnswer, TellsDay, TellsPeriods, TellsStreams, TellsVersions}
+use Rattle.mds_service.specs.Machine.{AreStreamAnswers, HasInterval, IsDayAnswer, IsPeriodAnswer, IsVersionsAnswer, TellsDay, TellsPeriods, TellsStreams, TellsVersions}
+use Rattle.mds_service.specs.RangeAnswers.{IsPlaceless}
 use Rattle.mds_laws.specs.Answered.{IsGiven}
 use Rattle.mds_laws.specs.Determined.{AreSame, AreSamePeriods, AreSameVersions, IsSameDayTold}
 use Rattle.mds_laws.proofs.OneList.{not_both_less, one_ascending, one_by_places, same_first}
@@ -42,7 +44,7 @@ pub told_same : (a b x y : Answer) → a ≡ x → b ≡ y → AreSame x y → A
 told_same a b x y e f same = subst (λ p. AreSame p b) (sym e) (subst (AreSame x) (sym f) same)
 
 -- refusals without a number
-one_unknown : (r s : Refusal) → IsUnknownDay r → IsUnknownDay s → r ≡ s
+one_unknown : (r s : Refusal) → IsPlaceless UnknownDay r → IsPlaceless UnknownDay s → r ≡ s
 one_unknown r s a b = one_refusal r s (a.0 ∙ sym b.0) (a.1 ∙ sym b.1) (a.2 ∙ sym b.2) (a.3 ∙ sym b.3)
 
 -- ---- a day
@@ -75,7 +77,7 @@ module _ (w : World) (agrees : Agrees w) (s : Stream) (d : ℕ) where
   abbrev DayTold : Answer → Type 0
   DayTold answer =
       ((it : DayAnswer) × (answer ≡ told.Day it) × IsDayAnswer w s d it)
-      ⊎ ((refusal : Refusal) × (answer ≡ told.Refused refusal) × (IsKnownDay w s d → ⊥) × IsUnknownDay refusal)
+      ⊎ ((refusal : Refusal) × (answer ≡ told.Refused refusal) × (IsKnownDay w s d → ⊥) × IsPlaceless UnknownDay refusal)
 
   day_told : (answer : Answer) → TellsDay w s d answer → IsGiven answer → DayTold answer
   day_told (told.Imported added known) tells is_given = absurd tells
@@ -124,7 +126,7 @@ module _ (w : World) (s : Stream) (d i : ℕ) where
   abbrev VersionsTold : Answer → Type 0
   VersionsTold answer =
       ((it : VersionsAnswer) × (answer ≡ told.Versions it) × IsVersionsAnswer w s d i it)
-      ⊎ ((refusal : Refusal) × (answer ≡ told.Refused refusal) × (HasInterval w s d i → ⊥) × IsUnknownDay refusal)
+      ⊎ ((refusal : Refusal) × (answer ≡ told.Refused refusal) × (HasInterval w s d i → ⊥) × IsPlaceless UnknownDay refusal)
 
   versions_told : (answer : Answer) → TellsVersions w s d i answer → IsGiven answer → VersionsTold answer
   versions_told (told.Imported added known) tells is_given = absurd tells

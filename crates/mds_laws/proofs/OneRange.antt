@@ -9,6 +9,7 @@ use Rattle.mds_statements.specs.Statements.{HeaderValue}
 use Rattle.mds_world.specs.World.{Agrees, World}
 use Rattle.mds_keeper.specs.Queries.{AreKnownStreams}
 use Rattle.mds_keeper.specs.declared.refusal.Refusal.{Refusal}
+use Rattle.mds_keeper.specs.declared.refusal.RefusalCode.TheVariants.{RangeTooWide}
 use Rattle.mds_registers.specs.Registers.{AreRows as AreTextRows, AreGapRowsText, IsFinalsText, IsGapsText, final_fields, gap_fields, gaps_head_text}
 use Rattle.mds_registers.specs.declared.writing.FinalRow.{FinalRow}
 use Rattle.mds_registers.specs.declared.writing.GapRow.{GapRow}
@@ -19,7 +20,8 @@ use Rattle.mds_ranges.specs.Ranges.{AreFinalRows, AreGapRows, AreRows, IsTooWide
 use Rattle.mds_messages.specs.Answers.TextKind.{ExportText, FinalsText, GapsText, MissingText}
 use Rattle.mds_messages.specs.declared.answer.Answer.{Answer}
 use Rattle.mds_messages.specs.declared.answer.Answer.TheVariants as told
-use Rattle.mds_service.specs.RangeAnswers.{AreMissingOf, AsksTooMuch, IsMissingOf, IsRangeTooWide, TellsExport, TellsFinals, TellsGaps, TellsMissing}
+use Rattle.mds_export.specs.Exports.{AreInTurn}
+use Rattle.mds_service.specs.RangeAnswers.{AsksTooMuch, IsMissingOf, IsPlaceless, TellsExport, TellsFinals, TellsGaps, TellsMissing}
 use Rattle.mds_laws.specs.Answered.{IsGiven}
 use Rattle.mds_laws.specs.Determined.{AreSame}
 use Rattle.mds_laws.proofs.OneList.{one_ascending}
@@ -27,7 +29,7 @@ use Rattle.mds_laws.proofs.OneQuery.{one_known, told_same}
 use Rattle.mds_laws.proofs.OneRefusal.{one_refusal}
 use Rattle.mds_laws.proofs.OneSelection.{one_export}
 
-one_too_wide : (r s : Refusal) → IsRangeTooWide r → IsRangeTooWide s → r ≡ s
+one_too_wide : (r s : Refusal) → IsPlaceless RangeTooWide r → IsPlaceless RangeTooWide s → r ≡ s
 one_too_wide r s a b = one_refusal r s (a.0 ∙ sym b.0) (a.1 ∙ sym b.1) (a.2 ∙ sym b.2) (a.3 ∙ sym b.3)
 
 -- ---- registers
@@ -75,7 +77,7 @@ module _ (make : Vec ℕ Global → Answer) (same_text : (a b : Vec ℕ Global) 
   abbrev pub TextTold : Answer → Type 0
   TextTold answer =
       ((text : Vec ℕ Global) × (answer ≡ make text) × (TooMuch → ⊥) × IsText text.items)
-      ⊎ ((refusal : Refusal) × (answer ≡ told.Refused refusal) × TooMuch × IsRangeTooWide refusal)
+      ⊎ ((refusal : Refusal) × (answer ≡ told.Refused refusal) × TooMuch × IsPlaceless RangeTooWide refusal)
 
   pub same_told : (a b : Answer) → TextTold a → TextTold b → AreSame a b
   same_told a b (inl (text, e, few, x)) (inl (other, f, less, y)) =
@@ -164,10 +166,10 @@ module _ (w : World) (first last : ℕ) (since : Option ℕ) where
   one_missing_of stream a b (inr (idle, e)) (inl (asks, rows, x, p)) = absurd (idle asks)
   one_missing_of stream a b (inr (idle, e)) (inr (other, f)) = e ∙ sym f
 
-  all_missing_of : (streams : List Stream) (a b : List ℕ) → AreMissingOf w since first last streams a
-      → AreMissingOf w since first last streams b → a ≡ b
+  all_missing_of : (streams : List Stream) (a b : List ℕ) → AreInTurn (IsMissingOf w since first last) streams a
+      → AreInTurn (IsMissingOf w since first last) streams b → a ≡ b
   all_missing_of [] a b e f = e ∙ sym f
-  all_missing_of (stream ∷ streams) a b (one, rest, is, are, e) (other, left, has, have, f) =
+  all_missing_of (stream ∷ streams) a b (one, rest, e, is, are) (other, left, f, has, have) =
       let same = one_missing_of stream one other is has in
       let more = all_missing_of streams rest left are have in
       cc (e, f, same, more)
@@ -175,12 +177,12 @@ module _ (w : World) (first last : ℕ) (since : Option ℕ) where
   abbrev IsMissing : List ℕ → Type 0
   IsMissing text =
       (streams : List Stream) × AreKnownStreams w streams
-      × (rest : List ℕ) × (text ≡ gaps_head_text ++ rest) × AreMissingOf w since first last streams rest
+      × (rest : List ℕ) × (text ≡ gaps_head_text ++ rest) × AreInTurn (IsMissingOf w since first last) streams rest
 
   one_missing : (a b : List ℕ) → IsMissing a → IsMissing b → a ≡ b
   one_missing a b (streams, x, rest, e, p) (others, y, left, f, q) =
       let same = one_known w streams others x y in
-      let more = all_missing_of others rest left (subst (λ s. AreMissingOf w since first last s rest) same p) q in
+      let more = all_missing_of others rest left (subst (λ s. AreInTurn (IsMissingOf w since first last) s rest) same p) q in
       cc (e, f, more)
 
   missing_told : (answer : Answer) → TellsMissing w first last since answer → IsGiven answer

@@ -20,7 +20,8 @@ use Rattle.mds_registers.proofs.Rows.{rows_are_some}
 use Rattle.mds_ranges.specs.Ranges.{AreGapRows}
 use Rattle.mds_ranges.specs.Readings.{AreReadings}
 use Rattle.mds_messages.specs.declared.answer.Answer.TheVariants as told
-use Rattle.mds_service.specs.RangeAnswers.{AreMissingOf, IsAsked, IsMissingOf, TellsReadings}
+use Rattle.mds_export.specs.Exports.{AreInTurn}
+use Rattle.mds_service.specs.RangeAnswers.{IsAsked, IsMissingOf, TellsReadings}
 use Rattle.mds_laws.specs.Registers.{AreRowsOf, HasDayOf, MissingShowsGaps, ReadingsShowDays, ReadingsShowExports}
 use Rattle.mds_laws.proofs.OneRange.{one_rows, one_text}
 
@@ -38,11 +39,11 @@ module _ (w : World) (since : Option ℕ) (first last : ℕ) (stream : Stream) w
   its_rows text asks (inr (idle, e)) = absurd (idle asks)
 
   part_of : (streams : List Stream) (text : List ℕ) → IsAsked w since stream → Member stream streams
-      → AreMissingOf w since first last streams text → IsPartOf text
+      → AreInTurn (IsMissingOf w since first last) streams text → IsPartOf text
   part_of [] text asks within are = absurd within
-  part_of (one ∷ more) text asks (inl same) (here, rest, is, are, e) =
+  part_of (one ∷ more) text asks (inl same) (here, rest, e, is, are) =
       ([], here, rest, e, its_rows here asks (subst (λ s. IsMissingOf w since first last s here) (sym same) is))
-  part_of (one ∷ more) text asks (inr within) (here, rest, is, are, e) =
+  part_of (one ∷ more) text asks (inr within) (here, rest, e, is, are) =
       let part = part_of more rest asks within are in (
         here ++ part.0,
         part.1,

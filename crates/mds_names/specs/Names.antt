@@ -12,20 +12,13 @@ is_name_char c = is_ascii_uppercase c || is_ascii_digit c
 abbrev pub is_name : ℕ → List ℕ → Bool
 is_name n text = (length text == n) && list_all is_name_char text
 
--- the number of characters of an NMI, and of a suffix
-abbrev pub nmi_length : ℕ
-nmi_length = 10
-
-abbrev pub suffix_length : ℕ
-suffix_length = 2
-
 -- the NMI that a text denotes
 abbrev pub nmi_of : List ℕ → Option (List ℕ)
-nmi_of text = if is_name nmi_length text then Some text else None
+nmi_of text = if is_name 10 text then Some text else None
 
 -- the suffix that a text denotes
 abbrev pub suffix_of : List ℕ → Option (List ℕ)
-suffix_of text = if is_name suffix_length text then Some text else None
+suffix_of text = if is_name 2 text then Some text else None
 
 -- the character that joins the two, as it joins the fields of a record
 abbrev pub comma : ℕ

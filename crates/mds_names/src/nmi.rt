@@ -3,7 +3,7 @@
 ghost use Rattle.std.specs.Prelude.{◌≡◌, ◌↔◌, ℕ, List, IsTrue, OnOk, OnErr, string_bytes, string_capacity, string_len, ◌+◌, ◌<◌, ◌++◌};
 ghost use Rattle.std.specs.Ordering.{nat_cmp};
 ghost use Rattle.std.specs.Cmp.Lexicographic.{slice_cmp};
-ghost use Rattle.mds_names.specs.Names.{is_name, nmi_of, nmi_length};
+ghost use Rattle.mds_names.specs.Names.{is_name, nmi_of};
 
 use crate::name::is_name;
 use std::alloc::AllocError;
@@ -18,13 +18,13 @@ pub struct Nmi {
 
 impl Model for Nmi {
     ghost use Rattle.std.specs.Prelude.{ℕ, List, IsTrue};
-    ghost use Rattle.mds_names.specs.Names.{is_name, nmi_length};
+    ghost use Rattle.mds_names.specs.Names.{is_name};
 
     ghost Value = { List ℕ };
 
     ghost view = { λ nmi. nmi.bytes };
 
-    ghost invariant = { λ nmi. IsTrue (is_name nmi_length nmi.bytes) };
+    ghost invariant = { λ nmi. IsTrue (is_name 10 nmi.bytes) };
 
     ghost inverse = { λ bytes. record { bytes = bytes } };
 }
@@ -46,7 +46,7 @@ impl Nmi {
     pub fn write_to(self, out: &mut String) -> Result<(), AllocError>
         ensures done { OnOk result (string_bytes out.new ≡ string_bytes out.old ++ self) }
         ensures kept { OnErr result (string_bytes out.new ≡ string_bytes out.old) }
-        ensures full { OnErr result (string_capacity out.old < string_len out.old + nmi_length) }
+        ensures full { OnErr result (string_capacity out.old < string_len out.old + 10) }
     {
         out.push_str(self.text())
     }
@@ -54,7 +54,7 @@ impl Nmi {
     /// Its text.
     pub fn text(&self) -> &str
         ensures value { result.now ≡ self.now }
-        ensures name { IsTrue (is_name nmi_length self.now) }
+        ensures name { IsTrue (is_name 10 self.now) }
         ensures equal { (other : List ℕ)
             → IsTrue (⟦<Nmi as PartialEq>⟧.eq self.now other) ↔ (self.now ≡ other) }
         // By bytes: the first difference decides.

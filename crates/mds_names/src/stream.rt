@@ -3,7 +3,7 @@
 ghost use Rattle.std.specs.Prelude.{◌≡◌, ◌↔◌, ◌⊎◌, ℕ, List, IsTrue, IfSome, IfNone, OnOk, OnErr, Some, None, length, string_bytes, string_capacity, string_len, ◌+◌, ◌<◌, ◌++◌, take};
 ghost use Rattle.std.specs.Ordering.{nat_cmp, ordering_then};
 ghost use Rattle.std.specs.Cmp.Lexicographic.{slice_cmp};
-ghost use Rattle.mds_names.specs.Names.{is_name, nmi_of, nmi_length, suffix_of, suffix_length, stream_text};
+ghost use Rattle.mds_names.specs.Names.{is_name, nmi_of, suffix_of, stream_text};
 
 use crate::nmi::Nmi;
 use crate::suffix::Suffix;

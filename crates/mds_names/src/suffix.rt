@@ -3,7 +3,7 @@
 ghost use Rattle.std.specs.Prelude.{◌≡◌, ◌↔◌, ℕ, List, IsTrue, OnOk, OnErr, string_bytes, string_capacity, string_len, ◌+◌, ◌<◌, ◌++◌};
 ghost use Rattle.std.specs.Ordering.{nat_cmp};
 ghost use Rattle.std.specs.Cmp.Lexicographic.{slice_cmp};
-ghost use Rattle.mds_names.specs.Names.{is_name, suffix_of, suffix_length};
+ghost use Rattle.mds_names.specs.Names.{is_name, suffix_of};
 
 use crate::name::is_name;
 use std::alloc::AllocError;
@@ -19,13 +19,13 @@ pub struct Suffix {
 
 impl Model for Suffix {
     ghost use Rattle.std.specs.Prelude.{ℕ, List, IsTrue};
-    ghost use Rattle.mds_names.specs.Names.{is_name, suffix_length};
+    ghost use Rattle.mds_names.specs.Names.{is_name};
 
     ghost Value = { List ℕ };
 
     ghost view = { λ suffix. suffix.bytes };
 
-    ghost invariant = { λ suffix. IsTrue (is_name suffix_length suffix.bytes) };
+    ghost invariant = { λ suffix. IsTrue (is_name 2 suffix.bytes) };
 
     ghost inverse = { λ bytes. record { bytes = bytes } };
 }
@@ -47,7 +47,7 @@ impl Suffix {
     pub fn write_to(self, out: &mut String) -> Result<(), AllocError>
         ensures done { OnOk result (string_bytes out.new ≡ string_bytes out.old ++ self) }
         ensures kept { OnErr result (string_bytes out.new ≡ string_bytes out.old) }
-        ensures full { OnErr result (string_capacity out.old < string_len out.old + suffix_length) }
+        ensures full { OnErr result (string_capacity out.old < string_len out.old + 2) }
     {
         out.push_str(self.text())
     }
@@ -55,7 +55,7 @@ impl Suffix {
     /// Its text.
     pub fn text(&self) -> &str
         ensures value { result.now ≡ self.now }
-        ensures name { IsTrue (is_name suffix_length self.now) }
+        ensures name { IsTrue (is_name 2 self.now) }
         ensures equal { (other : List ℕ)
             → IsTrue (⟦<Suffix as PartialEq>⟧.eq self.now other) ↔ (self.now ≡ other) }
         // By bytes: the first difference decides.

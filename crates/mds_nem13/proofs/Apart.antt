@@ -18,7 +18,7 @@ use Rattle.mds_quantity.specs.declared.quantity.QuantityFault.TheVariants.{Form,
 use Rattle.mds_quantity.specs.Unit.{unit_text}
 use Rattle.mds_quantity.specs.declared.unit.Unit.{Unit as MeasureUnit}
 use Rattle.mds_quantity.specs.declared.unit.Unit.TheVariants.{MWh, KWh, Wh, MVArh, KVArh, VArh, MVAr, KVAr, VAr, MW, KW, W, MVAh, KVAh, VAh, MVA, KVA, VA, KV, V, KA, A, Pf}
-use Rattle.mds_names.specs.Names.{is_name, is_name_char, nmi_length, nmi_of, suffix_length, suffix_of}
+use Rattle.mds_names.specs.Names.{is_name, is_name_char, nmi_of, suffix_of}
 use Rattle.mds_marks.specs.Quality.{QualityValue, is_quality, quality_text}
 use Rattle.mds_marks.specs.Reason.{ReasonValue, is_reason_char, are_reason_chars, is_reason_text, is_code, code_of, reason_of}
 use Rattle.mds_marks.proofs.Qualities.{is_plain, plain_text}
@@ -209,14 +209,14 @@ line_written front old mid new x xs e apart p = record {
 
 -- a suffix is the text that it is read from
 pub suffix_is : (text suffix : List ℕ) → suffix_of text ≡ Some suffix → suffix ≡ text
-suffix_is text suffix e = by (is_name suffix_length text) e where
+suffix_is text suffix e = by (is_name 2 text) e where
   by : (b : Bool) → cond b (Some text) None ≡ Some suffix → suffix ≡ text
   by true e = cc
   by false e = absurd (cc)
 
 -- and so is an NMI
 pub nmi_is : (text nmi : List ℕ) → nmi_of text ≡ Some nmi → nmi ≡ text
-nmi_is text nmi e = by (is_name nmi_length text) e where
+nmi_is text nmi e = by (is_name 10 text) e where
   by : (b : Bool) → cond b (Some text) None ≡ Some nmi → nmi ≡ text
   by true e = cc
   by false e = absurd (cc)

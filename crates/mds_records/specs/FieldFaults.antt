@@ -1,25 +1,25 @@
 -- The first fault of a record's fields. MDFF Specification, the layouts; the order of the faults is this project's
 -- profile.
-use Rattle.std.specs.Prelude.{ℕ, ◌+◌, ◌-◌, Bool, false, not, ◌||◌, ◌==◌, nat_lt, if◌then◌else◌, List, length, drop, bytes_eq, find, slice_index_or, Option, Some, option_map}
+use Rattle.std.specs.Prelude.{ℕ, ◌+◌, ◌-◌, Bool, false, not, ◌||◌, ◌==◌, nat_lt, if◌then◌else◌, List, [], ◌∷◌, length, drop, bytes_eq, find, slice_index_or, Option, Some, None, option_map}
 use Rattle.std.specs.List.{list_any, range_with_len}
 use Rattle.mds_lines.specs.declared.line.Kind.{Kind}
-use Rattle.mds_lines.specs.declared.line.Kind.TheVariants.{Header, NmiDataDetails, AccumulationData, IntervalData, IntervalEvent, B2bDetails, AccumulationB2bDetails, EndOfData}
+use Rattle.mds_lines.specs.declared.line.Kind.TheVariants.{Header}
 use Rattle.mds_lines.specs.Lines.{fields_of, field}
 use Rattle.mds_records.specs.declared.header_name.HeaderName.{HeaderName}
 use Rattle.mds_records.specs.declared.fault.FieldFault.{FieldFault}
 use Rattle.mds_records.specs.declared.fault.FieldFault.TheVariants.{WrongFile, Count, Bad}
 use Rattle.mds_records.specs.Layouts.{Rule, Nothing, may, fits, layout, least_count, means_values, other_file_name}
 
+-- the first fault of several that may be absent
+abbrev pub first_of : {T : Type 0} → List (Option T) → Option T
+first_of [] = None
+first_of (None ∷ rest) = first_of rest
+first_of (Some found ∷ rest) = Some found
+
 -- a header that names the other kind of file
 abbrev pub is_of_other_file : HeaderName → Kind → List ℕ → Bool
 is_of_other_file file Header line = bytes_eq (field line 2) (other_file_name file)
-is_of_other_file file NmiDataDetails line = false
-is_of_other_file file AccumulationData line = false
-is_of_other_file file IntervalData line = false
-is_of_other_file file IntervalEvent line = false
-is_of_other_file file B2bDetails line = false
-is_of_other_file file AccumulationB2bDetails line = false
-is_of_other_file file EndOfData line = false
+is_of_other_file file kind line = false
 
 -- the layout of a line whose kind has n values; the quality after the values says whether these may be empty
 abbrev pub layout_of : Kind → ℕ → List ℕ → List Rule

@@ -147,6 +147,4 @@ least_count NmiDataDetails n = 9
 least_count AccumulationData n = 20
 least_count IntervalData n = n + 3
 least_count IntervalEvent n = 4
-least_count B2bDetails n = 1
-least_count AccumulationB2bDetails n = 1
-least_count EndOfData n = 1
+least_count kind n = 1

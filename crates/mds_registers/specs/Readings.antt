@@ -14,6 +14,7 @@ use Rattle.mds_marks.specs.Reason.{code_text}
 use Rattle.mds_world.specs.Current.{HasNoVersion, IsFormOf, no_reading}
 use Rattle.mds_world.specs.World.{IsCurrent, IsKnownDay, World}
 use Rattle.mds_keeper.specs.Books.{BookValue, IsDay}
+use Rattle.mds_registers.specs.Registers.{IsRegister}
 
 -- the head row
 abbrev pub readings_head : List (List ℕ)
@@ -75,8 +76,7 @@ AreDayTexts w stream (day ∷ days) text =
 
 -- The register of a stream's readings on these days.
 abbrev pub IsReadingsText : World → Stream → (days : List ℕ) → List ℕ → Type 0
-IsReadingsText w stream days text =
-    (rest : List ℕ) × (text ≡ readings_head_text ++ rest) × AreDayTexts w stream days rest
+IsReadingsText w stream days text = IsRegister readings_head (AreDayTexts w stream days) text
 
 -- each book is one of a known day of the stream
 abbrev pub AreKnownDays : World → Stream → List BookValue → Type 0

@@ -45,13 +45,13 @@ final_fields stream row date =
 abbrev pub AreGapRowsText : Stream → List GapRow → List ℕ → Type 0
 AreGapRowsText stream rows text = AreRows (λ row. row.day) (gap_fields stream) rows text
 
--- The registers of a stream.
+-- a register: a head row, and the text of its rows
+abbrev pub IsRegister : (head : List (List ℕ)) → (IsOfRows : List ℕ → Type 0) → List ℕ → Type 0
+IsRegister head IsOfRows text = (rest : List ℕ) × (text ≡ row_text default_writer head ++ rest) × IsOfRows rest
+
+-- the registers of a stream
 abbrev pub IsGapsText : Stream → List GapRow → List ℕ → Type 0
-IsGapsText stream rows text =
-    (rest : List ℕ) × (text ≡ row_text default_writer gaps_head ++ rest)
-    × AreRows (λ row. row.day) (gap_fields stream) rows rest
+IsGapsText stream rows text = IsRegister gaps_head (AreGapRowsText stream rows) text
 
 abbrev pub IsFinalsText : Stream → List FinalRow → List ℕ → Type 0
-IsFinalsText stream rows text =
-    (rest : List ℕ) × (text ≡ row_text default_writer finals_head ++ rest)
-    × AreRows (λ row. row.day) (final_fields stream) rows rest
+IsFinalsText stream rows text = IsRegister finals_head (AreRows (λ row. row.day) (final_fields stream) rows) text

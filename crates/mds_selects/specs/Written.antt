@@ -4,7 +4,7 @@ use Rattle.sqlite_value.specs.Order.{Row, column}
 use Rattle.sqlite.specs.declared.types.Value.TheVariants.{Text}
 use Rattle.mds_calendar.specs.Calendar.{day_seconds, last_day}
 use Rattle.mds_calendar.specs.Length.{is_length}
-use Rattle.mds_names.specs.Names.{is_name, nmi_length, suffix_length}
+use Rattle.mds_names.specs.Names.{is_name}
 use Rattle.mds_names.specs.declared.stream.Stream.{Stream}
 use Rattle.mds_marks.specs.Reading.{ReadingValue, is_lawful}
 use Rattle.mds_terms.specs.Event.{EventValue, is_event}
@@ -22,8 +22,8 @@ IsMoment moment = moment < (last_day + 1) * day_seconds
 
 -- the two names are well formed
 pub record IsStream (s : Stream) : Type 0 where
-  pub nmi : IsTrue (is_name nmi_length s.nmi)
-  pub suffix : IsTrue (is_name suffix_length s.suffix)
+  pub nmi : IsTrue (is_name 10 s.nmi)
+  pub suffix : IsTrue (is_name 2 s.suffix)
 
 -- a row begins with a stream
 pub record BeginsWith (row : Row) (s : Stream) : Type 0 where

@@ -5,7 +5,7 @@ ghost use Rattle.std.specs.Str.{is_utf8};
 ghost use Rattle.sqlite.specs.declared.types.Value.TheVariants.{Int, Null, Text};
 ghost use Rattle.sqlite.specs.Order.{column};
 ghost use Rattle.mds_calendar.specs.Length.{is_length};
-ghost use Rattle.mds_names.specs.Names.{is_name, nmi_length, suffix_length};
+ghost use Rattle.mds_names.specs.Names.{is_name};
 ghost use Rattle.mds_names.specs.declared.stream.Stream.{Stream as StreamValue};
 ghost use Rattle.mds_quantity.specs.Quantity.{limit};
 ghost use Rattle.mds_quantity.specs.Unit.{unit_of, unit_text};
@@ -61,7 +61,7 @@ pub fn int_at(row: &Row, at: usize) -> Option<i64>
 /// The NMI in a column.
 fn nmi_at(row: &Row, at: usize) -> Option<Nmi>
     ensures some { IfSome result (λ nmi. column row.now at ≡ Text nmi) }
-    ensures none { IfNone result ((nmi : List ℕ) → IsTrue (is_name nmi_length nmi) → column row.now at ≢ Text nmi) }
+    ensures none { IfNone result ((nmi : List ℕ) → IsTrue (is_name 10 nmi) → column row.now at ≢ Text nmi) }
 {
     Nmi::read(text_at(row, at)?)
 }
@@ -69,7 +69,7 @@ fn nmi_at(row: &Row, at: usize) -> Option<Nmi>
 /// The suffix in a column.
 fn suffix_at(row: &Row, at: usize) -> Option<Suffix>
     ensures some { IfSome result (λ suffix. column row.now at ≡ Text suffix) }
-    ensures none { IfNone result ((suffix : List ℕ) → IsTrue (is_name suffix_length suffix) → column row.now at ≢ Text suffix) }
+    ensures none { IfNone result ((suffix : List ℕ) → IsTrue (is_name 2 suffix) → column row.now at ≢ Text suffix) }
 {
     Suffix::read(text_at(row, at)?)
 }

@@ -5,7 +5,7 @@ use Rattle.std.specs.Char.{is_ascii_digit, is_ascii_uppercase}
 use Rattle.std.specs.List.{list_all, slice_split}
 use Rattle.std.specs.Option.{option_map}
 use Rattle.mds_calendar.specs.Calendar.{day_of, moment_of}
-use Rattle.mds_names.specs.Names.{is_comma, is_name, is_name_char, nmi_length, suffix_length}
+use Rattle.mds_names.specs.Names.{is_comma, is_name, is_name_char}
 use Rattle.mds_terms.specs.Details.{DetailsValue, is_details, details_of}
 use Rattle.mds_terms.specs.Event.{EventValue, is_event, is_trans, event_of, letter_of, trans_text}
 use Rattle.mds_terms.specs.Parts.{joined, optional}
@@ -89,12 +89,12 @@ letter_reads None h = refl
 letter_reads (Some c) h = rw h
 
 -- the parts of an event
-event_parts : (event : EventValue) → is_event event ≡ true → (is_name nmi_length event.nmi ≡ true) × (is_name suffix_length event.suffix ≡ true) × (is_trans event.trans ≡ true) × (is_printable event.ticket ≡ true) × (is_printable event.reading ≡ true)
+event_parts : (event : EventValue) → is_event event ≡ true → (is_name 10 event.nmi ≡ true) × (is_name 2 event.suffix ≡ true) × (is_trans event.trans ≡ true) × (is_printable event.ticket ≡ true) × (is_printable event.reading ≡ true)
 event_parts event h =
-    let names = is_name nmi_length event.nmi && is_name suffix_length event.suffix in
+    let names = is_name 10 event.nmi && is_name 2 event.suffix in
     let p = both (names && is_trans event.trans) (list_all is_printable (event.ticket ∷ event.reading ∷ [])) h in
     let q = both names (is_trans event.trans) p.0 in
-    let r = both (is_name nmi_length event.nmi) (is_name suffix_length event.suffix) q.0 in
+    let r = both (is_name 10 event.nmi) (is_name 2 event.suffix) q.0 in
     let s = both (is_printable event.ticket) (is_printable event.reading && true) p.1 in
     (r.0, r.1, q.1, s.0, (both (is_printable event.reading) true s.1).0)
 
@@ -108,5 +108,5 @@ pub event_splits : (event : EventValue) (day moment : List ℕ) → is_event eve
 event_splits event day moment h d m =
     let p = event_parts event h in
     let lacks : list_all lacks_comma (event.nmi ∷ event.suffix ∷ day ∷ trans_text event.trans ∷ event.ticket ∷ moment ∷ event.reading ∷ []) ≡ true =
-    rw (name_lacks nmi_length event.nmi p.0, name_lacks suffix_length event.suffix p.1, digits_lack day (day_is_digits day event.day d), trans_lacks event.trans p.2, printable_lacks event.ticket p.3, optional_lacks moment_of moment_is_digits moment event.moment m, printable_lacks event.reading p.4) in
+    rw (name_lacks 10 event.nmi p.0, name_lacks 2 event.suffix p.1, digits_lack day (day_is_digits day event.day d), trans_lacks event.trans p.2, printable_lacks event.ticket p.3, optional_lacks moment_of moment_is_digits moment event.moment m, printable_lacks event.reading p.4) in
     joined_splits event.nmi (event.suffix ∷ day ∷ trans_text event.trans ∷ event.ticket ∷ moment ∷ event.reading ∷ []) lacks

@@ -8,7 +8,7 @@ use Rattle.std.specs.Option.{option_cmp}
 use Rattle.std.specs.Ordering.{nat_cmp, on, then_cmp}
 use Rattle.std.specs.declared.cmp.Ordering.{Ordering}
 use Rattle.mds_calendar.specs.Calendar.{day_of, moment_of}
-use Rattle.mds_names.specs.Names.{is_name, nmi_length, nmi_of, suffix_length, suffix_of}
+use Rattle.mds_names.specs.Names.{is_name, nmi_of, suffix_of}
 use Rattle.mds_terms.specs.Printable.{is_printable}
 use Rattle.mds_terms.specs.Parts.{joined, optional}
 
@@ -36,7 +36,7 @@ is_trans (Some letter) = is_ascii_uppercase letter
 -- the names and the transaction code are valid, and the texts are printable
 abbrev pub is_event : EventValue → Bool
 is_event event =
-    is_name nmi_length event.nmi && is_name suffix_length event.suffix && is_trans event.trans
+    is_name 10 event.nmi && is_name 2 event.suffix && is_trans event.trans
     && list_all is_printable (event.ticket ∷ event.reading ∷ [])
 
 -- the event denoted by seven texts

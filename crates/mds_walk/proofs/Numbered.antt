@@ -4,7 +4,8 @@ use Rattle.std.specs.List.{filter, flat_map, last_or, range_with_len}
 use Rattle.std.specs.Option.{is_some}
 use Rattle.std.specs.Result.{result_ok}
 use Rattle.std.proofs.lemmas.List.{append-nil, length_push, get_or_append_left, get_or_at, take_at}
-use Rattle.mds_lines.specs.Kinds.{is_text, kind_named, kind_of}
+use Rattle.std.specs.Str.{is_utf8}
+use Rattle.mds_lines.specs.Kinds.{kind_named, kind_of}
 use Rattle.mds_lines.specs.Lines.{field}
 use Rattle.mds_lines.specs.declared.line.KindFault.TheVariants.{NotText, Unknown}
 use Rattle.mds_walk.specs.Governing.{greatest, last_kind_of, line_at, record_kind}
@@ -116,7 +117,7 @@ kind_none false = refl
 
 pub no_kind : record_kind [] ≡ None
 unfolding kind_of
-no_kind = kind_none (not (is_text []))
+no_kind = kind_none (not (is_utf8 []))
 
 -- the last record
 pub last_kind_push : (lines : List (List ℕ)) (x : List ℕ)

@@ -12,6 +12,7 @@ use Rattle.mds_records.specs.declared.fault.FieldFault.TheVariants.{WrongFile, C
 use Rattle.mds_records.specs.declared.file.FaultCode.{FaultCode}
 use Rattle.mds_records.specs.declared.file.FaultCode.TheVariants as code
 use Rattle.mds_records.specs.declared.file.FileFault.{FileFault}
+pub use Rattle.mds_records.specs.FieldFaults.{first_of}
 use Rattle.mds_walk.specs.Governing.{line_at}
 
 -- a fault of a whole line, and one of a field
@@ -57,12 +58,6 @@ fault_at judge pieces k = line_fault judge (map line_text (take (k - 1) pieces))
 abbrev pub faults_of : Judge → List (List ℕ) → List (Option FileFault)
 faults_of judge pieces =
     map (fault_at judge pieces) (range_with_len 1 (length pieces)) ++ end_fault judge (map line_text pieces) ∷ []
-
--- the first fault in a list of optional ones
-abbrev pub first_of : List (Option FileFault) → Option FileFault
-first_of [] = None
-first_of (None ∷ rest) = first_of rest
-first_of (Some found ∷ rest) = Some found
 
 -- the lines of a text
 abbrev pub lines_of : List ℕ → List (List ℕ)

@@ -1,26 +1,15 @@
 -- What comes before a line: lines by their numbers, from 1, empty ones included, and the last record of a kind. MDFF
 -- Specification: a record belongs to the last record of a kind before it.
-use Rattle.std.specs.Prelude.{ℕ, suc, zero, Bool, false, ◌==◌, List, [], length, filter, slice_index_or, Option, Some, None, unwrap_or, is_some}
+use Rattle.std.specs.Prelude.{ℕ, suc, zero, Bool, false, List, [], length, bytes_eq, filter, slice_index_or, Option, Some, None, unwrap_or, is_some}
 use Rattle.std.specs.List.{last_or, range_with_len}
 use Rattle.std.specs.Result.{result_ok}
+pub use Rattle.mds_lines.specs.Kinds.{indicator}
 use Rattle.mds_lines.specs.Kinds.{kind_of}
 use Rattle.mds_lines.specs.declared.line.Kind.{Kind}
-use Rattle.mds_lines.specs.declared.line.Kind.TheVariants.{Header, NmiDataDetails, AccumulationData, IntervalData, IntervalEvent, B2bDetails, AccumulationB2bDetails, EndOfData}
-
--- the record indicator of a kind
-abbrev pub indicator : Kind → ℕ
-indicator Header = 100
-indicator NmiDataDetails = 200
-indicator AccumulationData = 250
-indicator IntervalData = 300
-indicator IntervalEvent = 400
-indicator B2bDetails = 500
-indicator AccumulationB2bDetails = 550
-indicator EndOfData = 900
 
 -- two kinds are the same
 abbrev pub is_kind : Kind → Kind → Bool
-is_kind a b = indicator a == indicator b
+is_kind a b = bytes_eq (indicator a) (indicator b)
 
 -- a line by its number, or the empty line if no line has that number
 abbrev pub line_at : List (List ℕ) → ℕ → List ℕ

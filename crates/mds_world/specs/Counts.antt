@@ -2,18 +2,14 @@
 use Rattle.std.specs.Prelude.{ℕ, Bool, true, false}
 use Rattle.std.specs.FinSet as set
 use Rattle.mds_world.specs.Facts.{Fact}
-use Rattle.mds_world.specs.Facts.Fact.{HeadIs, VersionIs, DetailIs, EventIs, PeriodIs, HolidayIs, JobIs}
+use Rattle.mds_world.specs.Facts.Fact.{VersionIs, PeriodIs}
 use Rattle.mds_world.specs.World.{World}
 
 -- it is a version or a period
 abbrev pub is_counted : Fact → Bool
-is_counted (HeadIs head) = false
 is_counted (VersionIs key reading) = true
-is_counted (DetailIs detail) = false
-is_counted (EventIs event) = false
 is_counted (PeriodIs key content) = true
-is_counted (HolidayIs day) = false
-is_counted (JobIs id content count) = false
+is_counted fact = false
 
 -- the facts of a World that count
 abbrev pub countable : World → World

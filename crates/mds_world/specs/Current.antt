@@ -22,10 +22,7 @@ HasNoVersion w stream day length interval =
 
 -- bare N, without a value
 abbrev pub no_reading : ReadingValue
-no_reading = record {
-  mark = bare_null;
-  value = None;
-}
+no_reading = record { mark = bare_null; value = None }
 
 -- The reading of an interval of a length: the current one, or bare N if there is no version.
 abbrev pub IsReading : World → Stream → ℕ → ℕ → ℕ → ReadingValue → Type 0

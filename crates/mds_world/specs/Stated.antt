@@ -7,7 +7,7 @@ use Rattle.mds_quantity.specs.declared.unit.Unit.{Unit as MeasureUnit}
 use Rattle.mds_names.specs.declared.stream.Stream.{Stream}
 use Rattle.mds_marks.specs.Reading.{ReadingValue}
 use Rattle.mds_statements.specs.Statements.{Statement}
-use Rattle.mds_statements.specs.Statements.Statement.{HeaderOf, StreamOf, DetailsOf, DayOf, EventOf, PeriodOf}
+use Rattle.mds_statements.specs.Statements.Statement.{DetailsOf, DayOf, EventOf, PeriodOf}
 use Rattle.mds_world.specs.Facts.{Fact, detail_at, head_at, key_at}
 use Rattle.mds_world.specs.Facts.Fact.{HeadIs, VersionIs, DetailIs, EventIs, PeriodIs}
 use Rattle.mds_world.specs.World.{World}
@@ -25,15 +25,14 @@ day_facts stream day length unit update readings =
     HeadIs (head_at stream day update length unit)
     ∷ versions_from stream day length update 1 readings
 
--- A header and a 200 state no fact of their own: their content is in the facts of the records that they govern.
+-- The facts that a statement adds. A header and a 200 add none: their content is in the facts of the records that they govern.
 abbrev pub facts_of : Statement → List Fact
-facts_of (HeaderOf header) = []
-facts_of (StreamOf of_stream) = []
 facts_of (DetailsOf of_day) =
     DetailIs (detail_at of_day.stream of_day.date of_day.moment of_day.details) ∷ []
 facts_of (DayOf day) = day_facts day.stream day.date day.length day.unit day.update day.readings
 facts_of (EventOf event) = EventIs event ∷ []
 facts_of (PeriodOf period) = PeriodIs period.key period.content ∷ []
+facts_of statement = []
 
 -- all that the statements state
 abbrev pub stated : List Statement → World
