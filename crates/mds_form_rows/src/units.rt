@@ -103,7 +103,7 @@ fn has_only<S: Alter>(
     ensures asks { AsksThere (state S.Store tx.old.conn.now) (state S.Store tx.new.conn.now) result
         (λ has trees. IsTrue has → SayUnit first.now.stream first.now.day last first.now.unit trees) }
 {
-    let rows = unit_rows(tx, &first.stream, first.day, last)?;
+    let rows = units_in_range(tx, &first.stream, first.day, last)?;
     Ok(say_only(&rows, first.unit))
 }
 
@@ -130,7 +130,7 @@ fn says(row: &Row, unit: Unit) -> bool
 }
 
 /// The units that mds_head says of the days of a stream in a range.
-fn unit_rows<S: Alter>(
+fn units_in_range<S: Alter>(
     tx: &mut Transaction<'_, S>,
     stream: &Stream,
     first: Day,

@@ -3,7 +3,7 @@ use Rattle.sqlite.specs.Held.{state}
 use Rattle.mds_pack_rows.proofs.PassLemmas.{passed}
 use Rattle.mds_form_rows.specs.Units.{AsksThere, ShowUnits}
 use Rattle.mds_form_rows.proofs.UnitAsking.{answered, unanswered}
-use Rattle.mds_form_rows.proofs.units.unit_rows.Goals as goal
+use Rattle.mds_form_rows.proofs.units.units_in_range.Goals as goal
 
 pub returns-clause-asks : goal.returns-clause-asks
 returns-clause-asks g c =
