@@ -61,7 +61,7 @@ fn put_eight<S: Alter>(
     ensures kept { IsThere (state S.Store tx.old.conn.now) (state S.Store tx.new.conn.now) → KeepsCommit (state S.Store tx.old.conn.now) (state S.Store tx.new.conn.now) }
     ensures survives { Survives (state S.Store tx.old.conn.now) (state S.Store tx.new.conn.now) (λ _. ⊥) }
 {
-    if put_new_days(alloc, tx, new_days, further, days)? {
+    if put_at_once(alloc, tx, new_days, further, days)? {
         return Ok(());
     }
     put_each_day(alloc, tx, days)
@@ -69,7 +69,7 @@ fn put_eight<S: Alter>(
 
 /// Puts versions of eight days with one statement, and returns whether it did. It puts nothing if those of one day aren't a new row,
 /// or if the tables refuse a row.
-fn put_new_days<S: Alter>(
+fn put_at_once<S: Alter>(
     alloc: Global,
     tx: &mut Transaction<'_, S>,
     new_days: &[Head],

@@ -5,7 +5,7 @@ use Rattle.mds_inserts.proofs.RowLemmas.{of}
 use Rattle.mds_pack_rows.specs.Eights.{SayDays, SaySome, said_by}
 use Rattle.mds_pack_rows.proofs.EightLemmas.{put_as}
 use Rattle.mds_pack_rows.proofs.PutLemmas.{puts_none}
-use Rattle.mds_pack_rows.proofs.eights.put_new_days.Goals as goal
+use Rattle.mds_pack_rows.proofs.eights.put_at_once.Goals as goal
 
 pub returns-in_default-clause-none : goal.returns-in_default-clause-none
 returns-in_default-clause-none g c _ = puts_none (state g.S.Store c.args.tx.now.conn.now)
