@@ -92,7 +92,7 @@ fn append_each(rows: &mut Vec<(u16, Version)>, more: Vec<(u16, Version)>) -> Res
 }
 
 /// A copy of each reading as a version, from interval 1 of a length on and under one update. Takes memory only if there are readings.
-pub(crate) fn spread(
+pub(crate) fn whole_versions(
     alloc: Global,
     length: Length,
     update: Moment,

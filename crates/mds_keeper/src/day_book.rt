@@ -22,7 +22,7 @@ ghost use Rattle.mds_world.specs.Facts.{key_at};
 ghost use Rattle.mds_world.specs.Facts.Fact.{VersionIs};
 ghost use Rattle.mds_world.specs.Sets.{◌∈◌};
 
-use crate::additions::{VersionRows, spread};
+use crate::additions::{VersionRows, whole_versions};
 use crate::book_rows::{BookRows, LentRows, copied};
 use crate::lent_version::LentVersion;
 use mds_marks::Reading;
@@ -145,7 +145,7 @@ impl DayBook {
                 }));
             }
         }
-        let versions = spread(alloc, length, update, &readings)?;
+        let versions = whole_versions(alloc, length, update, &readings)?;
         Ok(DayBook::new(stream, day, unit, versions))
     }
 
@@ -309,7 +309,9 @@ impl DayBook {
     {
         match self.lent_rows() {
             LentRows::Each(rows) => copied(alloc, rows),
-            LentRows::Whole(length, update, readings) => spread(alloc, length, update, readings),
+            LentRows::Whole(length, update, readings) => whole_versions(
+                alloc, length, update, readings,
+            ),
         }
     }
 
