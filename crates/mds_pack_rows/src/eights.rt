@@ -11,7 +11,7 @@ ghost use Rattle.mds_pack_rows.specs.Eights.{SayDays, SaySome, SaysDay, said_by}
 ghost use Rattle.mds_pack_rows.specs.Putting.{IsThere, PutsFacts};
 
 use crate::bodies::has_some;
-use crate::grouping::{put_each_day, spread};
+use crate::grouping::{put_each_day, readings_by_interval};
 use crate::statements::{PackRow, insert_eight};
 use mds_inserts::TOGETHER;
 use mds_keeper::{DayVersions, Unavailable, Version, VersionRows};
@@ -158,7 +158,7 @@ fn pack_listed(
     if !is_new(new_days, further, stream, day, update) {
         return Ok(None);
     }
-    let Some(readings) = spread(alloc, first.1.length, update, rows)? else {
+    let Some(readings) = readings_by_interval(alloc, first.1.length, update, rows)? else {
         return Ok(None);
     };
     if !has_some(readings.as_slice()) {

@@ -154,7 +154,7 @@ fn put_run<S: Alter>(
     ensures kept { IsThere (state S.Store tx.old.conn.now) (state S.Store tx.new.conn.now) → KeepsCommit (state S.Store tx.old.conn.now) (state S.Store tx.new.conn.now) }
     ensures survives { Survives (state S.Store tx.old.conn.now) (state S.Store tx.new.conn.now) (λ _. ⊥) }
 {
-    let Some(readings) = spread(alloc, length, update, rows)? else {
+    let Some(readings) = readings_by_interval(alloc, length, update, rows)? else {
         return Err(Unavailable);
     };
     put_readings(alloc, tx, stream, day, update, readings.as_slice())
@@ -162,7 +162,7 @@ fn put_run<S: Alter>(
 
 /// The readings of versions of one length and update, each at its interval. `None` if a version has another length or update, an
 /// interval that the day doesn't have, or the interval of an earlier one.
-pub(crate) fn spread(
+pub(crate) fn readings_by_interval(
     alloc: Global,
     length: Length,
     update: Moment,
