@@ -1,4 +1,4 @@
--- Which days the gathering of a file asks for.
+-- Which days the collecting of a file asks for.
 use Rattle.std.specs.Prelude.{◌≡◌, ℕ, ◌<◌, List, ◌∷◌, ◌++◌, length, map, slice_index_or, refl}
 use Rattle.std.specs.List.{All, flat_map}
 use Rattle.std.proofs.Common.{sym, subst, inl, arith}
@@ -14,7 +14,7 @@ use Rattle.mds_world.proofs.Lists.{append_right, flat_in, in_map, map_in}
 use Rattle.mds_world.specs.Lists.{Member}
 use Rattle.mds_service.specs.Asking.{AreDays, AreOfDates, AreStated, AsksOnly, IsNone}
 use Rattle.mds_service.specs.Asking.AsksOnly.{Nothing, Other, Then}
-use Rattle.mds_service.specs.Gathering.{block_days, day_of}
+use Rattle.mds_service.specs.Collecting.{block_days, day_of}
 use Rattle.mds_service.specs.OpeningSteps.{IsOfDates}
 use Rattle.mds_service.specs.declared.opening.Stretch.{Stretch}
 

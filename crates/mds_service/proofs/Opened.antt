@@ -24,7 +24,7 @@ use Rattle.mds_keeper.specs.Queries.{AreDaysOf}
 use Rattle.mds_statements.specs.declared.blocks.DeliveredDay.{DeliveredDay}
 use Rattle.mds_ranges.proofs.Ranged.{days_behind, first_is, unknown_before}
 use Rattle.mds_service.proofs.DayOrder.{day_cmp, day_exact}
-use Rattle.mds_service.proofs.Gather.{open_new}
+use Rattle.mds_service.proofs.Collect.{open_new}
 use Rattle.mds_service.specs.Imports.{AreMerges, IsMergeOf, MatchMerge}
 use Rattle.mds_service.specs.OpeningSteps.{AreUnknown, IsOfDates}
 use Rattle.mds_service.specs.declared.opening.Stretch.{Stretch}

@@ -12,8 +12,8 @@ ghost use Rattle.mds_service.specs.Machine.{ImportStep, TakesIn};
 
 use crate::accumulating::import_nem13;
 use crate::asking::ImportKeeper;
+use crate::collecting::{Collected, collect};
 use crate::details::new_details;
-use crate::gathering::{Gathered, gather};
 use crate::halt::{Halt, answer_of};
 use crate::news::new_events;
 use crate::settling::settle;
@@ -102,12 +102,12 @@ fn taken_in<K: ImportKeeper>(
     // It asks for no other days than those that the file states.
     ensures asked { AsksOnly K.asks K.others (AreStated (days_of (delivery_statements delivery))) keeper.old keeper.new }
 {
-    let gathered = gather(alloc, keeper, delivery)?;
-    let Gathered {
+    let collected = collect(alloc, keeper, delivery)?;
+    let Collected {
         merges,
         details,
         events,
-    } = gathered;
+    } = collected;
     let details = new_details(alloc, keeper, details)?;
     let events = new_events(alloc, keeper, events)?;
     let settled = settle(alloc, merges)?;

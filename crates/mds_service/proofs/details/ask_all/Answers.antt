@@ -1,7 +1,7 @@
 use Rattle.std.proofs.Common.{◌≡◌, [], refl, rules}
 use Rattle.mds_keeper.proofs.Asked.{stays_on, stays_put}
 use Rattle.mds_service.specs.Asking.AsksOnly.{Nothing, Other}
-use Rattle.mds_service.proofs.Gathers.{none_left, split_end, split_step}
+use Rattle.mds_service.proofs.Collects.{none_left, split_end, split_step}
 use Rattle.mds_service.proofs.OfKept.{still, told_of}
 use Rattle.mds_service.proofs.SharedDays.{Entry, all_answered, apart_answered, none_answered, pass_answered, push_answered}
 use Rattle.mds_service.proofs.details.ask_all.Goals as goal

@@ -4,7 +4,7 @@ use Rattle.mds_keeper.specs.Content.{details_of}
 use Rattle.mds_world.specs.declared.facts.Detail.{Detail}
 use Rattle.mds_world.specs.Lists.{Member}
 use Rattle.mds_service.specs.SharedDays.{HasDetail}
-use Rattle.mds_service.proofs.Gathers.{none_left, split_end, split_step}
+use Rattle.mds_service.proofs.Collects.{none_left, split_end, split_step}
 use Rattle.mds_service.proofs.SharedDays.{more_together, none_together, shared_cmp}
 use Rattle.mds_service.proofs.details.put_together.Goals as goal
 

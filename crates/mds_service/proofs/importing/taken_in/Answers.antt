@@ -20,21 +20,21 @@ use Rattle.mds_service.proofs.importing.taken_in.Given.{Over}
 use Rattle.mds_service.proofs.importing.taken_in.Goals.{After-new_events, In_ok-settled}
 use Rattle.mds_service.proofs.importing.taken_in.Goals as goal
 
-pub returns-in_err-gathered-clause-step : goal.returns-in_err-gathered-clause-step
-returns-in_err-gathered-clause-step g c =
+pub returns-in_err-collected-clause-step : goal.returns-in_err-collected-clause-step
+returns-in_err-collected-clause-step g c =
     let p = err_from_is_err_and c.from_residual.result c.from_residual.ensures.1 in
-    rw (p.1, p.2) (stood c.gather.ensures.stays (λ honest w lawful shows.
-    stopped w c.args.delivery c.in_err-gathered.field-0.0 (c.in_err-gathered.ensures.refused honest w shows lawful)))
+    rw (p.1, p.2) (stood c.collect.ensures.stays (λ honest w lawful shows.
+    stopped w c.args.delivery c.in_err-collected.field-0.0 (c.in_err-collected.ensures.refused honest w shows lawful)))
 
 pub returns-in_err-details-clause-step : goal.returns-in_err-details-clause-step
 returns-in_err-details-clause-step g c =
     let p = err_from_is_err_and c.from_residual-in_err-details.result c.from_residual-in_err-details.ensures.1 in
-    rw (p.1, p.2) (failed (stays_on c.gather.ensures.stays c.new_details.ensures.stays) (λ w. refl))
+    rw (p.1, p.2) (failed (stays_on c.collect.ensures.stays c.new_details.ensures.stays) (λ w. refl))
 
 -- what is kept before the commit
 stays_then : (g : Over) (c : After-new_events g)
     → Stays (g.K.ImportKeeper.kept c.args.keeper.now) (g.K.ImportKeeper.kept c.new_events.new.keeper)
-stays_then g c = stays_on (stays_on c.gather.ensures.stays c.new_details.ensures.stays) c.new_events.ensures.stays
+stays_then g c = stays_on (stays_on c.collect.ensures.stays c.new_details.ensures.stays) c.new_events.ensures.stays
 
 pub returns-in_err-events-clause-step : goal.returns-in_err-events-clause-step
 returns-in_err-events-clause-step g c =
@@ -48,14 +48,14 @@ returns-in_err-settled-clause-step g c =
 
 coming : (g : Over) (c : In_ok-settled g)
     → OfKept (g.K.ImportKeeper.kept c.args.keeper.now) (g.K.ImportKeeper.kept c.new_events.new.keeper)
-    (λ w. IsLawful w → Comes w (days_of (delivery_statements c.args.delivery)) c.in_ok-gathered.gathered c.in_ok-settled.settled.0
+    (λ w. IsLawful w → Comes w (days_of (delivery_statements c.args.delivery)) c.in_ok-collected.collected c.in_ok-settled.settled.0
     c.in_ok-settled.settled.1 c.in_ok-details.details c.in_ok-events.events)
 coming g c = λ honest w shows lawful.
     let later = c.new_events.ensures.stays.outside honest in
-    let gathered = c.in_ok-gathered.ensures.gathered (c.new_details.ensures.stays.outside later) w shows lawful in
-    let one = still c.gather.ensures.stays shows in
-    comes w _ c.in_ok-gathered.gathered c.in_ok-settled.settled.0 c.in_ok-settled.settled.1 c.in_ok-details.details
-    c.in_ok-events.events gathered.whole gathered.detailed (c.in_ok-settled.ensures w _ gathered.merges)
+    let collected = c.in_ok-collected.ensures.collected (c.new_details.ensures.stays.outside later) w shows lawful in
+    let one = still c.collect.ensures.stays shows in
+    comes w _ c.in_ok-collected.collected c.in_ok-settled.settled.0 c.in_ok-settled.settled.1 c.in_ok-details.details
+    c.in_ok-events.events collected.whole collected.detailed (c.in_ok-settled.ensures w _ collected.merges)
     (c.in_ok-details.ensures.apart later)
     (c.in_ok-details.ensures.just later w one) c.in_ok-events.ensures.apart
     (c.in_ok-events.ensures.just honest w (still c.new_details.ensures.stays one))
@@ -69,8 +69,8 @@ taken : (g : Over) (c : In_ok-settled g)
     (told.Imported c.in_ok-settled.settled.1.added c.in_ok-settled.settled.1.known) (union w (content (its g c))))
 taken g c = λ honest w shows lawful.
     let early = c.new_details.ensures.stays.outside (c.new_events.ensures.stays.outside honest) in
-    taken_in (coming g c honest w shows lawful) (delivery_statements c.args.delivery) (c.in_ok-gathered.ensures.gathered early w shows lawful).all lawful
-    (c.in_ok-gathered.ensures.agrees early w shows lawful)
+    taken_in (coming g c honest w shows lawful) (delivery_statements c.args.delivery) (c.in_ok-collected.ensures.collected early w shows lawful).all lawful
+    (c.in_ok-collected.ensures.agrees early w shows lawful)
 
 pub commit-requires-clause-new : goal.commit-requires-clause-new
 commit-requires-clause-new g c = λ sound lawful.
@@ -107,13 +107,13 @@ returns-in-Err-clause-step g c =
 asked : (g : Over) (c : After-new_events g)
     → AsksOnly g.K.ImportKeeper.asks g.K.ImportKeeper.others (AreStated (days_of (delivery_statements c.args.delivery))) c.args.keeper.now
     c.new_events.new.keeper
-asked g c = asks_on (asks_on c.gather.ensures.asked (asks_none c.new_details.ensures.asked)) (asks_none c.new_events.ensures.asked)
+asked g c = asks_on (asks_on c.collect.ensures.asked (asks_none c.new_details.ensures.asked)) (asks_none c.new_events.ensures.asked)
 
-pub returns-in_err-gathered-clause-asked : goal.returns-in_err-gathered-clause-asked
-returns-in_err-gathered-clause-asked g c = c.gather.ensures.asked
+pub returns-in_err-collected-clause-asked : goal.returns-in_err-collected-clause-asked
+returns-in_err-collected-clause-asked g c = c.collect.ensures.asked
 
 pub returns-in_err-details-clause-asked : goal.returns-in_err-details-clause-asked
-returns-in_err-details-clause-asked g c = asks_on c.gather.ensures.asked (asks_none c.new_details.ensures.asked)
+returns-in_err-details-clause-asked g c = asks_on c.collect.ensures.asked (asks_none c.new_details.ensures.asked)
 
 pub returns-in_err-events-clause-asked : goal.returns-in_err-events-clause-asked
 returns-in_err-events-clause-asked g c = asked g (goal.at.returns-in_err-events-clause-asked g c).After-new_events

@@ -1,6 +1,6 @@
 use Rattle.std.proofs.Common.{◌∙◌, sym, subst}
 use Rattle.mds_keeper.specs.Queries.{AreDaysOf}
-use Rattle.mds_service.proofs.Gathers.{none_left}
+use Rattle.mds_service.proofs.Collects.{none_left}
 use Rattle.mds_service.proofs.Opened.{front_is, front_off, unknown_end, unknown_front}
 use Rattle.mds_service.proofs.opening.open_days.Goals as goal
 
