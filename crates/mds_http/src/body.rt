@@ -7,7 +7,7 @@ ghost use Rattle.mds_http.specs.Bodies.{HoldsBody, TakesMemoryAt};
 
 use mds_nem12::{Nem12Fault, Reader};
 use mds_requests::imports_interval_data;
-use mds_wire::{Route, Unavailable};
+use mds_wire::{Failed, Route};
 use std::alloc::{AllocError, Global};
 
 /// The body of a request while it comes.
@@ -26,7 +26,7 @@ impl Body {
         route: Route,
         target: &[u8],
         size: usize,
-    ) -> Result<Body, Unavailable>
+    ) -> Result<Body, Failed>
         ensures begun { IfOk result (λ body. HoldsBody body route target.now size []) }
         ensures only { OnErr result (TakesMemoryAt route target.now size [] []) }
     {
@@ -41,7 +41,7 @@ impl Body {
 
     /// Takes more of the body. A fault of a file is answered once the body is whole. There is room for what is held, so only
     /// interval data can run out of memory.
-    pub(crate) fn feed(&mut self, piece: &[u8]) -> Result<(), Unavailable>
+    pub(crate) fn feed(&mut self, piece: &[u8]) -> Result<(), Failed>
         ensures fed { (route : ARoute) (target : List ℕ) (size : ℕ) (bytes : List ℕ) → HoldsBody self.old route target size bytes
             → length (bytes ++ piece.now) ≤ size → size ≤ longest_body
             → IfOk result (λ _. HoldsBody self.new route target size (bytes ++ piece.now)) }
@@ -52,7 +52,7 @@ impl Body {
         match self {
             Body::IntervalData(reader) => match reader.feed(piece) {
                 Ok(()) | Err(Nem12Fault::File(_)) => Ok(()),
-                Err(Nem12Fault::Memory) => Err(Unavailable),
+                Err(Nem12Fault::Memory) => Err(Failed),
             },
             Body::Whole(bytes) => Ok(bytes.extend_from_slice(piece)?),
         }

@@ -13,7 +13,7 @@ use crate::telling::{refuse_holidays, refuse_target, tell};
 use mds_keeper::Keeper;
 use mds_requests::{TargetFault, request_at};
 use mds_service::{apply, import_fed};
-use mds_wire::{Handler, Kind, Route, Status, Unavailable};
+use mds_wire::{Failed, Handler, Kind, Route, Status};
 use std::alloc::Global;
 
 /// A keeper that answers requests over HTTP.
@@ -39,11 +39,11 @@ impl<K: Keeper> Handler for StoreHandler<K> {
         route: Route,
         target: &[u8],
         size: usize,
-    ) -> Result<Body, Unavailable> {
+    ) -> Result<Body, Failed> {
         Body::begin(alloc, route, target, size)
     }
 
-    fn feed(body: &mut Body, piece: &[u8]) -> Result<(), Unavailable> {
+    fn feed(body: &mut Body, piece: &[u8]) -> Result<(), Failed> {
         body.feed(piece)
     }
 
@@ -54,7 +54,7 @@ impl<K: Keeper> Handler for StoreHandler<K> {
         target: &[u8],
         body: Body,
         answer: &mut Vec<u8>,
-    ) -> Result<(Status, Kind), Unavailable> {
+    ) -> Result<(Status, Kind), Failed> {
         match body {
             Body::IntervalData(reader) => {
                 let told = import_fed(alloc, &mut self.keeper, reader);
@@ -75,7 +75,7 @@ fn answer_whole<K: Keeper>(
     target: &[u8],
     body: Vec<u8>,
     answer: &mut Vec<u8>,
-) -> Result<(Status, Kind), Unavailable>
+) -> Result<(Status, Kind), Failed>
     requires empty { answer.old.items ≡ [] }
     requires room { short_answer ≤ vec_capacity answer.old }
     ensures step { IfOk result (λ told. HandlesBy K.kept keeper.old route target.now body.items told.0 told.1 answer.new.items keeper.new) }
@@ -86,7 +86,7 @@ fn answer_whole<K: Keeper>(
         Ok(request) => request,
         Err(TargetFault::Bad) => return Ok(refuse_target(answer)),
         Err(TargetFault::BadHolidays(row)) => return Ok(refuse_holidays(row, answer)),
-        Err(TargetFault::Memory) => return Err(Unavailable),
+        Err(TargetFault::Memory) => return Err(Failed),
     };
     let told = apply(alloc, keeper, &request);
     Ok(tell(alloc, told, answer))

@@ -2,7 +2,7 @@
 
 use crate::failing::Failing;
 use mds_lines::Counted;
-use mds_wire::{Handler, Kind, Route, Routes, Status, Unavailable, serve_one};
+use mds_wire::{Failed, Handler, Kind, Route, Routes, Status, serve_one};
 use std::alloc::Global;
 use std::test::Fail;
 
@@ -38,17 +38,17 @@ impl Handler for Asked {
 
     ghost holds = { λ body _ _ _ bytes. body.items ≡ bytes };
 
-    fn begin(&self, alloc: Global, _: Route, _: &[u8], _: usize) -> Result<Vec<u8>, Unavailable> {
+    fn begin(&self, alloc: Global, _: Route, _: &[u8], _: usize) -> Result<Vec<u8>, Failed> {
         Ok(Vec::new(alloc))
     }
 
-    fn feed(body: &mut Vec<u8>, piece: &[u8]) -> Result<(), Unavailable> {
+    fn feed(body: &mut Vec<u8>, piece: &[u8]) -> Result<(), Failed> {
         if body.len().saturating_add(piece.len()) > MOST {
-            return Err(Unavailable);
+            return Err(Failed);
         }
         match body.extend_from_slice(piece) {
             Ok(()) => Ok(()),
-            Err(_) => Err(Unavailable),
+            Err(_) => Err(Failed),
         }
     }
 
@@ -59,7 +59,7 @@ impl Handler for Asked {
         _: &[u8],
         _: Vec<u8>,
         _: &mut Vec<u8>,
-    ) -> Result<(Status, Kind), Unavailable> {
+    ) -> Result<(Status, Kind), Failed> {
         self.times = self.times.saturating_add(1);
         Ok((Status::Success, Kind::Json))
     }

@@ -3,7 +3,7 @@
 ghost use Rattle.std.specs.Prelude.{◌≡◌, ◌≢◌, ◌+◌, ◌-◌, ◌^◌, ◌<◌, ◌≤◌, length, Err};
 ghost use Rattle.mds_wire.specs.BodySteps.{FeedsBody, FeedsNext};
 
-use crate::serve::{Handler, Unavailable};
+use crate::serve::{Failed, Handler};
 use mds_lines::Source;
 
 /// Why a body isn't whole.
@@ -17,13 +17,13 @@ pub(crate) enum BodyFault {
     Unavailable,
 }
 
-impl From<Unavailable> for BodyFault {
+impl From<Failed> for BodyFault {
     ghost use Rattle.std.specs.Prelude.{◌≡◌};
     ghost use Rattle.mds_wire.specs.declared.body.BodyFault.TheVariants as fault;
 
     ghost from_gives = { λ _ it. it ≡ fault.Unavailable };
 
-    fn from(_: Unavailable) -> BodyFault {
+    fn from(_: Failed) -> BodyFault {
         BodyFault::Unavailable
     }
 }

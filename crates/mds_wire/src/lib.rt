@@ -21,5 +21,5 @@ mod target;
 pub use answer::{Kind, Status};
 pub use laws::laws_of;
 pub use route::{Route, RouteFinder, Routes};
-pub use serve::{Handler, Unavailable, WireFault, serve_one};
+pub use serve::{Failed, Handler, WireFault, serve_one};
 pub use target::{part, path_of, query_of};

@@ -18,9 +18,9 @@ use mds_lines::{Sink, Source, write_whole};
 use std::alloc::{AllocError, Global};
 use std::io;
 
-/// Memory, or what is kept, was unavailable (U1).
+/// The handler has no answer: it ran out of memory, or what is kept was unavailable (U1).
 #[derive(Clone, Copy)]
-pub struct Unavailable;
+pub struct Failed;
 
 /// What answers requests.
 pub trait Handler {
@@ -52,12 +52,12 @@ pub trait Handler {
         route: Route,
         target: &[u8],
         size: usize,
-    ) -> Result<Self::Body, Unavailable>
+    ) -> Result<Self::Body, Failed>
         ensures begun { IfOk result (λ body. holds body route target.now size []) }
         ensures only { OnErr result (takes_memory route target.now size [] []) };
 
     /// Takes more of a body, and no more than it has. It fails only if this piece takes memory after what came before.
-    fn feed(body: &mut Self::Body, piece: &[u8]) -> Result<(), Unavailable>
+    fn feed(body: &mut Self::Body, piece: &[u8]) -> Result<(), Failed>
         ensures fed { (route : Route) (target : List ℕ) (size : ℕ) (bytes : List ℕ) → holds body.old route target size bytes
             → length (bytes ++ piece.now) ≤ size → size ≤ longest_body
             → IfOk result (λ _. holds body.new route target size (bytes ++ piece.now)) }
@@ -74,7 +74,7 @@ pub trait Handler {
         target: &[u8],
         body: Self::Body,
         answer: &mut Vec<u8>,
-    ) -> Result<(Status, Kind), Unavailable>
+    ) -> Result<(Status, Kind), Failed>
         requires empty { answer.old.items ≡ [] }
         requires room { short_answer ≤ vec_capacity answer.old }
         ensures step { (bytes : List ℕ) → holds body route target.now (length bytes) bytes → IfOk result (λ told.
@@ -111,13 +111,13 @@ pub enum WireFault {
     Memory,
 }
 
-impl From<AllocError> for Unavailable {
+impl From<AllocError> for Failed {
     ghost use Rattle.std.specs.Prelude.{⊤};
 
     ghost from_gives = { λ _ _. ⊤ };
 
-    fn from(_: AllocError) -> Unavailable {
-        Unavailable
+    fn from(_: AllocError) -> Failed {
+        Failed
     }
 }
 
