@@ -8,10 +8,10 @@ ghost use Rattle.mds_quantity.specs.Unit.{unit_text};
 ghost use Rattle.mds_check.specs.Report.{period_line};
 
 use crate::checking::CheckFault;
-use mds_calendar::Moment;
 use mds_lines::Source;
 use mds_nem13::{PeriodSink, ReadFault, read_lines};
 use mds_records::{AccumulationB2bDetailsRecord, AccumulationDataRecord, HeaderRecord};
+use mds_terms::Moment;
 use std::alloc::{AllocError, Global};
 
 /// The lines of the accumulations of a file, as far as it was read.

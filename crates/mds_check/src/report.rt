@@ -8,11 +8,11 @@ ghost use Rattle.mds_nem12.specs.Told.{day_said};
 
 use crate::checking::CheckFault;
 use itoa::Buffer;
-use mds_calendar::{Day, Moment};
 use mds_lines::Source;
 use mds_nem12::{DayData, Governing, ReadFault, StatementSink, read_lines};
 use mds_quantity::write_millionths;
 use mds_records::{B2bDetailsRecord, HeaderRecord, NmiDataDetailsRecord};
+use mds_terms::{Day, Moment};
 use std::alloc::{AllocError, Global};
 
 /// The lines of the days of a file, as far as it was read.

@@ -10,12 +10,11 @@ ghost use Rattle.mds_days.specs.Days.{AreValuesOf, IsWhole, no_day, run_value};
 ghost use Rattle.mds_days.specs.Readings.{amounts, leaves_gap, reading_by, readings_of, total};
 ghost use Rattle.mds_days.specs.RunFaults.{lacks_value, run_fault};
 
-use mds_marks::Mark;
 use mds_marks::flags::{NULL, VARIABLE};
 use mds_quantity::Quantity;
 use mds_records::{FaultCode, IntervalDataRecord, IntervalEventRecord, IntervalValues};
 use mds_runs::{Cover, DayReadings, Run, RunFault, mark_from};
-use mds_terms::{Day, Moment};
+use mds_terms::{Day, Mark, Moment};
 use std::alloc::{AllocError, Global};
 use std::marker::Model;
 use std::mem;

@@ -10,12 +10,11 @@ ghost use Rattle.mds_pack_rows.specs.PackFacts.{facts_from, minutes_of, readings
 ghost use Rattle.mds_form_rows.specs.FormRows.{AddsRow, AreUnder, IsBookOf};
 
 use mds_keeper::{DayBook, Unavailable, Version, VersionRows};
-use mds_marks::Reading;
 use mds_pack_rows::{blob_at, readings_for, unpack_whole};
 use mds_quantity::Unit;
 use mds_selects::{length_at, moment_at};
 use mds_tables::told;
-use mds_terms::{Day, Length, Moment, Stream};
+use mds_terms::{Day, Length, Moment, Reading, Stream};
 use sqlite::Row;
 use std::alloc::Global;
 

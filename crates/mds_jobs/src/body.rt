@@ -17,9 +17,8 @@ ghost use Rattle.mds_jobs.specs.declared.job.JobPlace.{JobPlace};
 use crate::job::{Job, JobManner, JobPlace};
 use crate::job_id::JobId;
 use itoa::Buffer;
-use mds_marks::ReasonRef;
 use mds_quantity::Unit;
-use mds_terms::{Day, Length, Moment, Stream, write_joined};
+use mds_terms::{Day, Length, Moment, ReasonRef, Stream, write_joined};
 use std::alloc::{AllocError, Global};
 use std::str;
 

@@ -7,10 +7,9 @@ ghost use Rattle.mds_jobs.specs.Jobs.{HasPlaceOf, IsBad, content_of, flags, job_
 
 use crate::job_id::JobId;
 use crate::method::Method;
-use mds_marks::Reason;
 use mds_marks::flags::{ESTIMATED, FINAL, SUBSTITUTED};
 use mds_quantity::Unit;
-use mds_terms::{Day, Length, Moment, Stream};
+use mds_terms::{Day, Length, Moment, Reason, Stream};
 use std::alloc::AllocError;
 
 /// The intervals to fill in: `first` to `last`, counted from 1, of a day of a stream. They have this length and unit.

@@ -3,9 +3,8 @@
 ghost use Rattle.std.specs.Prelude.{◌≡◌, ◌<◌, ◌↔◌, IfOk, IsTrue, OnErr, length};
 ghost use Rattle.mds_marks.specs.Reading.{is_reading};
 
-use mds_marks::{Mark, Reading};
 use mds_quantity::Quantity;
-use mds_terms::{Length, Moment};
+use mds_terms::{Length, Mark, Moment, Reading};
 use std::alloc::AllocError;
 
 /// A version of an interval, with a borrowed mark. It takes no memory, in whatever form the book keeps

@@ -10,10 +10,9 @@ ghost use Rattle.mds_marks.specs.Reading.{ReadingValue};
 ghost use Rattle.mds_packs.specs.Unpacked.{number_at, unpacked};
 ghost use Rattle.mds_pack_rows.specs.PackFacts.{IsSaidAt, minutes_of, readings_in};
 
-use mds_marks::Reading;
 use mds_packs::{unpack_day, unpack_readings};
 use mds_runs::DayReadings;
-use mds_terms::Length;
+use mds_terms::{Length, Reading};
 use sqlite::Row;
 use sqlite::types::ValueRef;
 use std::alloc::{AllocError, Global};

@@ -10,9 +10,8 @@ ghost use Rattle.mds_pack_rows.specs.Putting.{IsThere, PutsFacts, SayMore, SayRo
 
 use crate::putting::put_readings;
 use mds_keeper::{DayVersions, Unavailable, Version, VersionRows};
-use mds_marks::Reading;
 use mds_runs::DayReadings;
-use mds_terms::{Day, Length, Moment, Stream};
+use mds_terms::{Day, Length, Moment, Reading, Stream};
 use sqlite::{Alter, Transaction};
 use std::alloc::{AllocError, Global};
 

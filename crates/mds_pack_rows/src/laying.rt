@@ -3,7 +3,7 @@
 ghost use Rattle.std.specs.Prelude.{◌≡◌, IfOk, option_map};
 ghost use Rattle.mds_pack_rows.specs.Laying.{held_of, laid};
 
-use mds_marks::Reading;
+use mds_terms::Reading;
 use std::alloc::{AllocError, Global};
 
 /// All readings of both. `None` if an interval has two, or the days have different counts of intervals.

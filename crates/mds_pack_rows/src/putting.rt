@@ -11,11 +11,10 @@ use crate::bodies::{has_some, readings_at};
 use crate::laying::lay;
 use crate::statements::{body_rows, insert_body, replace_body};
 use mds_keeper::Unavailable;
-use mds_marks::Reading;
 use mds_packs::pack_day;
 use mds_selects::int_at;
 use mds_tables::told;
-use mds_terms::{Day, Moment, Stream};
+use mds_terms::{Day, Moment, Reading, Stream};
 use sqlite::{Alter, Row, Transaction};
 use std::alloc::Global;
 

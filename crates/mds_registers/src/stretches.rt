@@ -9,8 +9,8 @@ ghost use Rattle.mds_registers.specs.Stretches.{AreFinals, AreGaps, HasFinal, Is
 ghost use Rattle.mds_registers.specs.StretchesSteps.{GoesOn, TakesInFinal, TakesInNull};
 
 use mds_keeper::DayBook;
-use mds_marks::Mark;
 use mds_marks::flags::{FINAL, NULL};
+use mds_terms::Mark;
 use std::alloc::{AllocError, Global};
 
 /// Intervals `first` to `last` of a day, counted from 1, that have no reading. They are a longest run of intervals with

@@ -6,7 +6,7 @@ ghost use Rattle.mds_requests.specs.Holidays.{IsListOf, IsRefusal, day_in, head_
 ghost use Rattle.mds_requests.specs.HolidaysSteps.{HasRead};
 
 use csv::{ByteRecord, Reader, ReaderBuilder};
-use mds_calendar::Day;
+use mds_terms::Day;
 use std::alloc::{AllocFailed, Global};
 
 /// Why a list of public holidays isn't read.

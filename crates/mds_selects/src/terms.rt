@@ -25,11 +25,11 @@ ghost use Rattle.mds_selects.specs.Written.{BeginsWith, IsDay, IsMoment, IsRowOf
 
 use mds_keeper::Unavailable;
 use mds_marks::flags::NULL;
-use mds_marks::{Mark, Quality, Reading, Reason, qualities_read_back};
 use mds_quantity::{Quantity, Unit, units_read_back};
 use mds_tables::told;
 use mds_terms::{
-    Day, Event, EventRef, Length, Moment, Nmi, PrintableText, Stream, Suffix, TransCode,
+    Day, Event, EventRef, Length, Mark, Moment, Nmi, PrintableText, Quality, Reading, Reason,
+    Stream, Suffix, TransCode, qualities_read_back,
 };
 use mds_world::{Head, Key};
 use sqlite::Row;

@@ -1,7 +1,7 @@
 //! Reasons, marks and readings.
 
-use mds_marks::{Mark, MarkRef, Reading, Reason, ReasonRef};
 use mds_quantity::Quantity;
+use mds_terms::{Mark, MarkRef, Reading, Reason, ReasonRef};
 use std::alloc::Global;
 
 /// Appends a reason, a mark or a reading. It is made of a quality, the code and the text of a reason, and a value.

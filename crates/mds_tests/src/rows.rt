@@ -1,7 +1,7 @@
 //! Rows: what a text is read as, a `:`, the text, a `=`, and the expected result.
 
 use crate::terms::tell_term;
-use mds_marks::Reading;
+use mds_terms::Reading;
 use std::alloc::Global;
 use std::mem::size_of;
 

@@ -2,8 +2,8 @@
 
 use crate::rows::cut;
 use mds_export::{RunRow, write_run};
-use mds_marks::Mark;
 use mds_runs::{Cover, Run, RunFault, gather, gather_some, overlay, spread};
+use mds_terms::Mark;
 use std::alloc::Global;
 
 /// Puts a run of a quality into a cover.
