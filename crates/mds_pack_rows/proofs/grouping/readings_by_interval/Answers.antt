@@ -1,7 +1,7 @@
 use Rattle.std.proofs.Common.{IsTrue, ap, length, rules, arith, ◌∙◌}
 use Rattle.mds_pack_rows.specs.PackFacts.{minutes_of}
 use Rattle.mds_pack_rows.proofs.SpreadLemmas.{next_said, start_said}
-use Rattle.mds_pack_rows.proofs.grouping.spread.Goals as goal
+use Rattle.mds_pack_rows.proofs.grouping.readings_by_interval.Goals as goal
 
 pub loop-row-init : goal.loop-row-init
 loop-row-init c =

@@ -1,7 +1,7 @@
 use Rattle.std.proofs.Common.{◌≡◌, ◌<◌, ◌^◌, length, take}
 use Rattle.mds_pack_rows.specs.PackFacts.{minutes_of}
 use Rattle.mds_pack_rows.specs.Putting.{SayRows}
-use Rattle.mds_pack_rows.proofs.grouping.spread.Given as goal
+use Rattle.mds_pack_rows.proofs.grouping.readings_by_interval.Given as goal
 
 abbrev pub invariant-loop-row : goal.invariant-loop-row
 invariant-loop-row l = record {
