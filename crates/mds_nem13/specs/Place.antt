@@ -1,7 +1,8 @@
 -- Where a record is allowed. MDFF Specification, the blocking of a NEM13 file: a 100, then 250 records, each with its
 -- 550 records, then a 900.
-use Rattle.std.specs.Prelude.{Bool, List, [], ◌∷◌, Option, option_map_or}
+use Rattle.std.specs.Prelude.{Bool, List, [], ◌∷◌, Option}
 use Rattle.std.specs.List.{list_any}
+use Rattle.std.specs.Option.{option_map_or}
 use Rattle.mds_lines.specs.declared.line.Kind.{Kind}
 use Rattle.mds_lines.specs.declared.line.Kind.TheVariants.{Header, AccumulationData, AccumulationB2bDetails, EndOfData}
 use Rattle.mds_walk.specs.Governing.{is_kind}
