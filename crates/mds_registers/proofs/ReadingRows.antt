@@ -1,13 +1,15 @@
 -- The rows of readings, one interval after the other, and one day after the other.
-use Rattle.std.proofs.Common.{◌≡◌, ℕ, zero, suc, ◌+◌, ◌-◌, ◌*◌, ◌<◌, ◌≤◌, List, [], ◌∷◌, ◌++◌, length, map, take, get_or, Some, refl, sym, ap, ◌∙◌, subst, inl, inr, arith, append_assoc, append-nil}
-use Rattle.std.specs.Prelude.{Result, Ok, Err, IfOk}
+use Rattle.std.proofs.Common.{◌≡◌, ◌==◌, ℕ, zero, suc, ◌+◌, ◌-◌, ◌*◌, ◌<◌, ◌≤◌, List, [], ◌∷◌, ◌++◌, codes, decimal, length, map, take, get_or, Some, refl, sym, ap, ◌∙◌, subst, inl, inr, arith, append_assoc, append-nil}
+use Rattle.std.specs.Prelude.{Result, Ok, Err, OnOk, is_ok, if◌then◌else◌}
+use Rattle.std.specs.Char.{is_ascii_digit}
+use Rattle.std.specs.List.{list_all}
 use Rattle.std.proofs.lemmas.List.{map-append, take_all, take_more}
-use Rattle.std.specs.declared.alloc.Global.{Global}
-use Rattle.std.specs.declared.vec.Vec.{Vec}
-use Rattle.csv.specs.Writing.{default_writer, row_text}
-use Rattle.csv.specs.declared.writer.Writer.{Writer}
+use Rattle.csv.specs.Writing.{fields_text, is_blank}
 use Rattle.mds_calendar.specs.Calendar.{day_of, moment_of}
 use Rattle.mds_calendar.specs.Length.{count_of}
+use Rattle.mds_calendar.proofs.Digits.{both}
+use Rattle.mds_calendar.proofs.Moments.{moment_parts}
+use Rattle.mds_quantity.specs.Unit.{unit_text}
 use Rattle.mds_quantity.specs.declared.unit.Unit.{Unit as MeasureUnit}
 use Rattle.mds_names.specs.declared.stream.Stream.{Stream}
 use Rattle.mds_marks.specs.Quality.{quality_text}
@@ -19,11 +21,12 @@ use Rattle.mds_world.proofs.Forms.{one_size}
 use Rattle.mds_keeper.specs.Books.{BookValue, IsDay, book_world}
 use Rattle.mds_keeper.specs.LentVersions.{lent_reading}
 use Rattle.mds_keeper.specs.declared.lent_version.LentVersion.{LentVersion}
-use Rattle.mds_registers.specs.Readings.{AreDayTexts, AreIntervalRows, AreKnownDays, IsDayText, IsReadingsText, IsShown, reading_fields, readings_head, start_text}
-use Rattle.mds_registers.specs.ReadingsSteps.{AreTextsOf, row_fields}
-use Rattle.mds_registers.specs.RegistersSteps.{HasWritten}
+use Rattle.mds_registers.specs.FieldsSteps.{Begins, closed}
+use Rattle.mds_registers.specs.Readings.{AreDayTexts, AreIntervalRows, AreKnownDays, IsDayText, IsReadingsText, IsShown, reading_row, readings_head_text, start_text}
+use Rattle.mds_registers.specs.ReadingsSteps.{AreTextsOf, row_of}
 use Rattle.mds_registers.specs.declared.readings.DayTexts.{DayTexts}
 use Rattle.mds_registers.proofs.BookReadings.{form_in}
+use Rattle.mds_registers.proofs.PlainRows.{IsPlain, plain_digits, plain_nil, plain_start, row_made}
 
 -- what is current in a book is current in a World that has its day
 shown_in : (w : World) (book : BookValue) (m i : ℕ) (reading : ReadingValue) (text : List ℕ) → IsDay w book
@@ -65,39 +68,62 @@ shown_version book version m i unit text lawful form current reads =
       reads,
     )
 
--- the fields of a row are those that its day's texts begin
-fields_are : (day : DayTexts) (stream : Stream) (unit : MeasureUnit) (i : ℕ) (reading : ReadingValue) (update : List ℕ)
-    → AreTextsOf day stream unit → row_fields day (start_text day.date ((i - 1) * day.length)) reading update
-    ≡ reading_fields stream day.date day.length unit i reading update
-fields_are day stream unit i reading update are =
-    let rest = reading_fields stream day.date day.length unit i reading update in
-    λ k. are.nmi k ∷ are.suffix k ∷ start_text day.date ((i - 1) * day.length) ∷ are.minutes k ∷ are.unit_is k
-    ∷ quality_text reading.mark.quality ∷ code_text reading.mark.reason.code ∷ reading.mark.reason.text
-    ∷ value_text reading.value ∷ update ∷ []
+-- what is shown under an update, or under none, has a plain text for it
+shown_plain : (w : World) (stream : Stream) (d m i : ℕ) (reading : ReadingValue) (text : List ℕ)
+    → IsShown w stream d m i reading text → IsPlain text
+shown_plain w stream d m i reading text (inl x) =
+    let parts = moment_parts text x.0 x.2 in
+    plain_digits text (both (length text == 14) (list_all is_ascii_digit text) parts.1.1).1
+shown_plain w stream d m i reading text (inr x) = subst IsPlain (sym x.2) plain_nil
+
+-- a row of these parts is the row of its fields
+row_is : (day : DayTexts) (stream : Stream) (unit : MeasureUnit) (i : ℕ) (reading : ReadingValue) (update : List ℕ)
+    → AreTextsOf day stream unit → IsPlain update → row_of day (start_text day.date ((i - 1) * day.length)) reading update
+    ≡ reading_row stream day.date day.length unit i reading update
+row_is day stream unit i reading update are plain =
+    let start = start_text day.date ((i - 1) * day.length) in
+    rw (are.front, are.middle)
+    (row_made stream.nmi stream.suffix start (decimal day.length) (unit_text unit) (quality_text reading.mark.quality)
+    (code_text reading.mark.reason.code) reading.mark.reason.text (value_text reading.value) update
+    (plain_start day.date ((i - 1) * day.length) are.date) plain)
+
+-- the parts of a row, appended one after the other
+pub row_put : (old a b c d e f new front q quality k code t text v value u : List ℕ) → a ≡ old ++ front → b ≡ a ++ closed q
+    → c ≡ b ++ closed k → d ≡ c ++ closed t → e ≡ d ++ closed v → f ≡ e ++ u → new ≡ f ++ codes "\n" → q ≡ quality → k ≡ code
+    → t ≡ text → v ≡ value
+    → new ≡ old ++ (front ++ closed quality ++ closed code ++ closed text ++ closed value ++ u ++ codes "\n")
+row_put old a b c d e f new front q quality k code t text v value u ea eb ec ed ee ef en eq ek et ev =
+    rw (en, ef, ee, ed, ec, eb, ea, eq, ek, et, ev) (simp append_assoc)
+
+-- the rows of a day are appended as a whole
+pub rows_put : {T E : Type 0} (r : Result T E) (Is : List ℕ → Type 0) (old new rows text : List ℕ)
+    → new ≡ (if is_ok r then old ++ rows else old) → rows ≡ text → Is text
+    → OnOk r ((all : List ℕ) × Is all × (new ≡ old ++ all))
+rows_put (Ok x) Is old new rows text put same is = (text, is, put ∙ ap (λ (t : List ℕ). old ++ t) same)
+rows_put (Err e) Is old new rows text put same is = tt
 
 -- the row of the next interval
-pub row_more : (w : World) (stream : Stream) (d : ℕ) (day : DayTexts) (unit : MeasureUnit) (n : ℕ) (text rows : List ℕ)
-    (writer : Writer (Vec ℕ Global)) → AreTextsOf day stream unit
-    → AreIntervalRows w stream d day.date day.length unit n rows
+pub row_more : (w : World) (stream : Stream) (d : ℕ) (day : DayTexts) (unit : MeasureUnit) (n : ℕ) (old mid new rows : List ℕ)
+    → AreTextsOf day stream unit → AreIntervalRows w stream d day.date day.length unit n rows → mid ≡ old ++ rows
     → ((reading : ReadingValue) × (update : List ℕ) × IsShown w stream d day.length (n + 1) reading update
-    × HasWritten writer ((text ++ rows) ++ row_text default_writer
-    (row_fields day (start_text day.date ((n + 1 - 1) * day.length)) reading update)))
-    → (all : List ℕ) × AreIntervalRows w stream d day.date day.length unit (n + 1) all × HasWritten writer (text ++ all)
-row_more w stream d day unit n text rows writer are before more =
-    let row = row_text default_writer (row_fields day (start_text day.date ((n + 1 - 1) * day.length)) more.0 more.1) in
+    × (new ≡ mid ++ row_of day (start_text day.date ((n + 1 - 1) * day.length)) reading update))
+    → (all : List ℕ) × AreIntervalRows w stream d day.date day.length unit (n + 1) all × (new ≡ old ++ all)
+row_more w stream d day unit n old mid new rows are before so_far (reading, update, shown, put) =
+    let plain = shown_plain w stream d day.length (n + 1) reading update shown in
+    let row = reading_row stream day.date day.length unit (n + 1) reading update in
     let next : n + 1 ≡ suc n = omega arith in
-    let same = ap (λ (fs : List (List ℕ)). rows ++ row_text default_writer fs) (fields_are day stream unit (n + 1) more.0 more.1 are) in
-    let here : AreIntervalRows w stream d day.date day.length unit (suc n) (rows ++ row) = (
+    let all : AreIntervalRows w stream d day.date day.length unit (suc n) (rows ++ row) = (
       rows,
-      more.0,
-      more.1,
+      reading,
+      update,
       before,
-      subst (λ i. IsShown w stream d day.length i more.0 more.1) next more.2,
-      same ∙ ap (λ i. rows ++ row_text default_writer (reading_fields stream day.date day.length unit i more.0 more.1)) next,
+      subst (λ i. IsShown w stream d day.length i reading update) next shown,
+      ap (λ i. rows ++ reading_row stream day.date day.length unit i reading update) next,
     ) in (
       rows ++ row,
-      subst (λ i. AreIntervalRows w stream d day.date day.length unit i (rows ++ row)) (sym next) here,
-      subst (HasWritten writer) (append_assoc text rows row) more.3,
+      subst (λ i. AreIntervalRows w stream d day.date day.length unit i (rows ++ row)) (sym next) all,
+      put ∙ ap (λ t. mid ++ t) (row_is day stream unit (n + 1) reading update are plain) ∙ ap (λ t. t ++ row) so_far
+          ∙ append_assoc old rows row,
     )
 
 -- the rows of a book are those of its day
@@ -128,28 +154,30 @@ days_more w stream (x ∷ xs) day text one are is = (
   ap (λ (t : List ℕ). t ++ one) are.4 ∙ append_assoc are.0 are.1 one,
 )
 
--- the writer has written the head row, and then the rows of these books' days
-abbrev pub HasDays : World → Stream → List BookValue → Writer (Vec ℕ Global) → Type 0
-HasDays w stream books writer =
-    (rest : List ℕ) × AreDayTexts w stream (map (λ book. book.day) books) rest
-    × HasWritten writer (row_text default_writer readings_head ++ rest)
+-- the head row was appended, and then the rows of these books' days
+abbrev pub HasDays : World → Stream → List BookValue → (old new : List ℕ) → Type 0
+HasDays w stream books old new =
+    (rest : List ℕ) × AreDayTexts w stream (map (λ book. book.day) books) rest × (new ≡ old ++ readings_head_text ++ rest)
 
--- it has written no day yet
-pub no_days : (w : World) (stream : Stream) (writer : Writer (Vec ℕ Global))
-    → HasWritten writer (row_text default_writer readings_head) → HasDays w stream [] writer
-no_days w stream writer has =
-    ([], refl, subst (HasWritten writer) (sym (append-nil (row_text default_writer readings_head))) has)
+-- the head row as it is appended
+head_made : codes "nmi,suffix,start,minutes,unit,quality,code,text,value,update\n" ≡ readings_head_text
+unfolding fields_text is_blank
+head_made = refl
+
+-- no day was appended yet
+pub no_days : (w : World) (stream : Stream) (old new : List ℕ)
+    → new ≡ old ++ codes "nmi,suffix,start,minutes,unit,quality,code,text,value,update\n" → HasDays w stream [] old new
+no_days w stream old new put = ([], refl, put ∙ ap (λ t. old ++ t) head_made ∙ sym (append-nil (old ++ readings_head_text)))
 
 -- the next day
-pub has_day : (w : World) (stream : Stream) (books : List BookValue) (i : ℕ) (book : BookValue) (old new : Writer (Vec ℕ Global))
+pub has_day : (w : World) (stream : Stream) (books : List BookValue) (i : ℕ) (book : BookValue) (old mid new : List ℕ)
     → i < length books → book ≡ get_or books i book → AreKnownDays w stream books
-    → ((text : List ℕ) → book.stream ≡ stream → IsDay w book → IsKnownDay w stream book.day → HasWritten old text
-    → (rows : List ℕ) × IsDayText w stream book.day rows × HasWritten new (text ++ rows))
-    → HasDays w stream (take i books) old → HasDays w stream (take (i + 1) books) new
-has_day w stream books i book old new within here known writes has =
-    let head = row_text default_writer readings_head in
+    → (book.stream ≡ stream → IsDay w book → IsKnownDay w stream book.day
+    → (text : List ℕ) × IsDayText w stream book.day text × (new ≡ mid ++ text))
+    → HasDays w stream (take i books) old mid → HasDays w stream (take (i + 1) books) old new
+has_day w stream books i book old mid new within here known writes has =
     let of = subst (λ (b : BookValue). (b.stream ≡ stream) × IsDay w b × IsKnownDay w stream b.day) (sym here) (known i book within) in
-    let said = writes (head ++ has.0) of.0 of.1 of.2 has.2 in
+    let said = writes of.0 of.1 of.2 in
     let taken : take (i + 1) books ≡ take i books ++ book ∷ [] =
     take_more books i book within ∙ ap (λ (b : BookValue). take i books ++ b ∷ []) (sym here) in
     let days : map (λ (b : BookValue). b.day) (take (i + 1) books) ≡ map (λ (b : BookValue). b.day) (take i books) ++ book.day ∷ [] =
@@ -157,18 +185,23 @@ has_day w stream books i book old new within here known writes has =
       has.0 ++ said.0,
       subst (λ ds. AreDayTexts w stream ds (has.0 ++ said.0)) (sym days)
           (days_more w stream (map (λ (b : BookValue). b.day) (take i books)) book.day has.0 said.0 has.1 said.1),
-      subst (HasWritten new) (append_assoc head has.0 said.0) said.2,
+      said.2 ∙ ap (λ (t : List ℕ). t ++ said.0) has.2 ∙ append_assoc (old ++ readings_head_text) has.0 said.0,
     )
 
 -- all days
-pub has_days : {E : Type 0} (w : World) (stream : Stream) (books : List BookValue) (i : ℕ) (writer : Writer (Vec ℕ Global))
-    (result : Result (Vec ℕ Global) E) → length books ≤ i
-    → ((text : List ℕ) → HasWritten writer text → IfOk result (λ bytes. bytes.items ≡ text))
-    → HasDays w stream (take i books) writer
-    → IfOk result (λ text. IsReadingsText w stream (map (λ book. book.day) books) text.items)
-has_days w stream books i writer (Ok bytes) over written has = (
-  has.0,
-  written (row_text default_writer readings_head ++ has.0) has.2,
-  subst (λ (bs : List BookValue). AreDayTexts w stream (map (λ (b : BookValue). b.day) bs) has.0) (take_all i books over) has.1,
+pub has_days : (w : World) (stream : Stream) (books : List BookValue) (i : ℕ) (old new : List ℕ) → length books ≤ i
+    → HasDays w stream (take i books) old new
+    → (text : List ℕ) × IsReadingsText w stream (map (λ book. book.day) books) text × (new ≡ old ++ text)
+has_days w stream books i old new over has = (
+  readings_head_text ++ has.0,
+  (
+    has.0,
+    refl,
+    subst (λ (bs : List BookValue). AreDayTexts w stream (map (λ (b : BookValue). b.day) bs) has.0) (take_all i books over) has.1,
+  ),
+  has.2 ∙ append_assoc old readings_head_text has.0,
 )
-has_days w stream books i writer (Err error) over written has = tt
+
+-- what was there before a day's rows were appended, or before nothing was
+pub begun_more : (old mid new : List ℕ) → Begins old mid → Begins mid new → Begins old new
+begun_more old mid new a b = (a.0 ++ b.0, b.1 ∙ ap (λ (t : List ℕ). t ++ b.0) a.1 ∙ append_assoc old a.0 b.0)

@@ -1,3 +1,4 @@
+pub mod FieldsSteps
 pub mod Readings
 pub mod ReadingsSteps
 pub mod Registers

@@ -1,22 +1,28 @@
 -- The parts of a row of readings. No public contract cites it.
-use Rattle.std.specs.Prelude.{◌≡◌, ℕ, List, [], ◌∷◌, decimal}
+use Rattle.std.specs.Prelude.{◌≡◌, ℕ, true, List, ◌++◌, codes, decimal}
+use Rattle.std.specs.Char.{is_ascii_digit}
+use Rattle.std.specs.List.{list_all}
 use Rattle.mds_names.specs.declared.stream.Stream.{Stream}
 use Rattle.mds_quantity.specs.Unit.{unit_text}
 use Rattle.mds_quantity.specs.declared.unit.Unit.{Unit as MeasureUnit}
 use Rattle.mds_marks.specs.Quality.{quality_text}
 use Rattle.mds_marks.specs.Reading.{ReadingValue, value_text}
 use Rattle.mds_marks.specs.Reason.{code_text}
+use Rattle.mds_registers.specs.FieldsSteps.{closed}
 use Rattle.mds_registers.specs.declared.readings.DayTexts.{DayTexts}
 
 -- the texts that the rows of a day share are those of a stream, a length and a unit
 pub record AreTextsOf (day : DayTexts) (stream : Stream) (unit : MeasureUnit) : Type 0 where
-  pub nmi : day.nmi.now ≡ stream.nmi
-  pub suffix : day.suffix.now ≡ stream.suffix
-  pub minutes : day.minutes.now ≡ decimal day.length
-  pub unit_is : day.unit.now ≡ unit_text unit
+  pub front : day.front.now ≡ closed stream.nmi ++ closed stream.suffix
+  pub date : list_all is_ascii_digit day.date ≡ true
+  pub middle : day.middle.now ≡ codes "," ++ closed (decimal day.length) ++ closed (unit_text unit)
 
--- the fields of a row that begins with these texts
-abbrev pub row_fields : DayTexts → (start : List ℕ) → ReadingValue → (update : List ℕ) → List (List ℕ)
-row_fields day start reading update =
-    day.nmi.now ∷ day.suffix.now ∷ start ∷ day.minutes.now ∷ day.unit.now ∷ quality_text reading.mark.quality
-    ∷ code_text reading.mark.reason.code ∷ reading.mark.reason.text ∷ value_text reading.value ∷ update ∷ []
+-- a row that starts here, up to its quality
+abbrev pub row_front : DayTexts → (start : List ℕ) → List ℕ
+row_front day start = day.front.now ++ start ++ day.middle.now
+
+-- the row, with its end
+abbrev pub row_of : DayTexts → (start : List ℕ) → ReadingValue → (update : List ℕ) → List ℕ
+row_of day start reading update =
+    row_front day start ++ closed (quality_text reading.mark.quality) ++ closed (code_text reading.mark.reason.code)
+    ++ closed reading.mark.reason.text ++ closed (value_text reading.value) ++ update ++ codes "\n"

@@ -8,6 +8,7 @@
 //! `docs/FORMATS.md`. `gaps`, `finals`, `write_gaps`, `write_finals` and `write_readings` are public calls.
 #![tactic(auto)]
 
+mod fields;
 mod readings;
 mod stretches;
 mod writing;

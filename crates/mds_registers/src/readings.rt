@@ -1,8 +1,8 @@
-//! The current readings of a stream as a CSV text.
+//! The current readings of a stream as a CSV text. What the rows of a day share is written once for all of them.
 
-ghost use Rattle.std.specs.Prelude.{◌≡◌, ◌++◌, ◌*◌, ◌-◌, ◌≤◌, ◌<◌, ℕ, List, [], IfOk, OnOk, OnErr, Some, map, string_bytes};
-ghost use Rattle.csv.specs.Writing.{default_writer, row_text};
+ghost use Rattle.std.specs.Prelude.{◌≡◌, ◌++◌, ◌*◌, ◌-◌, ◌≤◌, ◌<◌, ℕ, List, [], codes, decimal, IfOk, OnOk, OnErr, Some, map, string_bytes};
 ghost use Rattle.mds_quantity.specs.Append.{Appends};
+ghost use Rattle.mds_quantity.specs.Unit.{unit_text};
 ghost use Rattle.mds_quantity.specs.declared.unit.Unit.{Unit as MeasureUnit};
 ghost use Rattle.mds_calendar.specs.Calendar.{moment_of};
 ghost use Rattle.mds_calendar.specs.Length.{count_of};
@@ -11,27 +11,35 @@ ghost use Rattle.mds_world.specs.Current.{IsFormOf, no_reading};
 ghost use Rattle.mds_world.specs.World.{IsKnownDay, World};
 ghost use Rattle.mds_keeper.specs.Books.{IsDay, book_world};
 ghost use Rattle.mds_keeper.specs.LentVersions.{lent_reading};
-ghost use Rattle.mds_registers.specs.Readings.{AreIntervalRows, AreKnownDays, IsDayText, IsReadingsText, IsShown, readings_head, start_text as text_of_start};
-ghost use Rattle.mds_registers.specs.ReadingsSteps.{AreTextsOf, row_fields};
-ghost use Rattle.mds_registers.specs.RegistersSteps.{HasWritten};
+ghost use Rattle.mds_registers.specs.FieldsSteps.{Begins, closed};
+ghost use Rattle.mds_registers.specs.Readings.{AreIntervalRows, AreKnownDays, IsDayText, IsReadingsText, IsShown, start_text as text_of_start};
+ghost use Rattle.mds_registers.specs.ReadingsSteps.{AreTextsOf, row_of, row_front};
 
-use crate::writing::{code_text, headed_writer, two_digits, write_row, written};
-use csv::Writer;
+use crate::fields::write_field;
+use crate::writing::{code_text, two_digits};
 use itoa::Buffer;
 use mds_keeper::{DayBook, LentVersion};
-use mds_quantity::Quantity;
-use mds_terms::{Length, Stream};
+use mds_quantity::{Quantity, Unit};
+use mds_terms::{Length, Moment, Stream};
 use std::alloc::{AllocError, Global};
 
-/// What the rows of a day share: the texts of their first fields, and the length of the intervals.
+/// What the rows of a day share.
 #[derive(Clone, Copy)]
 struct DayTexts<'a> {
-    nmi: &'a [u8],
-    suffix: &'a [u8],
+    /// What is before the start: the NMI and the suffix, each with the comma after it.
+    front: &'a [u8],
     date: [u8; 8],
     length: Length,
-    minutes: &'a [u8],
-    unit: &'a [u8],
+    /// What is between the start and the quality: a comma, then the minutes and the unit, each with the comma after it.
+    middle: &'a [u8],
+}
+
+/// The text of an update. Most rows have that of the row before, so it is kept from row to row.
+#[derive(Clone, Copy)]
+struct UpdateText {
+    update: Moment,
+    digits: [u8; 14],
+    ghost reads: { moment_of digits ≡ Some update },
 }
 
 /// The number of minutes in an hour.
@@ -50,182 +58,196 @@ pub fn write_readings(
         × IsReadingsText w stream.now (map (λ book. book.day) books.now) text × Appends out.old.items out.new.items text) }
     ensures kept { OnErr result (out.new.items ≡ out.old.items) }
 {
+    let start = out.len();
     // decides: which rows does the register of readings have?
-    let text = readings_text(*out.allocator(), stream, books)?;
-    out.extend_from_slice(&text)
-}
-
-/// The register of a stream's readings, in its own buffer, since a writer that fails may have written a part.
-fn readings_text(alloc: Global, stream: &Stream, books: &[DayBook]) -> Result<Vec<u8>, AllocError>
-    ensures { (w : World) → AreKnownDays w stream.now books.now
-        → IfOk result (λ text. IsReadingsText w stream.now (map (λ book. book.day) books.now) text.items) }
-{
-    let mut writer = readings_writer(alloc)?;
-    // One buffer for the values of all rows.
-    let mut value = String::new(alloc);
-    for book in books {
-        write_day(&mut writer, stream, book, &mut value)?;
+    match write_days(stream, books, out) {
+        Ok(()) => Ok(()),
+        Err(refused) => {
+            out.truncate(start);
+            Err(refused)
+        }
     }
-    written(writer)
 }
 
-/// A writer that has written the head row of readings.
-fn readings_writer(alloc: Global) -> Result<Writer<Vec<u8>>, AllocError>
-    ensures { IfOk result (λ writer. HasWritten writer (row_text default_writer readings_head)) }
+/// Appends the register of a stream's readings. After an error a part of it may be appended.
+fn write_days(stream: &Stream, books: &[DayBook], out: &mut Vec<u8>) -> Result<(), AllocError>
+    ensures done { (w : World) → AreKnownDays w stream.now books.now → OnOk result ((text : List ℕ)
+        × IsReadingsText w stream.now (map (λ book. book.day) books.now) text × Appends out.old.items out.new.items text) }
+    ensures begun { Begins out.old.items out.new.items }
 {
-    headed_writer(
-        alloc,
-        &[
-            b"nmi".as_slice(),
-            b"suffix".as_slice(),
-            b"start".as_slice(),
-            b"minutes".as_slice(),
-            b"unit".as_slice(),
-            b"quality".as_slice(),
-            b"code".as_slice(),
-            b"text".as_slice(),
-            b"value".as_slice(),
-            b"update".as_slice(),
-        ],
-    )
+    out.extend_from_slice(b"nmi,suffix,start,minutes,unit,quality,code,text,value,update\n")?;
+    // A row takes no memory of its own: these are kept from row to row.
+    let mut rows = Vec::new(*out.allocator());
+    let mut value = String::new(*out.allocator());
+    let mut update = update_text(Moment::from_seconds(0).unwrap());
+    for book in books {
+        write_day(stream, book, &mut rows, &mut value, &mut update, out)?;
+    }
+    Ok(())
 }
 
-/// Writes the rows of a day. A day that isn't known has none.
+/// Appends the rows of a day, which are written to a buffer first. A day that isn't known has none. After an error
+/// nothing is appended.
 fn write_day(
-    writer: &mut Writer<Vec<u8>>,
     stream: &Stream,
     book: &DayBook,
+    rows: &mut Vec<u8>,
     value: &mut String,
+    update: &mut UpdateText,
+    out: &mut Vec<u8>,
 ) -> Result<(), AllocError>
-    ensures { (w : World) (text : List ℕ) → book.now.stream ≡ stream.now → IsDay w book.now
-        → IsKnownDay w stream.now book.now.day → HasWritten writer.old text
-        → OnOk result ((rows : List ℕ) × IsDayText w stream.now book.now.day rows × HasWritten writer.new (text ++ rows)) }
+    ensures done { (w : World) → book.now.stream ≡ stream.now → IsDay w book.now
+        → IsKnownDay w stream.now book.now.day → OnOk result ((text : List ℕ)
+        × IsDayText w stream.now book.now.day text × Appends out.old.items out.new.items text) }
+    ensures begun { Begins out.old.items out.new.items }
 {
     let Some(form) = book.form() else {
         return Ok(());
     };
     let (length, unit) = form;
     let date = book.day().digits();
-    let mut minutes = Buffer::new();
-    let minutes = minutes.format(minutes_of(length));
+    let front = front_text(*out.allocator(), stream)?;
+    let middle = middle_text(*out.allocator(), length, unit)?;
     let day = DayTexts {
-        nmi: stream.nmi.text().as_bytes(),
-        suffix: stream.suffix.text().as_bytes(),
+        front: front.as_slice(),
         date,
         length,
-        minutes: minutes.as_bytes(),
-        unit: unit.text().as_bytes(),
+        middle: middle.as_slice(),
     };
-    write_intervals(writer, &day, book, value)
+    rows.clear();
+    write_intervals(rows, &day, book, value, update)?;
+    out.extend_from_slice(rows)
 }
 
-/// Writes a row for each interval of a known day.
+/// What is before the start of a row.
+fn front_text(alloc: Global, stream: &Stream) -> Result<Vec<u8>, AllocError>
+    ensures { IfOk result (λ text. text.items ≡ closed stream.now.nmi ++ closed stream.now.suffix) }
+{
+    let mut text = Vec::new(alloc);
+    write_field(&mut text, stream.nmi.text().as_bytes())?;
+    write_field(&mut text, stream.suffix.text().as_bytes())?;
+    Ok(text)
+}
+
+/// What is between the start and the quality of a row.
+fn middle_text(alloc: Global, length: Length, unit: Unit) -> Result<Vec<u8>, AllocError>
+    ensures { IfOk result (λ text. text.items ≡ codes "," ++ closed (decimal length) ++ closed (unit_text unit)) }
+{
+    let mut text = Vec::new(alloc);
+    text.push(b',')?;
+    let mut minutes = Buffer::new();
+    write_field(&mut text, minutes.format(minutes_of(length)).as_bytes())?;
+    write_field(&mut text, unit.text().as_bytes())?;
+    Ok(text)
+}
+
+/// Appends a row for each interval of a known day.
 fn write_intervals<'a>(
-    writer: &mut Writer<Vec<u8>>,
+    rows: &mut Vec<u8>,
     day: &DayTexts<'a>,
     book: &'a DayBook,
     value: &mut String,
+    update: &mut UpdateText,
 ) -> Result<(), AllocError>
-    ensures { (unit : MeasureUnit) (text : List ℕ) → AreTextsOf day.now book.now.stream unit
-        → IsFormOf (book_world book.now) book.now.stream book.now.day day.now.length unit → HasWritten writer.old text
-        → OnOk result ((rows : List ℕ)
+    ensures { (unit : MeasureUnit) → AreTextsOf day.now book.now.stream unit
+        → IsFormOf (book_world book.now) book.now.stream book.now.day day.now.length unit → OnOk result ((text : List ℕ)
         × AreIntervalRows (book_world book.now) book.now.stream book.now.day day.now.date day.now.length unit
-        (count_of day.now.length) rows
-        × HasWritten writer.new (text ++ rows)) }
+        (count_of day.now.length) text
+        × Appends rows.old.items rows.new.items text) }
 {
     for i in 0..day.length.count() {
-        write_interval(writer, day, book, i as u16 + 1, value)?;
+        write_interval(rows, day, book, i as u16 + 1, value, update)?;
     }
     Ok(())
 }
 
-/// Writes the row of an interval of a known day.
+/// Appends the row of an interval of a known day.
 fn write_interval<'a>(
-    writer: &mut Writer<Vec<u8>>,
+    rows: &mut Vec<u8>,
     day: &DayTexts<'a>,
     book: &'a DayBook,
     interval: u16,
     value: &mut String,
+    update: &mut UpdateText,
 ) -> Result<(), AllocError>
     requires { (1 ≤ interval) × (interval ≤ count_of day.now.length) }
-    ensures { (unit : MeasureUnit) (text : List ℕ)
-        → IsFormOf (book_world book.now) book.now.stream book.now.day day.now.length unit → HasWritten writer.old text
-        → OnOk result ((reading : ReadingValue) × (update : List ℕ)
-        × IsShown (book_world book.now) book.now.stream book.now.day day.now.length interval reading update
-        × HasWritten writer.new (text ++ row_text default_writer
-        (row_fields day.now (text_of_start day.now.date ((interval - 1) * day.now.length)) reading update))) }
+    ensures { (unit : MeasureUnit)
+        → IsFormOf (book_world book.now) book.now.stream book.now.day day.now.length unit
+        → OnOk result ((reading : ReadingValue) × (text : List ℕ)
+        × IsShown (book_world book.now) book.now.stream book.now.day day.now.length interval reading text
+        × Appends rows.old.items rows.new.items
+        (row_of day.now (text_of_start day.now.date ((interval - 1) * day.now.length)) reading text)) }
 {
     let start = start_text(&day.date, minutes_before(day.length, interval));
     // For the proof: a day has one current length.
     book.is_lawful();
     // decides: which reading does an interval without a version have?
     match book.current(interval) {
-        Some(version) => write_version(writer, day, &start, &version, value),
-        None => write_none(writer, day, &start),
+        Some(version) => write_version(rows, day, &start, &version, value, update),
+        None => write_none(rows, day, &start),
     }
 }
 
-/// Writes the row of a version of an interval that starts at this text's moment.
+/// Appends the row of a version of an interval that starts at this text's moment.
 fn write_version<'a>(
-    writer: &mut Writer<Vec<u8>>,
+    rows: &mut Vec<u8>,
     day: &DayTexts<'a>,
     start: &[u8; 16],
     version: &LentVersion<'a>,
     value: &mut String,
+    update: &mut UpdateText,
 ) -> Result<(), AllocError>
-    ensures { (text : List ℕ) → HasWritten writer.old text
-        → OnOk result ((update : List ℕ) × (moment_of update ≡ Some version.now.update)
-        × HasWritten writer.new (text ++ row_text default_writer
-        (row_fields day.now start.now (lent_reading version.now) update))) }
+    ensures { OnOk result ((text : List ℕ) × (moment_of text ≡ Some version.now.update)
+        × Appends rows.old.items rows.new.items (row_of day.now start.now (lent_reading version.now) text)) }
 {
     let mark = version.mark;
     let (letters, count) = mark.quality.letters();
     let mut code = Buffer::new();
     let code = code_text(mark.reason.code(), &mut code);
     put_value(version.value, value)?;
-    let update = version.update.digits();
-    write_row(
-        writer,
-        &[
-            day.nmi,
-            day.suffix,
-            start,
-            day.minutes,
-            day.unit,
-            &letters[..count],
-            code.as_bytes(),
-            mark.reason.text().as_bytes(),
-            value.as_bytes(),
-            &update,
-        ],
-    )
+    put_update(version.update, update);
+    write_front(rows, day, start)?;
+    write_field(rows, &letters[..count])?;
+    write_field(rows, code.as_bytes())?;
+    write_field(rows, mark.reason.text().as_bytes())?;
+    write_field(rows, value.as_bytes())?;
+    rows.extend_from_slice(&update.digits)?;
+    rows.push(b'\n')?;
+    Ok(())
 }
 
-/// Writes the row of an interval without a version that starts at this text's moment: bare N.
-fn write_none(
-    writer: &mut Writer<Vec<u8>>,
-    day: &DayTexts<'_>,
-    start: &[u8; 16],
-) -> Result<(), AllocError>
-    ensures { (text : List ℕ) → HasWritten writer.old text → OnOk result (HasWritten writer.new
-        (text ++ row_text default_writer (row_fields day.now start.now no_reading []))) }
+/// Appends the row of an interval without a version that starts at this text's moment: bare N.
+fn write_none(rows: &mut Vec<u8>, day: &DayTexts<'_>, start: &[u8; 16]) -> Result<(), AllocError>
+    ensures { OnOk result (Appends rows.old.items rows.new.items (row_of day.now start.now no_reading [])) }
 {
-    let empty = b"".as_slice();
-    write_row(
-        writer,
-        &[
-            day.nmi,
-            day.suffix,
-            start,
-            day.minutes,
-            day.unit,
-            b"N".as_slice(),
-            empty,
-            empty,
-            empty,
-            empty,
-        ],
-    )
+    write_front(rows, day, start)?;
+    rows.extend_from_slice(b"N,,,,\n")
+}
+
+/// Appends a row that starts at this text's moment, up to its quality.
+fn write_front(rows: &mut Vec<u8>, day: &DayTexts<'_>, start: &[u8; 16]) -> Result<(), AllocError>
+    ensures { OnOk result (Appends rows.old.items rows.new.items (row_front day.now start.now)) }
+{
+    rows.extend_from_slice(day.front)?;
+    rows.extend_from_slice(start)?;
+    rows.extend_from_slice(day.middle)
+}
+
+/// The text of an update.
+fn update_text(update: Moment) -> UpdateText
+    ensures { result.update ≡ update }
+{
+    let digits = update.digits();
+    UpdateText { update, digits }
+}
+
+/// Replaces the text of an update by that of another, if that isn't the same.
+fn put_update(update: Moment, text: &mut UpdateText)
+    ensures { moment_of text.new.digits ≡ Some update }
+{
+    if text.update != update {
+        *text = update_text(update);
+    }
 }
 
 /// Replaces a text by that of a value. It is empty if there is no value.

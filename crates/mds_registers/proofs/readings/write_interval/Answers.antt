@@ -1,16 +1,14 @@
-use Rattle.std.proofs.Common.{[], ◌++◌, ◌∙◌, ap, inr, refl, subst}
+use Rattle.std.proofs.Common.{[], ◌++◌, ◌∙◌, ap, inr, refl}
 use Rattle.std.proofs.lemmas.Result.{on_ok_weaker}
-use Rattle.csv.specs.Writing.{default_writer, row_text}
 use Rattle.mds_world.specs.Current.{no_reading}
 use Rattle.mds_keeper.specs.LentVersions.{lent_reading}
 use Rattle.mds_registers.specs.Readings.{start_text}
-use Rattle.mds_registers.specs.ReadingsSteps.{row_fields}
-use Rattle.mds_registers.specs.RegistersSteps.{HasWritten}
+use Rattle.mds_registers.specs.ReadingsSteps.{row_of}
 use Rattle.mds_registers.proofs.ReadingRows.{shown_version}
 use Rattle.mds_registers.proofs.readings.write_interval.Goals as goal
 
 pub returns-in-Some : goal.returns-in-Some
-returns-in-Some c = λ unit text form has.
+returns-in-Some c = λ unit form.
     let day = c.args.day.now in
     let version = c.in-Some.version in
     let start = c.start_text-start.ensures ∙ ap (start_text day.date) c.minutes_before.ensures.value in
@@ -20,13 +18,12 @@ returns-in-Some c = λ unit text form has.
       done.0,
       shown_version c.args.book.now version day.length c.args.interval unit done.0 c.is_lawful.ensures form
           c.in-Some.ensures.some done.1,
-      subst (λ s. HasWritten c.write_version.new.writer (text ++ row_text default_writer (row_fields day s (lent_reading version) done.0)))
-          start done.2,
+      done.2 ∙ ap (λ s. c.args.rows.now.items ++ row_of day s (lent_reading version) done.0) start,
     ))
-    (c.write_version.ensures text has)
+    c.write_version.ensures
 
 pub returns-in-None : goal.returns-in-None
-returns-in-None c = λ unit text form has.
+returns-in-None c = λ unit form.
     let day = c.args.day.now in
     let start = c.start_text-start.ensures ∙ ap (start_text day.date) c.minutes_before.ensures.value in
     on_ok_weaker c.write_none.result
@@ -34,7 +31,6 @@ returns-in-None c = λ unit text form has.
       no_reading,
       [],
       inr (c.in-None.ensures.none day.length unit form, refl, refl),
-      subst (λ s. HasWritten c.write_none.new.writer (text ++ row_text default_writer (row_fields day s no_reading [])))
-          start done,
+      done ∙ ap (λ s. c.args.rows.now.items ++ row_of day s no_reading []) start,
     ))
-    (c.write_none.ensures text has)
+    c.write_none.ensures

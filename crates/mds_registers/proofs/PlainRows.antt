@@ -1,0 +1,67 @@
+-- Texts that need no quotation marks, and a row of its parts.
+use Rattle.std.proofs.Common.{◌≡◌, ℕ, ◌≤◌, ◌/◌, ◌%◌, true, false, codes, List, [], ◌∷◌, ◌++◌, take, drop, refl, arith, append_assoc}
+use Rattle.std.specs.Char.{digit_char, is_ascii_digit}
+use Rattle.std.specs.List.{All, list_all}
+use Rattle.std.proofs.lemmas.Bool.Decides.{nat_tests}
+use Rattle.std.proofs.lemmas.List.Elements.{All-nil, All-cons, All-append, All-drop, All-take, All-weaker}
+use Rattle.std.proofs.lemmas.List.Folds.{list_any_none}
+use Rattle.std.proofs.lemmas.List.Sums.{AllPass-from_list_all}
+use Rattle.csv.specs.Writing.{default_writer, field_text, fields_text, is_blank, needs_byte, needs_quotes, row_text}
+use Rattle.mds_marks.specs.Quality.{two_digits}
+use Rattle.mds_registers.specs.FieldsSteps.{closed}
+use Rattle.mds_registers.specs.Readings.{start_text}
+
+-- each byte is above the comma, as those of digits and letters are
+abbrev pub IsHigh : ℕ → Type 0
+IsHigh c = 45 ≤ c
+
+pub record IsPlain (text : List ℕ) : Type 0 where
+  pub high : All IsHigh text
+
+plain_byte : (c : ℕ) → 45 ≤ c → needs_byte default_writer c ≡ false
+plain_byte c h = grind (arith, nat_tests)
+
+-- it is written as it is
+pub plain_field : (text : List ℕ) → IsPlain text → field_text default_writer text ≡ text
+plain_field text plain =
+    let none : needs_quotes default_writer text ≡ false =
+    list_any_none (needs_byte default_writer) text (All-weaker IsHigh (λ c. needs_byte default_writer c ≡ false) plain_byte text plain.high) in
+    rw none refl
+
+pub plain_nil : IsPlain []
+plain_nil = record { high = All-nil IsHigh }
+
+pub plain_digits : (text : List ℕ) → list_all is_ascii_digit text ≡ true → IsPlain text
+plain_digits text h = record {
+  high = All-weaker (λ c. is_ascii_digit c ≡ true) IsHigh (λ c d. grind (arith, nat_tests)) text (AllPass-from_list_all is_ascii_digit text h);
+}
+
+append : (a b : List ℕ) → IsPlain a → IsPlain b → IsPlain (a ++ b)
+append a b p q = record { high = All-append IsHigh a b p.high q.high }
+
+one : (c : ℕ) → 45 ≤ c → IsPlain (c ∷ [])
+one c h = record { high = All-cons IsHigh c [] h (All-nil IsHigh) }
+
+digit_high : (d : ℕ) → 45 ≤ digit_char d
+digit_high d = grind (arith, nat_tests)
+
+two : (n : ℕ) → IsPlain (two_digits n)
+two n = append (digit_char (n / 10) ∷ []) (digit_char (n % 10) ∷ []) (one (digit_char (n / 10)) (digit_high (n / 10))) (one (digit_char (n % 10)) (digit_high (n % 10)))
+
+-- the start of a row
+pub plain_start : (date : List ℕ) (minutes : ℕ) → list_all is_ascii_digit date ≡ true → IsPlain (start_text date minutes)
+plain_start date minutes h =
+    let digits = (plain_digits date h).high in
+    let year : IsPlain (take 4 date) = record { high = All-take IsHigh 4 date digits } in
+    let month : IsPlain (take 2 (drop 4 date)) = record { high = All-take IsHigh 2 (drop 4 date) (All-drop IsHigh 4 date digits) } in
+    let day : IsPlain (drop 6 date) = record { high = All-drop IsHigh 6 date digits } in
+    let dash = one 45 (omega arith) in
+    append _ _ (append _ _ (append _ _ (append _ _ (append _ _ (append _ _ (append _ _ (append _ _ year dash) month) dash) day)
+    (one 84 (omega arith))) (two (minutes / 60))) (one 58 (omega arith))) (two (minutes % 60))
+
+-- the text of a row of ten fields, if the third and the last are plain
+pub row_made : (a b s c d e f g h u : List ℕ) → IsPlain s → IsPlain u
+    → (closed a ++ closed b) ++ s ++ (codes "," ++ closed c ++ closed d) ++ closed e ++ closed f ++ closed g ++ closed h ++ u ++ codes "\n"
+    ≡ row_text default_writer (a ∷ b ∷ s ∷ c ∷ d ∷ e ∷ f ∷ g ∷ h ∷ u ∷ [])
+unfolding fields_text is_blank
+row_made a b s c d e f g h u start update = rw (plain_field s start, plain_field u update) (simp append_assoc)
