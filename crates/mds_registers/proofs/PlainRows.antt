@@ -1,22 +1,23 @@
 -- Texts that need no quotation marks, and a row of its parts.
-use Rattle.std.proofs.Common.{◌≡◌, ℕ, ◌≤◌, ◌/◌, ◌%◌, true, false, codes, List, [], ◌∷◌, ◌++◌, take, drop, refl, arith, append_assoc}
-use Rattle.std.specs.Char.{digit_char, is_ascii_digit}
-use Rattle.std.specs.List.{All, list_all}
+use Rattle.std.proofs.Common.{◌≡◌, ◌==◌, ℕ, ◌+◌, ◌-◌, ◌<◌, ◌≤◌, ◌/◌, ◌%◌, ◌^◌, Bool, true, false, cond, codes, decimal, List, [], ◌∷◌, ◌++◌, take, drop, refl, arith, append_assoc, ℤ, pos, negsuc, unsigned_abs}
+use Rattle.std.specs.Char.{digit_char, digit_value, is_ascii_digit}
+use Rattle.std.specs.List.{All, list_all, range_with_len}
+use Rattle.std.specs.Str.Parse.{AllDigits}
 use Rattle.std.proofs.lemmas.Bool.Decides.{nat_tests}
-use Rattle.std.proofs.lemmas.List.Elements.{All-nil, All-cons, All-append, All-drop, All-take, All-weaker}
+use Rattle.std.proofs.lemmas.Fmt.{decimal_is_IsNumeral}
+use Rattle.std.proofs.lemmas.List.Elements.{All-nil, All-cons, All-append, All-drop, All-from_get_or, All-map, All-take, All-weaker}
 use Rattle.std.proofs.lemmas.List.Folds.{list_any_none}
 use Rattle.std.proofs.lemmas.List.Sums.{AllPass-from_list_all}
 use Rattle.csv.specs.Writing.{default_writer, field_text, fields_text, is_blank, needs_byte, needs_quotes, row_text}
-use Rattle.mds_marks.specs.Quality.{two_digits}
-use Rattle.mds_registers.specs.FieldsSteps.{closed}
+use Rattle.mds_quantity.specs.Quantity.{limit, point_and_decimals, sign_of, six_decimals, written}
+use Rattle.mds_marks.specs.Quality.{QualityValue, is_quality, quality_text, two_digits}
+use Rattle.mds_marks.proofs.Qualities.{is_plain as is_quality_char, plain_text}
+use Rattle.mds_registers.specs.FieldsSteps.{IsPlain, closed}
 use Rattle.mds_registers.specs.Readings.{start_text}
 
--- each byte is above the comma, as those of digits and letters are
+-- a byte above the comma, as those of digits and letters are
 abbrev pub IsHigh : ℕ → Type 0
 IsHigh c = 45 ≤ c
-
-pub record IsPlain (text : List ℕ) : Type 0 where
-  pub high : All IsHigh text
 
 plain_byte : (c : ℕ) → 45 ≤ c → needs_byte default_writer c ≡ false
 plain_byte c h = grind (arith, nat_tests)
@@ -59,9 +60,48 @@ plain_start date minutes h =
     append _ _ (append _ _ (append _ _ (append _ _ (append _ _ (append _ _ (append _ _ (append _ _ year dash) month) dash) day)
     (one 84 (omega arith))) (two (minutes / 60))) (one 58 (omega arith))) (two (minutes % 60))
 
+-- the text of a quality
+pub plain_quality : (q : QualityValue) → is_quality q.flag q.method ≡ true → IsPlain (quality_text q)
+plain_quality q h = record {
+  high = All-weaker (λ c. is_quality_char c ≡ true) IsHigh (λ c d. grind (arith, nat_tests)) (quality_text q)
+      (AllPass-from_list_all is_quality_char (quality_text q) (plain_text q h));
+}
+
+-- the text of a value
+digits_high : (ds : List ℕ) → AllDigits 10 ds → All IsHigh ds
+digits_high [] h = All-nil IsHigh
+digits_high (d ∷ ds) h = All-cons IsHigh d ds (digit d h.0) (digits_high ds h.1)
+  where
+    digit : (d : ℕ) → digit_value d < 10 → 45 ≤ d
+    digit d h = grind (arith, nat_tests)
+
+plain_decimal : (n : ℕ) → n < 2 ^ 64 → IsPlain (decimal n)
+plain_decimal n h = record { high = digits_high (decimal n) (decimal_is_IsNumeral n h).0.1 }
+
+six_high : (part : ℕ) → All IsHigh (six_decimals part)
+six_high part =
+    All-map IsHigh (λ i. 48 + part / 10 ^ (5 - i) % 10) (range_with_len 0 6)
+    (All-from_get_or (λ i. 45 ≤ 48 + part / 10 ^ (5 - i) % 10) (range_with_len 0 6) 0 (λ i h. omega arith))
+
+plain_decimals : (part : ℕ) (b : Bool) (n : ℕ) → IsPlain (cond b [] (codes "." ++ take n (six_decimals part)))
+plain_decimals part true n = plain_nil
+plain_decimals part false n =
+    append (46 ∷ []) (take n (six_decimals part)) (one 46 (omega arith)) (record { high = All-take IsHigh n (six_decimals part) (six_high part) })
+
+plain_sign : (z : ℤ) → IsPlain (sign_of z)
+plain_sign (pos n) = plain_nil
+plain_sign (negsuc n) = one 45 (omega arith)
+
+pub plain_written : (z : ℤ) → unsigned_abs z < limit → IsPlain (written z)
+unfolding written
+plain_written z h =
+    append (sign_of z ++ decimal (unsigned_abs z / 10 ^ 6)) (point_and_decimals (unsigned_abs z % 10 ^ 6))
+    (append (sign_of z) (decimal (unsigned_abs z / 10 ^ 6)) (plain_sign z) (plain_decimal (unsigned_abs z / 10 ^ 6) (omega (arith, h))))
+    (plain_decimals (unsigned_abs z % 10 ^ 6) (unsigned_abs z % 10 ^ 6 == 0) _)
+
 -- the text of a row of ten fields, if the third and the last are plain
 pub row_made : (a b s c d e f g h u : List ℕ) → IsPlain s → IsPlain u
-    → (closed a ++ closed b) ++ s ++ (codes "," ++ closed c ++ closed d) ++ closed e ++ closed f ++ closed g ++ closed h ++ u ++ codes "\n"
+    → (closed a ++ closed b) ++ s ++ (codes "," ++ closed c ++ closed d) ++ (closed e ++ closed f ++ closed g) ++ closed h ++ u ++ codes "\n"
     ≡ row_text default_writer (a ∷ b ∷ s ∷ c ∷ d ∷ e ∷ f ∷ g ∷ h ∷ u ∷ [])
 unfolding fields_text is_blank
 row_made a b s c d e f g h u start update = rw (plain_field s start, plain_field u update) (simp append_assoc)

@@ -21,12 +21,12 @@ use Rattle.mds_world.proofs.Forms.{one_size}
 use Rattle.mds_keeper.specs.Books.{BookValue, IsDay, book_world}
 use Rattle.mds_keeper.specs.LentVersions.{lent_reading}
 use Rattle.mds_keeper.specs.declared.lent_version.LentVersion.{LentVersion}
-use Rattle.mds_registers.specs.FieldsSteps.{Begins, closed}
+use Rattle.mds_registers.specs.FieldsSteps.{Begins, IsPlain, closed}
 use Rattle.mds_registers.specs.Readings.{AreDayTexts, AreIntervalRows, AreKnownDays, IsDayText, IsReadingsText, IsShown, reading_row, readings_head_text, start_text}
 use Rattle.mds_registers.specs.ReadingsSteps.{AreTextsOf, row_of}
 use Rattle.mds_registers.specs.declared.readings.DayTexts.{DayTexts}
 use Rattle.mds_registers.proofs.BookReadings.{form_in}
-use Rattle.mds_registers.proofs.PlainRows.{IsPlain, plain_digits, plain_nil, plain_start, row_made}
+use Rattle.mds_registers.proofs.PlainRows.{plain_digits, plain_field, plain_nil, plain_start, row_made}
 
 -- what is current in a book is current in a World that has its day
 shown_in : (w : World) (book : BookValue) (m i : ℕ) (reading : ReadingValue) (text : List ℕ) → IsDay w book
@@ -88,12 +88,16 @@ row_is day stream unit i reading update are plain =
     (plain_start day.date ((i - 1) * day.length) are.date) plain)
 
 -- the parts of a row, appended one after the other
-pub row_put : (old a b c d e f new front q quality k code t text v value u : List ℕ) → a ≡ old ++ front → b ≡ a ++ closed q
-    → c ≡ b ++ closed k → d ≡ c ++ closed t → e ≡ d ++ closed v → f ≡ e ++ u → new ≡ f ++ codes "\n" → q ≡ quality → k ≡ code
-    → t ≡ text → v ≡ value
-    → new ≡ old ++ (front ++ closed quality ++ closed code ++ closed text ++ closed value ++ u ++ codes "\n")
-row_put old a b c d e f new front q quality k code t text v value u ea eb ec ed ee ef en eq ek et ev =
-    rw (en, ef, ee, ed, ec, eb, ea, eq, ek, et, ev) (simp append_assoc)
+pub row_put : (old a b c d e new front mark v value u : List ℕ) → IsPlain value → a ≡ old ++ front → b ≡ a ++ mark → c ≡ b ++ v
+    → d ≡ c ++ codes "," → e ≡ d ++ u → new ≡ e ++ codes "\n" → v ≡ value
+    → new ≡ old ++ (front ++ mark ++ closed value ++ u ++ codes "\n")
+row_put old a b c d e new front mark v value u plain ea eb ec ed ee en ev =
+    rw (en, ee, ed, ec, eb, ea, ev, plain_field value plain) (simp append_assoc)
+
+-- the fields of a mark likewise
+pub mark_put : (old a new letters quality code text : List ℕ) → IsPlain quality → letters ≡ quality → a ≡ old ++ letters
+    → new ≡ a ++ (codes "," ++ closed code ++ closed text) → new ≡ old ++ (closed quality ++ closed code ++ closed text)
+mark_put old a new letters quality code text plain is ea en = rw (en, ea, is, plain_field quality plain) (simp append_assoc)
 
 -- the rows of a day are appended as a whole
 pub rows_put : {T E : Type 0} (r : Result T E) (Is : List ℕ → Type 0) (old new rows text : List ℕ)

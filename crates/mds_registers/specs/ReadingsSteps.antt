@@ -8,6 +8,7 @@ use Rattle.mds_quantity.specs.declared.unit.Unit.{Unit as MeasureUnit}
 use Rattle.mds_marks.specs.Quality.{quality_text}
 use Rattle.mds_marks.specs.Reading.{ReadingValue, value_text}
 use Rattle.mds_marks.specs.Reason.{code_text}
+use Rattle.mds_marks.specs.declared.mark.Mark.{Mark}
 use Rattle.mds_registers.specs.FieldsSteps.{closed}
 use Rattle.mds_registers.specs.declared.readings.DayTexts.{DayTexts}
 
@@ -21,8 +22,11 @@ pub record AreTextsOf (day : DayTexts) (stream : Stream) (unit : MeasureUnit) : 
 abbrev pub row_front : DayTexts → (start : List ℕ) → List ℕ
 row_front day start = day.front.now ++ start ++ day.middle.now
 
+-- the fields of a mark
+abbrev pub mark_fields : Mark → List ℕ
+mark_fields mark = closed (quality_text mark.quality) ++ closed (code_text mark.reason.code) ++ closed mark.reason.text
+
 -- the row, with its end
 abbrev pub row_of : DayTexts → (start : List ℕ) → ReadingValue → (update : List ℕ) → List ℕ
 row_of day start reading update =
-    row_front day start ++ closed (quality_text reading.mark.quality) ++ closed (code_text reading.mark.reason.code)
-    ++ closed reading.mark.reason.text ++ closed (value_text reading.value) ++ update ++ codes "\n"
+    row_front day start ++ mark_fields reading.mark ++ closed (value_text reading.value) ++ update ++ codes "\n"

@@ -7,20 +7,21 @@ ghost use Rattle.mds_quantity.specs.declared.unit.Unit.{Unit as MeasureUnit};
 ghost use Rattle.mds_calendar.specs.Calendar.{moment_of};
 ghost use Rattle.mds_calendar.specs.Length.{count_of};
 ghost use Rattle.mds_marks.specs.Reading.{ReadingValue, value_text};
+ghost use Rattle.mds_marks.specs.Reason.{code_text as text_of_code};
 ghost use Rattle.mds_world.specs.Current.{IsFormOf, no_reading};
 ghost use Rattle.mds_world.specs.World.{IsKnownDay, World};
 ghost use Rattle.mds_keeper.specs.Books.{IsDay, book_world};
 ghost use Rattle.mds_keeper.specs.LentVersions.{lent_reading};
-ghost use Rattle.mds_registers.specs.FieldsSteps.{Begins, closed};
+ghost use Rattle.mds_registers.specs.FieldsSteps.{Begins, IsPlain, closed};
 ghost use Rattle.mds_registers.specs.Readings.{AreIntervalRows, AreKnownDays, IsDayText, IsReadingsText, IsShown, start_text as text_of_start};
-ghost use Rattle.mds_registers.specs.ReadingsSteps.{AreTextsOf, row_of, row_front};
+ghost use Rattle.mds_registers.specs.ReadingsSteps.{AreTextsOf, mark_fields, row_front, row_of};
 
 use crate::fields::write_field;
 use crate::writing::{code_text, two_digits};
 use itoa::Buffer;
 use mds_keeper::{DayBook, LentVersion};
 use mds_quantity::{Quantity, Unit};
-use mds_terms::{Length, Moment, Stream};
+use mds_terms::{Length, Mark, Moment, Reason, Stream};
 use std::alloc::{AllocError, Global};
 
 /// What the rows of a day share.
@@ -200,17 +201,12 @@ fn write_version<'a>(
     ensures { OnOk result ((text : List ℕ) × (moment_of text ≡ Some version.now.update)
         × Appends rows.old.items rows.new.items (row_of day.now start.now (lent_reading version.now) text)) }
 {
-    let mark = version.mark;
-    let (letters, count) = mark.quality.letters();
-    let mut code = Buffer::new();
-    let code = code_text(mark.reason.code(), &mut code);
     put_value(version.value, value)?;
     put_update(version.update, update);
     write_front(rows, day, start)?;
-    write_field(rows, &letters[..count])?;
-    write_field(rows, code.as_bytes())?;
-    write_field(rows, mark.reason.text().as_bytes())?;
-    write_field(rows, value.as_bytes())?;
+    write_mark(rows, version.mark)?;
+    rows.extend_from_slice(value.as_bytes())?;
+    rows.push(b',')?;
     rows.extend_from_slice(&update.digits)?;
     rows.push(b'\n')?;
     Ok(())
@@ -225,12 +221,38 @@ fn write_none(rows: &mut Vec<u8>, day: &DayTexts<'_>, start: &[u8; 16]) -> Resul
 }
 
 /// Appends a row that starts at this text's moment, up to its quality.
+#[inline(always)]
 fn write_front(rows: &mut Vec<u8>, day: &DayTexts<'_>, start: &[u8; 16]) -> Result<(), AllocError>
     ensures { OnOk result (Appends rows.old.items rows.new.items (row_front day.now start.now)) }
 {
     rows.extend_from_slice(day.front)?;
     rows.extend_from_slice(start)?;
     rows.extend_from_slice(day.middle)
+}
+
+/// Appends the quality, the code and the text of a mark, each with the comma after it.
+fn write_mark(rows: &mut Vec<u8>, mark: &Mark) -> Result<(), AllocError>
+    ensures { OnOk result (Appends rows.old.items rows.new.items (mark_fields mark.now)) }
+{
+    let (letters, count) = mark.quality.letters();
+    rows.extend_from_slice(&letters[..count])?;
+    write_reason(rows, &mark.reason)
+}
+
+/// Appends a comma, and the code and the text of a reason, each with the comma after it. Most readings have neither.
+fn write_reason(rows: &mut Vec<u8>, reason: &Reason) -> Result<(), AllocError>
+    ensures { OnOk result (Appends rows.old.items rows.new.items
+        (codes "," ++ closed (text_of_code reason.now.code) ++ closed reason.now.text)) }
+{
+    let code = reason.code();
+    let text = reason.text();
+    if code.is_none() && text.is_empty() {
+        return rows.extend_from_slice(b",,,");
+    }
+    rows.push(b',')?;
+    let mut buffer = Buffer::new();
+    write_field(rows, code_text(code, &mut buffer).as_bytes())?;
+    write_field(rows, text.as_bytes())
 }
 
 /// The text of an update.
@@ -252,12 +274,15 @@ fn put_update(update: Moment, text: &mut UpdateText)
 
 /// Replaces a text by that of a value. It is empty if there is no value.
 fn put_value(value: Option<Quantity>, text: &mut String) -> Result<(), AllocError>
-    ensures { OnOk result (string_bytes text.new ≡ value_text value) }
+    ensures text { OnOk result (string_bytes text.new ≡ value_text value) }
+    ensures plain { IsPlain (value_text value) }
 {
     text.clear();
     let Some(value) = value else {
         return Ok(());
     };
+    // For the proof: a quantity has less than 10^18 millionths.
+    let _ = value.millionths();
     value.write_to(text)
 }
 
