@@ -1,6 +1,6 @@
 -- The rows of readings, one interval after the other, and one day after the other.
 use Rattle.std.proofs.Common.{◌≡◌, ◌==◌, ℕ, zero, suc, ◌+◌, ◌-◌, ◌*◌, ◌<◌, ◌≤◌, List, [], ◌∷◌, ◌++◌, codes, decimal, length, map, take, get_or, Some, refl, sym, ap, ◌∙◌, subst, inl, inr, arith, append_assoc, append-nil}
-use Rattle.std.specs.Prelude.{Result, Ok, Err, OnOk, is_ok, if◌then◌else◌}
+use Rattle.std.specs.Prelude.{Bool, true, false, Result, Ok, Err, OnOk, is_ok, if◌then◌else◌}
 use Rattle.std.specs.Char.{is_ascii_digit}
 use Rattle.std.specs.List.{list_all}
 use Rattle.std.proofs.lemmas.List.{map-append, take_all, take_more}
@@ -206,6 +206,10 @@ has_days w stream books i old new over has = (
   has.2 ∙ append_assoc old readings_head_text has.0,
 )
 
--- what was there before a day's rows were appended, or before nothing was
+-- what was there is still there after two steps, and after rows were appended or not
 pub begun_more : (old mid new : List ℕ) → Begins old mid → Begins mid new → Begins old new
 begun_more old mid new a b = (a.0 ++ b.0, b.1 ∙ ap (λ (t : List ℕ). t ++ b.0) a.1 ∙ append_assoc old a.0 b.0)
+
+pub begun_by : (put : Bool) (old new rows : List ℕ) → new ≡ (if put then old ++ rows else old) → Begins old new
+begun_by true old new rows e = (rows, e)
+begun_by false old new rows e = ([], e ∙ sym (append-nil old))

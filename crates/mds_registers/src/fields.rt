@@ -1,5 +1,6 @@
-//! The fields of a row, appended one by one as `csv` writes them. The register of readings has a row for each interval, and
-//! the writer of `csv` looks at every byte of it. Here only a field that may need quotation marks is looked at.
+//! Appends the fields of a row as `csv` writes them, one by one. The register of readings has a row for each interval,
+//! and the writer of `csv` looks at each byte of it. Here a byte is looked at only in a field that may need quotation
+//! marks.
 
 ghost use Rattle.std.specs.Prelude.{◌≡◌, ◌++◌, ◌∷◌, [], IsTrue, OnOk};
 ghost use Rattle.csv.specs.Writing.{default_writer, escaped, needs_byte, needs_quotes as asks_for_quotes};
@@ -34,7 +35,7 @@ fn is_special(byte: u8) -> bool
     byte == b',' || byte == b'"' || byte == b'\r' || byte == b'\n'
 }
 
-/// Appends a field between quotation marks and the comma after it. Only the text of a reason may need that.
+/// Appends a field between quotation marks, and the comma after it. Only the text of a reason may need them.
 #[cold]
 #[inline(never)]
 fn write_quoted(row: &mut Vec<u8>, field: &[u8]) -> Result<(), AllocError>
@@ -48,7 +49,7 @@ fn write_quoted(row: &mut Vec<u8>, field: &[u8]) -> Result<(), AllocError>
     row.extend_from_slice(b"\",")
 }
 
-/// Appends a byte of such a field. A quotation mark is doubled.
+/// Appends a byte of a field between quotation marks. A mark in the field is doubled.
 fn write_escaped(row: &mut Vec<u8>, byte: u8) -> Result<(), AllocError>
     ensures { OnOk result (Appends row.old.items row.new.items (escaped default_writer (byte ∷ []))) }
 {

@@ -1,4 +1,5 @@
-//! The current readings of a stream as a CSV text. What the rows of a day share is written once for all of them.
+//! The current readings of a stream as a CSV text. What the rows of a day share is made once a day, and the text of an update only if
+//! it changes. Rows are written without `csv`, as it would take more time than all the rest (`fields.rt`).
 
 ghost use Rattle.std.specs.Prelude.{◌≡◌, ◌++◌, ◌*◌, ◌-◌, ◌≤◌, ◌<◌, ℕ, List, [], codes, decimal, IfOk, OnOk, OnErr, Some, map, string_bytes};
 ghost use Rattle.mds_quantity.specs.Append.{Appends};
@@ -24,18 +25,18 @@ use mds_quantity::{Quantity, Unit};
 use mds_terms::{Length, Mark, Moment, Reason, Stream};
 use std::alloc::{AllocError, Global};
 
-/// What the rows of a day share.
+/// What the rows of a day share. Fields are as `csv` writes them.
 #[derive(Clone, Copy)]
 struct DayTexts<'a> {
-    /// What is before the start: the NMI and the suffix, each with the comma after it.
+    /// What comes before the start: the NMI and the suffix, each with the comma after it.
     front: &'a [u8],
     date: [u8; 8],
     length: Length,
-    /// What is between the start and the quality: a comma, then the minutes and the unit, each with the comma after it.
+    /// What comes between the start and the quality: a comma, and the minutes and the unit, each with the comma after it.
     middle: &'a [u8],
 }
 
-/// The text of an update. Most rows have that of the row before, so it is kept from row to row.
+/// The text of an update. Most rows have the update of the row before, so its text is kept from row to row.
 #[derive(Clone, Copy)]
 struct UpdateText {
     update: Moment,
@@ -77,7 +78,7 @@ fn write_days(stream: &Stream, books: &[DayBook], out: &mut Vec<u8>) -> Result<(
     ensures begun { Begins out.old.items out.new.items }
 {
     out.extend_from_slice(b"nmi,suffix,start,minutes,unit,quality,code,text,value,update\n")?;
-    // A row takes no memory of its own: these are kept from row to row.
+    // These are kept from row to row, so that a row takes no memory of its own.
     let mut rows = Vec::new(*out.allocator());
     let mut value = String::new(*out.allocator());
     let mut update = update_text(Moment::from_seconds(0).unwrap());
@@ -87,8 +88,8 @@ fn write_days(stream: &Stream, books: &[DayBook], out: &mut Vec<u8>) -> Result<(
     Ok(())
 }
 
-/// Appends the rows of a day, which are written to a buffer first. A day that isn't known has none. After an error
-/// nothing is appended.
+/// Appends the rows of a day, after all of them are in the buffer `rows`. A day that isn't known has none. After an
+/// error nothing is appended.
 fn write_day(
     stream: &Stream,
     book: &DayBook,
@@ -120,7 +121,7 @@ fn write_day(
     out.extend_from_slice(rows)
 }
 
-/// What is before the start of a row.
+/// What comes before the start of a row.
 fn front_text(alloc: Global, stream: &Stream) -> Result<Vec<u8>, AllocError>
     ensures { IfOk result (λ text. text.items ≡ closed stream.now.nmi ++ closed stream.now.suffix) }
 {
@@ -130,7 +131,7 @@ fn front_text(alloc: Global, stream: &Stream) -> Result<Vec<u8>, AllocError>
     Ok(text)
 }
 
-/// What is between the start and the quality of a row.
+/// What comes between the start and the quality of a row.
 fn middle_text(alloc: Global, length: Length, unit: Unit) -> Result<Vec<u8>, AllocError>
     ensures { IfOk result (λ text. text.items ≡ codes "," ++ closed (decimal length) ++ closed (unit_text unit)) }
 {
@@ -263,7 +264,7 @@ fn update_text(update: Moment) -> UpdateText
     UpdateText { update, digits }
 }
 
-/// Replaces the text of an update by that of another, if that isn't the same.
+/// Replaces the text of an update by that of another one. It stays if both are the same.
 fn put_update(update: Moment, text: &mut UpdateText)
     ensures { moment_of text.new.digits ≡ Some update }
 {

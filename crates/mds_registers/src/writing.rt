@@ -218,7 +218,7 @@ fn new_writer(alloc: Global) -> Writer<Vec<u8>>
 }
 
 /// A writer of rows that has written a head row with these names.
-pub(crate) fn headed_writer(alloc: Global, names: &[&[u8]]) -> Result<Writer<Vec<u8>>, AllocError>
+fn headed_writer(alloc: Global, names: &[&[u8]]) -> Result<Writer<Vec<u8>>, AllocError>
     ensures { IfOk result (λ writer.
         HasWritten writer (row_text default_writer (map (λ name. name.now) names.now))) }
 {
@@ -228,7 +228,7 @@ pub(crate) fn headed_writer(alloc: Global, names: &[&[u8]]) -> Result<Writer<Vec
 }
 
 /// Writes a row of fields.
-pub(crate) fn write_row(writer: &mut Writer<Vec<u8>>, fields: &[&[u8]]) -> Result<(), AllocError>
+fn write_row(writer: &mut Writer<Vec<u8>>, fields: &[&[u8]]) -> Result<(), AllocError>
     ensures { (text : List ℕ) → HasWritten writer.old text → OnOk result
         (HasWritten writer.new (text ++ row_text default_writer (map (λ field. field.now) fields.now))) }
 {
@@ -239,7 +239,7 @@ pub(crate) fn write_row(writer: &mut Writer<Vec<u8>>, fields: &[&[u8]]) -> Resul
 }
 
 /// What a writer has written.
-pub(crate) fn written(writer: Writer<Vec<u8>>) -> Result<Vec<u8>, AllocError>
+fn written(writer: Writer<Vec<u8>>) -> Result<Vec<u8>, AllocError>
     ensures { (text : List ℕ) → HasWritten writer text → IfOk result (λ bytes. bytes.items ≡ text) }
 {
     match writer.into_inner() {

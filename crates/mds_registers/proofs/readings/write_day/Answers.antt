@@ -1,4 +1,4 @@
-use Rattle.std.proofs.Common.{◌==◌, ℕ, List, ◌++◌, ◌∙◌, ap, length, subst, sym, Some}
+use Rattle.std.proofs.Common.{◌==◌, ℕ, List, ◌++◌, ◌∙◌, ap, is_ok, length, subst, sym, Some}
 use Rattle.std.specs.Char.{is_ascii_digit}
 use Rattle.std.specs.List.{list_all}
 use Rattle.mds_calendar.proofs.Days.{day_of_parts}
@@ -8,7 +8,7 @@ use Rattle.mds_world.specs.World.{IsKnownDay}
 use Rattle.mds_registers.specs.FieldsSteps.{closed}
 use Rattle.mds_registers.specs.Readings.{IsDayText}
 use Rattle.mds_registers.proofs.BookReadings.{is_unknown}
-use Rattle.mds_registers.proofs.ReadingRows.{day_text, rows_put}
+use Rattle.mds_registers.proofs.ReadingRows.{begun_by, day_text, rows_put}
 use Rattle.mds_registers.proofs.readings.write_day.Goals as goal
 
 pub returns-in_default-clause-done : goal.returns-in_default-clause-done
@@ -30,3 +30,8 @@ returns-clause-done c = λ w same is known.
     c.deref.result.now rows.0 c.extend_from_slice.ensures.items
     (c.deref.ensures.value ∙ rows.2 ∙ ap (λ (t : List ℕ). t ++ rows.0) c.clear.ensures.items)
     (day_text w stream book c.digits-date.result form.0 form.1 rows.0 same is date c.in-Some.ensures.some rows.1)
+
+pub returns-clause-begun : goal.returns-clause-begun
+returns-clause-begun c =
+    begun_by (is_ok c.extend_from_slice.result) c.args.out.now.items c.extend_from_slice.new.self.items c.deref.result.now
+    c.extend_from_slice.ensures.items
