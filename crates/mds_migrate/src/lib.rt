@@ -10,10 +10,12 @@
 mod dating;
 mod forming;
 mod migrating;
+mod observing;
 mod outcome;
 mod packing;
 mod statements;
 mod step;
 
 pub use migrating::{migrate, migrate_all};
+pub use observing::{StepObserver, Unobserved};
 pub use outcome::{MigrateFault, Migrated};

@@ -12,6 +12,7 @@ ghost use Rattle.mds_migrate.specs.Migrated.{Answered, IsRefused, LeavesMigrated
 
 use crate::dating::Dating;
 use crate::forming::Forming;
+use crate::observing::{StepObserver, Unobserved};
 use crate::outcome::{MigrateFault, Migrated};
 use crate::packing::Packing;
 use crate::step::take_step;
@@ -24,10 +25,12 @@ use sqlite::{Alter, Connection};
 use std::alloc::Global;
 
 /// Takes a store to schema 4, one step after another. A refused step ends it, and the earlier steps stay done. If a step was done before a
-/// failure, the answer is U1. A crash leaves the store as it was, or what some of the steps make of it, whole.
-pub fn migrate_all<S: Alter>(
+/// failure, the answer is U1. A crash leaves the store as it was, or what some of the steps make of it, whole. Each step
+/// begins with a call of the observer.
+pub fn migrate_all<S: Alter, O: StepObserver>(
     alloc: Global,
     conn: &mut Connection<S>,
+    observer: &mut O,
 ) -> Result<Migrated, MigrateFault>
     ensures current { IfOk result (λ it. HasCleanDisk (state S.Store conn.new) → IsFormedStore (state S.Store conn.new).committed) }
     ensures same { IfOk result (λ it. it ≡ Migrated.AlreadyCurrent → HasCleanDisk (state S.Store conn.new)
@@ -41,10 +44,10 @@ pub fn migrate_all<S: Alter>(
     ensures mode { conn.new.in_transaction ≡ conn.old.in_transaction }
     ensures survives { Survives (state S.Store conn.old) (state S.Store conn.new) (LeavesSteps (state S.Store conn.old)) }
 {
-    match migrate(alloc, conn) {
-        Ok(Migrated::Done) => match migrate(alloc, conn) {
+    match next_step(alloc, conn, observer) {
+        Ok(Migrated::Done) => match next_step(alloc, conn, observer) {
             // There are at most three steps.
-            Ok(Migrated::Done) => match migrate(alloc, conn) {
+            Ok(Migrated::Done) => match next_step(alloc, conn, observer) {
                 Ok(_) => Ok(Migrated::Done),
                 Err(fault) => Err(fault),
             },
@@ -70,6 +73,23 @@ pub fn migrate<S: Alter>(alloc: Global, conn: &mut Connection<S>) -> Result<Migr
     ensures mode { conn.new.in_transaction ≡ conn.old.in_transaction }
     ensures survives { Survives (state S.Store conn.old) (state S.Store conn.new) (LeavesMigrated (state S.Store conn.old)) }
 {
+    next_step(alloc, conn, &mut Unobserved)
+}
+
+/// Takes a store one step further, as `migrate`, and calls an observer before the step. There is no such call if the store is current, or
+/// isn't one of these schemas.
+fn next_step<S: Alter, O: StepObserver>(
+    alloc: Global,
+    conn: &mut Connection<S>,
+    observer: &mut O,
+) -> Result<Migrated, MigrateFault>
+    ensures done { IfOk result (λ it. HasCleanDisk (state S.Store conn.new) → Answered (state S.Store conn.old) (state S.Store conn.new) it) }
+    ensures err { IfErr result (λ e. HasCleanDisk (state S.Store conn.new) → IsRefused (state S.Store conn.old) (state S.Store conn.new) e) }
+    ensures settled { IfErr result (λ e. e ≡ MigrateFault.OtherSchema → IsTrue (state S.Store conn.old).is_open
+        → (state S.Store conn.old).now ≡ (state S.Store conn.old).committed) }
+    ensures mode { conn.new.in_transaction ≡ conn.old.in_transaction }
+    ensures survives { Survives (state S.Store conn.old) (state S.Store conn.new) (LeavesMigrated (state S.Store conn.old)) }
+{
     // decides: U1: a migration fails
     if !conn.is_autocommit() {
         return Err(MigrateFault::Unavailable);
@@ -79,16 +99,16 @@ pub fn migrate<S: Alter>(alloc: Global, conn: &mut Connection<S>) -> Result<Migr
         return if_current(conn);
     }
     if has_schema_3(conn.schema()) {
-        return if_daily(alloc, conn);
+        return if_daily(alloc, conn, observer);
     }
     if has_schema_2(conn.schema()) {
-        return if_packed(alloc, conn);
+        return if_packed(alloc, conn, observer);
     }
     // decides: U3: a database to migrate is of none of the schemas
     if !has_schema_1(conn.schema()) {
         return Err(MigrateFault::OtherSchema);
     }
-    if_first(alloc, conn)
+    if_first(alloc, conn, observer)
 }
 
 /// The answer if the tables are those of schema 4: the store is current, or it is no store (U3).
@@ -110,7 +130,11 @@ fn if_current<S: Alter>(conn: &mut Connection<S>) -> Result<Migrated, MigrateFau
 }
 
 /// The answer if the tables are those of schema 3: its updates get heads, or it is no store (U3).
-fn if_daily<S: Alter>(alloc: Global, conn: &mut Connection<S>) -> Result<Migrated, MigrateFault>
+fn if_daily<S: Alter, O: StepObserver>(
+    alloc: Global,
+    conn: &mut Connection<S>,
+    observer: &mut O,
+) -> Result<Migrated, MigrateFault>
     requires mode { conn.old.in_transaction ≡ false }
     requires settled { IsTrue (state S.Store conn.old).is_open → (state S.Store conn.old).now ≡ (state S.Store conn.old).committed }
     requires schema { (state S.Store conn.old).now.schema ≡ schema_3 }
@@ -124,11 +148,16 @@ fn if_daily<S: Alter>(alloc: Global, conn: &mut Connection<S>) -> Result<Migrate
     if !is_daily {
         return Err(MigrateFault::OtherSchema);
     }
+    observer.begin(4);
     take_step::<Forming, S>(alloc, conn)
 }
 
 /// The answer if the tables are those of schema 2: its days get details, or it is no store (U3).
-fn if_packed<S: Alter>(alloc: Global, conn: &mut Connection<S>) -> Result<Migrated, MigrateFault>
+fn if_packed<S: Alter, O: StepObserver>(
+    alloc: Global,
+    conn: &mut Connection<S>,
+    observer: &mut O,
+) -> Result<Migrated, MigrateFault>
     requires mode { conn.old.in_transaction ≡ false }
     requires settled { IsTrue (state S.Store conn.old).is_open → (state S.Store conn.old).now ≡ (state S.Store conn.old).committed }
     requires schema { (state S.Store conn.old).now.schema ≡ schema_2 }
@@ -142,11 +171,16 @@ fn if_packed<S: Alter>(alloc: Global, conn: &mut Connection<S>) -> Result<Migrat
     if !is_packed {
         return Err(MigrateFault::OtherSchema);
     }
+    observer.begin(3);
     take_step::<Dating, S>(alloc, conn)
 }
 
 /// The answer if the tables are those of schema 1: its days are packed, or mds_schema says something else (U3).
-fn if_first<S: Alter>(alloc: Global, conn: &mut Connection<S>) -> Result<Migrated, MigrateFault>
+fn if_first<S: Alter, O: StepObserver>(
+    alloc: Global,
+    conn: &mut Connection<S>,
+    observer: &mut O,
+) -> Result<Migrated, MigrateFault>
     requires mode { conn.old.in_transaction ≡ false }
     requires settled { IsTrue (state S.Store conn.old).is_open → (state S.Store conn.old).now ≡ (state S.Store conn.old).committed }
     requires schema { (state S.Store conn.old).now.schema ≡ schema_1 }
@@ -160,5 +194,6 @@ fn if_first<S: Alter>(alloc: Global, conn: &mut Connection<S>) -> Result<Migrate
     if !is_first {
         return Err(MigrateFault::OtherSchema);
     }
+    observer.begin(2);
     take_step::<Packing, S>(alloc, conn)
 }

@@ -1,6 +1,7 @@
 //! How far a long run is, on a terminal.
 
 use crate::terminal::has_terminal;
+use mds_migrate::StepObserver;
 
 /// A line on standard error that is written over, if that is a terminal.
 #[derive(Clone, Copy)]
@@ -23,10 +24,10 @@ impl Progress {
         }
     }
 
-    /// Shows from which schema a store is migrated, if it isn't one of schema 4. The steps are those from each schema to the next.
-    pub(crate) fn show_migration(self, rt: &HostRuntime, schema: u8) {
-        if self.is_shown && schema < 4 {
-            let _ = eprint!(rt; "\rfrom schema {schema} to 4 ");
+    /// Shows to which schema a step of a migration leads.
+    pub(crate) fn show_step(self, rt: &HostRuntime, schema: u8) {
+        if self.is_shown {
+            let _ = eprint!(rt; "\rstep to schema {schema} of 4 ");
         }
     }
 
@@ -35,5 +36,33 @@ impl Progress {
         if self.is_shown {
             let _ = eprint!(rt; "\r                        \r");
         }
+    }
+}
+
+/// Shows the steps of a migration on that line.
+#[derive(Clone, Copy)]
+pub(crate) struct ShownSteps<'a> {
+    rt: &'a HostRuntime,
+    progress: Progress,
+}
+
+impl<'a> ShownSteps<'a> {
+    /// No step is shown yet.
+    pub(crate) fn new(rt: &'a HostRuntime) -> ShownSteps<'a> {
+        ShownSteps {
+            rt,
+            progress: Progress::new(rt),
+        }
+    }
+
+    /// Clears the line.
+    pub(crate) fn clear(self) {
+        self.progress.clear(self.rt);
+    }
+}
+
+impl<'a> StepObserver for ShownSteps<'a> {
+    fn begin(&mut self, schema: u8) {
+        self.progress.show_step(self.rt, schema);
     }
 }

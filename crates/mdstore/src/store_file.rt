@@ -5,15 +5,13 @@ ghost use Rattle.mdstore.specs.Refusals.{of_migration, of_store};
 
 use crate::cause::Cause;
 use crate::place::{Place, Standing, has_other_name};
-use crate::progress::Progress;
+use crate::progress::ShownSteps;
 use crate::why::Why;
 use mds_desk::{Outcome, Status};
 use mds_keeper::Keeper;
 use mds_migrate::{MigrateFault, Migrated, migrate_all};
-use mds_pack_rows::{has_schema_2, has_schema_3};
 use mds_pack_store::{adopt, create};
 use mds_store::StoreFault;
-use mds_tables::has_schema_1;
 use sqlite::{Alter, Connection, Error, FileFrom, FileStore, Files, Leftover, Options, Wary};
 use sqlite_std_file::OpenError;
 use std::hash::{BuildHasher, RandomState};
@@ -216,27 +214,13 @@ impl DatabaseTask for Migrate {
         why: &mut Why,
     ) -> (Connection<S>, Outcome) {
         let mut conn = conn;
-        let progress = Progress::new(rt);
-        progress.show_migration(rt, schema_of(&conn));
-        let outcome = of_migration(migrate_all(rt.alloc(), &mut conn));
-        progress.clear(rt);
+        let mut steps = ShownSteps::new(rt);
+        let outcome = of_migration(migrate_all(rt.alloc(), &mut conn, &mut steps));
+        steps.clear();
         if matches!(outcome, Outcome::OtherSchema) {
             why.put(Cause::OtherTables);
         }
         (conn, outcome)
-    }
-}
-
-/// The schema whose tables a database has: 1, 2 or 3. It is 4 for any other.
-fn schema_of<S: Alter>(conn: &Connection<S>) -> u8 {
-    if has_schema_1(conn.schema()) {
-        1
-    } else if has_schema_2(conn.schema()) {
-        2
-    } else if has_schema_3(conn.schema()) {
-        3
-    } else {
-        4
     }
 }
 
