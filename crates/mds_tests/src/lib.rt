@@ -17,6 +17,8 @@ mod rows;
 #[cfg(test)]
 mod runs;
 #[cfg(test)]
+mod serving;
+#[cfg(test)]
 mod sources;
 #[cfg(test)]
 mod terms;
