@@ -17,8 +17,6 @@ mod rows;
 #[cfg(test)]
 mod runs;
 #[cfg(test)]
-mod serving;
-#[cfg(test)]
 mod sources;
 #[cfg(test)]
 mod terms;
