@@ -1,7 +1,12 @@
-use Rattle.std.proofs.Common.{◌≡◌, ◌==◌, ◌+◌, ◌<◌, IsOk, length, arith, ap, sym, subst, ◌∙◌, true}
+use Rattle.std.proofs.Common.{◌≡◌, ◌==◌, ◌+◌, ◌<◌, ◌++◌, ◌∷◌, [], ℤ, Bool, List, Option, IsOk, length, map, arith, ap, sym, subst, ◌∙◌, true}
 use Rattle.std.specs.List.{list_all}
+use Rattle.std.proofs.lemmas.Bool.{eqb-true}
+use Rattle.std.proofs.lemmas.List.{append-nil}
+use Rattle.std.proofs.lemmas.Result.{IfOk-from_err, MatchResult-from_err}
+use Rattle.mds_quantity.proofs.Front.{on_err_from}
 use Rattle.mds_marks.specs.Quality.{null}
-use Rattle.mds_runs.specs.KeptReadings.{AreClose, is_small}
+use Rattle.mds_marks.specs.Reading.{ReadingValue}
+use Rattle.mds_runs.specs.KeptReadings.{AreClose, AreKept, is_small}
 use Rattle.mds_runs.proofs.CloseRuns.{last_end-close}
 use Rattle.mds_runs.proofs.KeptLemmas.{Puts, kept-length-in, more-kept, more-view, ok-anyway, ok-fact, puts-made, some_left}
 use Rattle.mds_runs.proofs.day_readings.DayReadings.push_all.Goals as goal
@@ -39,3 +44,36 @@ pub returns-clause-done : goal.returns-clause-done
 returns-clause-done c =
     let p = puts c in
     ok-anyway c.put_values.result _ (more-view c.self.inside.runs.items c.put_stretch.new.runs.items c.self.inside.millionths.items c.put_values.new.millionths.items c.args.self.now c.args.mark.now c.args.values.now c.self.invariant c.self.view_is p.1 c.requires.together)
+
+-- no values add nothing
+none_more : (v : List ReadingValue) (f : Option ℤ → ReadingValue) (values : List (Option ℤ)) (empty : Bool) → empty ≡ (length values == 0) → empty ≡ true → v ≡ v ++ map f values
+none_more v f [] empty is e = sym (append-nil v)
+none_more v f (x ∷ values) empty is e =
+    let none : length (x ∷ values) ≡ 0 = eqb-true _ _ (sym is ∙ e) in
+    absurd (omega arith)
+
+pub returns-then-is_empty-clause-done : goal.returns-then-is_empty-clause-done
+returns-then-is_empty-clause-done c = none_more _ _ c.args.values.now c.is_empty.result c.is_empty.ensures c.if-is_empty.true
+
+pub invariant_of-self : goal.invariant_of-self
+invariant_of-self c = subst (λ zs. AreKept c.self.inside.runs.items zs) (sym c.in_err-reserve.ensures.items) c.self.invariant
+
+pub returns-in_err-reserve-clause-done : goal.returns-in_err-reserve-clause-done
+returns-in_err-reserve-clause-done c = IfOk-from_err _ _ c.from_residual.ensures.0
+
+pub returns-in_err-reserve-clause-memory : goal.returns-in_err-reserve-clause-memory
+returns-in_err-reserve-clause-memory c = MatchResult-from_err c.from_residual.result _ _ c.from_residual.ensures.0 (λ _. some_left (length c.args.values.now) c.is_empty.result c.is_empty.ensures c.if-is_empty.false)
+
+pub invariant_of-self-in_err-put_stretch : goal.invariant_of-self-in_err-put_stretch
+invariant_of-self-in_err-put_stretch c =
+    subst (λ zs. AreKept c.put_stretch.new.runs.items zs) (sym c.in_ok-reserve.ensures.items)
+    (subst (λ rs. AreKept rs c.self.inside.millionths.items) (sym c.in_err-put_stretch.ensures.kept) c.self.invariant)
+
+pub returns-in_err-put_stretch-clause-done : goal.returns-in_err-put_stretch-clause-done
+returns-in_err-put_stretch-clause-done c = IfOk-from_err _ _ c.from_residual-in_err-put_stretch.ensures.0
+
+pub returns-in_err-put_stretch-clause-memory : goal.returns-in_err-put_stretch-clause-memory
+returns-in_err-put_stretch-clause-memory c = MatchResult-from_err c.from_residual-in_err-put_stretch.result _ _ c.from_residual-in_err-put_stretch.ensures.0 (λ _. some_left (length c.args.values.now) c.is_empty.result c.is_empty.ensures c.if-is_empty.false)
+
+pub returns-clause-memory : goal.returns-clause-memory
+returns-clause-memory c = on_err_from c.put_values.result _ (some_left (length c.args.values.now) c.is_empty.result c.is_empty.ensures c.if-is_empty.false)
