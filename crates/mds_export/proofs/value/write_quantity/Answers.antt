@@ -1,9 +1,10 @@
 use Rattle.std.proofs.Common.{◌≡◌, ◌+◌, ◌≤◌, ◌++◌, ◌/◌, ◌%◌, ◌∙◌, ap, arith, decimal, length, refl, unsigned_abs, vec_capacity, vec_len}
 use Rattle.std.specs.Int.{w64}
 use Rattle.std.proofs.lemmas.Int.{to_z-of_z}
-use Rattle.std.proofs.lemmas.Result.{on_err_weaker, on_ok_weaker}
+use Rattle.std.proofs.lemmas.Result.{on_err_weaker, on_ok_weaker, err_from_is_err_and}
 use Rattle.mds_quantity.specs.Quantity.{point_and_decimals, sign_of}
 use Rattle.mds_quantity.proofs.Front.{on_err_from, whole_text, written_done, written_length}
+use Rattle.mds_export.proofs.Begun.{begun_after, begun_kept}
 use Rattle.mds_export.proofs.value.write_quantity.Goals as goal
 
 pub returns-clause-done : goal.returns-clause-done
@@ -67,3 +68,43 @@ returns-clause-len c =
     let before = before_decimals c in
     let long = written_length c.args.millionths in
     on_ok_weaker c.write_decimals.result (λ put. omega (arith, put, before.long, before.rest, long)) c.write_decimals.ensures.len
+
+pub returns-in_err-write_sign-clause-done : goal.returns-in_err-write_sign-clause-done
+returns-in_err-write_sign-clause-done c = let p = err_from_is_err_and c.from_residual.result c.from_residual.ensures.1 in rw p.1 tt
+
+pub returns-in_err-write_sign-clause-len : goal.returns-in_err-write_sign-clause-len
+returns-in_err-write_sign-clause-len c = let p = err_from_is_err_and c.from_residual.result c.from_residual.ensures.1 in rw p.1 tt
+
+pub returns-in_err-write_sign-clause-grown : goal.returns-in_err-write_sign-clause-grown
+returns-in_err-write_sign-clause-grown c =
+    on_err_from c.from_residual.result _
+    (c.in_err-write_sign.ensures.grown)
+
+pub returns-in_err-write_sign-clause-grows : goal.returns-in_err-write_sign-clause-grows
+returns-in_err-write_sign-clause-grows c = c.write_sign.ensures.grows
+
+pub returns-in_err-extend_from_slice-clause-done : goal.returns-in_err-extend_from_slice-clause-done
+returns-in_err-extend_from_slice-clause-done c =
+    let p = err_from_is_err_and c.from_residual-in_err-extend_from_slice.result c.from_residual-in_err-extend_from_slice.ensures.1 in rw p.1 tt
+
+pub returns-in_err-extend_from_slice-clause-len : goal.returns-in_err-extend_from_slice-clause-len
+returns-in_err-extend_from_slice-clause-len c =
+    let p = err_from_is_err_and c.from_residual-in_err-extend_from_slice.result c.from_residual-in_err-extend_from_slice.ensures.1 in rw p.1 tt
+
+pub returns-in_err-extend_from_slice-clause-grown : goal.returns-in_err-extend_from_slice-clause-grown
+returns-in_err-extend_from_slice-clause-grown c =
+    on_err_from c.from_residual-in_err-extend_from_slice.result _
+    (begun_after _ _ _ _ c.in_ok-write_sign.ensures.done (begun_kept _ _ c.in_err-extend_from_slice.ensures.items))
+
+pub returns-in_err-extend_from_slice-clause-grows : goal.returns-in_err-extend_from_slice-clause-grows
+returns-in_err-extend_from_slice-clause-grows c = omega (arith, c.in_ok-write_sign.ensures.grows, c.in_err-extend_from_slice.ensures.capacity)
+
+pub returns-clause-grown : goal.returns-clause-grown
+returns-clause-grown c =
+    on_err_weaker c.write_decimals.result (λ more.
+    begun_after _ _ _ _ c.in_ok-write_sign.ensures.done (begun_after _ _ _ _ c.in_ok-extend_from_slice.ensures.items more))
+    c.write_decimals.ensures.grown
+
+pub returns-clause-grows : goal.returns-clause-grows
+returns-clause-grows c =
+    omega (arith, c.in_ok-write_sign.ensures.grows, c.in_ok-extend_from_slice.ensures.capacity, c.write_decimals.ensures.grows)

@@ -1,7 +1,16 @@
-use Rattle.std.proofs.Common.{option_map}
+use Rattle.std.proofs.Common.{option_map, List, ℕ, None, [], refl, sym, subst, length, ◌≤◌}
 use Rattle.mds_quantity.proofs.Front.{on_err_from}
 use Rattle.mds_export.proofs.Begun.{begun_after}
 use Rattle.mds_export.proofs.Writes.{stream_step}
+use Rattle.std.proofs.lemmas.Result.{err_from_is_err_and}
+use Rattle.std.proofs.lemmas.List.{append-nil, take_all}
+use Rattle.std.specs.List.{All}
+use Rattle.std.proofs.lemmas.List.Elements.{All-get_or}
+use Rattle.mds_statements.specs.Selected.{IsWhole}
+use Rattle.mds_quantity.specs.Append.{Appends}
+use Rattle.mds_export.specs.Placed.{placed_after}
+use Rattle.mds_export.specs.WriterSteps.{AreWritten}
+use Rattle.mds_statements.specs.declared.selected.SelectedDay.{SelectedDay}
 use Rattle.mds_export.proofs.writer.write_stream.Goals as goal
 
 pub returns-in_err-write_placed-clause-grown : goal.returns-in_err-write_placed-clause-grown
@@ -17,3 +26,23 @@ loop-day-preserved c =
     (rw c.deref-day-items.ensures.value at c.loop-day-test.true) (rw c.deref-day-items.ensures.value at c.day-item.is) c.loop-day.invariant.before
     c.loop-day.invariant.done c.in_ok-write_placed.ensures.done in
     record { done = step.0; before = step.1 }
+
+pub loop-day-init : goal.loop-day-init
+loop-day-init c =
+    record { done = ([], record { rows = []; of_days = refl; lines = refl }, sym (append-nil c.args.out.now.items)); before = refl }
+
+pub returns-in_err-write_placed-clause-done : goal.returns-in_err-write_placed-clause-done
+returns-in_err-write_placed-clause-done c = let p = err_from_is_err_and c.from_residual.result c.from_residual.ensures.1 in rw p.1 tt
+
+pub returns-clause-done : goal.returns-clause-done
+returns-clause-done c =
+    let days = c.args.selected.now.days.items in
+    let within : length days ≤ c.loop-day.day-index = rw c.deref-day-items.ensures.value at c.loop-day-test.false in
+    subst (λ (days : List SelectedDay). (text : List ℕ) × AreWritten (placed_after c.args.selected.now None days) text × Appends c.args.out.now.items c.loop-day.out.items text)
+    (take_all c.loop-day.day-index days within) c.loop-day.invariant.done
+
+pub write_placed-requires : goal.write_placed-requires
+write_placed-requires c =
+    let days = c.deref-day-items.result.now in
+    let whole : All IsWhole days = subst (All IsWhole) (sym c.deref-day-items.ensures.value) c.requires in
+    subst IsWhole (sym c.day-item.is) (All-get_or IsWhole days c.loop-day.day-index c.day-item.result c.loop-day-test.true whole)
