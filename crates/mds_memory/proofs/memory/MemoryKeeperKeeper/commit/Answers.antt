@@ -1,14 +1,40 @@
-use Rattle.std.proofs.Common.{◌≡◌, ◌++◌, ◌∙◌, ap, map, subst, sym}
+use Rattle.std.proofs.Common.{◌≡◌, ◌++◌, ◌∙◌, Err, ap, inl, map, refl, subst, sym}
+use Rattle.std.proofs.lemmas.Result.{err_from_is_err_and}
 use Rattle.std.specs.FinSet as set
 use Rattle.mds_world.specs.Facts.Fact.{HeadIs}
 use Rattle.mds_world.specs.World.{Agrees, IsLawful, World, union}
+use Rattle.mds_keeper.specs.Kept.{Adds}
+use Rattle.mds_keeper.specs.declared.keeper.Unavailable.{Unavailable}
 use Rattle.mds_keeper.specs.Content.{content, heads_of, job_fact, period_fact, version_fact, versions_of}
 use Rattle.mds_memory.specs.Stored.{IsChange, days_world, stored_world}
 use Rattle.mds_memory.specs.StoredDetails.{all_details}
 use Rattle.mds_memory.proofs.Kept.{committed, details_absent, details_apart, lawful_days, lawful_jobs, notes_absent, notes_apart, periods_agree}
-use Rattle.mds_memory.proofs.Told.{added}
+use Rattle.mds_memory.proofs.Told.{added, keeps}
 use Rattle.mds_memory.proofs.memory.MemoryKeeperKeeper.commit.Goals as goal
 use Rattle.mds_memory.proofs.memory.MemoryKeeperKeeper.commit.Goals.{After-drop-meters-2}
+
+-- there was no memory, and the World is what it was
+not_added : {v w more : World} {e : Unavailable} → v ≡ w → Adds {A = Unit {0}} (keeps w) (keeps v) (Err e) more
+not_added is = record {
+  outside = λ honest. honest;
+  before = λ sound. sound;
+  opens = λ honest. tt;
+  ok = λ sound. tt;
+  err = λ sound. is;
+  crash = λ honest left it. inl (it ∙ is);
+}
+
+pub returns-in_err-meters : goal.returns-in_err-meters
+returns-in_err-meters c = let p = err_from_is_err_and c.from_residual.result c.from_residual.ensures.1 in rw p.1 (not_added refl)
+
+pub returns-in_err-notes : goal.returns-in_err-notes
+returns-in_err-notes c = let p = err_from_is_err_and c.from_residual-in_err-notes.result c.from_residual-in_err-notes.ensures.1 in rw p.1 (not_added refl)
+
+pub returns-in_err-all_heads : goal.returns-in_err-all_heads
+returns-in_err-all_heads c = let p = err_from_is_err_and c.from_residual-in_err-all_heads.result c.from_residual-in_err-all_heads.ensures.1 in rw p.1 (not_added refl)
+
+pub returns-in_err-changed : goal.returns-in_err-changed
+returns-in_err-changed c = let p = err_from_is_err_and c.from_residual-in_err-changed.result c.from_residual-in_err-changed.ensures.1 in rw p.1 (not_added refl)
 
 pub changed_days-requires-clause-lawful : goal.changed_days-requires-clause-lawful
 changed_days-requires-clause-lawful c =
