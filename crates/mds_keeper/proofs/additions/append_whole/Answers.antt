@@ -1,7 +1,12 @@
-use Rattle.std.proofs.Common.{refl, arith}
+use Rattle.std.proofs.Common.{refl, arith, OnOk, IsErr, Ok, Err, Result}
 use Rattle.mds_quantity.proofs.Front.{on_err_from}
 use Rattle.mds_keeper.proofs.RowsMoved.{all_copied, length_whole, one_copied, part_copied, start_copied}
 use Rattle.mds_keeper.proofs.additions.append_whole.Goals as goal
+
+-- an error meets what is ensured of Ok
+not_ok : {T E : Type 0} (r : Result T E) (P : Type 0) → IsErr r → OnOk r P
+not_ok (Ok x) P h = absurd (cc (h))
+not_ok (Err e) P h = tt
 
 pub loop-i-init : goal.loop-i-init
 loop-i-init c = start_copied _ _ _ _ _ c.in_ok-reserve.ensures.items
@@ -33,3 +38,9 @@ returns-in_err-push-clause-kept c =
 pub returns-in_err-push-clause-memory : goal.returns-in_err-push-clause-memory
 returns-in_err-push-clause-memory c = on_err_from c.from_residual-in_err-push.result _
     (omega (arith, length_whole c.args.length c.args.update 1 c.args.readings.now, c.len-i-end.ensures.value, c.loop-i-test.true))
+
+pub returns-in_err-reading-clause-done : goal.returns-in_err-reading-clause-done
+returns-in_err-reading-clause-done c = not_ok c.from_residual-in_err-reading.result _ c.from_residual-in_err-reading.ensures.0
+
+pub returns-in_err-push-clause-done : goal.returns-in_err-push-clause-done
+returns-in_err-push-clause-done c = not_ok c.from_residual-in_err-push.result _ c.from_residual-in_err-push.ensures.0

@@ -1,10 +1,24 @@
-use Rattle.std.proofs.Common.{◌≡◌, ◌≤◌, refl, sym, ap, ◌∙◌, subst, arith}
+use Rattle.std.proofs.Common.{◌≡◌, ◌≤◌, Err, IfErr, IsErr, IsErrAnd, Ok, OnOk, Result, refl, sym, ap, ◌∙◌, subst, arith}
 use Rattle.std.specs.Prelude.{◌*◌}
 use Rattle.mds_calendar.specs.Length.{count_of}
-use Rattle.mds_keeper.specs.DayMergeSteps.{AreInBook, AreOfLength, claimed_entries}
+use Rattle.mds_keeper.specs.DayMergeSteps.{AreInBook, AreOfLength, claimed_entries, merge_value}
 use Rattle.mds_keeper.proofs.Taken.{absent_claimed, as_many, book_end, claim_end, claimed_entry_in, comes_in, head_end, known_end, lacking_end, merge_more, merge_same, rows_of_claim, size_is, some_count, still_in_book, taken_end, unsaid_end}
 use Rattle.mds_keeper.proofs.Walks.{counts_more, counts_same}
 use Rattle.mds_keeper.proofs.day_merge.DayMerge.take.Goals as goal
+
+-- an error meets what is ensured of Ok
+not_ok : {T E : Type 0} (r : Result T E) (P : Type 0) → IsErr r → OnOk r P
+not_ok (Ok x) P h = absurd (cc (h))
+not_ok (Err e) P h = tt
+
+-- what holds of each such error
+if_err : {T E : Type 0} {Q : E → Type 0} (r : Result T E) (P : E → Type 0) → IsErrAnd r Q → ((e : E) → Q e → P e) → IfErr r P
+if_err (Ok x) P h f = tt
+if_err (Err e) P h f = f e h
+
+-- Ok isn't an error
+no_err : {T E P : Type 0} (x : T) (e : E) → Ok x ≡ Err e → P
+no_err x e h = absurd (cc)
 
 pub returns-in-Some-clause-refused : goal.returns-in-Some-clause-refused
 returns-in-Some-clause-refused c =
@@ -145,3 +159,26 @@ returns-clause-ok c =
     (c.kept_of-readings.ensures.same c.args.claim.length rows) absent in
     taken_end _ _ _ _ c.self.view_is c.self.invariant.0 c.is_lawful.ensures c.args.claim _ c.known_length-known.ensures c.in_default.ensures.none absent _ comes
     (c.in-Ok.ensures c.args.claim.length rows).suits
+
+pub returns-in_err-insert-clause-ok : goal.returns-in_err-insert-clause-ok
+returns-in_err-insert-clause-ok c = not_ok c.from_residual.result _ c.from_residual.ensures.0
+
+pub returns-in_err-insert-clause-refused : goal.returns-in_err-insert-clause-refused
+returns-in_err-insert-clause-refused c = if_err c.from_residual.result _ c.from_residual.ensures.1 (λ stop is. rw is tt)
+
+pub returns-in_err-insert-clause-kept : goal.returns-in_err-insert-clause-kept
+returns-in_err-insert-clause-kept c = if_err c.from_residual.result _ c.from_residual.ensures.1 (λ stop is.
+    ap (λ claimed. merge_value c.self.inside.book c.self.inside.unit (claimed_entries c.self.inside.book claimed)) c.in_err-insert.ensures.stays
+    ∙ c.self.view_is)
+
+pub kept_of-readings-requires-clause-held : goal.kept_of-readings-requires-clause-held
+kept_of-readings-requires-clause-held c = λ m of_it. (c.in-Ok.ensures m of_it).held
+
+pub insert-requires : goal.insert-requires
+insert-requires c = c.in_default-get.ensures.none
+
+pub returns-clause-agrees : goal.returns-clause-agrees
+returns-clause-agrees c = λ is. no_err _ _ is
+
+pub returns-clause-unsaid : goal.returns-clause-unsaid
+returns-clause-unsaid c = λ is. no_err _ _ is
