@@ -1,4 +1,5 @@
 use Rattle.std.proofs.Common.{◌≡◌, [], refl, rules}
+use Rattle.std.proofs.lemmas.Result.{IfOk-from_err}
 use Rattle.mds_keeper.proofs.Asked.{stays_on, stays_put}
 use Rattle.mds_service.specs.Asking.AsksOnly.{Nothing, Other}
 use Rattle.mds_service.proofs.Collects.{none_left, split_end, split_step}
@@ -65,3 +66,18 @@ returns-in_err-days-clause-asked g c = Other c.loop-shared.invariant.asked c.day
 
 pub returns-in_err-push-clause-asked : goal.returns-in_err-push-clause-asked
 returns-in_err-push-clause-asked g c = Other c.loop-shared.invariant.asked c.days_without.ensures.asked
+
+pub returns-in_err-days-clause-apart : goal.returns-in_err-days-clause-apart
+returns-in_err-days-clause-apart g c = λ honest. IfOk-from_err c.from_residual.result _ c.from_residual.ensures.0
+
+pub returns-in_err-days-clause-just : goal.returns-in_err-days-clause-just
+returns-in_err-days-clause-just g c = λ honest w shows. IfOk-from_err c.from_residual.result _ c.from_residual.ensures.0
+
+pub returns-in_err-push-clause-apart : goal.returns-in_err-push-clause-apart
+returns-in_err-push-clause-apart g c = λ honest. IfOk-from_err c.from_residual-in_err-push.result _ c.from_residual-in_err-push.ensures.0
+
+pub returns-in_err-push-clause-just : goal.returns-in_err-push-clause-just
+returns-in_err-push-clause-just g c = λ honest w shows. IfOk-from_err c.from_residual-in_err-push.result _ c.from_residual-in_err-push.ensures.0
+
+pub returns-clause-stays : goal.returns-clause-stays
+returns-clause-stays g c = c.loop-shared.invariant.stays
