@@ -81,3 +81,9 @@ returns-in_err-push-clause-just g c = λ honest w shows. IfOk-from_err c.from_re
 
 pub returns-clause-stays : goal.returns-clause-stays
 returns-clause-stays g c = c.loop-shared.invariant.stays
+
+pub returns-in_err-days-clause-stays : goal.returns-in_err-days-clause-stays
+returns-in_err-days-clause-stays g c = stays_on c.loop-shared.invariant.stays c.in_err-days.ensures.days.stays
+
+pub returns-in_err-push-clause-stays : goal.returns-in_err-push-clause-stays
+returns-in_err-push-clause-stays g c = stays_on c.loop-shared.invariant.stays c.in_ok-days.ensures.days.stays
