@@ -69,3 +69,18 @@ returns-clause-valued c =
           (c.means_values.ensures ∙ ap (has_flag (codes "AEFS")) (parts ∙ sym quality))
           f.bad f.empty c.first_bad-in_values.ensures c.least_of.ensures c.in_default-least_of.is,
     )
+
+pub unwrap-requires : goal.unwrap-requires
+unwrap-requires c =
+    let passed = all_passed c.is_some-4.result c.is_some.result c.mark_parts-parts.result.has_code c.mark_parts-parts.result.has_text
+    c.is_some-2.result c.is_some-3.result _ _ _ _ c.least_bad.ensures c.least_of.ensures c.in_default-least_of.is in
+    sym c.is_some-4.ensures ∙ passed.date
+
+pub unwrap-requires-2 : goal.unwrap-requires-2
+unwrap-requires-2 c =
+    let passed = all_passed c.is_some-4.result c.is_some.result c.mark_parts-parts.result.has_code c.mark_parts-parts.result.has_text
+    c.is_some-2.result c.is_some-3.result _ _ _ _ c.least_bad.ensures c.least_of.ensures c.in_default-least_of.is in
+    sym c.is_some-2.ensures ∙ passed.update
+
+pub returns-clause-held : goal.returns-clause-held
+returns-clause-held c = c.in-Some.ensures.held
