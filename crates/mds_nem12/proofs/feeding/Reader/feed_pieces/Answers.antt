@@ -13,3 +13,9 @@ returns-clause-stays c = λ text h unrefused.
 pub returns-clause-memory : goal.returns-clause-memory
 returns-clause-memory c = λ text h unrefused wanting.
     c.feed_all.ensures.memory text (subst (HasRead text) (sym c.self.view_is) h) (ap reader_fault c.self.view_is ∙ unrefused) wanting
+
+pub returns-clause-fed : goal.returns-clause-fed
+returns-clause-fed c = λ text h. c.feed_all.ensures.fed text (subst (HasRead text) (sym c.self.view_is) h)
+
+pub returns-clause-answer : goal.returns-clause-answer
+returns-clause-answer c = λ text h none. c.feed_all.ensures.answer text (subst (HasRead text) (sym c.self.view_is) h) none
