@@ -1,5 +1,6 @@
 pub mod BodyReads
 pub mod CallSteps
+mod Exits
 pub mod Finds
 pub mod HeadLemmas
 pub mod HeadReads

@@ -1,11 +1,23 @@
 use Rattle.std.proofs.Common.{◌≡◌, ◌+◌, ◌≤◌, ◌++◌, [], List, ℕ, drop, take, length, ap, sym, ◌∙◌, subst, arith, refl, inl, inr, bytes_eq, codes, length-append}
 use Rattle.std.proofs.lemmas.List.{append-nil, take_rest}
-use Rattle.mds_wire.specs.Judging.{longest_body}
 use Rattle.mds_wire.specs.ServeSteps.{answer_of}
+use Rattle.mds_wire.specs.declared.body.BodyFault.TheVariants as fault
+use Rattle.mds_wire.specs.declared.serve.Unread.TheVariants.{Read, Closed}
 use Rattle.mds_wire.specs.declared.serve.Reply.TheVariants.{Told}
 use Rattle.mds_wire.proofs.CallSteps.{read_none, read_for}
+use Rattle.mds_wire.proofs.Exits.{errors_apart, no_error, ok_apart, other_error, that_error}
 use Rattle.mds_wire.proofs.Meant.{means_refused, means_unavailable, means_step, awaits_body, part_is, unfinished_body}
 use Rattle.mds_wire.proofs.serve.perform.Goals as goal
+
+-- the faults are apart
+closed_not_read : Closed ≡ Read → ⊥
+closed_not_read is = absurd (cc)
+
+closed_apart : fault.Closed ≡ fault.Read → ⊥
+closed_apart is = absurd (cc)
+
+unavailable_apart : fault.Unavailable ≡ fault.Read → ⊥
+unavailable_apart is = absurd (cc)
 
 -- what came of a body, of which the front came with the head
 came_is : (size : ℕ) (rest front more : List ℕ) → front ≡ take size rest → length front + length more ≤ size → front ++ more ≡ take size (rest ++ more)
@@ -121,3 +133,24 @@ returns-clause-does g c =
       read = read_for _ _ _ _ _ _ _ _ _ (awaits_body c.args.bytes.now c.args.fields.now c.args.read.spans c.requires.whole c.in-Wanted.route c.in-Wanted.size c.front_of-front.result.now judged front) r.read;
       is = refl;
     }
+
+pub returns-in-Refused-clause-counted : goal.returns-in-Refused-clause-counted
+returns-in-Refused-clause-counted g c = no_error refl
+
+pub returns-in_default-clause-counted : goal.returns-in_default-clause-counted
+returns-in_default-clause-counted g c = no_error refl
+
+pub returns-in-Ok-handle-clause-counted : goal.returns-in-Ok-handle-clause-counted
+returns-in-Ok-handle-clause-counted g c = no_error (c.in-Ok-feed_body.ensures.counted.1 ok_apart)
+
+pub returns-in-Ok-feed_body-clause-counted : goal.returns-in-Ok-feed_body-clause-counted
+returns-in-Ok-feed_body-clause-counted g c = no_error (c.in-Ok-feed_body.ensures.counted.1 ok_apart)
+
+pub returns-in-Err-Unavailable-clause-counted : goal.returns-in-Err-Unavailable-clause-counted
+returns-in-Err-Unavailable-clause-counted g c = no_error ((rw c.in-Err-Unavailable.field-0-is at c.in-Err-Unavailable.ensures.counted).1 (errors_apart unavailable_apart))
+
+pub returns-in-Err-Closed-clause-counted : goal.returns-in-Err-Closed-clause-counted
+returns-in-Err-Closed-clause-counted g c = other_error closed_not_read ((rw c.in-Err-Closed.field-0-is at c.in-Err-Closed.ensures.counted).1 (errors_apart closed_apart))
+
+pub returns-clause-counted : goal.returns-clause-counted
+returns-clause-counted g c = that_error ((rw c.in-Err-Read.field-0-is at c.in-Err-Read.ensures.counted).0 refl)

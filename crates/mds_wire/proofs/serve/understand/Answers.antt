@@ -1,10 +1,26 @@
-use Rattle.std.proofs.Common.{◌-◌, ◌<◌, ◌++◌, List, ℕ, take, length, ap, ◌∙◌, subst, arith, refl, length-append}
+use Rattle.std.proofs.Common.{◌≡◌, ◌-◌, ◌<◌, ◌++◌, List, ℕ, take, length, ap, ◌∙◌, subst, arith, refl, length-append}
 use Rattle.mds_wire.specs.HeadSteps.{WantsHead}
 use Rattle.mds_wire.specs.Heads.{longest_head}
 use Rattle.mds_wire.specs.Meaning.{Awaits, in_head, no_head, overlong}
 use Rattle.mds_wire.specs.ServeSteps.{Performs}
+use Rattle.mds_wire.specs.declared.head.HeadFault.TheVariants as fault
+use Rattle.mds_wire.specs.declared.serve.Unread.TheVariants.{Read, Closed}
 use Rattle.mds_wire.proofs.CallSteps.{read_for, read_both}
+use Rattle.mds_wire.proofs.Exits.{counted_on, errors_apart, no_error, ok_apart, other_error, that_error}
 use Rattle.mds_wire.proofs.serve.understand.Goals as goal
+
+-- the faults are apart
+closed_not_read : Closed ≡ Read → ⊥
+closed_not_read is = absurd (cc)
+
+closed_apart : fault.Closed ≡ fault.Read → ⊥
+closed_apart is = absurd (cc)
+
+bad_apart : fault.Bad ≡ fault.Read → ⊥
+bad_apart is = absurd (cc)
+
+large_apart : fault.TooLarge ≡ fault.Read → ⊥
+large_apart is = absurd (cc)
 
 -- what is wanted of a head is awaited
 awaits_head : (bytes : List ℕ) (count : ℕ) → 0 < count → WantsHead bytes count → Awaits bytes count
@@ -63,3 +79,18 @@ returns-in-Err-Read-clause-understands g c =
       read = read_for _ _ _ _ _ _ _ _ _ awaits_head r.read;
       is = refl;
     }
+
+pub returns-in-Ok-clause-counted : goal.returns-in-Ok-clause-counted
+returns-in-Ok-clause-counted g c = counted_on (c.in-Ok.ensures.counted.1 ok_apart) c.perform.ensures.counted
+
+pub returns-in-Err-Bad-clause-counted : goal.returns-in-Err-Bad-clause-counted
+returns-in-Err-Bad-clause-counted g c = no_error ((rw c.in-Err-Bad.field-0-is at c.in-Err-Bad.ensures.counted).1 (errors_apart bad_apart))
+
+pub returns-in-Err-TooLarge-clause-counted : goal.returns-in-Err-TooLarge-clause-counted
+returns-in-Err-TooLarge-clause-counted g c = no_error ((rw c.in-Err-TooLarge.field-0-is at c.in-Err-TooLarge.ensures.counted).1 (errors_apart large_apart))
+
+pub returns-in-Err-Closed-clause-counted : goal.returns-in-Err-Closed-clause-counted
+returns-in-Err-Closed-clause-counted g c = other_error closed_not_read ((rw c.in-Err-Closed.field-0-is at c.in-Err-Closed.ensures.counted).1 (errors_apart closed_apart))
+
+pub returns-in-Err-Read-clause-counted : goal.returns-in-Err-Read-clause-counted
+returns-in-Err-Read-clause-counted g c = that_error ((rw c.in-Err-Read.field-0-is at c.in-Err-Read.ensures.counted).0 refl)
