@@ -1,9 +1,11 @@
-use Rattle.std.proofs.Common.{◌≡◌, Some, arith, ap, sym, ◌∙◌, option_map, length, rules, of_z, to_z, to_z-of_z, w64}
+use Rattle.std.proofs.Common.{◌≡◌, Some, arith, ap, sym, ◌∙◌, option_map, length, refl, rules, of_z, to_z, to_z-of_z, w64}
+use Rattle.std.proofs.lemmas.Result.{IfOk-from_err}
 use Rattle.std.specs.Prelude.{IsTrue}
 use Rattle.sqlite.specs.Held.{state}
 use Rattle.sqlite.specs.declared.types.Value.TheVariants.{Int}
 use Rattle.sqlite_value.specs.Order.{column}
 use Rattle.mds_packs.proofs.Whole.{any_held}
+use Rattle.mds_tables.proofs.CallLemmas.{keeps_same, survives_same}
 use Rattle.mds_pack_rows.specs.Laying.{laid}
 use Rattle.mds_pack_rows.specs.PackFacts.{IsSaidAt, readings_in}
 use Rattle.mds_pack_rows.proofs.BodyLemmas.{says}
@@ -36,3 +38,84 @@ returns-clause-ok g c =
     (lays_there (state g.S.Store c.args.tx.now.conn.now) (state g.S.Store c.replace_body.new.tx.conn.now) id c.args.shown.now
     said.0 c.as_slice-3.result.now olds news all has_id said.1 was is made c.requires.some)
     (rw same at c.replace_body.ensures.ok)
+
+pub returns-in_err-id-clause-same_reference : goal.returns-in_err-id-clause-same_reference
+returns-in_err-id-clause-same_reference g c = refl
+
+pub returns-in_err-id-clause-ok : goal.returns-in_err-id-clause-ok
+returns-in_err-id-clause-ok g c = IfOk-from_err c.from_residual.result _ c.from_residual.ensures.0
+
+pub returns-in_err-id-clause-kept : goal.returns-in_err-id-clause-kept
+returns-in_err-id-clause-kept g c there = keeps_same (state g.S.Store c.args.tx.now.conn.now)
+
+pub returns-in_err-id-clause-survives : goal.returns-in_err-id-clause-survives
+returns-in_err-id-clause-survives g c = survives_same (state g.S.Store c.args.tx.now.conn.now)
+
+pub returns-in_err-readings_at-clause-same_reference : goal.returns-in_err-readings_at-clause-same_reference
+returns-in_err-readings_at-clause-same_reference g c = refl
+
+pub returns-in_err-readings_at-clause-ok : goal.returns-in_err-readings_at-clause-ok
+returns-in_err-readings_at-clause-ok g c = IfOk-from_err c.from_residual-in_err-readings_at.result _ c.from_residual-in_err-readings_at.ensures.0
+
+pub returns-in_err-readings_at-clause-kept : goal.returns-in_err-readings_at-clause-kept
+returns-in_err-readings_at-clause-kept g c there = keeps_same (state g.S.Store c.args.tx.now.conn.now)
+
+pub returns-in_err-readings_at-clause-survives : goal.returns-in_err-readings_at-clause-survives
+returns-in_err-readings_at-clause-survives g c = survives_same (state g.S.Store c.args.tx.now.conn.now)
+
+pub returns-in_err-olds-clause-same_reference : goal.returns-in_err-olds-clause-same_reference
+returns-in_err-olds-clause-same_reference g c = refl
+
+pub returns-in_err-olds-clause-ok : goal.returns-in_err-olds-clause-ok
+returns-in_err-olds-clause-ok g c = IfOk-from_err c.from_residual-in_err-olds.result _ c.from_residual-in_err-olds.ensures.0
+
+pub returns-in_err-olds-clause-kept : goal.returns-in_err-olds-clause-kept
+returns-in_err-olds-clause-kept g c there = keeps_same (state g.S.Store c.args.tx.now.conn.now)
+
+pub returns-in_err-olds-clause-survives : goal.returns-in_err-olds-clause-survives
+returns-in_err-olds-clause-survives g c = survives_same (state g.S.Store c.args.tx.now.conn.now)
+
+pub returns-in_err-all-clause-same_reference : goal.returns-in_err-all-clause-same_reference
+returns-in_err-all-clause-same_reference g c = refl
+
+pub returns-in_err-all-clause-ok : goal.returns-in_err-all-clause-ok
+returns-in_err-all-clause-ok g c = IfOk-from_err c.from_residual-in_err-all.result _ c.from_residual-in_err-all.ensures.0
+
+pub returns-in_err-all-clause-kept : goal.returns-in_err-all-clause-kept
+returns-in_err-all-clause-kept g c there = keeps_same (state g.S.Store c.args.tx.now.conn.now)
+
+pub returns-in_err-all-clause-survives : goal.returns-in_err-all-clause-survives
+returns-in_err-all-clause-survives g c = survives_same (state g.S.Store c.args.tx.now.conn.now)
+
+pub returns-in_default-clause-same_reference : goal.returns-in_default-clause-same_reference
+returns-in_default-clause-same_reference g c = refl
+
+pub returns-in_default-clause-ok : goal.returns-in_default-clause-ok
+returns-in_default-clause-ok g c = tt
+
+pub returns-in_default-clause-kept : goal.returns-in_default-clause-kept
+returns-in_default-clause-kept g c there = keeps_same (state g.S.Store c.args.tx.now.conn.now)
+
+pub returns-in_default-clause-survives : goal.returns-in_default-clause-survives
+returns-in_default-clause-survives g c = survives_same (state g.S.Store c.args.tx.now.conn.now)
+
+pub returns-in_err-body-clause-same_reference : goal.returns-in_err-body-clause-same_reference
+returns-in_err-body-clause-same_reference g c = refl
+
+pub returns-in_err-body-clause-ok : goal.returns-in_err-body-clause-ok
+returns-in_err-body-clause-ok g c = IfOk-from_err c.from_residual-in_err-body.result _ c.from_residual-in_err-body.ensures.0
+
+pub returns-in_err-body-clause-kept : goal.returns-in_err-body-clause-kept
+returns-in_err-body-clause-kept g c there = keeps_same (state g.S.Store c.args.tx.now.conn.now)
+
+pub returns-in_err-body-clause-survives : goal.returns-in_err-body-clause-survives
+returns-in_err-body-clause-survives g c = survives_same (state g.S.Store c.args.tx.now.conn.now)
+
+pub returns-clause-same_reference : goal.returns-clause-same_reference
+returns-clause-same_reference g c = c.replace_body.ensures.same_reference
+
+pub returns-clause-kept : goal.returns-clause-kept
+returns-clause-kept g c = c.replace_body.ensures.kept
+
+pub returns-clause-survives : goal.returns-clause-survives
+returns-clause-survives g c = c.replace_body.ensures.survives

@@ -1,9 +1,10 @@
-use Rattle.std.proofs.Common.{◌≡◌, arith, false, length, subst, sym, ◌∙◌, [], ◌∷◌}
+use Rattle.std.proofs.Common.{◌≡◌, arith, false, length, refl, subst, sym, ◌∙◌, [], ◌∷◌}
+use Rattle.std.proofs.lemmas.Result.{IfOk-from_err}
 use Rattle.sqlite.specs.Held.{state}
 use Rattle.sqlite.proofs.InsideLemmas.{keeps_then}
 use Rattle.mds_packs.proofs.Whole.{any_held}
 use Rattle.mds_tables.specs.Stores.{Selects}
-use Rattle.mds_tables.proofs.CallLemmas.{keeps_same, survives_same}
+use Rattle.mds_tables.proofs.CallLemmas.{keeps_same, survives_more, survives_same}
 use Rattle.mds_pack_rows.specs.PackCells as row
 use Rattle.mds_pack_rows.specs.PackTables.{body_columns, pack_tree}
 use Rattle.mds_pack_rows.specs.PackFacts.{minutes_of}
@@ -61,3 +62,40 @@ returns-in_err-rows-clause-kept g c there = c.body_rows.ensures.kept there.clean
 
 pub returns-clause-kept : goal.returns-clause-kept
 returns-clause-kept g c there = c.body_rows.ensures.kept there.clean there.rest.more there.schema
+
+pub returns-then-not-has_some-clause-same_reference : goal.returns-then-not-has_some-clause-same_reference
+returns-then-not-has_some-clause-same_reference g c = refl
+
+pub returns-in_err-rows-clause-same_reference : goal.returns-in_err-rows-clause-same_reference
+returns-in_err-rows-clause-same_reference g c = c.body_rows.ensures.same_reference
+
+pub returns-in_err-rows-clause-ok : goal.returns-in_err-rows-clause-ok
+returns-in_err-rows-clause-ok g c = IfOk-from_err c.from_residual.result _ c.from_residual.ensures.0
+
+pub returns-in_err-rows-clause-survives : goal.returns-in_err-rows-clause-survives
+returns-in_err-rows-clause-survives g c = c.body_rows.ensures.survives
+
+pub returns-in-empty-clause-same_reference : goal.returns-in-empty-clause-same_reference
+returns-in-empty-clause-same_reference g c = c.add_row.ensures.same_reference ∙ c.body_rows.ensures.same_reference
+
+pub returns-in-empty-clause-survives : goal.returns-in-empty-clause-survives
+returns-in-empty-clause-survives g c =
+    survives_more (state g.S.Store c.args.tx.now.conn.now) (state g.S.Store c.body_rows.new.tx.conn.now) (state g.S.Store c.add_row.new.tx.conn.now)
+    c.body_rows.ensures.survives c.add_row.ensures.survives
+
+pub returns-in-len1-clause-same_reference : goal.returns-in-len1-clause-same_reference
+returns-in-len1-clause-same_reference g c = c.lay_over.ensures.same_reference ∙ c.body_rows.ensures.same_reference
+
+pub returns-in-len1-clause-survives : goal.returns-in-len1-clause-survives
+returns-in-len1-clause-survives g c =
+    survives_more (state g.S.Store c.args.tx.now.conn.now) (state g.S.Store c.body_rows.new.tx.conn.now) (state g.S.Store c.lay_over.new.tx.conn.now)
+    c.body_rows.ensures.survives c.lay_over.ensures.survives
+
+pub returns-clause-same_reference : goal.returns-clause-same_reference
+returns-clause-same_reference g c = c.body_rows.ensures.same_reference
+
+pub returns-clause-ok : goal.returns-clause-ok
+returns-clause-ok g c = tt
+
+pub returns-clause-survives : goal.returns-clause-survives
+returns-clause-survives g c = c.body_rows.ensures.survives

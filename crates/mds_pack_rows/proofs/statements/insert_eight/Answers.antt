@@ -4,7 +4,7 @@ use Rattle.sqlite.specs.Held.{state}
 use Rattle.sqlite.specs.Values.{bound}
 use Rattle.mds_pack_rows.proofs.PassLemmas.{none_put, put_ok, told_ok}
 use Rattle.mds_pack_rows.proofs.RefusedLemmas.{itself, untouched}
-use Rattle.mds_tables.proofs.CallLemmas.{still}
+use Rattle.mds_tables.proofs.CallLemmas.{keeps, still}
 use Rattle.mds_pack_rows.specs.Eights.{columns_of}
 use Rattle.mds_pack_rows.specs.FailureSteps.{is_store_error}
 use Rattle.mds_pack_rows.proofs.EightLemmas.{eight_there, none_there}
@@ -31,3 +31,14 @@ returns-clause-none g c =
     none_there old new (λ clean.
     none_put (λ e. is_store_error e ≡ false) c.execute.result ((rw is at c.are_taken.ensures.none) no)
     (untouched _ _ old new c.execute.result clean (λ over. rw (c.execute.ensures.ended over).1 (itself old)) c.execute.ensures.runs)))
+
+pub returns-clause-same_reference : goal.returns-clause-same_reference
+returns-clause-same_reference g c = c.execute.ensures.same_reference
+
+pub returns-clause-kept : goal.returns-clause-kept
+returns-clause-kept g c clean =
+    keeps (state g.S.Store c.args.tx.now.conn.now) (state g.S.Store c.execute.new.self.conn.now) _ _ c.execute.result
+    (λ over. ap (state g.S.Store) (c.execute.ensures.ended over).1) (c.execute.ensures.runs clean)
+
+pub returns-clause-survives : goal.returns-clause-survives
+returns-clause-survives g c = c.execute.ensures.survives
