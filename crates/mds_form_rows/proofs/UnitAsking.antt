@@ -28,7 +28,7 @@ use Rattle.mds_world.proofs.Lists.{member_append}
 use Rattle.mds_world.specs.Lists.{Member}
 use Rattle.mds_world.specs.declared.facts.Head.{Head}
 use Rattle.mds_world.specs.declared.facts.StreamDay.{StreamDay}
-use Rattle.mds_tables.proofs.CallLemmas.{survives_more}
+use Rattle.mds_tables.proofs.CallLemmas.{keeps_same, survives_more, survives_same}
 use Rattle.mds_tables.specs.Cells.{range_cells}
 use Rattle.mds_tables.specs.RowFacts.{int_at, natural_at, text_at, unit_named}
 use Rattle.mds_tables.specs.Tables.{More, head_tree, schema_with}
@@ -138,6 +138,22 @@ module _ {X E : Type 0} {old new : State} {Tells : X → Trees → Type 0} (s : 
   }
 
 -- ---- one question after another
+
+-- where nothing is asked yet, nothing is told
+pub asked_nothing : {E : Type 0} (s : State) → AsksThere {X = Unit {0}} {E = E} s s (Ok tt) (λ _. SayUnits [])
+asked_nothing s = record {
+  ok = λ clean is_open. record {
+    same = λ rest has. (
+      record { was_open = is_open; is_open = is_open; now_is = refl; committed_is = refl; mode = refl },
+      record { changes = refl; last_rowid = refl },
+      refl,
+    );
+    shows = λ rest has whole head m. absurd m;
+  };
+  goes_on = record { was_open = λ clean o. o; is_open = λ clean o. o; inside = λ clean o. o };
+  kept = λ clean is_open rest has. keeps_same s;
+  survives = survives_same s;
+}
 
 if_ok_so : {X E : Type 0} (r : Result X E) {P Q : X → Type 0} → ((x : X) → P x → Q x) → IfOk r P → IfOk r Q
 if_ok_so (Ok x) so h = so x h

@@ -1,3 +1,5 @@
+use Rattle.std.proofs.Common.{◌∙◌}
+use Rattle.std.proofs.lemmas.Result.{IfOk-from_err}
 use Rattle.sqlite.specs.Held.{state}
 use Rattle.sqlite.specs.State.{KeepsCommit}
 use Rattle.mds_tables.proofs.CallLemmas.{survives_more}
@@ -52,3 +54,47 @@ returns-clause-survives g c =
     survives_more a f h
     (survives_more a d f (survives_more a b d c.put_new_days.ensures.survives c.put_days.ensures.survives) c.put_all_forms.ensures.survives)
     c.put_details.ensures.survives
+
+pub returns-in_err-put_new_days-clause-ok : goal.returns-in_err-put_new_days-clause-ok
+returns-in_err-put_new_days-clause-ok g c = IfOk-from_err c.from_residual.result _ c.from_residual.ensures.0
+
+pub returns-in_err-put_new_days-clause-same_reference : goal.returns-in_err-put_new_days-clause-same_reference
+returns-in_err-put_new_days-clause-same_reference g c = c.put_new_days.ensures.same_reference
+
+pub returns-in_err-put_new_days-clause-kept : goal.returns-in_err-put_new_days-clause-kept
+returns-in_err-put_new_days-clause-kept g c = c.put_new_days.ensures.kept
+
+pub returns-in_err-put_new_days-clause-survives : goal.returns-in_err-put_new_days-clause-survives
+returns-in_err-put_new_days-clause-survives g c = c.put_new_days.ensures.survives
+
+pub returns-in_err-put_days-clause-ok : goal.returns-in_err-put_days-clause-ok
+returns-in_err-put_days-clause-ok g c = IfOk-from_err c.from_residual-in_err-put_days.result _ c.from_residual-in_err-put_days.ensures.0
+
+pub returns-in_err-put_days-clause-same_reference : goal.returns-in_err-put_days-clause-same_reference
+returns-in_err-put_days-clause-same_reference g c = c.put_days.ensures.same_reference ∙ c.put_new_days.ensures.same_reference
+
+pub returns-in_err-put_days-clause-survives : goal.returns-in_err-put_days-clause-survives
+returns-in_err-put_days-clause-survives g c =
+    survives_more (state g.S.Store c.args.tx.now.conn.now) (state g.S.Store c.put_new_days.new.tx.conn.now) (state g.S.Store c.put_days.new.tx.conn.now)
+    c.put_new_days.ensures.survives c.put_days.ensures.survives
+
+pub returns-in_err-put_all_forms-clause-ok : goal.returns-in_err-put_all_forms-clause-ok
+returns-in_err-put_all_forms-clause-ok g c =
+    IfOk-from_err c.from_residual-in_err-put_all_forms.result _ c.from_residual-in_err-put_all_forms.ensures.0
+
+pub returns-in_err-put_all_forms-clause-same_reference : goal.returns-in_err-put_all_forms-clause-same_reference
+returns-in_err-put_all_forms-clause-same_reference g c =
+    c.put_all_forms.ensures.same_reference ∙ c.put_days.ensures.same_reference ∙ c.put_new_days.ensures.same_reference
+
+pub returns-in_err-put_all_forms-clause-survives : goal.returns-in_err-put_all_forms-clause-survives
+returns-in_err-put_all_forms-clause-survives g c =
+    let a = state g.S.Store c.args.tx.now.conn.now in
+    let d = state g.S.Store c.put_days.new.tx.conn.now in
+    survives_more a d (state g.S.Store c.put_all_forms.new.tx.conn.now)
+    (survives_more a (state g.S.Store c.put_new_days.new.tx.conn.now) d c.put_new_days.ensures.survives c.put_days.ensures.survives)
+    c.put_all_forms.ensures.survives
+
+pub returns-clause-same_reference : goal.returns-clause-same_reference
+returns-clause-same_reference g c =
+    c.put_details.ensures.same_reference ∙ c.put_all_forms.ensures.same_reference ∙ c.put_days.ensures.same_reference
+    ∙ c.put_new_days.ensures.same_reference

@@ -1,8 +1,9 @@
-use Rattle.std.proofs.Common.{IsTrue, [], ◌∷◌, arith, rules, subst, take}
+use Rattle.std.proofs.Common.{IsTrue, [], ◌∷◌, ◌∙◌, arith, refl, rules, subst, take, take_all}
 use Rattle.std.proofs.lemmas.Result.{err_from_is_err_and}
+use Rattle.sqlite.specs.Held.{state}
 use Rattle.mds_inserts.proofs.PutLemmas.{one_more}
 use Rattle.mds_form_rows.specs.FormPutting.{SayUnits}
-use Rattle.mds_form_rows.proofs.UnitAsking.{asked_no, asked_none, asked_so, asked_then, like_itself, say_both, say_like}
+use Rattle.mds_form_rows.proofs.UnitAsking.{asked_no, asked_nothing, asked_none, asked_so, asked_then, like_itself, say_both, say_like}
 use Rattle.mds_form_rows.proofs.units.have_each.Goals as goal
 
 pub returns-in_err-is_its-clause-asks : goal.returns-in_err-is_its-clause-asks
@@ -27,3 +28,20 @@ loop-head-preserved g c =
           (say_both (take at heads) (head ∷ []) trees before here))
           (asked_so c.in_ok-is_its.ensures.asks tt (λ trees says. say_like head head.day (head ∷ []) (like_itself head) trees (says is_its)));
     }
+
+pub returns-in_err-is_its-clause-same_reference : goal.returns-in_err-is_its-clause-same_reference
+returns-in_err-is_its-clause-same_reference g c = c.has_only.ensures.same_reference ∙ c.loop-head.invariant.same
+
+pub returns-then-not-is_its-clause-same_reference : goal.returns-then-not-is_its-clause-same_reference
+returns-then-not-is_its-clause-same_reference g c = c.has_only.ensures.same_reference ∙ c.loop-head.invariant.same
+
+pub returns-clause-same_reference : goal.returns-clause-same_reference
+returns-clause-same_reference g c = c.loop-head.invariant.same
+
+pub returns-clause-asks : goal.returns-clause-asks
+returns-clause-asks g c =
+    asked_so c.loop-head.invariant.asked tt
+    (λ trees says. subst (λ hs. SayUnits hs trees) (take_all c.loop-head.head-index c.args.heads.now (omega arith)) says)
+
+pub loop-head-init : goal.loop-head-init
+loop-head-init g c = record { same = refl; asked = asked_nothing (state g.S.Store c.args.tx.now.conn.now) }

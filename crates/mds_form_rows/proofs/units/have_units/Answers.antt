@@ -1,8 +1,9 @@
-use Rattle.std.proofs.Common.{◌≡◌, ◌++◌, ap, arith, rules, subst, take, take_all, ◌∙◌}
+use Rattle.std.proofs.Common.{◌≡◌, ◌++◌, ap, arith, refl, rules, subst, take, take_all, ◌∙◌}
 use Rattle.std.proofs.lemmas.Result.{err_from_is_err_and}
+use Rattle.sqlite.specs.Held.{state}
 use Rattle.mds_inserts.proofs.Eights.{chunks_are, flat, flat_more}
 use Rattle.mds_form_rows.specs.FormPutting.{SayUnits}
-use Rattle.mds_form_rows.proofs.UnitAsking.{asked_none, asked_then, say_both}
+use Rattle.mds_form_rows.proofs.UnitAsking.{asked_none, asked_nothing, asked_then, say_both}
 use Rattle.mds_form_rows.proofs.units.have_units.Goals as goal
 
 pub returns-in_err-have_eight-clause-asks : goal.returns-in_err-have_eight-clause-asks
@@ -33,3 +34,6 @@ returns-clause-asks g c =
     asked_then c.loop-eight.invariant.asked
     (λ _ trees before here. subst (λ hs. SayUnits hs trees) whole (say_both (flat (take at eights)) rest trees before here))
     c.have_each.ensures.asks
+
+pub loop-eight-init : goal.loop-eight-init
+loop-eight-init g c = record { same = refl; asked = asked_nothing (state g.S.Store c.args.tx.now.conn.now) }
