@@ -160,3 +160,47 @@ leaves_three a b c d did next one two three =
     let p = did (omega (arith, clean, two.clean, three.clean)) in
     let q = next (omega (arith, clean, three.clean)) in
     (was_open a b p, inr (inr (three_left a b c left (are_two a b c p q) m)))) (leaves_two a b c did one two) three
+
+-- ---- where the store is current
+
+taken_formed : (a b : State) → IsTaken forming a b → IsFormedStore b.committed
+taken_formed a b p = record {
+  store = record { schema = p.schema; version = p.taken.version };
+  bare = (p.taken.unversioned, p.taken.undated);
+}
+
+-- one that was current still is
+pub still_current : (a b : State) → Answered a b AlreadyCurrent → IsFormedStore b.committed
+still_current a b is = subst IsFormedStore (sym (is.2.committed is.1.is_open)) is.0
+
+current_third : (a b c d : State) → AreTwo a b c → (it : Migrated) → Answered c d it → IsFormedStore d.committed
+current_third a b c d two AlreadyCurrent is = still_current c d is
+current_third a b c d (inl both) Done (inl r) = absurd (let e = follows dating packing b c both.1 r.was in omega (arith, e))
+current_third a b c d (inl both) Done (inr (inl r)) = absurd (let e = follows dating dating b c both.1 r.was in omega (arith, e))
+current_third a b c d (inl both) Done (inr (inr r)) = taken_formed c d r
+current_third a b c d (inr both) Done (inl r) = absurd (let e = follows forming packing b c both.1 r.was in omega (arith, e))
+current_third a b c d (inr both) Done (inr (inl r)) = absurd (let e = follows forming dating b c both.1 r.was in omega (arith, e))
+current_third a b c d (inr both) Done (inr (inr r)) = absurd (let e = follows forming forming b c both.1 r.was in omega (arith, e))
+
+-- behind two steps it is, whatever the third answer
+pub current_all : (a b c d : State) → IsMigrated a b → IsMigrated b c → (it : Migrated) → Answered c d it → IsFormedStore d.committed
+current_all a b c d p q it answered = current_third a b c d (are_two a b c p q) it answered
+
+-- it was one step away, if a step was done and then it is current
+pub taken_last : (a b c : State) → IsMigrated a b → Answered b c AlreadyCurrent → TakesSteps a.committed c.committed.trees
+taken_last a b c (inl p) is = absurd (let e = ap (λ (x : Schema). length x.tables) (sym p.schema ∙ is.0.store.schema) in omega (arith, e))
+taken_last a b c (inr (inl p)) is = absurd (let e = ap (λ (x : Schema). length x.tables) (sym p.schema ∙ is.0.store.schema) in omega (arith, e))
+taken_last a b c (inr (inr p)) is =
+    let same = is.2.committed is.1.is_open in
+    inl (p.was, subst (λ (db : Database). HasFormed a.committed.trees db.trees) (sym same) p.taken)
+
+-- what one step leaves is among what all may leave
+pub leaves_one : (a b : State) → Survives a b (LeavesMigrated a) → Survives a b (LeavesSteps a)
+leaves_one a b one = record {
+  clean = one.clean;
+  shield = one.shield;
+  counts = one.counts;
+  limit = one.limit;
+  closes = one.closes;
+  crash = λ clean left may. elim (one.crash clean left may) [ inl was ↦ inl was | inr made ↦ inr (one_left a left made) ];
+}

@@ -1,11 +1,19 @@
-use Rattle.std.proofs.Common.{◌≡◌, IsTrue, rules, subst, ◌∙◌, arith, take, take_all}
+use Rattle.std.proofs.Common.{◌≡◌, IsTrue, rules, subst, ◌∙◌, arith, take, take_all, List}
 use Rattle.std.specs.List.{AllPairs}
 use Rattle.sqlite.specs.Held.{state}
 use Rattle.mds_tables.proofs.CallLemmas.{survives_more}
 use Rattle.mds_pack_rows.specs.FormLayout.{forms_behind}
 use Rattle.mds_migrate.specs.Forming.{FormsDays, IsBefore}
 use Rattle.mds_migrate.proofs.FormingLemmas.{days_next, forms_all, forms_since, kept_then}
+use Rattle.std.proofs.lemmas.Result.{IfOk-from_err}
+use Rattle.sqlite.specs.State.{State}
+use Rattle.sqlite_value.specs.Order.{Row}
+use Rattle.mds_pack_rows.specs.Putting.{GoesOn}
 use Rattle.mds_migrate.proofs.forming.form_days.Goals as goal
+
+-- what is put goes on
+goes_on : (old new : State) (days : List Row) → FormsDays old new days → GoesOn old new
+goes_on old new days forms = record { was_open = forms.puts.was_open; is_open = forms.puts.is_open; inside = forms.puts.inside }
 
 pub loop-row-init : goal.loop-row-init
 loop-row-init g c =
@@ -53,3 +61,59 @@ returns-clause-ok g c =
     let sorted = subst (AllPairs IsBefore) c.as_slice.ensures.value (c.are_in_order-are_sorted.ensures yes) in
     forms_all old (state g.S.Store c.all_heads.new.tx.conn.now) new c.loop-row.invariant.later c.in_ok-days.days.items c.in_ok-days.ensures.ok sorted
     (subst (FormsDays old new) all c.loop-row.invariant.forms)
+
+pub returns-in_err-days-clause-same_reference : goal.returns-in_err-days-clause-same_reference
+returns-in_err-days-clause-same_reference g c = c.all_heads.ensures.same_reference
+
+pub returns-in_err-days-clause-goes_on : goal.returns-in_err-days-clause-goes_on
+returns-in_err-days-clause-goes_on g c = IfOk-from_err c.from_residual.result _ c.from_residual.ensures.0
+
+pub returns-in_err-days-clause-ok : goal.returns-in_err-days-clause-ok
+returns-in_err-days-clause-ok g c = IfOk-from_err c.from_residual.result _ c.from_residual.ensures.0
+
+pub returns-in_err-days-clause-survives : goal.returns-in_err-days-clause-survives
+returns-in_err-days-clause-survives g c = c.all_heads.ensures.survives
+
+pub returns-then-not-are_sorted-clause-same_reference : goal.returns-then-not-are_sorted-clause-same_reference
+returns-then-not-are_sorted-clause-same_reference g c = c.all_heads.ensures.same_reference
+
+pub returns-then-not-are_sorted-clause-goes_on : goal.returns-then-not-are_sorted-clause-goes_on
+returns-then-not-are_sorted-clause-goes_on g c = tt
+
+pub returns-then-not-are_sorted-clause-ok : goal.returns-then-not-are_sorted-clause-ok
+returns-then-not-are_sorted-clause-ok g c = tt
+
+pub returns-then-not-are_sorted-clause-survives : goal.returns-then-not-are_sorted-clause-survives
+returns-then-not-are_sorted-clause-survives g c = c.all_heads.ensures.survives
+
+pub returns-in_err-form_day-clause-same_reference : goal.returns-in_err-form_day-clause-same_reference
+returns-in_err-form_day-clause-same_reference g c = c.form_day.ensures.same_reference ∙ c.loop-row.invariant.same
+
+pub returns-in_err-form_day-clause-goes_on : goal.returns-in_err-form_day-clause-goes_on
+returns-in_err-form_day-clause-goes_on g c = IfOk-from_err c.from_residual-in_err-form_day.result _ c.from_residual-in_err-form_day.ensures.0
+
+pub returns-in_err-form_day-clause-ok : goal.returns-in_err-form_day-clause-ok
+returns-in_err-form_day-clause-ok g c = IfOk-from_err c.from_residual-in_err-form_day.result _ c.from_residual-in_err-form_day.ensures.0
+
+pub returns-in_err-form_day-clause-survives : goal.returns-in_err-form_day-clause-survives
+returns-in_err-form_day-clause-survives g c =
+    survives_more (state g.S.Store c.args.tx.now.conn.now) (state g.S.Store c.loop-row.tx.conn.now) (state g.S.Store c.form_day.new.tx.conn.now)
+    c.loop-row.invariant.survives c.form_day.ensures.survives
+
+pub returns-in_err-form_day-clause-kept : goal.returns-in_err-form_day-clause-kept
+returns-in_err-form_day-clause-kept g c =
+    let before = c.loop-row.invariant in
+    kept_then (state g.S.Store c.args.tx.now.conn.now) (state g.S.Store c.loop-row.tx.conn.now) (state g.S.Store c.form_day.new.tx.conn.now) c.form_day.ensures.survives.clean _ before.forms before.kept
+    c.form_day.ensures.kept
+
+pub returns-clause-same_reference : goal.returns-clause-same_reference
+returns-clause-same_reference g c = c.loop-row.invariant.same
+
+pub returns-clause-goes_on : goal.returns-clause-goes_on
+returns-clause-goes_on g c = goes_on (state g.S.Store c.args.tx.now.conn.now) (state g.S.Store c.loop-row.tx.conn.now) _ c.loop-row.invariant.forms
+
+pub returns-clause-kept : goal.returns-clause-kept
+returns-clause-kept g c = c.loop-row.invariant.kept
+
+pub returns-clause-survives : goal.returns-clause-survives
+returns-clause-survives g c = c.loop-row.invariant.survives

@@ -4,6 +4,7 @@ use Rattle.sqlite.proofs.InsideLemmas.{keeps_then}
 use Rattle.mds_tables.proofs.CallLemmas.{keeps_same, survives_more, survives_same}
 use Rattle.mds_migrate.specs.Forming.{PutsForms}
 use Rattle.mds_migrate.proofs.FormingLemmas.{forms_next, forms_none}
+use Rattle.std.proofs.lemmas.Result.{IfOk-from_err}
 use Rattle.mds_migrate.proofs.forming.form_each.Goals as goal
 
 pub loop-pack-init : goal.loop-pack-init
@@ -47,3 +48,30 @@ pub returns-clause-ok : goal.returns-clause-ok
 returns-clause-ok g c =
     subst (PutsForms (state g.S.Store c.args.tx.now.conn.now) (state g.S.Store c.loop-pack.tx.conn.now) c.args.head.now)
     (take_all c.loop-pack.pack-index c.args.packs.now c.loop-pack-test.false) c.loop-pack.invariant.forms
+
+pub returns-in_err-form-clause-same_reference : goal.returns-in_err-form-clause-same_reference
+returns-in_err-form-clause-same_reference g c = c.loop-pack.invariant.same
+
+pub returns-in_err-form-clause-ok : goal.returns-in_err-form-clause-ok
+returns-in_err-form-clause-ok g c = IfOk-from_err c.from_residual.result _ c.from_residual.ensures.0
+
+pub returns-in_err-form-clause-kept : goal.returns-in_err-form-clause-kept
+returns-in_err-form-clause-kept g c = c.loop-pack.invariant.kept
+
+pub returns-in_err-form-clause-survives : goal.returns-in_err-form-clause-survives
+returns-in_err-form-clause-survives g c = c.loop-pack.invariant.survives
+
+pub returns-in_err-put_form-clause-same_reference : goal.returns-in_err-put_form-clause-same_reference
+returns-in_err-put_form-clause-same_reference g c = c.put_form.ensures.same_reference ∙ c.loop-pack.invariant.same
+
+pub returns-in_err-put_form-clause-ok : goal.returns-in_err-put_form-clause-ok
+returns-in_err-put_form-clause-ok g c = IfOk-from_err c.from_residual-in_err-put_form.result _ c.from_residual-in_err-put_form.ensures.0
+
+pub returns-clause-same_reference : goal.returns-clause-same_reference
+returns-clause-same_reference g c = c.loop-pack.invariant.same
+
+pub returns-clause-kept : goal.returns-clause-kept
+returns-clause-kept g c = c.loop-pack.invariant.kept
+
+pub returns-clause-survives : goal.returns-clause-survives
+returns-clause-survives g c = c.loop-pack.invariant.survives

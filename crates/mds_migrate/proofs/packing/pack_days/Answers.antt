@@ -4,6 +4,7 @@ use Rattle.mds_tables.proofs.CallLemmas.{survives_more}
 use Rattle.mds_pack_rows.proofs.PutLemmas.{kept_then}
 use Rattle.mds_migrate.specs.Packing.{PacksDays}
 use Rattle.mds_migrate.proofs.PackingLemmas.{packs_every, packs_next, packs_none, packs_since}
+use Rattle.std.proofs.lemmas.Result.{IfOk-from_err}
 use Rattle.mds_migrate.proofs.packing.pack_days.Goals as goal
 
 pub loop-row-init : goal.loop-row-init
@@ -58,3 +59,36 @@ returns-clause-ok g c =
 
 pub returns-in_err-heads-clause-kept : goal.returns-in_err-heads-clause-kept
 returns-in_err-heads-clause-kept g c there = c.all_heads.ensures.kept there.clean there.rest.more there.schema
+
+pub returns-in_err-heads-clause-same_reference : goal.returns-in_err-heads-clause-same_reference
+returns-in_err-heads-clause-same_reference g c = c.all_heads.ensures.same_reference
+
+pub returns-in_err-heads-clause-goes_on : goal.returns-in_err-heads-clause-goes_on
+returns-in_err-heads-clause-goes_on g c = IfOk-from_err c.from_residual.result _ c.from_residual.ensures.0
+
+pub returns-in_err-heads-clause-ok : goal.returns-in_err-heads-clause-ok
+returns-in_err-heads-clause-ok g c = IfOk-from_err c.from_residual.result _ c.from_residual.ensures.0
+
+pub returns-in_err-heads-clause-survives : goal.returns-in_err-heads-clause-survives
+returns-in_err-heads-clause-survives g c = c.all_heads.ensures.survives
+
+pub returns-in_err-pack_day_of-clause-same_reference : goal.returns-in_err-pack_day_of-clause-same_reference
+returns-in_err-pack_day_of-clause-same_reference g c = c.pack_day_of.ensures.same_reference ∙ c.loop-row.invariant.same
+
+pub returns-in_err-pack_day_of-clause-goes_on : goal.returns-in_err-pack_day_of-clause-goes_on
+returns-in_err-pack_day_of-clause-goes_on g c = IfOk-from_err c.from_residual-in_err-pack_day_of.result _ c.from_residual-in_err-pack_day_of.ensures.0
+
+pub returns-in_err-pack_day_of-clause-ok : goal.returns-in_err-pack_day_of-clause-ok
+returns-in_err-pack_day_of-clause-ok g c = IfOk-from_err c.from_residual-in_err-pack_day_of.result _ c.from_residual-in_err-pack_day_of.ensures.0
+
+pub returns-clause-same_reference : goal.returns-clause-same_reference
+returns-clause-same_reference g c = c.loop-row.invariant.same
+
+pub returns-clause-goes_on : goal.returns-clause-goes_on
+returns-clause-goes_on g c = c.loop-row.invariant.packs.puts.0
+
+pub returns-clause-kept : goal.returns-clause-kept
+returns-clause-kept g c = c.loop-row.invariant.kept
+
+pub returns-clause-survives : goal.returns-clause-survives
+returns-clause-survives g c = c.loop-row.invariant.survives

@@ -1,16 +1,17 @@
-use Rattle.std.proofs.Common.{[], Ok, length, ap, refl}
+use Rattle.std.proofs.Common.{[], Ok, length, ap, refl, ◌∙◌}
 use Rattle.sqlite.specs.Held.{state}
 use Rattle.sqlite.specs.State.{ExecutesInside, HasCleanDisk}
 use Rattle.mds_tables.specs.Tables.{detail_table, detail_tree, schema_with}
-use Rattle.mds_tables.proofs.CallLemmas.{still}
+use Rattle.mds_tables.proofs.CallLemmas.{still, keeps, survives_more}
 use Rattle.mds_pack_rows.specs.PackTables.{packs_then}
 use Rattle.mds_pack_rows.proofs.AskLemmas.{asked_kept, finds_all, shown_on}
 use Rattle.mds_pack_rows.proofs.PutLemmas.{if_ok, on_then, ran_on}
 use Rattle.mds_migrate.proofs.StatementLemmas.{cleared_kept, clears, takes_details}
 use Rattle.mds_migrate.proofs.StatementTexts.{delete_details, detail_place, moment_columns, select_moments, select_moments_is, select_moments_plain}
 use Rattle.mds_migrate.proofs.statements.clear_details.Given.{Over}
-use Rattle.mds_migrate.proofs.statements.clear_details.Goals as goal
 use Rattle.mds_migrate.proofs.statements.clear_details.Goals.{In_ok-or_unavailable}
+use Rattle.std.proofs.lemmas.Result.{IfOk-from_err}
+use Rattle.mds_migrate.proofs.statements.clear_details.Goals as goal
 
 -- the rows were deleted
 ran : (g : Over) (c : In_ok-or_unavailable g) → HasCleanDisk (state g.S.Store c.execute.new.self.conn.now)
@@ -60,3 +61,42 @@ returns-clause-ok g c =
     (λ clean. finds_all select_moments detail_tree moment_columns _ select_moments_plain (λ db. refl) select_moments_is
     mid new c.in_ok-left.left.items (rw c.in_ok-left.ensures at (c.query_all.ensures.ok clean))))
     c.none_left.ensures.ok
+
+pub returns-in_err-or_unavailable-clause-same_reference : goal.returns-in_err-or_unavailable-clause-same_reference
+returns-in_err-or_unavailable-clause-same_reference g c = c.execute.ensures.same_reference
+
+pub returns-in_err-or_unavailable-clause-goes_on : goal.returns-in_err-or_unavailable-clause-goes_on
+returns-in_err-or_unavailable-clause-goes_on g c = IfOk-from_err c.from_residual.result _ c.from_residual.ensures.0
+
+pub returns-in_err-or_unavailable-clause-ok : goal.returns-in_err-or_unavailable-clause-ok
+returns-in_err-or_unavailable-clause-ok g c = IfOk-from_err c.from_residual.result _ c.from_residual.ensures.0
+
+pub returns-in_err-or_unavailable-clause-kept : goal.returns-in_err-or_unavailable-clause-kept
+returns-in_err-or_unavailable-clause-kept g c there =
+    keeps (state g.S.Store c.args.tx.now.conn.now) (state g.S.Store c.execute.new.self.conn.now) _ _ c.execute.result
+    (λ over. ap (state g.S.Store) (c.execute.ensures.ended over).1) (c.execute.ensures.runs there.clean)
+
+pub returns-in_err-or_unavailable-clause-survives : goal.returns-in_err-or_unavailable-clause-survives
+returns-in_err-or_unavailable-clause-survives g c = c.execute.ensures.survives
+
+pub returns-in_err-left-clause-same_reference : goal.returns-in_err-left-clause-same_reference
+returns-in_err-left-clause-same_reference g c = c.query_all.ensures.same_reference ∙ c.execute.ensures.same_reference
+
+pub returns-in_err-left-clause-goes_on : goal.returns-in_err-left-clause-goes_on
+returns-in_err-left-clause-goes_on g c = IfOk-from_err c.from_residual-in_err-left.result _ c.from_residual-in_err-left.ensures.0
+
+pub returns-in_err-left-clause-ok : goal.returns-in_err-left-clause-ok
+returns-in_err-left-clause-ok g c = IfOk-from_err c.from_residual-in_err-left.result _ c.from_residual-in_err-left.ensures.0
+
+pub returns-in_err-left-clause-survives : goal.returns-in_err-left-clause-survives
+returns-in_err-left-clause-survives g c =
+    survives_more (state g.S.Store c.args.tx.now.conn.now) (state g.S.Store c.execute.new.self.conn.now) (state g.S.Store c.query_all.new.self.conn.now)
+    c.execute.ensures.survives c.query_all.ensures.survives
+
+pub returns-clause-same_reference : goal.returns-clause-same_reference
+returns-clause-same_reference g c = c.query_all.ensures.same_reference ∙ c.execute.ensures.same_reference
+
+pub returns-clause-survives : goal.returns-clause-survives
+returns-clause-survives g c =
+    survives_more (state g.S.Store c.args.tx.now.conn.now) (state g.S.Store c.execute.new.self.conn.now) (state g.S.Store c.query_all.new.self.conn.now)
+    c.execute.ensures.survives c.query_all.ensures.survives

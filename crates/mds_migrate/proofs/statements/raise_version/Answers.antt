@@ -7,13 +7,14 @@ use Rattle.mds_tables.specs.Tables.{More, schema_tree, schema_with}
 use Rattle.mds_pack_rows.specs.PackTables.{packs_then}
 use Rattle.mds_pack_rows.specs.Putting.{FindsThere, GoesOn}
 use Rattle.mds_pack_rows.proofs.AskLemmas.{asked_kept, finds_all, shown_kept, shown_on}
-use Rattle.mds_pack_rows.proofs.PutLemmas.{if_ok, one_row}
-use Rattle.mds_pack_rows.proofs.PutLemmas.{on_then}
+use Rattle.mds_pack_rows.proofs.PutLemmas.{if_ok, one_row, on_then}
 use Rattle.mds_migrate.proofs.StatementLemmas.{raises}
 use Rattle.mds_migrate.proofs.StatementTexts.{rowid_columns, select_rowids, select_rowids_is, select_rowids_plain}
 use Rattle.mds_migrate.proofs.statements.raise_version.Given.{Over}
-use Rattle.mds_migrate.proofs.statements.raise_version.Goals as goal
 use Rattle.mds_migrate.proofs.statements.raise_version.Goals.{In_ok-rows}
+use Rattle.std.proofs.lemmas.Result.{IfOk-from_err}
+use Rattle.mds_tables.proofs.CallLemmas.{survives_more}
+use Rattle.mds_migrate.proofs.statements.raise_version.Goals as goal
 
 -- the rowids were found
 finds : (g : Over) (c : In_ok-rows g) → HasCleanDisk (state g.S.Store c.query_all.new.self.conn.now)
@@ -69,3 +70,29 @@ returns-in-len1-clause-kept g c there =
 
 pub returns-clause-kept : goal.returns-clause-kept
 returns-clause-kept g c there = kept g (goal.at.returns-clause-kept g c).In_ok-rows there.clean there.rest.more there.schema
+
+pub returns-in_err-rows-clause-same_reference : goal.returns-in_err-rows-clause-same_reference
+returns-in_err-rows-clause-same_reference g c = c.query_all.ensures.same_reference
+
+pub returns-in_err-rows-clause-goes_on : goal.returns-in_err-rows-clause-goes_on
+returns-in_err-rows-clause-goes_on g c = IfOk-from_err c.from_residual.result _ c.from_residual.ensures.0
+
+pub returns-in_err-rows-clause-ok : goal.returns-in_err-rows-clause-ok
+returns-in_err-rows-clause-ok g c = IfOk-from_err c.from_residual.result _ c.from_residual.ensures.0
+
+pub returns-in_err-rows-clause-survives : goal.returns-in_err-rows-clause-survives
+returns-in_err-rows-clause-survives g c = c.query_all.ensures.survives
+
+pub returns-in-len1-clause-same_reference : goal.returns-in-len1-clause-same_reference
+returns-in-len1-clause-same_reference g c = c.replace_version.ensures.same_reference ∙ c.query_all.ensures.same_reference
+
+pub returns-in-len1-clause-survives : goal.returns-in-len1-clause-survives
+returns-in-len1-clause-survives g c =
+    survives_more (state g.S.Store c.args.tx.now.conn.now) (state g.S.Store c.query_all.new.self.conn.now) (state g.S.Store c.replace_version.new.tx.conn.now)
+    c.query_all.ensures.survives c.replace_version.ensures.survives
+
+pub returns-clause-same_reference : goal.returns-clause-same_reference
+returns-clause-same_reference g c = c.query_all.ensures.same_reference
+
+pub returns-clause-survives : goal.returns-clause-survives
+returns-clause-survives g c = c.query_all.ensures.survives

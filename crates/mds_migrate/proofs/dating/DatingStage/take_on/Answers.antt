@@ -1,7 +1,10 @@
 use Rattle.sqlite.specs.Held.{state}
 use Rattle.mds_pack_rows.specs.Putting.{GoesOn}
 use Rattle.mds_migrate.proofs.Steps.{on_both}
-use Rattle.mds_migrate.proofs.DatingSteps.{keeps_four, keeps_three, takes_on}
+use Rattle.mds_migrate.proofs.DatingSteps.{keeps_four, keeps_three, takes_on, keeps_two}
+use Rattle.std.proofs.Common.{◌∙◌}
+use Rattle.std.proofs.lemmas.Result.{IfOk-from_err}
+use Rattle.mds_tables.proofs.CallLemmas.{survives_more}
 use Rattle.mds_migrate.proofs.dating.DatingStage.take_on.Goals as goal
 
 pub returns-in_err-clear_details-clause-kept : goal.returns-in_err-clear_details-clause-kept
@@ -28,3 +31,53 @@ returns-clause-kept g c =
     c.date_days.ensures.survives.clean (rw c.in_ok-or_unavailable.ensures at c.make_daydetail.ensures.makes) (state g.S.Store c.clear_details.new.tx.conn.now) c.clear_details.ensures.survives.clean
     c.in_ok-date_days.ensures.ok c.in_ok-date_days.ensures.goes_on (state g.S.Store c.raise_version.new.tx.conn.now) c.raise_version.ensures.survives.clean
     c.in_ok-clear_details.ensures.ok c.make_daydetail.ensures.kept c.date_days.ensures.kept c.clear_details.ensures.kept c.raise_version.ensures.kept
+
+pub returns-in_err-or_unavailable-clause-same_reference : goal.returns-in_err-or_unavailable-clause-same_reference
+returns-in_err-or_unavailable-clause-same_reference g c = c.make_daydetail.ensures.same_reference
+
+pub returns-in_err-or_unavailable-clause-ok : goal.returns-in_err-or_unavailable-clause-ok
+returns-in_err-or_unavailable-clause-ok g c = IfOk-from_err c.from_residual.result _ c.from_residual.ensures.0
+
+pub returns-in_err-or_unavailable-clause-kept : goal.returns-in_err-or_unavailable-clause-kept
+returns-in_err-or_unavailable-clause-kept g c = λ clean is_open first. c.make_daydetail.ensures.kept clean
+
+pub returns-in_err-or_unavailable-clause-survives : goal.returns-in_err-or_unavailable-clause-survives
+returns-in_err-or_unavailable-clause-survives g c = c.make_daydetail.ensures.survives
+
+pub returns-in_err-date_days-clause-same_reference : goal.returns-in_err-date_days-clause-same_reference
+returns-in_err-date_days-clause-same_reference g c = c.date_days.ensures.same_reference ∙ c.make_daydetail.ensures.same_reference
+
+pub returns-in_err-date_days-clause-ok : goal.returns-in_err-date_days-clause-ok
+returns-in_err-date_days-clause-ok g c = IfOk-from_err c.from_residual-in_err-date_days.result _ c.from_residual-in_err-date_days.ensures.0
+
+pub returns-in_err-date_days-clause-kept : goal.returns-in_err-date_days-clause-kept
+returns-in_err-date_days-clause-kept g c =
+    keeps_two (state g.S.Store c.args.tx.now.conn.now) (state g.S.Store c.make_daydetail.new.tx.conn.now) (state g.S.Store c.date_days.new.tx.conn.now)
+    c.date_days.ensures.survives.clean (rw c.in_ok-or_unavailable.ensures at c.make_daydetail.ensures.makes) c.make_daydetail.ensures.kept c.date_days.ensures.kept
+
+pub returns-in_err-date_days-clause-survives : goal.returns-in_err-date_days-clause-survives
+returns-in_err-date_days-clause-survives g c =
+    survives_more (state g.S.Store c.args.tx.now.conn.now) (state g.S.Store c.make_daydetail.new.tx.conn.now) (state g.S.Store c.date_days.new.tx.conn.now)
+    c.make_daydetail.ensures.survives c.date_days.ensures.survives
+
+pub returns-in_err-clear_details-clause-same_reference : goal.returns-in_err-clear_details-clause-same_reference
+returns-in_err-clear_details-clause-same_reference g c = c.clear_details.ensures.same_reference ∙ (c.date_days.ensures.same_reference ∙ c.make_daydetail.ensures.same_reference)
+
+pub returns-in_err-clear_details-clause-ok : goal.returns-in_err-clear_details-clause-ok
+returns-in_err-clear_details-clause-ok g c = IfOk-from_err c.from_residual-in_err-clear_details.result _ c.from_residual-in_err-clear_details.ensures.0
+
+pub returns-in_err-clear_details-clause-survives : goal.returns-in_err-clear_details-clause-survives
+returns-in_err-clear_details-clause-survives g c =
+    survives_more (state g.S.Store c.args.tx.now.conn.now) (state g.S.Store c.date_days.new.tx.conn.now) (state g.S.Store c.clear_details.new.tx.conn.now)
+    (survives_more (state g.S.Store c.args.tx.now.conn.now) (state g.S.Store c.make_daydetail.new.tx.conn.now) (state g.S.Store c.date_days.new.tx.conn.now)
+    c.make_daydetail.ensures.survives c.date_days.ensures.survives) c.clear_details.ensures.survives
+
+pub returns-clause-same_reference : goal.returns-clause-same_reference
+returns-clause-same_reference g c = c.raise_version.ensures.same_reference ∙ (c.clear_details.ensures.same_reference ∙ (c.date_days.ensures.same_reference ∙ c.make_daydetail.ensures.same_reference))
+
+pub returns-clause-survives : goal.returns-clause-survives
+returns-clause-survives g c =
+    survives_more (state g.S.Store c.args.tx.now.conn.now) (state g.S.Store c.clear_details.new.tx.conn.now) (state g.S.Store c.raise_version.new.tx.conn.now)
+    (survives_more (state g.S.Store c.args.tx.now.conn.now) (state g.S.Store c.date_days.new.tx.conn.now) (state g.S.Store c.clear_details.new.tx.conn.now)
+    (survives_more (state g.S.Store c.args.tx.now.conn.now) (state g.S.Store c.make_daydetail.new.tx.conn.now) (state g.S.Store c.date_days.new.tx.conn.now)
+    c.make_daydetail.ensures.survives c.date_days.ensures.survives) c.clear_details.ensures.survives) c.raise_version.ensures.survives

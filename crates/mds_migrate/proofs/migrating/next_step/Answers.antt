@@ -1,0 +1,149 @@
+use Rattle.std.proofs.Common.{◌≡◌, ◌∙◌, refl, sym, true, false, Bool, IfErr, Ok, Err, Result}
+use Rattle.sqlite.specs.Held.{state}
+use Rattle.std.specs.Bool.{MatchBool}
+use Rattle.std.proofs.lemmas.Bool.{not-true}
+use Rattle.mds_tables.proofs.CallLemmas.{keeps_same, survives_same}
+use Rattle.mds_pack_store.proofs.Adopting.{is_so}
+use Rattle.mds_migrate.proofs.Taking.{leaves_none}
+use Rattle.mds_migrate.proofs.migrating.next_step.Goals as goal
+
+isnt_so : {Q : Type 0} (P : Type 0) → (b : Bool) → b ≡ false → MatchBool b P Q → Q
+isnt_so P true is told = absurd cc
+isnt_so P false is told = told
+
+-- what holds of each error
+each_err : {T E : Type 0} (r : Result T E) (P : E → Type 0) → ((e : E) → P e) → IfErr r P
+each_err (Ok x) P h = tt
+each_err (Err e) P h = h e
+
+pub returns-then-not-is_autocommit-clause-done : goal.returns-then-not-is_autocommit-clause-done
+returns-then-not-is_autocommit-clause-done g c = tt
+
+pub returns-then-not-is_autocommit-clause-err : goal.returns-then-not-is_autocommit-clause-err
+returns-then-not-is_autocommit-clause-err g c = λ _. keeps_same (state g.S.Store c.args.conn.now)
+
+pub returns-then-not-is_autocommit-clause-settled : goal.returns-then-not-is_autocommit-clause-settled
+returns-then-not-is_autocommit-clause-settled g c = λ same. absurd cc
+
+pub returns-then-not-is_autocommit-clause-mode : goal.returns-then-not-is_autocommit-clause-mode
+returns-then-not-is_autocommit-clause-mode g c = refl
+
+pub returns-then-not-is_autocommit-clause-survives : goal.returns-then-not-is_autocommit-clause-survives
+returns-then-not-is_autocommit-clause-survives g c = leaves_none (state g.S.Store c.args.conn.now) (state g.S.Store c.args.conn.now) _ (survives_same (state g.S.Store c.args.conn.now))
+
+pub if_current-requires-clause-mode : goal.if_current-requires-clause-mode
+if_current-requires-clause-mode g c = not-true _ (sym c.is_autocommit.ensures.value ∙ c.if-not-is_autocommit.false)
+
+pub if_current-requires-clause-settled : goal.if_current-requires-clause-settled
+if_current-requires-clause-settled g c = c.is_autocommit.ensures.settled c.if-not-is_autocommit.false
+
+pub if_current-requires-clause-schema : goal.if_current-requires-clause-schema
+if_current-requires-clause-schema g c = sym c.schema.ensures.value ∙ is_so _ c.has_schema_4.result c.if-has_schema_4.true c.has_schema_4.ensures
+
+pub returns-then-has_schema_4-clause-done : goal.returns-then-has_schema_4-clause-done
+returns-then-has_schema_4-clause-done g c = c.if_current.ensures.done
+
+pub returns-then-has_schema_4-clause-err : goal.returns-then-has_schema_4-clause-err
+returns-then-has_schema_4-clause-err g c = c.if_current.ensures.err
+
+pub returns-then-has_schema_4-clause-settled : goal.returns-then-has_schema_4-clause-settled
+returns-then-has_schema_4-clause-settled g c = each_err c.if_current.result _ (λ _ _. c.is_autocommit.ensures.settled c.if-not-is_autocommit.false)
+
+pub returns-then-has_schema_4-clause-mode : goal.returns-then-has_schema_4-clause-mode
+returns-then-has_schema_4-clause-mode g c = c.if_current.ensures.mode ∙ sym (not-true _ (sym c.is_autocommit.ensures.value ∙ c.if-not-is_autocommit.false))
+
+pub returns-then-has_schema_4-clause-survives : goal.returns-then-has_schema_4-clause-survives
+returns-then-has_schema_4-clause-survives g c = leaves_none (state g.S.Store c.args.conn.now) (state g.S.Store c.if_current.new.conn) _ c.if_current.ensures.survives
+
+pub if_daily-requires-clause-mode : goal.if_daily-requires-clause-mode
+if_daily-requires-clause-mode g c = not-true _ (sym c.is_autocommit.ensures.value ∙ c.if-not-is_autocommit.false)
+
+pub if_daily-requires-clause-settled : goal.if_daily-requires-clause-settled
+if_daily-requires-clause-settled g c = c.is_autocommit.ensures.settled c.if-not-is_autocommit.false
+
+pub if_daily-requires-clause-schema : goal.if_daily-requires-clause-schema
+if_daily-requires-clause-schema g c = sym c.schema-2.ensures.value ∙ is_so _ c.has_schema_3.result c.if-has_schema_3.true c.has_schema_3.ensures
+
+pub returns-then-has_schema_3-clause-done : goal.returns-then-has_schema_3-clause-done
+returns-then-has_schema_3-clause-done g c = c.if_daily.ensures.done
+
+pub returns-then-has_schema_3-clause-err : goal.returns-then-has_schema_3-clause-err
+returns-then-has_schema_3-clause-err g c = c.if_daily.ensures.err
+
+pub returns-then-has_schema_3-clause-settled : goal.returns-then-has_schema_3-clause-settled
+returns-then-has_schema_3-clause-settled g c = each_err c.if_daily.result _ (λ _ _. c.is_autocommit.ensures.settled c.if-not-is_autocommit.false)
+
+pub returns-then-has_schema_3-clause-mode : goal.returns-then-has_schema_3-clause-mode
+returns-then-has_schema_3-clause-mode g c = c.if_daily.ensures.mode ∙ sym (not-true _ (sym c.is_autocommit.ensures.value ∙ c.if-not-is_autocommit.false))
+
+pub returns-then-has_schema_3-clause-survives : goal.returns-then-has_schema_3-clause-survives
+returns-then-has_schema_3-clause-survives g c = c.if_daily.ensures.survives
+
+pub if_packed-requires-clause-mode : goal.if_packed-requires-clause-mode
+if_packed-requires-clause-mode g c = not-true _ (sym c.is_autocommit.ensures.value ∙ c.if-not-is_autocommit.false)
+
+pub if_packed-requires-clause-settled : goal.if_packed-requires-clause-settled
+if_packed-requires-clause-settled g c = c.is_autocommit.ensures.settled c.if-not-is_autocommit.false
+
+pub if_packed-requires-clause-schema : goal.if_packed-requires-clause-schema
+if_packed-requires-clause-schema g c = sym c.schema-3.ensures.value ∙ is_so _ c.has_schema_2.result c.if-has_schema_2.true c.has_schema_2.ensures
+
+pub returns-then-has_schema_2-clause-done : goal.returns-then-has_schema_2-clause-done
+returns-then-has_schema_2-clause-done g c = c.if_packed.ensures.done
+
+pub returns-then-has_schema_2-clause-err : goal.returns-then-has_schema_2-clause-err
+returns-then-has_schema_2-clause-err g c = c.if_packed.ensures.err
+
+pub returns-then-has_schema_2-clause-settled : goal.returns-then-has_schema_2-clause-settled
+returns-then-has_schema_2-clause-settled g c = each_err c.if_packed.result _ (λ _ _. c.is_autocommit.ensures.settled c.if-not-is_autocommit.false)
+
+pub returns-then-has_schema_2-clause-mode : goal.returns-then-has_schema_2-clause-mode
+returns-then-has_schema_2-clause-mode g c = c.if_packed.ensures.mode ∙ sym (not-true _ (sym c.is_autocommit.ensures.value ∙ c.if-not-is_autocommit.false))
+
+pub returns-then-has_schema_2-clause-survives : goal.returns-then-has_schema_2-clause-survives
+returns-then-has_schema_2-clause-survives g c = c.if_packed.ensures.survives
+
+pub if_first-requires-clause-mode : goal.if_first-requires-clause-mode
+if_first-requires-clause-mode g c = not-true _ (sym c.is_autocommit.ensures.value ∙ c.if-not-is_autocommit.false)
+
+pub if_first-requires-clause-settled : goal.if_first-requires-clause-settled
+if_first-requires-clause-settled g c = c.is_autocommit.ensures.settled c.if-not-is_autocommit.false
+
+pub if_first-requires-clause-schema : goal.if_first-requires-clause-schema
+if_first-requires-clause-schema g c = sym c.schema-4.ensures.value ∙ is_so _ c.has_schema_1.result c.if-not-has_schema_1.false c.has_schema_1.ensures
+
+pub returns-clause-done : goal.returns-clause-done
+returns-clause-done g c = c.if_first.ensures.done
+
+pub returns-clause-err : goal.returns-clause-err
+returns-clause-err g c = c.if_first.ensures.err
+
+pub returns-clause-settled : goal.returns-clause-settled
+returns-clause-settled g c = each_err c.if_first.result _ (λ _ _. c.is_autocommit.ensures.settled c.if-not-is_autocommit.false)
+
+pub returns-clause-mode : goal.returns-clause-mode
+returns-clause-mode g c = c.if_first.ensures.mode ∙ sym (not-true _ (sym c.is_autocommit.ensures.value ∙ c.if-not-is_autocommit.false))
+
+pub returns-clause-survives : goal.returns-clause-survives
+returns-clause-survives g c = c.if_first.ensures.survives
+
+pub returns-then-not-has_schema_1-clause-done : goal.returns-then-not-has_schema_1-clause-done
+returns-then-not-has_schema_1-clause-done g c = tt
+
+pub returns-then-not-has_schema_1-clause-err : goal.returns-then-not-has_schema_1-clause-err
+returns-then-not-has_schema_1-clause-err g c = λ _. (
+  keeps_same (state g.S.Store c.args.conn.now),
+  (λ is. isnt_so _ c.has_schema_1.result c.if-not-has_schema_1.true c.has_schema_1.ensures (c.schema-4.ensures.value ∙ is.schema)),
+  (λ is. isnt_so _ c.has_schema_2.result c.if-has_schema_2.false c.has_schema_2.ensures (c.schema-3.ensures.value ∙ is.store.schema)),
+  (λ is. isnt_so _ c.has_schema_3.result c.if-has_schema_3.false c.has_schema_3.ensures (c.schema-2.ensures.value ∙ is.store.schema)),
+  (λ is. isnt_so _ c.has_schema_4.result c.if-has_schema_4.false c.has_schema_4.ensures (c.schema.ensures.value ∙ is.store.schema)),
+)
+
+pub returns-then-not-has_schema_1-clause-settled : goal.returns-then-not-has_schema_1-clause-settled
+returns-then-not-has_schema_1-clause-settled g c = λ _. c.is_autocommit.ensures.settled c.if-not-is_autocommit.false
+
+pub returns-then-not-has_schema_1-clause-mode : goal.returns-then-not-has_schema_1-clause-mode
+returns-then-not-has_schema_1-clause-mode g c = refl
+
+pub returns-then-not-has_schema_1-clause-survives : goal.returns-then-not-has_schema_1-clause-survives
+returns-then-not-has_schema_1-clause-survives g c = leaves_none (state g.S.Store c.args.conn.now) (state g.S.Store c.args.conn.now) _ (survives_same (state g.S.Store c.args.conn.now))
