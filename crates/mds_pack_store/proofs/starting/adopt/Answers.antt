@@ -1,5 +1,5 @@
 use Rattle.std.specs.Prelude.{◌≡◌, IsTrue}
-use Rattle.std.proofs.Common.{rules, inl, inr, arith}
+use Rattle.std.proofs.Common.{rules, inl, inr, arith, ◌∙◌, refl, sym, true, false, Bool}
 use Rattle.sqlite.specs.Held.{state}
 use Rattle.sqlite.specs.State.{HasCleanDisk}
 use Rattle.mds_tables.specs.Stores.{HoldsTablesOf}
@@ -10,8 +10,15 @@ use Rattle.mds_pack_rows.proofs.TwoSchemas.{not_of}
 use Rattle.mds_tables.specs.Layouts.{rows_layout}
 use Rattle.mds_pack_rows.specs.PacksLayout.{packs_layout}
 use Rattle.mds_pack_store.specs.Formed.{AreFormed}
-use Rattle.mds_pack_store.proofs.Adopting.{is_formed_adopted, isnt_seen, of_formed, still_formed}
+use Rattle.mds_pack_store.proofs.Adopting.{is_formed_adopted, isnt_seen, of_formed, still_formed, is_so}
+use Rattle.std.specs.Bool.{MatchBool}
+use Rattle.std.proofs.lemmas.Bool.{both_ways, not-false, not-true}
+use Rattle.mds_tables.proofs.CallLemmas.{keeps_same, survives_same}
 use Rattle.mds_pack_store.proofs.starting.adopt.Goals as goal
+
+isnt_so : {Q : Type 0} (P : Type 0) → (b : Bool) → b ≡ false → MatchBool b P Q → Q
+isnt_so P true is told = absurd cc
+isnt_so P false is told = told
 
 pub returns-in-Ok-true-clause-survives : goal.returns-in-Ok-true-clause-survives
 returns-in-Ok-true-clause-survives g c =
@@ -92,3 +99,161 @@ returns-in-Err-clause-limit g c =
 
 pub returns-then-has_schema_3-clause-err : goal.returns-then-has_schema_3-clause-err
 returns-then-has_schema_3-clause-err g c = c.refusal_of_third.ensures.err
+
+pub returns-then-not-is_autocommit-clause-ok : goal.returns-then-not-is_autocommit-clause-ok
+returns-then-not-is_autocommit-clause-ok g c = tt
+
+pub returns-then-not-is_autocommit-clause-err : goal.returns-then-not-is_autocommit-clause-err
+returns-then-not-is_autocommit-clause-err g c clean =
+    (keeps_same (state g.S.Store c.args.conn), not-false _ (sym c.is_autocommit.ensures.value ∙ c.if-not-is_autocommit.true))
+
+pub returns-then-not-is_autocommit-clause-busy : goal.returns-then-not-is_autocommit-clause-busy
+returns-then-not-is_autocommit-clause-busy g c = λ _. (refl, refl)
+
+pub returns-then-not-is_autocommit-clause-limit : goal.returns-then-not-is_autocommit-clause-limit
+returns-then-not-is_autocommit-clause-limit g c = refl
+
+pub returns-then-not-is_autocommit-clause-mode : goal.returns-then-not-is_autocommit-clause-mode
+returns-then-not-is_autocommit-clause-mode g c = refl
+
+pub returns-then-not-is_autocommit-clause-survives : goal.returns-then-not-is_autocommit-clause-survives
+returns-then-not-is_autocommit-clause-survives g c = survives_same (state g.S.Store c.args.conn)
+
+pub refusal_of_first-requires-clause-mode : goal.refusal_of_first-requires-clause-mode
+refusal_of_first-requires-clause-mode g c = not-true _ (sym c.is_autocommit.ensures.value ∙ c.if-not-is_autocommit.false)
+
+pub refusal_of_first-requires-clause-settled : goal.refusal_of_first-requires-clause-settled
+refusal_of_first-requires-clause-settled g c = c.is_autocommit.ensures.settled c.if-not-is_autocommit.false
+
+pub refusal_of_first-requires-clause-schema : goal.refusal_of_first-requires-clause-schema
+refusal_of_first-requires-clause-schema g c = sym c.schema.ensures.value ∙ is_so _ c.has_schema_1.result c.if-has_schema_1.true c.has_schema_1.ensures
+
+pub returns-then-has_schema_1-clause-ok : goal.returns-then-has_schema_1-clause-ok
+returns-then-has_schema_1-clause-ok g c = tt
+
+pub returns-then-has_schema_1-clause-err : goal.returns-then-has_schema_1-clause-err
+returns-then-has_schema_1-clause-err g c = c.refusal_of_first.ensures.err
+
+pub returns-then-has_schema_1-clause-busy : goal.returns-then-has_schema_1-clause-busy
+returns-then-has_schema_1-clause-busy g c = λ busy. absurd (both_ways _ (not-true _ (sym c.is_autocommit.ensures.value ∙ c.if-not-is_autocommit.false)) busy)
+
+pub returns-then-has_schema_1-clause-limit : goal.returns-then-has_schema_1-clause-limit
+returns-then-has_schema_1-clause-limit g c = c.refusal_of_first.ensures.limit
+
+pub returns-then-has_schema_1-clause-mode : goal.returns-then-has_schema_1-clause-mode
+returns-then-has_schema_1-clause-mode g c = c.refusal_of_first.ensures.mode ∙ sym (not-true _ (sym c.is_autocommit.ensures.value ∙ c.if-not-is_autocommit.false))
+
+pub returns-then-has_schema_1-clause-survives : goal.returns-then-has_schema_1-clause-survives
+returns-then-has_schema_1-clause-survives g c = c.refusal_of_first.ensures.survives
+
+pub refusal_of_second-requires-clause-mode : goal.refusal_of_second-requires-clause-mode
+refusal_of_second-requires-clause-mode g c = not-true _ (sym c.is_autocommit.ensures.value ∙ c.if-not-is_autocommit.false)
+
+pub refusal_of_second-requires-clause-settled : goal.refusal_of_second-requires-clause-settled
+refusal_of_second-requires-clause-settled g c = c.is_autocommit.ensures.settled c.if-not-is_autocommit.false
+
+pub refusal_of_second-requires-clause-schema : goal.refusal_of_second-requires-clause-schema
+refusal_of_second-requires-clause-schema g c = sym c.schema-2.ensures.value ∙ is_so _ c.has_schema_2.result c.if-has_schema_2.true c.has_schema_2.ensures
+
+pub returns-then-has_schema_2-clause-ok : goal.returns-then-has_schema_2-clause-ok
+returns-then-has_schema_2-clause-ok g c = tt
+
+pub returns-then-has_schema_2-clause-err : goal.returns-then-has_schema_2-clause-err
+returns-then-has_schema_2-clause-err g c = c.refusal_of_second.ensures.err
+
+pub returns-then-has_schema_2-clause-busy : goal.returns-then-has_schema_2-clause-busy
+returns-then-has_schema_2-clause-busy g c = λ busy. absurd (both_ways _ (not-true _ (sym c.is_autocommit.ensures.value ∙ c.if-not-is_autocommit.false)) busy)
+
+pub returns-then-has_schema_2-clause-limit : goal.returns-then-has_schema_2-clause-limit
+returns-then-has_schema_2-clause-limit g c = c.refusal_of_second.ensures.limit
+
+pub returns-then-has_schema_2-clause-mode : goal.returns-then-has_schema_2-clause-mode
+returns-then-has_schema_2-clause-mode g c = c.refusal_of_second.ensures.mode ∙ sym (not-true _ (sym c.is_autocommit.ensures.value ∙ c.if-not-is_autocommit.false))
+
+pub returns-then-has_schema_2-clause-survives : goal.returns-then-has_schema_2-clause-survives
+returns-then-has_schema_2-clause-survives g c = c.refusal_of_second.ensures.survives
+
+pub refusal_of_third-requires-clause-mode : goal.refusal_of_third-requires-clause-mode
+refusal_of_third-requires-clause-mode g c = not-true _ (sym c.is_autocommit.ensures.value ∙ c.if-not-is_autocommit.false)
+
+pub refusal_of_third-requires-clause-settled : goal.refusal_of_third-requires-clause-settled
+refusal_of_third-requires-clause-settled g c = c.is_autocommit.ensures.settled c.if-not-is_autocommit.false
+
+pub refusal_of_third-requires-clause-schema : goal.refusal_of_third-requires-clause-schema
+refusal_of_third-requires-clause-schema g c = sym c.schema-3.ensures.value ∙ is_so _ c.has_schema_3.result c.if-has_schema_3.true c.has_schema_3.ensures
+
+pub returns-then-has_schema_3-clause-ok : goal.returns-then-has_schema_3-clause-ok
+returns-then-has_schema_3-clause-ok g c = tt
+
+pub returns-then-has_schema_3-clause-busy : goal.returns-then-has_schema_3-clause-busy
+returns-then-has_schema_3-clause-busy g c = λ busy. absurd (both_ways _ (not-true _ (sym c.is_autocommit.ensures.value ∙ c.if-not-is_autocommit.false)) busy)
+
+pub returns-then-has_schema_3-clause-limit : goal.returns-then-has_schema_3-clause-limit
+returns-then-has_schema_3-clause-limit g c = c.refusal_of_third.ensures.limit
+
+pub returns-then-has_schema_3-clause-mode : goal.returns-then-has_schema_3-clause-mode
+returns-then-has_schema_3-clause-mode g c = c.refusal_of_third.ensures.mode ∙ sym (not-true _ (sym c.is_autocommit.ensures.value ∙ c.if-not-is_autocommit.false))
+
+pub returns-then-has_schema_3-clause-survives : goal.returns-then-has_schema_3-clause-survives
+returns-then-has_schema_3-clause-survives g c = c.refusal_of_third.ensures.survives
+
+pub returns-then-not-has_schema_4-clause-ok : goal.returns-then-not-has_schema_4-clause-ok
+returns-then-not-has_schema_4-clause-ok g c = tt
+
+pub returns-then-not-has_schema_4-clause-err : goal.returns-then-not-has_schema_4-clause-err
+returns-then-not-has_schema_4-clause-err g c clean = (
+  keeps_same (state g.S.Store c.args.conn),
+  (λ formed. isnt_so _ c.has_schema_4.result c.if-not-has_schema_4.true c.has_schema_4.ensures (c.schema-4.ensures.value ∙ formed.store.schema)),
+  (λ earlier. elim earlier [
+    | inl first ↦ isnt_so _ c.has_schema_1.result c.if-has_schema_1.false c.has_schema_1.ensures (c.schema.ensures.value ∙ first.schema)
+    | inr later ↦ elim later [
+      | inl second ↦ isnt_so _ c.has_schema_2.result c.if-has_schema_2.false c.has_schema_2.ensures (c.schema-2.ensures.value ∙ second.store.schema)
+      | inr third ↦ isnt_so _ c.has_schema_3.result c.if-has_schema_3.false c.has_schema_3.ensures (c.schema-3.ensures.value ∙ third.store.schema)
+    ]
+  ]),
+)
+
+pub returns-then-not-has_schema_4-clause-busy : goal.returns-then-not-has_schema_4-clause-busy
+returns-then-not-has_schema_4-clause-busy g c = λ busy. absurd (both_ways _ (not-true _ (sym c.is_autocommit.ensures.value ∙ c.if-not-is_autocommit.false)) busy)
+
+pub returns-then-not-has_schema_4-clause-limit : goal.returns-then-not-has_schema_4-clause-limit
+returns-then-not-has_schema_4-clause-limit g c = refl
+
+pub returns-then-not-has_schema_4-clause-mode : goal.returns-then-not-has_schema_4-clause-mode
+returns-then-not-has_schema_4-clause-mode g c = refl
+
+pub returns-then-not-has_schema_4-clause-survives : goal.returns-then-not-has_schema_4-clause-survives
+returns-then-not-has_schema_4-clause-survives g c = survives_same (state g.S.Store c.args.conn)
+
+pub are_formed-requires : goal.are_formed-requires
+are_formed-requires g c = not-true _ (sym c.is_autocommit.ensures.value ∙ c.if-not-is_autocommit.false)
+
+pub over-requires-clause-autocommit : goal.over-requires-clause-autocommit
+over-requires-clause-autocommit g c = c.are_formed.ensures.answers.mode
+
+pub returns-in-Ok-true-clause-err : goal.returns-in-Ok-true-clause-err
+returns-in-Ok-true-clause-err g c = tt
+
+pub returns-in-Ok-true-clause-busy : goal.returns-in-Ok-true-clause-busy
+returns-in-Ok-true-clause-busy g c = λ busy. absurd (both_ways _ (not-true _ (sym c.is_autocommit.ensures.value ∙ c.if-not-is_autocommit.false)) busy)
+
+pub returns-in-Ok-true-clause-mode : goal.returns-in-Ok-true-clause-mode
+returns-in-Ok-true-clause-mode g c = tt
+
+pub returns-in-Ok-false-clause-ok : goal.returns-in-Ok-false-clause-ok
+returns-in-Ok-false-clause-ok g c = tt
+
+pub returns-in-Ok-false-clause-busy : goal.returns-in-Ok-false-clause-busy
+returns-in-Ok-false-clause-busy g c = λ busy. absurd (both_ways _ (not-true _ (sym c.is_autocommit.ensures.value ∙ c.if-not-is_autocommit.false)) busy)
+
+pub returns-in-Ok-false-clause-mode : goal.returns-in-Ok-false-clause-mode
+returns-in-Ok-false-clause-mode g c = c.are_formed.ensures.answers.mode ∙ sym (not-true _ (sym c.is_autocommit.ensures.value ∙ c.if-not-is_autocommit.false))
+
+pub returns-in-Err-clause-ok : goal.returns-in-Err-clause-ok
+returns-in-Err-clause-ok g c = tt
+
+pub returns-in-Err-clause-busy : goal.returns-in-Err-clause-busy
+returns-in-Err-clause-busy g c = λ busy. absurd (both_ways _ (not-true _ (sym c.is_autocommit.ensures.value ∙ c.if-not-is_autocommit.false)) busy)
+
+pub returns-in-Err-clause-mode : goal.returns-in-Err-clause-mode
+returns-in-Err-clause-mode g c = c.are_formed.ensures.answers.mode ∙ sym (not-true _ (sym c.is_autocommit.ensures.value ∙ c.if-not-is_autocommit.false))
